@@ -1,0 +1,181 @@
+-- Paths and chains of sectors: the walk's step, its length, and that there is one path from a start.
+use Rattle.std.proofs.Common.{◌≡◌, ◌≢◌, ◌⊎◌, inl, inr, ℕ, ◌+◌, ◌-◌, ◌<◌, ◌≤◌, zero, suc, List, [], ◌∷◌, ◌++◌, length, get_or, slice_index, eqb, refl, sym, ◌∙◌, ap, subst, arith, length-append}
+use Rattle.std.proofs.Common.{Bool, true, false, set, add-one}
+use Rattle.std.proofs.lemmas.Bool.{cases_lt, cases_eq, ne_eqb, false≢true}
+use Rattle.std.proofs.lemmas.List.{get_or_append_left, get_or-set_same, get_or-set_other, ext_get_or}
+use Rattle.std.proofs.lemmas.List.Folds.{list_any_none}
+use Rattle.std.proofs.lemmas.List.Elements.{All-from_get_or}
+use Rattle.std.proofs.lemmas.Grind.{get_or_default_zero}
+use Rattle.std.proofs.lemmas.Map.Keys.{IsDistinct-from_apart}
+use Rattle.std.proofs.lemmas.Map.Steps.{length-le_from_distinct_below}
+use Rattle.std.specs.List.{list_any}
+use Rattle.std.proofs.Math.Seq.{get_or-append_seam}
+use Rattle.cfb_streams.specs.SectorChain.{HasSector, IsSectorPath, IsSectorChain, IsFullPath, last_of, end_of_chain}
+
+-- a number put last, and the numbers before it
+pub pushed_before : (xs : List ℕ) (x i : ℕ) → i < length xs → slice_index (xs ++ x ∷ []) i ≡ slice_index xs i
+pushed_before xs x i h = get_or_append_left xs (x ∷ []) 0 i h
+
+pub pushed_last : (xs : List ℕ) (x i : ℕ) → i ≡ length xs → slice_index (xs ++ x ∷ []) i ≡ x
+pushed_last xs x i h = rw h (get_or-append_seam xs x [] 0)
+
+pub length_pushed : (xs : List ℕ) (x : ℕ) → length (xs ++ x ∷ []) ≡ length xs + 1
+length_pushed xs x = length-append xs (x ∷ [])
+
+-- a path so far, and the sector at which it goes on
+pub record IsWalk (entry : ℕ → ℕ) (valid start at : ℕ) (sectors : List ℕ) : Type 0 where
+  pub begins : length sectors ≡ 0 → at ≡ start
+  pub first : 0 < length sectors → slice_index sectors 0 ≡ start
+  pub within : (i : ℕ) → i < length sectors → slice_index sectors i < valid
+  pub distinct : (i j : ℕ) → i < j → j < length sectors → slice_index sectors i ≢ slice_index sectors j
+  pub links : (i : ℕ) → i + 1 < length sectors → entry (slice_index sectors i) ≡ slice_index sectors (i + 1)
+  pub next : 0 < length sectors → entry (slice_index sectors (length sectors - 1)) ≡ at
+
+-- the sectors of the path are those with the stamp, and no mark is above it
+pub record IsStamped (stamp : ℕ) (marks sectors : List ℕ) : Type 0 where
+  pub stamped : (i : ℕ) → i < length sectors → slice_index marks (slice_index sectors i) ≡ stamp
+  pub found : (s : ℕ) → slice_index marks s ≡ stamp → HasSector sectors s
+  pub most : (s : ℕ) → slice_index marks s ≤ stamp
+
+-- the path goes on by one valid sector that it does not have
+pub walk_step : (entry : ℕ → ℕ) (valid start at : ℕ) (sectors : List ℕ) → IsWalk entry valid start at sectors → at < valid → ((i : ℕ) → i < length sectors → slice_index sectors i ≢ at) → IsWalk entry valid start (entry at) (sectors ++ at ∷ [])
+walk_step entry valid start at sectors w low apart =
+    let n = length_pushed sectors at in
+    record {
+      begins = λ e. absurd (omega arith);
+      first = λ _. elim (cases_lt 0 (length sectors)) [
+        | inl h ↦ pushed_before sectors at 0 h ∙ w.first h
+        | inr h ↦ pushed_last sectors at 0 (omega arith) ∙ w.begins (omega arith)
+      ];
+      within = λ i h. elim (cases_lt i (length sectors)) [
+        | inl lo ↦ rw (pushed_before sectors at i lo) (w.within i lo)
+        | inr hi ↦ rw (pushed_last sectors at i (omega arith)) low
+      ];
+      distinct = λ i j h below e. elim (cases_lt j (length sectors)) [
+        | inl lo ↦ w.distinct i j h lo (sym (pushed_before sectors at i (omega arith)) ∙ (e ∙ pushed_before sectors at j lo))
+        | inr hi ↦ apart i (omega arith) (sym (pushed_before sectors at i (omega arith)) ∙ (e ∙ pushed_last sectors at j (omega arith)))
+      ];
+      links = λ i h. elim (cases_lt (i + 1) (length sectors)) [
+        | inl lo ↦ rw (pushed_before sectors at i (omega arith), pushed_before sectors at (i + 1) lo) (w.links i lo)
+        | inr hi ↦
+            let e : length sectors - 1 ≡ i = omega arith in
+            rw (pushed_before sectors at i (omega arith), pushed_last sectors at (i + 1) (omega arith)) (subst (λ k. entry (slice_index sectors k) ≡ at) e (w.next (omega arith)))
+      ];
+      next = λ _. ap entry (pushed_last sectors at (length (sectors ++ at ∷ []) - 1) (omega arith));
+    }
+
+-- distinct numbers below n are at most n
+pub length_below : (xs : List ℕ) (n : ℕ) → ((i : ℕ) → i < length xs → slice_index xs i < n) → ((i j : ℕ) → i < j → j < length xs → slice_index xs i ≢ slice_index xs j) → length xs ≤ n
+length_below xs n within distinct =
+    length-le_from_distinct_below xs n
+    (IsDistinct-from_apart eqb xs (λ i j d h below.
+      let a = get_or_default_zero xs i d (omega arith) in
+      let b = get_or_default_zero xs j d below in
+      ne_eqb (get_or xs i d) (get_or xs j d) (λ e. distinct i j h below (sym a ∙ (e ∙ b)))))
+    (λ q any. elim (cases_lt q n) [
+      | inl low ↦ low
+      | inr high ↦ absurd (false≢true (sym (list_any_none (eqb q) xs (All-from_get_or (λ x. eqb q x ≡ false) xs 0 (λ i h. let low = within i h in ne_eqb q (get_or xs i 0) (λ e. absurd (omega arith))))) ∙ any))
+    ])
+
+-- so many valid sectors there are at most
+pub walk_room : (entry : ℕ → ℕ) (valid start at : ℕ) (sectors : List ℕ) → IsWalk entry valid start at sectors → at < valid → ((i : ℕ) → i < length sectors → slice_index sectors i ≢ at) → length sectors < valid
+walk_room entry valid start at sectors w low apart =
+    let next = walk_step entry valid start at sectors w low apart in
+    let most = length_below (sectors ++ at ∷ []) valid next.within next.distinct in
+    let n = length_pushed sectors at in omega arith
+
+-- the mark of the sector that is put last
+pub stamp_step : (stamp at : ℕ) (marks sectors : List ℕ) → IsStamped stamp marks sectors → at < length marks → IsStamped stamp (set marks at stamp) (sectors ++ at ∷ [])
+stamp_step stamp at marks sectors h low =
+    let n = length_pushed sectors at in
+    let here = get_or-set_same marks at stamp 0 low in
+    record {
+      stamped = λ i below. elim (cases_lt i (length sectors)) [
+        | inl lo ↦ rw (pushed_before sectors at i lo) (elim (cases_eq (slice_index sectors i) at) [
+          | inl e ↦ rw e here
+          | inr e ↦ get_or-set_other marks at (slice_index sectors i) stamp 0 e ∙ h.stamped i lo
+        ])
+        | inr hi ↦ rw (pushed_last sectors at i (omega arith)) here
+      ];
+      found = λ s e. elim (cases_eq s at) [
+        | inl same ↦ record { index = length sectors; inside = omega arith; here = pushed_last sectors at (length sectors) refl ∙ sym same }
+        | inr other ↦
+            let old = h.found s (sym (get_or-set_other marks at s stamp 0 other) ∙ e) in
+            let below = old.inside in
+            record { index = old.index; inside = omega arith; here = pushed_before sectors at old.index old.inside ∙ old.here }
+      ];
+      most = λ s. elim (cases_eq s at) [
+        | inl same ↦ rw (same, here) (omega arith)
+        | inr other ↦ rw (get_or-set_other marks at s stamp 0 other) (h.most s)
+      ];
+    }
+
+-- two paths from one start have the same sectors
+pub paths_agree : (entry : ℕ → ℕ) (valid start : ℕ) (xs ys : List ℕ) → IsSectorPath entry valid start xs → IsSectorPath entry valid start ys → (i : ℕ) → i < length xs → i < length ys → slice_index xs i ≡ slice_index ys i
+paths_agree entry valid start xs ys p q zero h k = p.first ∙ sym q.first
+paths_agree entry valid start xs ys p q (suc i) h k =
+    let e : i + 1 ≡ suc i = omega arith in
+    subst (λ n. slice_index xs n ≡ slice_index ys n) e
+    (sym (p.links i (omega arith)) ∙ (ap entry (paths_agree entry valid start xs ys p q i (omega arith) (omega arith)) ∙ q.links i (omega arith)))
+
+-- no path from the start is longer than a full one
+pub full_longest : (entry : ℕ → ℕ) (valid start : ℕ) (xs ys : List ℕ) → IsFullPath entry valid start xs → IsSectorPath entry valid start ys → length ys ≤ length xs
+full_longest entry valid start xs ys f q = elim (cases_lt (length xs) (length ys)) [
+  | inr h ↦ h
+  | inl h ↦
+      let some = f.path.some in
+      let last : slice_index ys (length xs - 1) ≡ last_of xs = sym (paths_agree entry valid start xs ys f.path q (length xs - 1) (omega arith) (omega arith)) in
+      let place : length xs - 1 + 1 ≡ length xs = omega arith in
+      let next : entry (last_of xs) ≡ slice_index ys (length xs) =
+        sym (ap entry last) ∙ (q.links (length xs - 1) (omega arith) ∙ ap (λ k. slice_index ys k) place) in
+      absurd (elim f.stops [
+        | inl out ↦ let low = q.within (length xs) h in absurd (omega arith)
+        | inr again ↦ q.distinct again.index (length xs) again.inside h
+          (sym (paths_agree entry valid start xs ys f.path q again.index again.inside (let a = again.inside in omega arith)) ∙ (again.here ∙ next))
+      ])
+]
+
+-- there is one full path from a start
+pub full_unique : (entry : ℕ → ℕ) (valid start : ℕ) (xs ys : List ℕ) → IsFullPath entry valid start xs → IsFullPath entry valid start ys → xs ≡ ys
+full_unique entry valid start xs ys f g =
+    let a = full_longest entry valid start xs ys f g.path in
+    let b = full_longest entry valid start ys xs g f.path in
+    let e : length xs ≡ length ys = omega arith in
+    ext_get_or 0 xs ys e (λ i h. paths_agree entry valid start xs ys f.path g.path i h (omega arith))
+
+-- a chain is a full path, where ENDOFCHAIN is no valid sector number
+pub chain_full : (entry : ℕ → ℕ) (valid start : ℕ) (xs : List ℕ) → valid ≤ end_of_chain → IsSectorChain entry valid start xs → IsFullPath entry valid start xs
+chain_full entry valid start xs low c = record { path = c.path; stops = inl (let e = c.ends in omega arith) }
+
+-- there is one chain from a start
+pub chain_unique : (entry : ℕ → ℕ) (valid start : ℕ) (xs ys : List ℕ) → valid ≤ end_of_chain → IsSectorChain entry valid start xs → IsSectorChain entry valid start ys → xs ≡ ys
+chain_unique entry valid start xs ys low c d = full_unique entry valid start xs ys (chain_full entry valid start xs low c) (chain_full entry valid start ys low d)
+
+-- a full path that does not end with ENDOFCHAIN leaves no chain
+pub no_chain : (entry : ℕ → ℕ) (valid start : ℕ) (xs : List ℕ) → valid ≤ end_of_chain → IsFullPath entry valid start xs → entry (last_of xs) ≢ end_of_chain → (ys : List ℕ) → ¬ IsSectorChain entry valid start ys
+no_chain entry valid start xs low f open_end ys c =
+    let e = full_unique entry valid start xs ys f (chain_full entry valid start ys low c) in
+    open_end (ap (λ zs. entry (last_of zs)) e ∙ c.ends)
+
+-- tables with the same entries have the same paths and chains
+pub path_same : (entry other : ℕ → ℕ) (valid start : ℕ) (xs : List ℕ) → ((s : ℕ) → s < valid → entry s ≡ other s) → IsSectorPath entry valid start xs → IsSectorPath other valid start xs
+path_same entry other valid start xs same p = record {
+  some = p.some;
+  first = p.first;
+  within = p.within;
+  distinct = p.distinct;
+  links = λ i h. sym (same (slice_index xs i) (p.within i (omega arith))) ∙ p.links i h;
+}
+
+pub last_within : (entry : ℕ → ℕ) (valid start : ℕ) (xs : List ℕ) → IsSectorPath entry valid start xs → last_of xs < valid
+last_within entry valid start xs p = let some = p.some in p.within (length xs - 1) (omega arith)
+
+pub chain_same : (entry other : ℕ → ℕ) (valid start : ℕ) (xs : List ℕ) → ((s : ℕ) → s < valid → entry s ≡ other s) → IsSectorChain entry valid start xs → IsSectorChain other valid start xs
+chain_same entry other valid start xs same c = record {
+  path = path_same entry other valid start xs same c.path;
+  ends = sym (same (last_of xs) (last_within entry valid start xs c.path)) ∙ c.ends;
+}
+
+-- a path has no more sectors than there are
+pub path_short : (entry : ℕ → ℕ) (valid start : ℕ) (xs : List ℕ) → IsSectorPath entry valid start xs → length xs ≤ valid
+path_short entry valid start xs p = length_below xs valid p.within p.distinct

@@ -1,0 +1,5 @@
+pub mod Header
+pub mod SectorChain
+pub mod Directory
+pub mod Opening
+pub mod Plain

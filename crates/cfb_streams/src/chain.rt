@@ -1,0 +1,37 @@
+// One walk for the chains of the FAT and of the mini FAT.
+ghost use Rattle.std.specs.Prelude.{◌≡◌, ℕ, ◌<◌, ◌≤◌, length, slice_index, IfOk};
+ghost use Rattle.cfb_streams.specs.SectorChain.{IsFullPath, last_of};
+
+use doc_bits::Memory;
+use std::alloc::Global;
+
+/// An entry that ends a chain.
+pub const ENDOFCHAIN: u32 = 0xFFFF_FFFE;
+
+/// The path from `start` as far as it goes: to an entry that is not valid, or that names a sector
+/// of the path. The numbers below the length of `marks` are valid, and `stamp` marks the sectors
+/// of this path, so that no table is cleared between two walks.
+pub fn walk(alloc: Global, entries: &[u32], marks: &mut [u32], stamp: u32, start: u32) -> Result<Vec<u32>, Memory>
+    requires room { length marks.old ≤ length entries.now }
+    requires fresh { (s : ℕ) → slice_index marks.old s < stamp }
+    requires starts { start < length marks.old }
+    ensures path { IfOk result (λ path. IsFullPath (slice_index entries.now) (length marks.old) start path.items) }
+    ensures marked { (s : ℕ) → slice_index marks.new s ≤ stamp }
+{
+    let mut path = Vec::new(alloc);
+    let mut at = start as usize;
+    while at < marks.len() && marks[at] != stamp {
+        marks[at] = stamp;
+        path.push(at as u32)?;
+        at = entries[at] as usize;
+    }
+    Ok(path)
+}
+
+/// The last sector of a path.
+pub fn last_sector(path: &[u32]) -> u32
+    requires { 0 < length path.now }
+    ensures { result ≡ last_of path.now }
+{
+    path[path.len() - 1]
+}

@@ -1,0 +1,6 @@
+use Rattle.std.proofs.Common.{◌∙◌}
+use Rattle.doc_bits.proofs.NumberLemmas.{little_from-part}
+use Rattle.doc_bits.proofs.numbers.get32.Goals as goal
+
+pub returns : goal.returns
+returns c = c.read_u32.ensures ∙ little_from-part 4 c.args.at c.args.bytes.now

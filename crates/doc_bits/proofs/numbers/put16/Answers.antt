@@ -1,0 +1,7 @@
+use Rattle.doc_bits.specs.Number.{number_bytes}
+use Rattle.doc_bits.proofs.NumberLemmas.{put_mid-number}
+use Rattle.doc_bits.proofs.numbers.put16.Goals as goal
+
+pub returns : goal.returns
+unfolding number_bytes
+returns c = put_mid-number 2 c.args.at c.args.value c.args.bytes.now c.write_u16.new.buf c.write_u16.ensures

@@ -1,0 +1,4 @@
+pub mod Number
+pub mod Plc
+pub mod Rules
+pub mod Places

@@ -1,0 +1,19 @@
+//! Numbers in bytes, CP tables, places, small lists, and the words for the first broken rule.
+#![tactic(auto)]
+
+mod laws;
+mod lists;
+mod memory;
+mod numbers;
+mod places;
+mod plcs;
+
+pub use laws::number_is_read_back;
+pub use lists::{Bytes, Text, Units};
+pub use memory::Memory;
+pub use numbers::{get16, get32, put16, put32};
+pub use places::{Story, Where, lesser};
+pub use plcs::{Plc, PlcFault, plc_of};
+
+#[cfg(test)]
+mod tests;

@@ -1,0 +1,4 @@
+pub mod HeldLemmas
+pub mod StoreLemmas
+pub mod WholeLemmas
+pub mod WrittenLemmas

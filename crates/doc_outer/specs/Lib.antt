@@ -1,0 +1,9 @@
+pub mod ByteSink
+pub mod Counts
+pub mod Held
+pub mod HostCounts
+pub mod Plan
+pub mod Reads
+pub mod Store
+pub mod Whole
+pub mod Written

@@ -1,0 +1,15 @@
+-- What a byte sink has taken, where that is told.
+use Rattle.std.specs.Prelude.{◌≡◌, ℕ, ◌≤◌, List, ◌++◌, length, take, Option, Some, None, ⊤}
+
+-- the new bytes are the old ones and then these; whether they are told stays
+abbrev pub Appends : Option (List ℕ) → Option (List ℕ) → List ℕ → Type 0
+Appends None None more = ⊤
+Appends (Some old) (Some new) more = new ≡ old ++ more
+Appends None (Some new) more = ⊥
+Appends (Some old) None more = ⊥
+
+-- a prefix of these bytes was appended
+pub record AppendsPrefix (old new : Option (List ℕ)) (all : List ℕ) : Type 0 where
+  pub count : ℕ
+  pub within : count ≤ length all
+  pub appended : Appends old new (take count all)

@@ -1,0 +1,156 @@
+// Real files. What they hold is told by nobody: this is the trusted edge.
+ghost use Rattle.std.specs.Prelude.{◌≡◌, ◌≤◌, length, None, IfOk, IsErrOf};
+ghost use Rattle.doc_outer.specs.Counts.{Rose, GoesOn};
+ghost use Rattle.doc_outer.specs.HostCounts.{no_counts};
+ghost use Rattle.doc_outer.specs.Reads.{faults_after, missed_after};
+
+use crate::{Shelf, ShelfFault};
+use doc_bits::{Memory, Text};
+use std::alloc::Global;
+use std::io::{ErrorKind, Read, Seek, SeekFrom};
+use std::marker::Model;
+use std::rt::Files;
+use std::{fs, io};
+
+/// How often a read that a signal cut short is tried.
+const TRIES: usize = 64;
+
+/// The file that was read last, and the byte where its next read begins. It stays open, so that a
+/// pipe can be read in order.
+#[derive(Drop)]
+struct LastFile<F> {
+    name: Text,
+    file: F,
+    at: u64,
+}
+
+/// The files of the system, by their paths.
+#[derive(Drop)]
+pub struct HostShelf<R: Files + Drop> {
+    alloc: Global,
+    files: R,
+    last: Option<LastFile<R::File>>,
+    faults: u64,
+    missed: u64,
+}
+
+impl<R: Files + Drop> Model for HostShelf<R> {
+    ghost use Rattle.doc_outer.specs.HostCounts.{HostCounts};
+
+    ghost Value = { HostCounts };
+
+    ghost view = { λ s. record { faults = s.faults; missed = s.missed } };
+}
+
+impl<R: Files + Drop> HostShelf<R> {
+    /// The files of this runtime. The allocator is for the name of the file that was read last.
+    pub fn new(alloc: Global, files: R) -> HostShelf<R>
+        ensures { result ≡ no_counts }
+    {
+        HostShelf {
+            alloc,
+            files,
+            last: None,
+            faults: 0,
+            missed: 0,
+        }
+    }
+}
+
+/// What a refusal of the system is to a caller.
+fn fault_of(error: io::Error) -> ShelfFault {
+    match error.kind() {
+        ErrorKind::NotFound => ShelfFault::Missing,
+        ErrorKind::OutOfMemory => ShelfFault::Memory,
+        _ => ShelfFault::Failed,
+    }
+}
+
+/// Opens a file for reads from `at` on.
+fn open_at<R: Files>(
+    alloc: Global,
+    files: &R,
+    name: &str,
+    at: u64,
+) -> Result<LastFile<R::File>, ShelfFault> {
+    let mut key = Text::new(alloc);
+    key.push_all(name).map_err(|_| ShelfFault::Memory)?;
+    let mut file = fs::open(files, name).map_err(fault_of)?;
+    if at != 0 {
+        file.seek(SeekFrom::Start(at)).map_err(fault_of)?;
+    }
+    Ok(LastFile {
+        name: key,
+        file,
+        at,
+    })
+}
+
+/// One read. Where a signal cut it short it is tried again.
+fn read_some<F: Read>(file: &mut F, buf: &mut [u8]) -> io::Result<usize>
+    ensures { IfOk result (λ count. count ≤ length buf.old) }
+{
+    for _ in 0..TRIES {
+        match file.read(buf) {
+            Err(error) if error.kind() == ErrorKind::Interrupted => {}
+            answer => return answer,
+        }
+    }
+    Err(ErrorKind::Interrupted.into())
+}
+
+/// Reads on in the file that was read last where its next read begins at `at`, and else in a file that
+/// is opened anew.
+fn read_on<R: Files>(
+    alloc: Global,
+    files: &R,
+    last: &mut Option<LastFile<R::File>>,
+    name: &str,
+    at: u64,
+    buf: &mut [u8],
+) -> Result<usize, ShelfFault>
+    ensures { IfOk result (λ count. count ≤ length buf.old) }
+{
+    let mut opened = match last.take() {
+        Some(opened) if opened.at == at && opened.name.as_str() == name => opened,
+        _ => open_at(alloc, files, name, at)?,
+    };
+    let count = read_some(&mut opened.file, buf).map_err(fault_of)?;
+    if count > 0 {
+        opened.at = at.saturating_add(count as u64);
+        *last = Some(opened);
+    }
+    Ok(count)
+}
+
+impl<R: Files + Drop> Shelf for HostShelf<R> {
+    ghost held = { λ _. None };
+
+    ghost faults = { λ s. s.faults };
+
+    ghost missed = { λ s. s.missed };
+
+    fn read_at(&mut self, name: &str, at: u64, buf: &mut [u8]) -> Result<usize, ShelfFault>
+        // As every shelf, but nothing is told.
+        ensures within { IfOk result (λ count. count ≤ length buf.old) }
+        ensures failed { IsErrOf result ShelfFault.Failed → Rose self.old.faults self.new.faults }
+        ensures missing { IsErrOf result ShelfFault.Missing → Rose self.old.missed self.new.missed }
+        ensures no_fault { IsErrOf result ShelfFault.Missing → self.new.faults ≡ self.old.faults }
+        ensures memory { IsErrOf result ShelfFault.Memory
+            → (self.new.faults ≡ self.old.faults) × (self.new.missed ≡ self.old.missed) }
+        ensures faults { GoesOn self.old.faults self.new.faults }
+        ensures missed { GoesOn self.old.missed self.new.missed }
+
+        // Exactly.
+        ensures faults_exact { self.new.faults ≡ faults_after result self.old.faults }
+        ensures missed_exact { self.new.missed ≡ missed_after result self.old.missed }
+    {
+        let answer = read_on(self.alloc, &self.files, &mut self.last, name, at, buf);
+        match answer {
+            Err(ShelfFault::Failed) => self.faults = self.faults.saturating_add(1),
+            Err(ShelfFault::Missing) => self.missed = self.missed.saturating_add(1),
+            _ => {}
+        }
+        answer
+    }
+}

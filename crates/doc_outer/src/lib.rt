@@ -1,0 +1,22 @@
+//! The world outside: files by name, a byte sink, and stand-ins for both.
+#![tactic(auto)]
+
+mod host_shelf;
+mod host_sink;
+mod mem_shelf;
+mod mem_sink;
+mod plan;
+mod shelf;
+mod sink;
+mod whole;
+
+pub use host_shelf::HostShelf;
+pub use host_sink::HostSink;
+pub use mem_shelf::MemShelf;
+pub use mem_sink::MemSink;
+pub use shelf::{Shelf, ShelfFault};
+pub use sink::{Sink, SinkFailed, write_all};
+pub use whole::{MAX_FILE_LEN, ReadFail, read_whole};
+
+#[cfg(test)]
+mod tests;

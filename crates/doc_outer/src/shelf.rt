@@ -1,0 +1,51 @@
+ghost use Rattle.std.specs.Prelude.{◌≡◌, ◌≤◌, ℕ, length, Option, IfOk, IsErrOf};
+ghost use Rattle.doc_outer.specs.Counts.{Rose, GoesOn};
+ghost use Rattle.doc_outer.specs.Held.{Files, Told, ReadsPart, IsAbsent};
+
+use thiserror::Error;
+
+/// Why a read gives no bytes.
+#[derive(Clone, Copy, Debug, PartialEq, Eq, Error)]
+pub enum ShelfFault {
+    #[error("the name is not there")]
+    Missing,
+    #[error("the read failed")]
+    Failed,
+    #[error("out of memory")]
+    Memory,
+}
+
+/// Files by their names.
+pub trait Shelf {
+    /// What each name holds, where the shelf tells it.
+    ghost held: { Self → Option Files };
+
+    /// How often a call failed.
+    ghost faults: { Self → ℕ };
+
+    /// How often a name was not there.
+    ghost missed: { Self → ℕ };
+
+    /// Reads the bytes of a name from the byte `at` on into the front of the buffer, and answers how
+    /// many. The buffer behind them may hold anything.
+    fn read_at(&mut self, name: &str, at: u64, buf: &mut [u8]) -> Result<usize, ShelfFault>
+        ensures kept { held self.new ≡ held self.old }
+        ensures within { IfOk result (λ count. count ≤ length buf.old) }
+        ensures bytes { IfOk result (λ count.
+            Told (held self.old) name.now (ReadsPart at count buf.new)) }
+        ensures absent { IsErrOf result ShelfFault.Missing
+            → Told (held self.old) name.now IsAbsent }
+
+        // A refusal shows in its own count, and want of memory in none.
+        ensures failed { IsErrOf result ShelfFault.Failed
+            → Rose (faults self.old) (faults self.new) }
+        ensures missing { IsErrOf result ShelfFault.Missing
+            → Rose (missed self.old) (missed self.new) }
+        ensures no_fault { IsErrOf result ShelfFault.Missing → faults self.new ≡ faults self.old }
+        ensures memory { IsErrOf result ShelfFault.Memory
+            → (faults self.new ≡ faults self.old) × (missed self.new ≡ missed self.old) }
+
+        // Counts never fall.
+        ensures faults { GoesOn (faults self.old) (faults self.new) }
+        ensures missed { GoesOn (missed self.old) (missed self.new) };
+}

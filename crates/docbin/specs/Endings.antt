@@ -1,0 +1,81 @@
+-- How a run may end: its status and what it prints. The ways exclude each other.
+use Rattle.std.specs.Prelude.{◌≡◌, ◌⊎◌, ℕ, true, List, Option}
+use Rattle.doc_bits.specs.declared.places.Where.TheVariants.{File}
+use Rattle.doc_bits.specs.Rules.{Rules, Hold}
+use Rattle.doc_bits.specs.Places.{Place, IsFirstPlace, rules_in}
+use Rattle.doc_outer.specs.Held.{Files, Told, IsAbsent, IsWhole}
+use Rattle.cfb_streams.specs.Opening.{opening_rules}
+use Rattle.text_codes.specs.Shown.{shown}
+use Rattle.docbin.specs.declared.request.Action.{Action}
+use Rattle.docbin.specs.declared.request.Action.TheVariants.{Text}
+use Rattle.docbin.specs.Requests.{IsRequest, IsNoCommand}
+use Rattle.docbin.specs.Lines.{usage_line, rule_line, missing_line, not_yet_read_line, shelf_fault_line}
+use Rattle.docbin.specs.PlainFile.{HasPlainText}
+
+-- the rules that an action judges on its file
+abbrev pub judged_rules : Action → List ℕ → Rules Place
+judged_rules Text file = rules_in File (opening_rules file)
+
+-- the file breaks a judged rule, and the line names the first of them at its least place
+pub record IsRefused (rules : Rules Place) (name : List ℕ) (status : ℕ) (text : List ℕ) : Type 0 where
+  pub is_status : status ≡ 1
+  pub rule : ℕ
+  pub place : Place
+  pub first : IsFirstPlace rules rule place
+  pub line : text ≡ rule_line name rule place
+
+-- the main text of a plain document is shown
+pub record ShowsMainText (file : List ℕ) (status : ℕ) (text : List ℕ) : Type 0 where
+  pub is_status : status ≡ 0
+  pub units : List ℕ
+  pub has : HasPlainText file units
+  pub is_text : text ≡ shown true units
+
+-- the file is no plain document, which is all that is read so far
+pub record IsNotYetRead (file name : List ℕ) (status : ℕ) (text : List ℕ) : Type 0 where
+  pub is_status : status ≡ 12
+  pub other : (units : List ℕ) → ¬ (HasPlainText file units)
+  pub line : text ≡ not_yet_read_line name
+
+-- what an action answers on a file whose judged rules hold
+abbrev pub IsAnswer : Action → (file name : List ℕ) → ℕ → List ℕ → Type 0
+IsAnswer Text file name status text = ShowsMainText file status text ⊎ IsNotYetRead file name status text
+
+-- what an action says of a file: the first broken rule, or its answer where all judged rules hold
+abbrev pub IsVerdict : Action → (name file : List ℕ) → ℕ → List ℕ → Type 0
+IsVerdict action name file status text =
+    IsRefused (judged_rules action file) name status text ⊎ (Hold (judged_rules action file) × IsAnswer action file name status text)
+
+-- the file was read whole and judged
+pub record IsJudged (action : Action) (name : List ℕ) (held : Option Files) (status : ℕ) (text : List ℕ) : Type 0 where
+  pub file : List ℕ
+  pub told : Told held name (IsWhole file)
+  pub verdict : IsVerdict action name file status text
+
+-- the name is not there
+pub record IsMissing (name : List ℕ) (held : Option Files) (status : ℕ) (text : List ℕ) : Type 0 where
+  pub is_status : status ≡ 3
+  pub absent : Told held name IsAbsent
+  pub line : text ≡ missing_line name
+
+-- the outside failed
+pub record IsShelfFault (status : ℕ) (text : List ℕ) : Type 0 where
+  pub is_status : status ≡ 4
+  pub line : text ≡ shelf_fault_line
+
+-- the words are no command
+pub record IsUsage (words : List (List ℕ)) (status : ℕ) (text : List ℕ) : Type 0 where
+  pub is_status : status ≡ 2
+  pub none : IsNoCommand words
+  pub line : text ≡ usage_line
+
+-- the words ask an action of a file
+pub record IsServed (words : List (List ℕ)) (held : Option Files) (status : ℕ) (text : List ℕ) : Type 0 where
+  pub action : Action
+  pub name : List ℕ
+  pub asked : IsRequest words action name
+  pub ending : IsJudged action name held status text ⊎ (IsMissing name held status text ⊎ IsShelfFault status text)
+
+-- a run over these words and this shelf may end so
+abbrev pub IsEnding : List (List ℕ) → Option Files → ℕ → List ℕ → Type 0
+IsEnding words held status text = IsUsage words status text ⊎ IsServed words held status text

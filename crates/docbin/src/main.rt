@@ -1,0 +1,45 @@
+//! `docbin`: the program over documents of Word 97.
+#![tactic(auto)]
+
+#[cfg(test)]
+mod hello;
+mod lines;
+mod plain_file;
+mod request;
+mod run;
+#[cfg(test)]
+mod tests;
+
+use crate::run::{STATUS_MEMORY, docbin_run};
+use doc_outer::{HostShelf, HostSink};
+use std::alloc::{AllocError, Global};
+use std::env;
+use std::io::ErrorKind;
+use std::process::ExitCode;
+use std::rt::Env;
+
+fn main(rt: HostRuntime) -> ExitCode {
+    let alloc = rt.alloc();
+    let Ok(words) = words(&rt) else {
+        return ExitCode::from(STATUS_MEMORY);
+    };
+    let mut shelf = HostShelf::new(alloc, &rt);
+    let mut out = HostSink::new(&rt);
+    let status = docbin_run(alloc, &words, &mut shelf, &mut out);
+    ExitCode::from(status)
+}
+
+/// The words after the program's name. Words that are no UTF-8 are no command, as no words are.
+fn words<R: Env + AllocGlobal>(rt: &R) -> Result<Vec<String>, AllocError> {
+    let mut words = Vec::new(rt.alloc());
+    match env::args(rt) {
+        Ok(args) => {
+            for word in args.skip(1) {
+                words.push(word)?;
+            }
+        }
+        Err(error) if error.kind() == ErrorKind::OutOfMemory => return Err(AllocError),
+        Err(_) => {}
+    }
+    Ok(words)
+}

@@ -1,0 +1,168 @@
+// One run of the program: what it prints is made first, and then put.
+ghost use Rattle.std.specs.Prelude.{◌≡◌, ◌≢◌, ℕ, List, map, IfOk};
+ghost use Rattle.std.specs.String.{string_bytes};
+ghost use Rattle.doc_bits.specs.Rules.{Hold};
+ghost use Rattle.doc_outer.specs.Counts.{Rose};
+ghost use Rattle.cfb_streams.specs.Opening.{opening_rules};
+ghost use Rattle.doc_outer.specs.Written.{Appends, AppendsPrefix};
+ghost use Rattle.docbin.specs.Endings.{IsEnding, IsVerdict, IsAnswer};
+
+use crate::lines::{missing_line, not_yet_read_line, rule_line, shelf_fault_line, usage_line};
+use crate::plain_file::plain_text;
+use crate::request::{Action, Request, request_of};
+use cfb_streams::opening_fault;
+use doc_bits::{Memory, Text, Where};
+use doc_outer::{MAX_FILE_LEN, ReadFail, Shelf, Sink, read_whole, write_all};
+use std::alloc::Global;
+
+/// The statuses of a run.
+pub const STATUS_DONE: u8 = 0;
+
+pub const STATUS_REFUSED: u8 = 1;
+
+pub const STATUS_USAGE: u8 = 2;
+
+pub const STATUS_MISSING: u8 = 3;
+
+pub const STATUS_SHELF_FAULT: u8 = 4;
+
+pub const STATUS_SINK_FAULT: u8 = 5;
+
+pub const STATUS_MEMORY: u8 = 6;
+
+pub const STATUS_NOT_YET_READ: u8 = 12;
+
+const RULE_LENGTH: u8 = 1;
+
+/// How a run ends where the sink takes all: its status and what is printed.
+#[derive(Drop)]
+struct Ending {
+    status: u8,
+    text: Text,
+}
+
+/// Runs the words of a command over the files of a shelf, and answers the status.
+pub fn docbin_run<S: Shelf, K: Sink>(
+    alloc: Global,
+    words: &[String],
+    shelf: &mut S,
+    out: &mut K,
+) -> u8
+    // The shelf stays as it was.
+    ensures kept { S.held shelf.new ≡ S.held shelf.old }
+
+    // What is printed is the text of one of the ways to end, which the words and the shelf decide.
+    ensures ending { result ≢ STATUS_SINK_FAULT → result ≢ STATUS_MEMORY → (text : List ℕ)
+        × IsEnding (map string_bytes words.now) (S.held shelf.old) result text
+        × Appends (K.written out.old) (K.written out.new) text }
+
+    // A status for what failed outside shows in a count of this run.
+    ensures missing { result ≡ STATUS_MISSING → Rose (S.missed shelf.old) (S.missed shelf.new) }
+    ensures shelf_fault { result ≡ STATUS_SHELF_FAULT → Rose (S.faults shelf.old) (S.faults shelf.new) }
+    ensures sink_fault { result ≡ STATUS_SINK_FAULT → Rose (K.faults out.old) (K.faults out.new) }
+
+    // A sink that fails has taken a prefix of such a text; without memory nothing is put.
+    ensures prefix { result ≡ STATUS_SINK_FAULT → (status : ℕ) × (text : List ℕ)
+        × IsEnding (map string_bytes words.now) (S.held shelf.old) status text
+        × AppendsPrefix (K.written out.old) (K.written out.new) text }
+    ensures nothing { result ≡ STATUS_MEMORY → K.written out.new ≡ K.written out.old }
+{
+    let Ok(ending) = ending_of(alloc, words, shelf) else {
+        return STATUS_MEMORY;
+    };
+    match write_all(out, ending.text.as_str().as_bytes()) {
+        Ok(()) => ending.status,
+        Err(_) => STATUS_SINK_FAULT,
+    }
+}
+
+/// The ending of a run, before anything is printed.
+fn ending_of<S: Shelf>(alloc: Global, words: &[String], shelf: &mut S) -> Result<Ending, Memory>
+    ensures kept { S.held shelf.new ≡ S.held shelf.old }
+    ensures ending { IfOk result (λ e. IsEnding (map string_bytes words.now) (S.held shelf.old) e.status e.text) }
+    ensures status { IfOk result (λ e. (e.status ≢ STATUS_SINK_FAULT) × (e.status ≢ STATUS_MEMORY)) }
+    ensures missing { IfOk result (λ e. e.status ≡ STATUS_MISSING → Rose (S.missed shelf.old) (S.missed shelf.new)) }
+    ensures fault { IfOk result (λ e. e.status ≡ STATUS_SHELF_FAULT → Rose (S.faults shelf.old) (S.faults shelf.new)) }
+{
+    let Some(request) = request_of(words) else {
+        let text = usage_line(alloc)?;
+        return Ok(Ending {
+            status: STATUS_USAGE,
+            text,
+        });
+    };
+    let name = request.name;
+    match read_whole(alloc, shelf, name) {
+        Ok(file) => {
+            let ending = judged(alloc, request.action, name, file.as_slice())?;
+            Ok(ending)
+        }
+        Err(ReadFail::TooLong) => {
+            let text = rule_line(
+                alloc,
+                name,
+                RULE_LENGTH,
+                Where::File,
+                MAX_FILE_LEN as u32 + 1,
+            )?;
+            Ok(Ending {
+                status: STATUS_REFUSED,
+                text,
+            })
+        }
+        Err(ReadFail::Missing) => {
+            let text = missing_line(alloc, name)?;
+            Ok(Ending {
+                status: STATUS_MISSING,
+                text,
+            })
+        }
+        Err(ReadFail::Failed) => {
+            let text = shelf_fault_line(alloc)?;
+            Ok(Ending {
+                status: STATUS_SHELF_FAULT,
+                text,
+            })
+        }
+        Err(ReadFail::Memory) => Err(Memory),
+    }
+}
+
+/// The ending of an action on a file that was read whole.
+fn judged(alloc: Global, action: Action, name: &str, file: &[u8]) -> Result<Ending, Memory>
+    ensures { IfOk result (λ e. IsVerdict action name.now file.now e.status e.text) }
+{
+    if let Some(broken) = opening_fault(file) {
+        let text = rule_line(alloc, name, broken.rule, Where::File, broken.offset)?;
+        return Ok(Ending {
+            status: STATUS_REFUSED,
+            text,
+        });
+    }
+    match action {
+        Action::Text => {
+            let ending = main_text(alloc, name, file)?;
+            Ok(ending)
+        }
+    }
+}
+
+/// The ending of a file whose rules hold, where its main text is asked for.
+fn main_text(alloc: Global, name: &str, file: &[u8]) -> Result<Ending, Memory>
+    requires { Hold (opening_rules file.now) }
+    ensures { IfOk result (λ e. IsAnswer Action.Text file.now name.now e.status e.text) }
+{
+    match plain_text(alloc, file)? {
+        Some(text) => Ok(Ending {
+            status: STATUS_DONE,
+            text,
+        }),
+        None => {
+            let text = not_yet_read_line(alloc, name)?;
+            Ok(Ending {
+                status: STATUS_NOT_YET_READ,
+                text,
+            })
+        }
+    }
+}

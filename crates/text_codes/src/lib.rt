@@ -1,0 +1,13 @@
+//! Text units of Word: the bytes of compressed text, the units that end a paragraph, and the text that is shown.
+#![tactic(auto)]
+
+mod compressed;
+mod paragraph;
+mod showing;
+
+pub use compressed::unit_of_byte;
+pub use paragraph::{CELL_MARK, PARAGRAPH_MARK, SECTION_MARK, ends_paragraph};
+pub use showing::{ShownText, show_units};
+
+#[cfg(test)]
+mod tests;

@@ -1,0 +1,157 @@
+// The text that is shown for units. A surrogate pair is one character, so each unit waits for the next one.
+ghost use Rattle.std.specs.Prelude.{◌≡◌, ◌<◌, ◌++◌, ◌⊎◌, ◌↔◌, List, ℕ, [], ◌∷◌, length, Bool, true, false, IfOk, OnOk, OnErr, IfSome, MatchOption, IsTrue, encode_utf8};
+ghost use Rattle.std.specs.String.{string_bytes};
+ghost use Rattle.text_codes.specs.Shown.{Showing, shown, shown_alone, completed, escape, hex_digit, is_pair, pair_code, is_escaped};
+
+use doc_bits::{Memory, Text};
+use std::alloc::Global;
+use std::marker::Model;
+use std::str;
+
+const LINE_FEED: char = '\n';
+
+/// A shown text that is not finished: more units may follow.
+#[derive(Drop)]
+pub struct ShownText {
+    lines: bool,
+    text: String,
+    waiting: Option<u16>,
+}
+
+impl Model for ShownText {
+    ghost use Rattle.std.specs.Prelude.{option_to_list};
+    ghost use Rattle.std.specs.String.{string_bytes};
+    ghost use Rattle.text_codes.specs.Shown.{Showing};
+
+    ghost Value = { Showing };
+
+    ghost view = { λ s. record { lines = s.lines; text = string_bytes s.text; waiting = option_to_list s.waiting } };
+}
+
+impl ShownText {
+    /// A text of no units. With `lines` a paragraph mark is shown as a line feed.
+    pub fn new(alloc: Global, lines: bool) -> ShownText
+        ensures { (units : List ℕ) → completed result units ≡ shown lines units }
+    {
+        ShownText {
+            lines,
+            text: String::new(alloc),
+            waiting: None,
+        }
+    }
+
+    /// Adds a unit: what is completed by the units after it was completed by it and them.
+    pub fn push(&mut self, unit: u16) -> Result<(), Memory>
+        ensures ok { OnOk result ((units : List ℕ) → completed self.new units ≡ completed self.old (unit ∷ units)) }
+        ensures err { OnErr result (self.new ≡ self.old) }
+    {
+        let Some(first) = self.waiting else {
+            self.waiting = Some(unit);
+            return Ok(());
+        };
+        if let Some(character) = pair(first, unit) {
+            self.text.push(character)?;
+            self.waiting = None;
+            return Ok(());
+        }
+        push_alone(&mut self.text, self.lines, first)?;
+        self.waiting = Some(unit);
+        Ok(())
+    }
+
+    /// The whole text, when no unit follows.
+    pub fn finish(self) -> Result<Text, Memory>
+        ensures { IfOk result (λ text. text ≡ completed self []) }
+    {
+        let ShownText {
+            lines,
+            mut text,
+            waiting,
+        } = self;
+        let Some(last) = waiting else {
+            return Ok(Text::from_string(text));
+        };
+        push_alone(&mut text, lines, last)?;
+        Ok(Text::from_string(text))
+    }
+}
+
+/// The shown text of units.
+pub fn show_units(alloc: Global, units: &[u16]) -> Result<Text, Memory>
+    ensures { IfOk result (λ text. text ≡ shown false units.now) }
+{
+    let mut text = ShownText::new(alloc, false);
+    for unit in units {
+        text.push(*unit)?;
+    }
+    text.finish()
+}
+
+/// The character of a surrogate pair, where the two units are one.
+fn pair(first: u16, second: u16) -> Option<char>
+    ensures { MatchOption result
+        (is_pair first second ≡ false)
+        (λ character. (is_pair first second ≡ true) × (character ≡ pair_code first second)) }
+{
+    if first >= 0xD800 && first < 0xDC00 && second >= 0xDC00 && second < 0xE000 {
+        let high = (first - 0xD800) as u32;
+        let low = (second - 0xDC00) as u32;
+        Some(char::from_u32(0x10000 + high * 0x400 + low).unwrap())
+    } else {
+        None
+    }
+}
+
+/// Appends a unit that is in no pair.
+fn push_alone(text: &mut String, lines: bool, unit: u16) -> Result<(), Memory>
+    ensures ok { OnOk result (string_bytes text.new ≡ string_bytes text.old ++ shown_alone lines unit) }
+    ensures err { OnErr result (string_bytes text.new ≡ string_bytes text.old) }
+{
+    if escapes(unit) {
+        if lines && unit == 0x0D {
+            text.push(LINE_FEED)?;
+        } else {
+            push_escape(text, unit)?;
+        }
+    } else {
+        text.push(char::from_u32(unit as u32).unwrap())?;
+    }
+    Ok(())
+}
+
+/// Whether a unit alone is shown by its number.
+fn escapes(unit: u16) -> bool
+    ensures { result ≡ is_escaped unit }
+{
+    unit < 0x20 || unit == 0x5C || (unit >= 0xD800 && unit < 0xE000)
+}
+
+/// Appends a reverse solidus, the letter u and the four digits of a unit.
+fn push_escape(text: &mut String, unit: u16) -> Result<(), Memory>
+    ensures ok { OnOk result (string_bytes text.new ≡ string_bytes text.old ++ escape unit) }
+    ensures err { OnErr result (string_bytes text.new ≡ string_bytes text.old) }
+{
+    let digits = [
+        b'\\',
+        b'u',
+        digit(unit / 0x1000),
+        digit(unit / 0x100 % 16),
+        digit(unit / 0x10 % 16),
+        digit(unit % 16),
+    ];
+    text.push_str(str::from_utf8(&digits).unwrap())?;
+    Ok(())
+}
+
+/// The lower-case hexadecimal digit of a number below 16.
+fn digit(number: u16) -> u8
+    requires { number < 16 }
+    ensures value { result ≡ hex_digit number }
+    ensures ascii { result < 128 }
+{
+    if number < 10 {
+        b'0' + number as u8
+    } else {
+        b'a' + (number as u8 - 10)
+    }
+}
