@@ -1,6 +1,6 @@
 -- Paths and chains of sectors: the walk's step, its length, and that there is one path from a start.
-use Rattle.std.proofs.Common.{◌≡◌, ◌≢◌, ◌⊎◌, inl, inr, ℕ, ◌+◌, ◌-◌, ◌<◌, ◌≤◌, zero, suc, List, [], ◌∷◌, ◌++◌, length, get_or, slice_index, eqb, refl, sym, ◌∙◌, ap, subst, arith, length-append}
-use Rattle.std.proofs.Common.{Bool, true, false, set, add-one}
+use Rattle.std.proofs.Common.{◌≡◌, ◌≢◌, inl, inr, ℕ, ◌+◌, ◌-◌, ◌<◌, ◌≤◌, zero, suc, List, [], ◌∷◌, ◌++◌, length, get_or, slice_index, eqb, refl, sym, ◌∙◌, ap, subst, arith, length-append}
+use Rattle.std.proofs.Common.{false, set}
 use Rattle.std.proofs.lemmas.Bool.{cases_lt, cases_eq, ne_eqb, false≢true}
 use Rattle.std.proofs.lemmas.List.{get_or_append_left, get_or-set_same, get_or-set_other, ext_get_or}
 use Rattle.std.proofs.lemmas.List.Folds.{list_any_none}
@@ -8,7 +8,6 @@ use Rattle.std.proofs.lemmas.List.Elements.{All-from_get_or}
 use Rattle.std.proofs.lemmas.Grind.{get_or_default_zero}
 use Rattle.std.proofs.lemmas.Map.Keys.{IsDistinct-from_apart}
 use Rattle.std.proofs.lemmas.Map.Steps.{length-le_from_distinct_below}
-use Rattle.std.specs.List.{list_any}
 use Rattle.std.proofs.Math.Seq.{get_or-append_seam}
 use Rattle.cfb_streams.specs.SectorChain.{HasSector, IsSectorPath, IsSectorChain, IsFullPath, last_of, end_of_chain}
 
@@ -69,9 +68,9 @@ pub length_below : (xs : List ℕ) (n : ℕ) → ((i : ℕ) → i < length xs �
 length_below xs n within distinct =
     length-le_from_distinct_below xs n
     (IsDistinct-from_apart eqb xs (λ i j d h below.
-      let a = get_or_default_zero xs i d (omega arith) in
-      let b = get_or_default_zero xs j d below in
-      ne_eqb (get_or xs i d) (get_or xs j d) (λ e. distinct i j h below (sym a ∙ (e ∙ b)))))
+    let a = get_or_default_zero xs i d (omega arith) in
+    let b = get_or_default_zero xs j d below in
+    ne_eqb (get_or xs i d) (get_or xs j d) (λ e. distinct i j h below (sym a ∙ (e ∙ b)))))
     (λ q any. elim (cases_lt q n) [
       | inl low ↦ low
       | inr high ↦ absurd (false≢true (sym (list_any_none (eqb q) xs (All-from_get_or (λ x. eqb q x ≡ false) xs 0 (λ i h. let low = within i h in ne_eqb q (get_or xs i 0) (λ e. absurd (omega arith))))) ∙ any))
@@ -127,11 +126,11 @@ full_longest entry valid start xs ys f q = elim (cases_lt (length xs) (length ys
       let last : slice_index ys (length xs - 1) ≡ last_of xs = sym (paths_agree entry valid start xs ys f.path q (length xs - 1) (omega arith) (omega arith)) in
       let place : length xs - 1 + 1 ≡ length xs = omega arith in
       let next : entry (last_of xs) ≡ slice_index ys (length xs) =
-        sym (ap entry last) ∙ (q.links (length xs - 1) (omega arith) ∙ ap (λ k. slice_index ys k) place) in
+      sym (ap entry last) ∙ (q.links (length xs - 1) (omega arith) ∙ ap (λ k. slice_index ys k) place) in
       absurd (elim f.stops [
         | inl out ↦ let low = q.within (length xs) h in absurd (omega arith)
         | inr again ↦ q.distinct again.index (length xs) again.inside h
-          (sym (paths_agree entry valid start xs ys f.path q again.index again.inside (let a = again.inside in omega arith)) ∙ (again.here ∙ next))
+            (sym (paths_agree entry valid start xs ys f.path q again.index again.inside (let a = again.inside in omega arith)) ∙ (again.here ∙ next))
       ])
 ]
 

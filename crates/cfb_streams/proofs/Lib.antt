@@ -1,3 +1,13 @@
 pub mod ChainLemmas
 pub mod StreamLemmas
-pub mod PlainLemmas
+pub mod JudgeLemmas
+pub mod ReachLemmas
+pub mod LinkLemmas
+pub mod TableLemmas
+pub mod SharingLemmas
+pub mod OrderLemmas
+pub mod ContentLemmas
+pub mod FatLemmas
+pub mod LoadLemmas
+pub mod SingleLemmas
+pub mod UniqueLemmas

@@ -1,5 +1,5 @@
 -- The sectors of a chain, joined and cut.
-use Rattle.std.proofs.Common.{◌≡◌, ℕ, zero, suc, ◌+◌, ◌-◌, ◌*◌, ◌<◌, ◌≤◌, min, List, [], ◌∷◌, ◌++◌, length, take, drop, get_or, slice_index, inl, inr, refl, sym, ◌∙◌, ap, subst, arith, length-append, length-take, length-drop}
+use Rattle.std.proofs.Common.{◌≡◌, ℕ, zero, suc, ◌+◌, ◌-◌, ◌*◌, ◌<◌, ◌≤◌, min, List, [], ◌∷◌, ◌++◌, length, take, drop, slice_index, inl, inr, refl, sym, ◌∙◌, ap, subst, arith, length-append, length-take, length-drop}
 use Rattle.std.proofs.lemmas.Bool.{cases_lt}
 use Rattle.std.proofs.lemmas.List.{take_more, take_all, take-take, take-append-le, append-nil}
 use Rattle.std.proofs.lemmas.Grind.{flat_map-append}
@@ -54,7 +54,18 @@ join_step base unit bytes chain size i left joined part h inside j l p =
     let len : length (flat_map f (take i chain)) ≡ i * unit = length-joined f unit chain i (omega arith) (λ k low. length-sector base unit bytes (slice_index chain k) (inside k (omega arith))) in
     let more = take_more chain i 0 h in
     let cut : take (size - i * unit) (f (slice_index chain i)) ≡ part =
-      (let width : from + unit - from ≡ unit = omega arith in
-       let part_width : from + min left unit - from ≡ min (size - i * unit) unit = omega arith in
-       ap (λ k. take (size - i * unit) (take k (drop from bytes))) width ∙ (take-take_min (size - i * unit) unit (drop from bytes) ∙ (ap (λ k. take k (drop from bytes)) (sym part_width) ∙ sym p))) in
+    (let width : from + unit - from ≡ unit = omega arith in
+    let part_width : from + min left unit - from ≡ min (size - i * unit) unit = omega arith in
+    ap (λ k. take (size - i * unit) (take k (drop from bytes))) width ∙ (take-take_min (size - i * unit) unit (drop from bytes) ∙ (ap (λ k. take k (drop from bytes)) (sym part_width) ∙ sym p))) in
     sym (rw (more, flat_map-append f (take i chain) (slice_index chain i ∷ []), append-nil (f (slice_index chain i)), take-append size (flat_map f (take i chain)) (f (slice_index chain i)), len, cut) (ap (λ zs. zs ++ part) (sym j)))
+
+-- all sectors of a list, in a row
+pub length_all : (f : ℕ → List ℕ) (unit : ℕ) (chain : List ℕ) → ((k : ℕ) → k < length chain → length (f (slice_index chain k)) ≡ unit) → length (flat_map f chain) ≡ length chain * unit
+length_all f unit chain each =
+    ap (λ xs. length (flat_map f xs)) (sym (take_all (length chain) chain (omega arith))) ∙ length-joined f unit chain (length chain) (omega arith) each
+
+-- so many bytes the sectors give, cut to the size
+pub length-cut : (base unit : ℕ) (bytes chain joined : List ℕ) (size : ℕ) → ((i : ℕ) → i < length chain → base + slice_index chain i * unit + unit ≤ length bytes) → joined ≡ take size (flat_map (sector_bytes base unit bytes) chain) → length joined ≡ min size (length chain * unit)
+length-cut base unit bytes chain joined size inside e =
+    let all = length_all (sector_bytes base unit bytes) unit chain (λ k h. length-sector base unit bytes (slice_index chain k) (inside k h)) in
+    ap length e ∙ (length-take size (flat_map (sector_bytes base unit bytes) chain) ∙ ap (λ n. min size n) all)

@@ -1,6 +1,7 @@
 -- [MS-CFB] Compound File Header of version 3, by the offsets of its fields, and the FAT that it names. Sector n stands
 -- at offset (n + 1) * 512 of the file.
-use Rattle.std.specs.Prelude.{ℕ, ◌+◌, ◌-◌, ◌*◌, ◌/◌, ◌%◌, min, List, length, slice_range}
+use Rattle.std.specs.Prelude.{ℕ, ◌+◌, ◌-◌, ◌*◌, ◌/◌, ◌%◌, min, map, List, length, slice_range}
+use Rattle.std.specs.List.{range_with_len}
 use Rattle.doc_bits.specs.Number.{u32_at}
 
 -- how many sectors stand after the header
@@ -15,13 +16,13 @@ fat_sector_count file = u32_at file 44
 abbrev pub fat_sector : List ℕ → ℕ → ℕ
 fat_sector file k = u32_at file (76 + 4 * k)
 
--- where the FAT entry of a sector stands
-abbrev pub fat_place : List ℕ → ℕ → ℕ
-fat_place file sector = (fat_sector file (sector / 128) + 1) * 512 + 4 * (sector % 128)
+-- a table of 32-bit entries that stands in sectors, 128 of them in each: where entry s stands
+abbrev pub table_place : (ℕ → ℕ) → ℕ → ℕ
+table_place sector_of s = (sector_of (s / 128) + 1) * 512 + 4 * (s % 128)
 
--- the FAT entry of a sector
-unfoldable pub fat_entry : List ℕ → ℕ → ℕ
-fat_entry file sector = u32_at file (fat_place file sector)
+-- the numbers of the FAT sectors
+unfoldable pub fat_sectors : List ℕ → List ℕ
+fat_sectors file = map (fat_sector file) (range_with_len 0 (fat_sector_count file))
 
 -- Profile: the sector numbers below it are valid; they are in the file and have a FAT entry
 abbrev pub valid_below : List ℕ → ℕ

@@ -22,3 +22,9 @@ pub record BreaksSignature (file : List ℕ) (place : ℕ) : Type 0 where
 
 abbrev pub opening_rules : List ℕ → Rules ℕ
 opening_rules file = rule 1 (BreaksLength file) then rule 2 (BreaksSignature file)
+
+-- a file whose length is right
+pub record IsWhole (file : List ℕ) : Type 0 where
+  pub sectors : length file % 512 ≡ 0
+  pub least : 1536 ≤ length file
+  pub most : length file ≤ 7143936

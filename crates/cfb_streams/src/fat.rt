@@ -1,7 +1,10 @@
-// [MS-CFB] The FAT: an entry a sector, 128 of them in each FAT sector.
-ghost use Rattle.std.specs.Prelude.{◌≡◌, ℕ, ◌+◌, ◌*◌, ◌/◌, ◌<◌, ◌≤◌, length, slice_index, IfOk};
+// [MS-CFB] The FAT and the mini FAT: tables of 32-bit entries that stand in sectors, 128 of them in each.
+ghost use Rattle.std.specs.Prelude.{◌≡◌, ℕ, ◌+◌, ◌*◌, ◌/◌, ◌%◌, ◌<◌, ◌≤◌, ◌↔◌, IsTrue, length, slice_index, IfOk};
 ghost use Rattle.doc_bits.specs.Number.{u32_at};
-ghost use Rattle.cfb_streams.specs.Header.{fat_sector, fat_sector_count, fat_place as place_of, fat_entry, sector_count};
+ghost use Rattle.doc_bits.specs.Rules.{LeastOrNone};
+ghost use Rattle.cfb_streams.specs.Header.{fat_sector, fat_sector_count, fat_sectors, table_place as place_of, valid_below, sector_count};
+ghost use Rattle.cfb_streams.specs.HeaderRules.{BreaksFat, IsListedBefore};
+ghost use Rattle.cfb_streams.specs.Chain.{AreSectorsOf, IsTable};
 
 use crate::opening::SECTOR_LEN;
 use doc_bits::{Memory, get32};
@@ -9,34 +12,90 @@ use std::alloc::Global;
 
 /// Where the header has the number of FAT sectors, and the first of their numbers.
 pub const FAT_COUNT: usize = 44;
+
 pub const FAT_SECTORS: usize = 76;
 
-/// The entries of a FAT sector.
-pub const FAT_LEN: usize = 128;
+/// The most FAT sectors that the header names.
+const MAX_FAT_SECTORS: usize = 109;
 
-/// Where the FAT entry of a sector stands, in bytes from the start of the file.
-pub fn fat_place(file: &[u8], sector: usize) -> usize
-    requires header { 512 ≤ length file.now }
-    requires in_header { sector < 128 * 109 }
-    ensures { result ≡ place_of file.now sector }
+/// The entries of one sector of a table.
+pub const TABLE_LEN: usize = 128;
+
+/// The number below which the sectors of the file are valid.
+pub fn valid_sectors(file: &[u8]) -> usize
+    requires { 512 ≤ length file.now }
+    ensures { result ≡ valid_below file.now }
 {
-    let number = get32(file, FAT_SECTORS + 4 * (sector / FAT_LEN));
-    (number as usize + 1) * SECTOR_LEN + 4 * (sector % FAT_LEN)
+    let fat = TABLE_LEN * get32(file, FAT_COUNT) as usize;
+    (file.len() / SECTOR_LEN - 1).min(fat)
 }
 
-/// The entries of all FAT sectors, each of which is in the file.
-pub fn read_fat(alloc: Global, file: &[u8]) -> Result<Vec<u32>, Memory>
+/// The least place at which the header's FAT sectors are wrong.
+pub fn wrong_fat(file: &[u8]) -> Option<u32>
+    requires { 512 ≤ length file.now }
+    ensures { LeastOrNone (BreaksFat file.now) result }
+{
+    let count = get32(file, FAT_COUNT) as usize;
+    if count == 0 || count > MAX_FAT_SECTORS {
+        return Some(FAT_COUNT as u32);
+    }
+    let valid = valid_sectors(file);
+    for k in 0..count {
+        let number = get32(file, FAT_SECTORS + 4 * k) as usize;
+        if number >= valid || is_listed_before(file, k) {
+            return Some((FAT_SECTORS + 4 * k) as u32);
+        }
+    }
+    None
+}
+
+/// Whether the number of FAT sector `k` is there already.
+fn is_listed_before(file: &[u8], k: usize) -> bool
+    requires header { 512 ≤ length file.now }
+    requires in_header { k < 109 }
+    ensures { IsTrue result ↔ IsListedBefore file.now k }
+{
+    let number = get32(file, FAT_SECTORS + 4 * k);
+    for j in 0..k {
+        if get32(file, FAT_SECTORS + 4 * j) == number {
+            return true;
+        }
+    }
+    false
+}
+
+/// The numbers of the FAT sectors.
+pub fn read_fat_sectors(alloc: Global, file: &[u8]) -> Result<Vec<u32>, Memory>
     requires header { 512 ≤ length file.now }
     requires few { fat_sector_count file.now ≤ 109 }
-    requires inside { (k : ℕ) → k < fat_sector_count file.now → fat_sector file.now k < sector_count file.now }
-    ensures len { IfOk result (λ fat. length fat.items ≡ 128 * fat_sector_count file.now) }
-    ensures entries { IfOk result (λ fat. (s : ℕ) → s < 128 * fat_sector_count file.now → slice_index fat.items s ≡ fat_entry file.now s) }
+    ensures { IfOk result (λ sectors. sectors.items ≡ fat_sectors file.now) }
 {
-    let count = FAT_LEN * get32(file, FAT_COUNT) as usize;
-    let mut fat = Vec::with_capacity(alloc, count)?;
-    for sector in 0..count {
-        let place = fat_place(file, sector);
-        fat.push(get32(file, place))?;
+    let count = get32(file, FAT_COUNT) as usize;
+    let mut sectors = Vec::with_capacity(alloc, count)?;
+    for k in 0..count {
+        sectors.push(get32(file, FAT_SECTORS + 4 * k))?;
     }
-    Ok(fat)
+    Ok(sectors)
+}
+
+/// Where entry `s` of a table stands, in bytes from the start of the file.
+pub fn table_place(sectors: &[u32], s: usize) -> usize
+    requires { s < 128 * length sectors.now }
+    ensures { result ≡ place_of (λ k. slice_index sectors.now k) s }
+{
+    (sectors[s / TABLE_LEN] as usize + 1) * SECTOR_LEN + 4 * (s % TABLE_LEN)
+}
+
+/// The entries of the table that stands in these sectors.
+pub fn read_table(alloc: Global, file: &[u8], sectors: &[u32]) -> Result<Vec<u32>, Memory>
+    requires { AreSectorsOf file.now sectors.now }
+    ensures { IfOk result (λ entries. IsTable file.now sectors.now entries.items) }
+{
+    let count = TABLE_LEN * sectors.len();
+    let mut entries = Vec::with_capacity(alloc, count)?;
+    for s in 0..count {
+        let place = table_place(sectors, s);
+        entries.push(get32(file, place))?;
+    }
+    Ok(entries)
 }

@@ -2,18 +2,28 @@
 #![tactic(auto)]
 
 mod chain;
+mod container;
+mod contents;
 mod directory;
 mod fat;
+mod faults;
+mod header;
+mod judge;
+mod laws;
+mod links;
+mod list;
+mod load;
+mod names;
 mod opening;
-mod plain;
+mod order;
+mod sharing;
 mod stream;
+mod streams;
 
-pub use chain::walk;
-pub use directory::{has_name, upper};
-pub use fat::{fat_place, read_fat};
-pub use opening::{BrokenRule, opening_fault};
-pub use plain::plain_stream;
-pub use stream::join;
+pub use container::Container;
+pub use faults::CfbFault;
+pub use laws::{contents_are_one, first_is_least, hold_or_first};
+pub use list::Streams;
 
 #[cfg(test)]
 mod tests;

@@ -16,6 +16,7 @@ const MIN_LEN: usize = 1_536;
 const MAX_LEN: usize = 7_143_936;
 
 const RULE_LENGTH: u8 = 1;
+
 const RULE_SIGNATURE: u8 = 2;
 
 /// A broken rule, and its place in bytes from the start of the file.

@@ -1,30 +1,25 @@
 -- How the ways to end come about.
-use Rattle.std.proofs.Common.{◌≡◌, ◌⊎◌, inl, inr, ℕ, ◌+◌, ◌<◌, ◌≤◌, min, List, Option, Some, None, length, replicate, refl, arith}
+use Rattle.std.proofs.Common.{◌≡◌, inl, inr, ℕ, ◌+◌, ◌<◌, List, Option, Some, None, length, replicate, refl, arith}
 use Rattle.std.proofs.lemmas.List.{length-replicate}
 use Rattle.doc_bits.specs.declared.places.Where.TheVariants.{File}
-use Rattle.doc_bits.specs.Rules.{Hold, IsFirst}
-use Rattle.doc_bits.proofs.RuleLemmas.{hold_in, first_in}
+use Rattle.doc_bits.specs.Rules.{Rules, IsFirst}
+use Rattle.doc_bits.specs.Places.{Place, IsFirstPlace}
+use Rattle.doc_bits.proofs.RuleLemmas.{first_in}
 use Rattle.doc_outer.specs.Held.{Files, Told, IsLonger, IsWhole, file_at}
-use Rattle.cfb_streams.specs.Opening.{opening_rules}
+use Rattle.cfb_streams.specs.Container.{container_rules}
 use Rattle.docbin.specs.declared.request.Action.{Action}
-use Rattle.docbin.specs.declared.request.Action.TheVariants.{Text}
+use Rattle.docbin.specs.declared.request.Action.TheVariants.{Text, Streams}
+use Rattle.docbin.specs.declared.refusal.Refusal.{Refusal}
+use Rattle.docbin.specs.declared.refusal.Refusal.TheVariants.{Rule, Memory}
 use Rattle.docbin.specs.Lines.{rule_line}
-use Rattle.docbin.specs.Endings.{IsVerdict, IsAnswer, IsJudged}
+use Rattle.docbin.specs.Refusals.{IsRefusal}
+use Rattle.docbin.specs.Endings.{judged_rules, IsRefused, NamesRule, IsJudged}
 
--- the first broken rule is named
-pub verdict-refused : (action : Action) (name file text : List ℕ) (r p : ℕ) → IsFirst (opening_rules file) r p → text ≡ rule_line name r (File, p) → IsVerdict action name file 1 text
-verdict-refused Text name file text r p first line =
-    inl (record {
-      is_status = refl;
-      rule = r;
-      place = (File, p);
-      first = first_in File (opening_rules file) r p first;
-      line = line;
-    })
-
--- where the judged rules hold, an action answers
-pub verdict-answer : (action : Action) (name file text : List ℕ) (status : ℕ) → Hold (opening_rules file) → IsAnswer Text file name status text → IsVerdict action name file status text
-verdict-answer Text name file text status holds answer = inr (hold_in File (opening_rules file) holds, answer)
+-- the line of a refusal names the first broken rule
+pub names-refused : (rules : Rules Place) (refusal : Refusal) (name text : List ℕ) (status : ℕ) → IsRefusal rules refusal → NamesRule refusal name status text → IsRefused rules name status text
+names-refused rules (Rule number part offset) name text status first named =
+    record { is_status = named.0; rule = number; place = (part, offset); first = first; line = named.1 }
+names-refused rules Memory name text status first named = absurd named
 
 -- a list of any length
 some_bytes : (n : ℕ) → (file : List ℕ) × (length file ≡ n)
@@ -44,15 +39,20 @@ told_longer n None name h =
 told_longer n (Some files) name h = longer_is_there n (file_at files name) h
 
 -- a file that is too long breaks rule 1
-long_breaks : (file : List ℕ) → 7143936 < length file → IsFirst (opening_rules file) 1 7143937
+long_breaks : (file : List ℕ) → 7143936 < length file → IsFirst (container_rules file) 1 7143937
 long_breaks file h =
-    inl (
+    inl (inl (
       refl,
       record {
         broken = record { here = omega arith; wrong = inr (inr h) };
         least = λ p b. let here = b.here in omega arith;
       },
-    )
+    ))
+
+-- which every action judges first
+long_judged : (action : Action) (file : List ℕ) → 7143936 < length file → IsFirstPlace (judged_rules action file) 1 (File, 7143937)
+long_judged Text file h = inl (first_in File (container_rules file) 1 7143937 (long_breaks file h))
+long_judged Streams file h = first_in File (container_rules file) 1 7143937 (long_breaks file h)
 
 -- so it is judged by that rule
 pub judged-too_long : (action : Action) (held : Option Files) (name text : List ℕ) → Told held name (IsLonger 7143936) → text ≡ rule_line name 1 (File, 7143937) → IsJudged action name held 1 text
@@ -61,5 +61,5 @@ judged-too_long action held name text h line =
     record {
       file = it.0;
       told = it.1.0;
-      verdict = verdict-refused action name it.0 text 1 7143937 (long_breaks it.0 it.1.1) line;
+      verdict = inl (record { is_status = refl; rule = 1; place = (File, 7143937); first = long_judged action it.0 it.1.1; line = line });
     }

@@ -1,2 +1,7 @@
 pub mod EndingLemmas
-pub mod PlainFileLemmas
+pub mod PieceLemmas
+pub mod RunLemmas
+pub mod TableLemmas
+pub mod ContentsLemmas
+pub mod RefusalLemmas
+pub mod ListingLemmas

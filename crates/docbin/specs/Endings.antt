@@ -1,20 +1,24 @@
 -- How a run may end: its status and what it prints. The ways exclude each other.
-use Rattle.std.specs.Prelude.{◌≡◌, ◌⊎◌, ℕ, true, List, Option}
+use Rattle.std.specs.Prelude.{◌≡◌, ◌⊎◌, ℕ, List, Option}
 use Rattle.doc_bits.specs.declared.places.Where.TheVariants.{File}
 use Rattle.doc_bits.specs.Rules.{Rules, Hold}
 use Rattle.doc_bits.specs.Places.{Place, IsFirstPlace, rules_in}
 use Rattle.doc_outer.specs.Held.{Files, Told, IsAbsent, IsWhole}
-use Rattle.cfb_streams.specs.Opening.{opening_rules}
-use Rattle.text_codes.specs.Shown.{shown}
+use Rattle.cfb_streams.specs.Contents.{Contents}
+use Rattle.cfb_streams.specs.Container.{container_rules, HasContents}
 use Rattle.docbin.specs.declared.request.Action.{Action}
-use Rattle.docbin.specs.declared.request.Action.TheVariants.{Text}
+use Rattle.docbin.specs.declared.request.Action.TheVariants.{Text, Streams}
+use Rattle.docbin.specs.declared.refusal.Refusal.{Refusal}
+use Rattle.docbin.specs.declared.refusal.Refusal.TheVariants.{Rule, Memory}
 use Rattle.docbin.specs.Requests.{IsRequest, IsNoCommand}
-use Rattle.docbin.specs.Lines.{usage_line, rule_line, missing_line, not_yet_read_line, shelf_fault_line}
-use Rattle.docbin.specs.PlainFile.{HasPlainText}
+use Rattle.docbin.specs.Lines.{usage_line, rule_line, stream_lines, missing_line, shelf_fault_line}
+use Rattle.docbin.specs.TextRules.{text_rules}
+use Rattle.docbin.specs.TextOf.{IsTextOf}
 
 -- the rules that an action judges on its file
 abbrev pub judged_rules : Action → List ℕ → Rules Place
-judged_rules Text file = rules_in File (opening_rules file)
+judged_rules Text file = text_rules file
+judged_rules Streams file = rules_in File (container_rules file)
 
 -- the file breaks a judged rule, and the line names the first of them at its least place
 pub record IsRefused (rules : Rules Place) (name : List ℕ) (status : ℕ) (text : List ℕ) : Type 0 where
@@ -24,27 +28,26 @@ pub record IsRefused (rules : Rules Place) (name : List ℕ) (status : ℕ) (tex
   pub first : IsFirstPlace rules rule place
   pub line : text ≡ rule_line name rule place
 
--- the main text of a plain document is shown
-pub record ShowsMainText (file : List ℕ) (status : ℕ) (text : List ℕ) : Type 0 where
-  pub is_status : status ≡ 0
-  pub units : List ℕ
-  pub has : HasPlainText file units
-  pub is_text : text ≡ shown true units
+-- the line and the status of a refusal
+abbrev pub NamesRule : Refusal → (name : List ℕ) → ℕ → List ℕ → Type 0
+NamesRule (Rule number part offset) name status text = (status ≡ 1) × (text ≡ rule_line name number (part, offset))
+NamesRule Memory name status text = ⊥
 
--- the file is no plain document, which is all that is read so far
-pub record IsNotYetRead (file name : List ℕ) (status : ℕ) (text : List ℕ) : Type 0 where
-  pub is_status : status ≡ 12
-  pub other : (units : List ℕ) → ¬ (HasPlainText file units)
-  pub line : text ≡ not_yet_read_line name
+-- a line for each stream of a file
+pub record IsListingOf (file text : List ℕ) : Type 0 where
+  pub contents : Contents
+  pub has : HasContents file contents
+  pub lines : text ≡ stream_lines contents.streams
 
 -- what an action answers on a file whose judged rules hold
-abbrev pub IsAnswer : Action → (file name : List ℕ) → ℕ → List ℕ → Type 0
-IsAnswer Text file name status text = ShowsMainText file status text ⊎ IsNotYetRead file name status text
+abbrev pub IsAnswer : Action → (file : List ℕ) → ℕ → List ℕ → Type 0
+IsAnswer Text file status text = (status ≡ 0) × IsTextOf file text
+IsAnswer Streams file status text = (status ≡ 0) × IsListingOf file text
 
 -- what an action says of a file: the first broken rule, or its answer where all judged rules hold
 abbrev pub IsVerdict : Action → (name file : List ℕ) → ℕ → List ℕ → Type 0
 IsVerdict action name file status text =
-    IsRefused (judged_rules action file) name status text ⊎ (Hold (judged_rules action file) × IsAnswer action file name status text)
+    IsRefused (judged_rules action file) name status text ⊎ (Hold (judged_rules action file) × IsAnswer action file status text)
 
 -- the file was read whole and judged
 pub record IsJudged (action : Action) (name : List ℕ) (held : Option Files) (status : ℕ) (text : List ℕ) : Type 0 where

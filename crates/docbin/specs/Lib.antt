@@ -1,4 +1,10 @@
 pub mod Endings
 pub mod Lines
-pub mod PlainFile
+pub mod MainText
+pub mod PairRules
+pub mod Refusals
 pub mod Requests
+pub mod TableRules
+pub mod TextOf
+pub mod TextRules
+pub mod UnitRuns

@@ -1,9 +1,12 @@
 -- The lines that a run prints.
-use Rattle.std.specs.Prelude.{ℕ, List, [], ◌∷◌, ◌++◌, codes}
+use Rattle.std.specs.Prelude.{ℕ, false, List, [], ◌∷◌, ◌++◌, length, codes}
+use Rattle.std.specs.List.{flat_map}
 use Rattle.std.specs.Fmt.{decimal}
 use Rattle.doc_bits.specs.declared.places.Where.{Where}
 use Rattle.doc_bits.specs.declared.places.Where.TheVariants.{File, Wd, Table, Sheet, Main, Note, Head}
 use Rattle.doc_bits.specs.Places.{Place}
+use Rattle.text_codes.specs.Shown.{shown}
+use Rattle.cfb_streams.specs.Contents.{Stream}
 
 -- a line ends with a line feed
 abbrev pub line : List ℕ → List ℕ
@@ -11,7 +14,7 @@ line text = text ++ 10 ∷ []
 
 -- the commands that are built
 abbrev pub usage_line : List ℕ
-usage_line = line (codes "usage: docbin text FILE")
+usage_line = line (codes "usage: docbin text FILE | streams FILE")
 
 -- how a place is named
 abbrev pub place_name : Where → List ℕ
@@ -31,8 +34,13 @@ rule_line name rule place =
 abbrev pub missing_line : List ℕ → List ℕ
 missing_line name = line (name ++ codes ": missing")
 
-abbrev pub not_yet_read_line : List ℕ → List ℕ
-not_yet_read_line name = line (name ++ codes ": not yet read")
-
 abbrev pub shelf_fault_line : List ℕ
 shelf_fault_line = line (codes "shelf fault")
+
+-- a stream: its size, and its name as it is shown
+abbrev pub stream_line : Stream → List ℕ
+stream_line stream = line (decimal (length stream.bytes) ++ (32 ∷ [] ++ shown false stream.name))
+
+-- the streams of a file, one on each line
+abbrev pub stream_lines : List Stream → List ℕ
+stream_lines streams = flat_map stream_line streams

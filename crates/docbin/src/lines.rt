@@ -1,7 +1,7 @@
 // The lines that a run prints.
 ghost use Rattle.std.specs.Prelude.{◌≡◌, IfOk};
 ghost use Rattle.std.specs.String.{string_bytes};
-ghost use Rattle.docbin.specs.Lines.{usage_line as usage_of, rule_line as rule_of, missing_line as missing_of, not_yet_read_line as not_yet_read_of, shelf_fault_line as shelf_fault_of, place_name};
+ghost use Rattle.docbin.specs.Lines.{usage_line as usage_of, rule_line as rule_of, missing_line as missing_of, shelf_fault_line as shelf_fault_of, place_name};
 
 use doc_bits::{Memory, Text, Where};
 use std::alloc::Global;
@@ -10,7 +10,7 @@ use std::alloc::Global;
 pub fn usage_line(alloc: Global) -> Result<Text, Memory>
     ensures { IfOk result (λ text. text ≡ usage_of) }
 {
-    let line = String::from_str(alloc, "usage: docbin text FILE\n")?;
+    let line = String::from_str(alloc, "usage: docbin text FILE | streams FILE\n")?;
     Ok(Text::from_string(line))
 }
 
@@ -50,14 +50,6 @@ pub fn missing_line(alloc: Global, name: &str) -> Result<Text, Memory>
     ensures { IfOk result (λ text. text ≡ missing_of name.now) }
 {
     let line = format!(in alloc; "{name}: missing\n")?;
-    Ok(Text::from_string(line))
-}
-
-/// The line for a file that is no plain document.
-pub fn not_yet_read_line(alloc: Global, name: &str) -> Result<Text, Memory>
-    ensures { IfOk result (λ text. text ≡ not_yet_read_of name.now) }
-{
-    let line = format!(in alloc; "{name}: not yet read\n")?;
     Ok(Text::from_string(line))
 }
 

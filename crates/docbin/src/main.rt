@@ -4,11 +4,17 @@
 #[cfg(test)]
 mod hello;
 mod lines;
-mod plain_file;
+mod listing;
+mod main_text;
+mod pair_rules;
+mod refusal;
 mod request;
 mod run;
+mod shown_pieces;
+mod table_text;
 #[cfg(test)]
 mod tests;
+mod unit_runs;
 
 use crate::run::{STATUS_MEMORY, docbin_run};
 use doc_outer::{HostShelf, HostSink};

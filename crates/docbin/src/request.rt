@@ -8,6 +8,8 @@ ghost use Rattle.docbin.specs.Requests.{word_of, IsRequest, IsNoCommand};
 pub enum Action {
     /// Print the main text.
     Text,
+    /// List the streams of the root.
+    Streams,
 }
 
 /// An action and the name of its file.
@@ -43,6 +45,8 @@ fn action_of(word: &str) -> Option<Action>
 {
     if word == "text" {
         Some(Action::Text)
+    } else if word == "streams" {
+        Some(Action::Streams)
     } else {
         None
     }

@@ -1,16 +1,16 @@
 // One run of the program: what it prints is made first, and then put.
 ghost use Rattle.std.specs.Prelude.{◌≡◌, ◌≢◌, ℕ, List, map, IfOk};
 ghost use Rattle.std.specs.String.{string_bytes};
-ghost use Rattle.doc_bits.specs.Rules.{Hold};
 ghost use Rattle.doc_outer.specs.Counts.{Rose};
-ghost use Rattle.cfb_streams.specs.Opening.{opening_rules};
 ghost use Rattle.doc_outer.specs.Written.{Appends, AppendsPrefix};
-ghost use Rattle.docbin.specs.Endings.{IsEnding, IsVerdict, IsAnswer};
+ghost use Rattle.docbin.specs.Endings.{IsEnding, IsVerdict, NamesRule};
+ghost use Rattle.docbin.specs.declared.request.Action.TheVariants as Action;
 
-use crate::lines::{missing_line, not_yet_read_line, rule_line, shelf_fault_line, usage_line};
-use crate::plain_file::plain_text;
-use crate::request::{Action, Request, request_of};
-use cfb_streams::opening_fault;
+use crate::lines::{missing_line, rule_line, shelf_fault_line, usage_line};
+use crate::listing::listing;
+use crate::main_text::main_text;
+use crate::refusal::Refusal;
+use crate::request::{Action, request_of};
 use doc_bits::{Memory, Text, Where};
 use doc_outer::{MAX_FILE_LEN, ReadFail, Shelf, Sink, read_whole, write_all};
 use std::alloc::Global;
@@ -29,8 +29,6 @@ pub const STATUS_SHELF_FAULT: u8 = 4;
 pub const STATUS_SINK_FAULT: u8 = 5;
 
 pub const STATUS_MEMORY: u8 = 6;
-
-pub const STATUS_NOT_YET_READ: u8 = 12;
 
 const RULE_LENGTH: u8 = 1;
 
@@ -132,37 +130,50 @@ fn ending_of<S: Shelf>(alloc: Global, words: &[String], shelf: &mut S) -> Result
 fn judged(alloc: Global, action: Action, name: &str, file: &[u8]) -> Result<Ending, Memory>
     ensures { IfOk result (λ e. IsVerdict action name.now file.now e.status e.text) }
 {
-    if let Some(broken) = opening_fault(file) {
-        let text = rule_line(alloc, name, broken.rule, Where::File, broken.offset)?;
-        return Ok(Ending {
-            status: STATUS_REFUSED,
-            text,
-        });
-    }
     match action {
-        Action::Text => {
-            let ending = main_text(alloc, name, file)?;
-            Ok(ending)
-        }
+        Action::Text => shown_text(alloc, name, file),
+        Action::Streams => shown_streams(alloc, name, file),
     }
 }
 
-/// The ending of a file whose rules hold, where its main text is asked for.
-fn main_text(alloc: Global, name: &str, file: &[u8]) -> Result<Ending, Memory>
-    requires { Hold (opening_rules file.now) }
-    ensures { IfOk result (λ e. IsAnswer Action.Text file.now name.now e.status e.text) }
+/// The ending where the main text of a file is asked for.
+fn shown_text(alloc: Global, name: &str, file: &[u8]) -> Result<Ending, Memory>
+    ensures { IfOk result (λ e. IsVerdict Action.Text name.now file.now e.status e.text) }
 {
-    match plain_text(alloc, file)? {
-        Some(text) => Ok(Ending {
+    match main_text(alloc, file) {
+        Ok(text) => Ok(Ending {
             status: STATUS_DONE,
             text,
         }),
-        None => {
-            let text = not_yet_read_line(alloc, name)?;
+        Err(refusal) => refused(alloc, name, refusal),
+    }
+}
+
+/// The ending where the streams of a file are asked for.
+fn shown_streams(alloc: Global, name: &str, file: &[u8]) -> Result<Ending, Memory>
+    ensures { IfOk result (λ e. IsVerdict Action.Streams name.now file.now e.status e.text) }
+{
+    match listing(alloc, file) {
+        Ok(text) => Ok(Ending {
+            status: STATUS_DONE,
+            text,
+        }),
+        Err(refusal) => refused(alloc, name, refusal),
+    }
+}
+
+/// The ending of a file that is refused.
+fn refused(alloc: Global, name: &str, refusal: Refusal) -> Result<Ending, Memory>
+    ensures { IfOk result (λ e. NamesRule refusal name.now e.status e.text) }
+{
+    match refusal {
+        Refusal::Rule { rule, part, offset } => {
+            let text = rule_line(alloc, name, rule, part, offset)?;
             Ok(Ending {
-                status: STATUS_NOT_YET_READ,
+                status: STATUS_REFUSED,
                 text,
             })
         }
+        Refusal::Memory => Err(Memory),
     }
 }

@@ -1,4 +1,4 @@
-use crate::hello::{HELLO_LEN, Put, TABLE, WD, hello_file, put_number, zeros};
+use crate::hello::{HELLO_LEN, Put, TABLE, WD, hello_file, mini_file, put_number, zeros};
 use crate::run::docbin_run;
 use doc_outer::{MemShelf, MemSink};
 use std::alloc::Global;
@@ -51,53 +51,137 @@ fn the_hello_file_is_the_example(rt: HostRuntime) -> Result<(), Fail> {
 #[test]
 fn text_judges_and_prints(rt: HostRuntime) -> Result<(), Fail> {
     let alloc = rt.alloc();
-    let unread = "f.doc: not yet read\n";
-    let rows: [(Put, u8, &str, &str); 9] = [
-        (Put(0, 1, 0xD0), 0, "Hello\n", "the file itself"),
-        (Put(TABLE + 251, 2, 1), 12, unread, "a Prm"),
+    let rows: [(&[Put], u8, &str, &str); 13] = [
+        (&[], 0, "Hello\n", "the file itself"),
         (
-            Put(0, 1, 0xD1),
+            &[Put(0, 1, 0xD1)],
             1,
-            "f.doc: rule 2 File 0\n",
+            "rule 2 File 0\n",
             "another signature",
         ),
         // The FAT entry of sector 10 names sector 8, so the chain of WordDocument comes back to itself.
-        (Put(18 * 512 + 40, 4, 8), 12, unread, "a cyclic chain"),
+        (
+            &[Put(18 * 512 + 40, 4, 8)],
+            1,
+            "rule 13 File 9256\n",
+            "a cyclic chain",
+        ),
         // The FAT entry of sector 14 ends the chain, so it is one sector short.
         (
-            Put(18 * 512 + 56, 4, 0xFFFF_FFFE),
-            12,
-            unread,
+            &[Put(18 * 512 + 56, 4, 0xFFFF_FFFE)],
+            1,
+            "rule 13 File 9272\n",
             "a short chain",
         ),
-        // Bit 9 of the flags is not set, so the table stream would be 0Table.
-        (Put(WD + 10, 2, 0x1000), 12, unread, "no such table stream"),
+        (
+            &[Put(WD + 10, 2, 0x1300), Put(TABLE + 232, 1, 3)],
+            1,
+            "rule 19 WordDocument 10\n",
+            "an encrypted file",
+        ),
+        // Bit 9 of the flags is not set, so the table stream is 0Table.
+        (
+            &[Put(WD + 10, 2, 0x1000)],
+            1,
+            "rule 25 WordDocument 10\n",
+            "no such table stream",
+        ),
+        (
+            &[Put(TABLE + 241, 4, 7)],
+            1,
+            "rule 28 Table 241\n",
+            "a last CP beyond the text",
+        ),
         // 6 units from 4,085 on would end at 4,097 of 4,096 bytes.
         (
-            Put(TABLE + 247, 4, 4_085),
-            12,
-            unread,
+            &[Put(TABLE + 247, 4, 4_085)],
+            1,
+            "rule 29 Table 247\n",
             "a text that leaves the stream",
         ),
         (
-            Put(TABLE + 247, 4, 4_084),
+            &[Put(TABLE + 251, 2, 1)],
+            1,
+            "rule 30 Table 251\n",
+            "a Prm of a Prc that is not there",
+        ),
+        (
+            &[Put(TABLE + 247, 4, 4_084)],
             0,
             "\\u0000\\u0000\\u0000\\u0000\\u0000\\u0000",
             "its last 12 bytes",
         ),
         (
-            Put(WD + 1_024, 2, 0xD83D),
+            &[Put(WD + 1_024, 2, 0xD83D)],
             0,
             "\\ud83dello\n",
             "a lone surrogate",
         ),
+        (
+            &[
+                Put(TABLE + 247, 4, 0x4000_0800),
+                Put(WD + 1_024, 4, 0x9F93_8280),
+                Put(WD + 1_028, 2, 0x0D0D),
+            ],
+            0,
+            "\u{80}\u{201A}\u{201C}\u{178}\n\n",
+            "a compressed piece",
+        ),
+        // Three pieces of two units each, of which the first two stand at one place.
+        (
+            &[
+                Put(WD + 422, 4, 45),
+                Put(TABLE + 233, 4, 40),
+                Put(TABLE + 241, 4, 2),
+                Put(TABLE + 245, 4, 4),
+                Put(TABLE + 249, 4, 6),
+                Put(TABLE + 253, 4, 1_028 * 65_536),
+                Put(TABLE + 257, 4, 0),
+                Put(TABLE + 261, 4, 1_028 * 65_536),
+                Put(TABLE + 265, 4, 0),
+                Put(TABLE + 269, 4, 1_032 * 65_536),
+                Put(TABLE + 273, 4, 0),
+            ],
+            0,
+            "llllo\n",
+            "three pieces",
+        ),
     ];
-    for (change, status, text, what) in rows {
+    for (changes, status, text, what) in rows {
         let mut file = hello_file(alloc)?;
-        put_number(&mut file, change);
+        for change in changes {
+            put_number(&mut file, *change);
+        }
         let (got, printed) = run(alloc, &file, &["text", "f.doc"])?;
         assert_eq!(rt; got, status, "{what}");
-        assert_eq!(rt; printed.as_str(), text, "{what}");
+        let line = if status == 1 {
+            printed.as_str().strip_prefix("f.doc: ").unwrap_or("")
+        } else {
+            printed.as_str()
+        };
+        assert_eq!(rt; line, text, "{what}");
+    }
+    Ok(())
+}
+
+#[test]
+fn streams_are_listed(rt: HostRuntime) -> Result<(), Fail> {
+    let alloc = rt.alloc();
+    let hello = hello_file(alloc)?;
+    let mini = mini_file(alloc)?;
+    // The second mini sector of `A` names the first.
+    let mut cyclic = mini_file(alloc)?;
+    put_number(&mut cyclic, Put(1_028, 4, 0));
+    let rows: [(&[u8], &str, u8, &str); 4] = [
+        (&hello, "streams", 0, "4096 1Table\n4096 WordDocument\n"),
+        (&mini, "streams", 0, "100 A\n"),
+        (&cyclic, "streams", 1, "f.doc: rule 13 File 1028\n"),
+        (&mini, "text", 1, "f.doc: rule 15 File 0\n"),
+    ];
+    for (file, word, status, text) in rows {
+        let (got, printed) = run(alloc, file, &[word, "f.doc"])?;
+        assert_eq!(rt; got, status, "{text}");
+        assert_eq!(rt; printed.as_str(), text);
     }
     Ok(())
 }
@@ -112,12 +196,12 @@ fn other_endings(rt: HostRuntime) -> Result<(), Fail> {
         (front, &["text", "f.doc"], 1, "f.doc: rule 1 File 511\n"),
         (&long, &["text", "f.doc"], 1, "f.doc: rule 1 File 7143937\n"),
         (&file, &["text", "none"], 3, "none: missing\n"),
-        (&file, &[], 2, "usage: docbin text FILE\n"),
+        (&file, &[], 2, "usage: docbin text FILE | streams FILE\n"),
         (
             &file,
             &["text", "f.doc", "f.doc"],
             2,
-            "usage: docbin text FILE\n",
+            "usage: docbin text FILE | streams FILE\n",
         ),
     ];
     for (bytes, words, status, text) in rows {

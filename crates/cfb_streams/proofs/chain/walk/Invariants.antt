@@ -1,4 +1,4 @@
-use Rattle.std.proofs.Common.{ℕ, ◌+◌, ◌-◌, length, slice_index}
+use Rattle.std.proofs.Common.{◌-◌, length, slice_index}
 use Rattle.cfb_streams.proofs.ChainLemmas.{IsWalk, IsStamped}
 use Rattle.cfb_streams.proofs.chain.walk.Given as goal
 

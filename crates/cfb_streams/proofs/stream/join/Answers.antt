@@ -1,6 +1,9 @@
-use Rattle.std.proofs.Common.{◌≡◌, ℕ, ◌+◌, ◌-◌, ◌*◌, ◌++◌, min, length, slice_index, take, drop, ap, ◌∙◌, refl, arith}
+use Rattle.std.proofs.Common.{◌≡◌, ◌+◌, ◌*◌, slice_index, take, ap, ◌∙◌, arith}
 use Rattle.std.specs.Prelude.{slice_range}
-use Rattle.cfb_streams.proofs.StreamLemmas.{join_step}
+use Rattle.std.specs.List.{flat_map}
+use Rattle.std.proofs.lemmas.List.{take_all}
+use Rattle.cfb_streams.specs.Header.{sector_bytes}
+use Rattle.cfb_streams.proofs.StreamLemmas.{join_step, length-cut}
 use Rattle.cfb_streams.proofs.stream.join.Goals as goal
 
 pub loop-sector-preserved : goal.loop-sector-preserved
@@ -14,3 +17,10 @@ loop-sector-preserved c =
       joined = c.in_ok-extend_from_slice.ensures.items ∙ join_step c.args.base c.args.unit c.args.bytes.now c.args.chain.now c.args.size c.loop-sector.sector-index c.loop-sector.left c.loop-sector.joined.items part c.loop-sector-test.true c.requires.inside old.joined old.left (ap (λ k. slice_range c.args.bytes.now from (from + k)) m);
       left = omega arith;
     }
+
+pub returns-clause-len : goal.returns-clause-len
+returns-clause-len c =
+    let f = sector_bytes c.args.base c.args.unit c.args.bytes.now in
+    let all : take c.loop-sector.sector-index c.args.chain.now ≡ c.args.chain.now = take_all c.loop-sector.sector-index c.args.chain.now (omega arith) in
+    length-cut c.args.base c.args.unit c.args.bytes.now c.args.chain.now c.loop-sector.joined.items c.args.size c.requires.inside
+    (c.loop-sector.invariant.joined ∙ ap (λ xs. take c.args.size (flat_map (sector_bytes c.args.base c.args.unit c.args.bytes.now) xs)) all)

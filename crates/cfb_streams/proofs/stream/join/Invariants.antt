@@ -1,4 +1,4 @@
-use Rattle.std.proofs.Common.{◌≡◌, ℕ, ◌-◌, ◌*◌, take}
+use Rattle.std.proofs.Common.{◌≡◌, ◌-◌, ◌*◌, take}
 use Rattle.std.specs.List.{flat_map}
 use Rattle.cfb_streams.specs.Header.{sector_bytes}
 use Rattle.cfb_streams.proofs.stream.join.Given as goal

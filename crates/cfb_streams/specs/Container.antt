@@ -1,0 +1,100 @@
+-- A compound file: its rules as one list, and what is read from a file that breaks none.
+use Rattle.std.specs.Prelude.{◌≡◌, ◌⊎◌, ℕ, List, [], length, take, slice_index, slice_get, Some, None}
+use Rattle.std.specs.List.{flat_map}
+use Rattle.cfb_streams.specs.declared.faults.CfbFault.{CfbFault}
+use Rattle.cfb_streams.specs.declared.faults.CfbFault.TheVariants.{Rule, Memory}
+use Rattle.cfb_streams.specs.Contents.{Stream, Contents}
+use Rattle.cfb_streams.specs.Order.{ListsStreams}
+use Rattle.doc_bits.specs.Rules.{Rules, rule, ◌then◌, given, IsFirst}
+use Rattle.cfb_streams.specs.Opening.{opening_rules}
+use Rattle.cfb_streams.specs.Header.{sector_bytes}
+use Rattle.cfb_streams.specs.HeaderRules.{header_rules}
+use Rattle.cfb_streams.specs.Chain.{fat_table, HoldsChain}
+use Rattle.cfb_streams.specs.Directory.{entry_size, entry_clsid, IsNameOf}
+use Rattle.cfb_streams.specs.Reach.{BreaksDirectory, IsDirectory, BreaksRoot, BreaksTree, BreaksName, BreaksStorage, entry_place}
+use Rattle.cfb_streams.specs.StreamRules.{BreaksMiniFat, IsMiniFat, BreaksMiniStream, IsMiniStream, BreaksStream, BreaksSharing, Parts, IsStreamEntry, IsLargeStream, IsSmallStream, mini_table_of, stream_head}
+
+-- the rules of the streams
+abbrev pub sector_rules : List ℕ → List ℕ → List ℕ → List ℕ → Rules ℕ
+sector_rules file directory mini_fat mini_stream =
+    rule 13 (BreaksStream file directory mini_fat)
+    then rule 14 (BreaksSharing file (record { directory = directory; mini_fat = mini_fat; mini_stream = mini_stream }))
+
+-- the rule of the mini stream, and those of the streams
+abbrev pub stream_rules : List ℕ → List ℕ → List ℕ → Rules ℕ
+stream_rules file directory mini_fat =
+    rule 12 (BreaksMiniStream file directory) then given (IsMiniStream file directory) (sector_rules file directory mini_fat)
+
+-- the rules of the directory's entries, and all that follow
+abbrev pub entry_rules : List ℕ → List ℕ → Rules ℕ
+entry_rules file directory =
+    rule 7 (BreaksRoot file directory) then rule 8 (BreaksTree file directory) then rule 9 (BreaksName file directory)
+    then rule 10 (BreaksStorage file directory) then rule 11 (BreaksMiniFat file)
+    then given (IsMiniFat file) (stream_rules file directory)
+
+-- the rule of the directory's chain, and all that follow
+abbrev pub directory_rules : List ℕ → Rules ℕ
+directory_rules file = rule 6 (BreaksDirectory file) then given (IsDirectory file) (entry_rules file)
+
+-- the rules 1 to 14
+abbrev pub container_rules : List ℕ → Rules ℕ
+container_rules file = opening_rules file then header_rules file then directory_rules file
+
+-- the whole sectors of the mini stream, in a row
+abbrev pub mini_bytes : List ℕ → Parts → List ℕ
+mini_bytes file parts = flat_map (sector_bytes 512 512 file) parts.mini_stream
+
+-- the bytes of a stream that has sectors of its own
+pub record IsLongBody (file directory : List ℕ) (entry : ℕ) (bytes sectors : List ℕ) : Type 0 where
+  pub is_large : IsLargeStream file directory entry
+  pub holds : HoldsChain (fat_table file) (stream_head file 512 (entry_place directory entry)) sectors
+  pub joined : bytes ≡ take (entry_size file (entry_place directory entry)) (flat_map (sector_bytes 512 512 file) sectors)
+
+-- the bytes of a stream that stands in the mini stream, whose bytes are `stored`
+pub record IsShortBody (file directory mini_fat stored : List ℕ) (entry : ℕ) (bytes : List ℕ) : Type 0 where
+  pub is_small : IsSmallStream file directory entry
+  pub sectors : List ℕ
+  pub holds : HoldsChain (mini_table_of file directory mini_fat) (stream_head file 64 (entry_place directory entry)) sectors
+  pub joined : bytes ≡ take (entry_size file (entry_place directory entry)) (flat_map (sector_bytes 0 64 stored) sectors)
+
+-- the bytes and the chain of the stream of an entry
+pub record IsEmptyStream (file : List ℕ) (parts : Parts) (entry : ℕ) (stream : Stream) : Type 0 where
+  pub empty : entry_size file (entry_place parts.directory entry) ≡ 0
+  pub bytes : stream.bytes ≡ []
+  pub chain : stream.chain ≡ None
+
+pub record IsShortStream (file : List ℕ) (parts : Parts) (entry : ℕ) (stream : Stream) : Type 0 where
+  pub body : IsShortBody file parts.directory parts.mini_fat (mini_bytes file parts) entry stream.bytes
+  pub chain : stream.chain ≡ None
+
+pub record IsLongStream (file : List ℕ) (parts : Parts) (entry : ℕ) (stream : Stream) : Type 0 where
+  pub sectors : List ℕ
+  pub body : IsLongBody file parts.directory entry stream.bytes sectors
+  pub chain : stream.chain ≡ Some sectors
+
+-- the stream of an entry
+pub record IsStreamOf (file : List ℕ) (parts : Parts) (entry : ℕ) (stream : Stream) : Type 0 where
+  pub is_entry : IsStreamEntry file parts.directory entry
+  pub name : IsNameOf file (entry_place parts.directory entry) stream.name
+  pub holds : IsEmptyStream file parts entry stream ⊎ (IsShortStream file parts entry stream ⊎ IsLongStream file parts entry stream)
+
+-- the streams of the first `count` entries, in their order
+pub record AreStreamsOf (file : List ℕ) (parts : Parts) (entries : List ℕ) (count : ℕ) (streams : List Stream) : Type 0 where
+  pub len : length streams ≡ count
+  pub each : (i : ℕ) (stream : Stream) → slice_get streams i ≡ Some stream → IsStreamOf file parts (slice_index entries i) stream
+
+-- exactly the streams of the root, in the order of their names, and its CLSID
+pub record HasContents (file : List ℕ) (contents : Contents) : Type 0 where
+  pub parts : Parts
+  pub directory : IsDirectory file parts.directory
+  pub mini_fat : IsMiniFat file parts.mini_fat
+  pub mini_stream : IsMiniStream file parts.directory parts.mini_stream
+  pub entries : List ℕ
+  pub lists : ListsStreams file parts.directory entries
+  pub streams : AreStreamsOf file parts entries (length entries) contents.streams
+  pub clsid : contents.clsid ≡ entry_clsid file (entry_place parts.directory 0)
+
+-- the first broken rule, or want of memory, which is free
+abbrev pub IsCfbFault : Rules ℕ → CfbFault → Type 0
+IsCfbFault rules (Rule number offset) = IsFirst rules number offset
+IsCfbFault rules Memory = Unit {0}

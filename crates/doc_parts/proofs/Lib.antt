@@ -1,0 +1,6 @@
+pub mod TableLemmas
+pub mod SectionLemmas
+pub mod LevelLemmas
+pub mod PrintLemmas
+pub mod ReadBackLemmas
+pub mod EntryLemmas

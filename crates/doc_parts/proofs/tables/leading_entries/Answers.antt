@@ -1,0 +1,20 @@
+use Rattle.std.proofs.Common.{◌≡◌, ◌++◌, ◌<◌, ◌∙◌, Some, [], ◌∷◌, refl, arith, below_more, length-append}
+use Rattle.doc_parts.specs.Table.{IsRightEntry, entry_at}
+use Rattle.doc_parts.proofs.TableLemmas.{length-plc_entry, each_more}
+use Rattle.doc_parts.proofs.tables.leading_entries.Goals as goal
+
+pub read-requires : goal.read-requires
+read-requires g c =
+    let below : c.loop-k.k < c.args.plc.now.count = omega (arith, c.len-k-end.ensures) in
+    rw c.entry.ensures (length-plc_entry c.args.plc.now c.loop-k.k c.requires.whole below ∙ c.requires.size)
+
+pub loop-k-preserved : goal.loop-k-preserved
+loop-k-preserved g c =
+    let form = g.E.TableEntry.form in
+    let items : c.push.new.self.items ≡ c.loop-k.list.items ++ c.in-Some.entry ∷ [] = c.in_ok-push-in-Some.ensures.items in
+    let here : entry_at form c.args.plc.now c.loop-k.k ≡ Some c.in-Some.entry = cc in
+    record {
+      count = rw items (simp length-append (omega arith));
+      each = each_more c.loop-k.list.items c.push.new.self.items c.in-Some.entry c.loop-k.k (entry_at form c.args.plc.now) items c.loop-k.invariant.count here c.loop-k.invariant.each;
+      right = below_more (IsRightEntry form c.args.cps c.args.plc.now) c.loop-k.k c.loop-k.invariant.right (record { in_order = c.if-not-is_kept.ensures.0 refl; spelled = rw here refl });
+    }

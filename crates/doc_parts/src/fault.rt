@@ -1,0 +1,24 @@
+ghost use Rattle.std.specs.Prelude.{◌≡◌};
+
+use doc_bits::Memory;
+use thiserror::Error;
+
+/// The first broken rule of a part, with its least offset in the table stream.
+#[derive(Clone, Copy, Debug, PartialEq, Eq, Error)]
+pub enum PartFault {
+    #[error("rule {rule} is broken at {offset} in the table stream")]
+    Rule { rule: u8, offset: u32 },
+    #[error("out of memory")]
+    Memory,
+}
+
+impl From<Memory> for PartFault {
+    ghost use Rattle.std.specs.Prelude.{◌≡◌};
+    ghost use Rattle.doc_parts.specs.declared.fault.PartFault.TheVariants.{Memory};
+
+    ghost from_gives = { λ _ e. e ≡ Memory };
+
+    fn from(_: Memory) -> Self {
+        PartFault::Memory
+    }
+}

@@ -1,0 +1,26 @@
+//! The smaller parts of the table stream: sections, fields, notes and header texts, list levels.
+#![tactic(auto)]
+
+mod cps;
+mod fault;
+mod field_part;
+mod laws;
+mod level_part;
+mod lists;
+mod section_part;
+mod story_parts;
+mod tables;
+
+pub use fault::PartFault;
+pub use field_part::{LeadingFields, fields, leading_fields, print_fields};
+pub use laws::{
+    fields_are_read_back, plc_is_read_back, refs_are_read_back, sections_are_read_back,
+    texts_are_read_back,
+};
+pub use level_part::{LevelFault, levels_len, list_levels};
+pub use lists::{Cuts, Fld, Flds, NoteRef, Refs, Sed, Seds};
+pub use section_part::{NO_SEPX, fc_sepx_place, print_sections, sections, sepx};
+pub use story_parts::{note_refs, print_refs, print_texts, texts};
+
+#[cfg(test)]
+mod tests;

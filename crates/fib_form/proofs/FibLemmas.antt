@@ -1,0 +1,169 @@
+-- What was written is read again.
+use Rattle.std.proofs.Common.{◌≡◌, ℕ, ◌+◌, ◌*◌, ◌^◌, ◌<◌, ◌≤◌, ◌==◌, Bool, List, [], ◌∷◌, ◌++◌, length, sum, slice_index, flat_map, All, refl, sym, ap, subst, zero-add, inl, inr, ◌∙◌, arith, append_assoc, length-append, lit<, lit≤}
+use Rattle.doc_bits.specs.Number.{number_at, number_bytes, u16_at, u32_at}
+use Rattle.doc_bits.specs.Rules.{Hold}
+use Rattle.doc_bits.proofs.NumberLemmas.{length-number_bytes}
+use Rattle.fib_form.specs.Fib.{fib_pair, fib_pairs, fib_flags, fib_lid, fib_lid_fe, fib_quick_saves, fib_complex, fib_which_table, fib_cb_mac, fib_ccp_text, fib_ccp_ftn, fib_ccp_hdd, kept_flags, early_form}
+use Rattle.fib_form.specs.FibFields.{FibFields, IsWidePair, fib_fields, pair_at, IsFib}
+use Rattle.fib_form.specs.FibRules.{fib_rules}
+use Rattle.fib_form.specs.FibBytes.{written_fib, written_fields, written_flags, spelled, pair_bytes, field, Field}
+use Rattle.fib_form.proofs.FlagLemmas.{ReadsFlags, reads_flags}
+use Rattle.fib_form.proofs.FieldLemmas.{Follow, Has, read_here, read_field, read_gap, length-spelled}
+use Rattle.fib_form.proofs.PairLemmas.{read_pair, length-flat_map-pair_bytes, fib_pairs-by_place}
+
+-- fields by their values
+abbrev pub fields_of : ℕ → ℕ → ℕ → ℕ → ℕ → ℕ → Bool → List ℕ → List (ℕ × ℕ) → FibFields
+fields_of lid lid_fe flags quick_saves table mac complex ccps pairs = record {
+  kept = record { lid = lid; lid_fe = lid_fe; flags = flags };
+  quick_saves = quick_saves;
+  complex = complex;
+  which_table = table;
+  cb_mac = mac;
+  ccps = ccps;
+  pairs = pairs;
+}
+
+-- the numbers that stand in a stream that begins with a written FIB
+pub record IsWritten (fib : FibFields) (wd : List ℕ) : Type 0 where
+  pub long : early_form.size ≤ length wd
+  pub ident : u16_at wd 0 ≡ 0xA5EC
+  pub nfib : u16_at wd 2 ≡ 0x00C1
+  pub lid : u16_at wd 6 ≡ fib.kept.lid
+  pub flags : u16_at wd 10 ≡ written_flags fib
+  pub csw : u16_at wd 32 ≡ 14
+  pub lid_fe : u16_at wd 60 ≡ fib.kept.lid_fe
+  pub cslw : u16_at wd 62 ≡ 22
+  pub cb_mac : u32_at wd 64 ≡ fib.cb_mac
+  pub text : u32_at wd 76 ≡ slice_index fib.ccps 0
+  pub notes : u32_at wd 80 ≡ slice_index fib.ccps 1
+  pub heads : u32_at wd 84 ≡ slice_index fib.ccps 2
+  pub others : (k : ℕ) → k < 4 → u32_at wd (92 + 4 * k) ≡ 0
+  pub sizes : u16_at wd 152 ≡ 93
+  pub pairs : (n : ℕ) → n < 93 → fib_pair wd n ≡ pair_at fib.pairs n
+  pub csw_new : u16_at wd 898 ≡ 0
+
+-- the fields are in order
+pub followed : (fib : FibFields) → Follow 0 (written_fields fib) 154
+followed fib = (lit≤ tt, (lit≤ tt, (lit≤ tt, (lit≤ tt, (lit≤ tt, (lit≤ tt, (lit≤ tt, (lit≤ tt, (lit≤ tt, (lit≤ tt, (lit≤ tt, (lit≤ tt, (lit≤ tt, lit≤ tt)))))))))))))
+
+-- a sum of three counts
+pub sum-three : (ccps : List ℕ) → length ccps ≡ 3 → sum ccps ≡ slice_index ccps 0 + slice_index ccps 1 + slice_index ccps 2
+sum-three [] e = absurd (omega arith)
+sum-three (a ∷ []) e = absurd (omega arith)
+sum-three (a ∷ b ∷ []) e = absurd (omega arith)
+sum-three (a ∷ b ∷ c ∷ []) e = omega arith
+sum-three (a ∷ b ∷ c ∷ d ∷ more) e = absurd (omega arith)
+
+pub three_of : (ccps : List ℕ) → length ccps ≡ 3 → ccps ≡ slice_index ccps 0 ∷ slice_index ccps 1 ∷ slice_index ccps 2 ∷ []
+three_of [] e = absurd (omega arith)
+three_of (a ∷ []) e = absurd (omega arith)
+three_of (a ∷ b ∷ []) e = absurd (omega arith)
+three_of (a ∷ b ∷ c ∷ []) e = refl
+three_of (a ∷ b ∷ c ∷ d ∷ more) e = absurd (omega arith)
+
+-- the flags of a FIB
+pub flags_of : (fib : FibFields) → IsFib fib → ReadsFlags fib.kept.flags fib.quick_saves fib.which_table fib.complex (written_flags fib)
+flags_of fib is = reads_flags fib.kept.flags fib.quick_saves fib.which_table fib.complex is.flags is.quick_saves is.which_table
+
+-- a pair of a written FIB
+pair_written : (pairs : List (ℕ × ℕ)) (n : ℕ) (front tail : List ℕ) → length front ≡ 154 → length pairs ≡ 93 → n < 93 → All IsWidePair pairs → fib_pair (front ++ (flat_map pair_bytes pairs ++ tail)) n ≡ pair_at pairs n
+pair_written pairs n front tail size count h wide =
+    let wd = front ++ (flat_map pair_bytes pairs ++ tail) in
+    let read = read_pair pairs n front tail (omega arith) wide in
+    let fc : number_at wd (154 + 8 * n) 4 ≡ (pair_at pairs n).0 = subst (λ l. number_at wd (l + 8 * n) 4 ≡ (pair_at pairs n).0) size read.0 in
+    let lcb : number_at wd (154 + 8 * n + 4) 4 ≡ (pair_at pairs n).1 = subst (λ l. number_at wd (l + 8 * n + 4) 4 ≡ (pair_at pairs n).1) size read.1 in
+    rw (fc, lcb) refl
+
+pub is_written : (fib : FibFields) (more : List ℕ) → IsFib fib → IsWritten fib (written_fib fib ++ more)
+unfolding written_fib
+is_written fib more is =
+    let fields = written_fields fib in
+    let pairs = flat_map pair_bytes fib.pairs in
+    let tail = pairs ++ (number_bytes 2 0 ++ more) in
+    let whole : (spelled 0 fields ++ (pairs ++ number_bytes 2 0)) ++ more ≡ spelled 0 fields ++ tail = simp append_assoc in
+    let follow = followed fib in
+    let front : length (spelled 0 fields) ≡ 154 = sym (zero-add (length (spelled 0 fields))) ∙ length-spelled fields 0 154 follow in
+    let size : length pairs ≡ 744 = omega (arith, length-flat_map-pair_bytes fib.pairs, is.pairs.count) in
+    let size_new : length (number_bytes 2 0) ≡ 2 = length-number_bytes 2 0 in
+    let counts = is.counts in
+    let all : slice_index fib.ccps 0 + slice_index fib.ccps 1 + slice_index fib.ccps 2 ≤ 500000 = omega (arith, sum-three fib.ccps counts.three, counts.all) in
+    let read : (k : ℕ) (f : Field) → Has k fields f → f.number < 256 ^ f.width → number_at (spelled 0 fields ++ tail) f.place f.width ≡ f.number =
+    λ k f has fits. read_field k fields f 0 154 [] tail refl follow has fits in
+    rw whole (record {
+      long = omega (arith, length-append (spelled 0 fields) tail, length-append pairs (number_bytes 2 0 ++ more), length-append (number_bytes 2 0) more);
+      ident = read 0 (field 0 2 0xA5EC) refl (lit< tt);
+      nfib = read 1 (field 2 2 0x00C1) refl (lit< tt);
+      lid = read 2 (field 6 2 fib.kept.lid) refl is.languages.0;
+      flags = read 3 (field 10 2 (written_flags fib)) refl ((flags_of fib is).fit);
+      csw = read 5 (field 32 2 14) refl (lit< tt);
+      lid_fe = read 6 (field 60 2 fib.kept.lid_fe) refl is.languages.1;
+      cslw = read 7 (field 62 2 22) refl (lit< tt);
+      cb_mac = read 8 (field 64 4 fib.cb_mac) refl is.cb_mac;
+      text = read 9 (field 76 4 (slice_index fib.ccps 0)) refl (omega arith);
+      notes = read 10 (field 80 4 (slice_index fib.ccps 1)) refl (omega arith);
+      heads = read 11 (field 84 4 (slice_index fib.ccps 2)) refl (omega arith);
+      others = λ k h. read_gap 12 fields (field 152 2 93) 0 154 (92 + 4 * k) 4 [] tail refl follow refl (omega arith) (omega arith);
+      sizes = read 12 (field 152 2 93) refl (lit< tt);
+      pairs = λ n h. pair_written fib.pairs n (spelled 0 fields) (number_bytes 2 0 ++ more) front is.pairs.count h is.wide;
+      csw_new = read_here (spelled 0 fields ++ pairs) more (spelled 0 fields ++ tail) 898 2 0 (omega (arith, length-append (spelled 0 fields) pairs)) (simp append_assoc) (lit< tt);
+    })
+
+-- fields that are equal one by one
+pub same_fields : (lid lid_fe flags quick_saves table mac : ℕ) (complex : Bool) (ccps : List ℕ) (pairs : List (ℕ × ℕ)) (fib : FibFields) → lid ≡ fib.kept.lid → lid_fe ≡ fib.kept.lid_fe → flags ≡ fib.kept.flags → quick_saves ≡ fib.quick_saves → table ≡ fib.which_table → mac ≡ fib.cb_mac → complex ≡ fib.complex → ccps ≡ fib.ccps → pairs ≡ fib.pairs → fields_of lid lid_fe flags quick_saves table mac complex ccps pairs ≡ fib
+same_fields lid lid_fe flags quick_saves table mac complex ccps pairs fib e1 e2 e3 e4 e5 e6 e7 e8 e9 = rw (e1, e2, e3, e4, e5, e6, e7, e8, e9) refl
+
+pub hold_written : (fib : FibFields) (wd : List ℕ) → IsFib fib → IsWritten fib wd → Hold (fib_rules wd)
+hold_written fib wd is w =
+    let flags = subst (λ n. ReadsFlags fib.kept.flags fib.quick_saves fib.which_table fib.complex n) (sym w.flags) (flags_of fib is) in
+    let fits = is.pairs in
+    let counts = is.counts in
+    let all : slice_index fib.ccps 0 + slice_index fib.ccps 1 + slice_index fib.ccps 2 ≤ 500000 = omega (arith, sum-three fib.ccps counts.three, counts.all) in
+    let text = w.text in
+    let notes = w.notes in
+    let heads = w.heads in
+    let lcb : (n : ℕ) → n < 93 → (fib_pair wd n).1 ≡ (pair_at fib.pairs n).1 = λ n h. ap (λ pair. pair.1) (w.pairs n h) in (
+      λ p h. let short = h.1 in let long = w.long in omega arith,
+      (
+        λ p h. h.1 w.ident,
+        (
+          λ p h. h.1 w.nfib,
+          (
+            λ p h. elim h.1 [ inl x ↦ omega (arith, x, flags.encrypted) | inr x ↦ omega (arith, x, flags.obfuscated) ],
+            (
+              λ p h. let x = h.1 in omega (arith, x, flags.glossary),
+              (
+                λ p h. elim h [ inl x ↦ x.1 w.csw | inr y ↦ elim y [ inl x ↦ x.1 w.cslw | inr z ↦ elim z [ inl x ↦ x.1 w.sizes | inr x ↦ x.1 w.csw_new ] ] ],
+                (
+                  λ p h. h.broken.1 (w.others h.entry h.below),
+                  (
+                    λ p h. elim h.1 [ inl x ↦ let main = counts.main in omega arith | inr x ↦ omega arith ],
+                    λ p h. elim h [
+                      | inl x ↦ let over = x.1 in let most = fits.bookmarks in omega (arith, lcb 21 (lit< tt))
+                      | inr y ↦ elim y [
+                        | inl x ↦ let over = x.1 in let most = fits.main_drawings in omega (arith, lcb 40 (lit< tt))
+                        | inr z ↦ elim z [
+                          | inl x ↦ let over = x.1 in let most = fits.header_drawings in omega (arith, lcb 41 (lit< tt))
+                          | inr x ↦ let over = x.1 in let most = fits.endnotes in omega (arith, lcb 46 (lit< tt))
+                        ]
+                      ]
+                    ],
+                  ),
+                ),
+              ),
+            ),
+          ),
+        ),
+      ),
+    )
+
+pub fields_written : (fib : FibFields) (wd : List ℕ) → IsFib fib → IsWritten fib wd → fib_fields wd ≡ fib
+fields_written fib wd is w =
+    let flags = subst (λ n. ReadsFlags fib.kept.flags fib.quick_saves fib.which_table fib.complex n) (sym w.flags) (flags_of fib is) in
+    let pairs : fib_pairs wd ≡ fib.pairs = sym (fib_pairs-by_place wd fib.pairs is.pairs.count (λ n h. sym (w.pairs n h))) in
+    let three : fib_ccp_text wd ∷ fib_ccp_ftn wd ∷ fib_ccp_hdd wd ∷ [] ≡ fib.ccps = rw (w.text, w.notes, w.heads) (sym (three_of fib.ccps is.counts.three)) in
+    same_fields (fib_lid wd) (fib_lid_fe wd) (kept_flags (fib_flags wd)) (fib_quick_saves wd) (fib_which_table wd) (fib_cb_mac wd) (fib_complex wd == 1) (fib_ccp_text wd ∷ fib_ccp_ftn wd ∷ fib_ccp_hdd wd ∷ []) (fib_pairs wd) fib w.lid w.lid_fe flags.keeps flags.count flags.table w.cb_mac flags.is_complex three pairs
+
+pub read_back : (fib : FibFields) (more : List ℕ) → IsFib fib → Hold (fib_rules (written_fib fib ++ more)) × (fib_fields (written_fib fib ++ more) ≡ fib)
+read_back fib more is =
+    let w = is_written fib more is in
+    (hold_written fib (written_fib fib ++ more) is w, fields_written fib (written_fib fib ++ more) is w)

@@ -1,0 +1,44 @@
+-- The rules on the FIB: their numbers ascend, and where they hold the fields are those of a FIB.
+use Rattle.std.proofs.Common.{◌≡◌, ℕ, ◌+◌, ◌<◌, ◌≤◌, List, slice_index, refl, inl, inr, arith, rules, lit<, lit≤}
+use Rattle.std.proofs.lemmas.Bool.{cases_lt}
+use Rattle.std.proofs.lemmas.List.Elements.{All-from_get_or}
+use Rattle.doc_bits.specs.Rules.{Hold, IsSingle, Ascends}
+use Rattle.doc_bits.proofs.NumberLemmas.{number_at-bound}
+use Rattle.fib_form.specs.Fib.{fib_pair, fib_pairs, fib_flags, fib_ccp_text, fib_ccp_ftn, fib_ccp_hdd, pair_place}
+use Rattle.fib_form.specs.FibFields.{fib_fields, pair_at, IsWidePair, IsFib}
+use Rattle.fib_form.specs.FibRules.{fib_rules}
+use Rattle.fib_form.proofs.FlagLemmas.{kept_flags-kept}
+use Rattle.fib_form.proofs.PairLemmas.{length-fib_pairs, pair_at-fib_pairs}
+
+pub fib_rules-IsSingle : (wd : List ℕ) → IsSingle (fib_rules wd)
+fib_rules-IsSingle wd = search rules
+
+pub fib_rules-Ascends : (wd : List ℕ) → Ascends (fib_rules wd) 16 25
+fib_rules-Ascends wd = (17, ((lit≤ tt, lit< tt), (lit≤ tt, lit≤ tt, (18, ((lit≤ tt, lit< tt), (lit≤ tt, lit≤ tt, (19, ((lit≤ tt, lit< tt), (lit≤ tt, lit≤ tt, (20, ((lit≤ tt, lit< tt), (lit≤ tt, lit≤ tt, (21, ((lit≤ tt, lit< tt), (lit≤ tt, lit≤ tt, (22, ((lit≤ tt, lit< tt), (lit≤ tt, lit≤ tt, (23, ((lit≤ tt, lit< tt), (lit≤ tt, lit≤ tt, (24, ((lit≤ tt, lit< tt), (lit≤ tt, lit≤ tt, (lit≤ tt, lit< tt)))))))))))))))))))))))))
+
+-- the fields of a stream that breaks no rule are those of a FIB
+pub is_fib : (wd : List ℕ) → ((i : ℕ) → slice_index wd i < 256) → Hold (fib_rules wd) → IsFib (fib_fields wd)
+is_fib wd bytes (_, (_, (_, (_, (_, (_, (_, (lengths, parts)))))))) =
+    let pair : (n : ℕ) → n < 93 → pair_at (fib_pairs wd) n ≡ fib_pair wd n = λ n h. pair_at-fib_pairs wd n h in
+    let most : (n limit : ℕ) → n < 93 → (limit < (fib_pair wd n).1 → ⊥) → (pair_at (fib_pairs wd) n).1 ≤ limit =
+    λ n limit h not_over. rw (pair n h) (elim (cases_lt limit (fib_pair wd n).1) [ inl over ↦ absurd (not_over over) | inr at_most ↦ at_most ]) in
+    record {
+      languages = (number_at-bound wd 6 2 bytes, number_at-bound wd 60 2 bytes);
+      flags = kept_flags-kept (fib_flags wd);
+      quick_saves = omega arith;
+      which_table = omega arith;
+      cb_mac = number_at-bound wd 64 4 bytes;
+      counts = record {
+        three = refl;
+        main = elim (cases_lt 0 (fib_ccp_text wd)) [ inl some ↦ some | inr none ↦ absurd (lengths 76 (refl, inl (omega arith))) ];
+        all = elim (cases_lt 500000 (fib_ccp_text wd + fib_ccp_ftn wd + fib_ccp_hdd wd)) [ inl over ↦ absurd (lengths 76 (refl, inr over)) | inr most ↦ omega arith ];
+      };
+      pairs = record {
+        count = length-fib_pairs wd;
+        bookmarks = most 21 6 (lit< tt) (λ over. parts (pair_place 21) (inl (refl, over)));
+        main_drawings = most 40 4 (lit< tt) (λ over. parts (pair_place 40) (inr (inl (refl, over))));
+        header_drawings = most 41 4 (lit< tt) (λ over. parts (pair_place 41) (inr (inr (inl (refl, over)))));
+        endnotes = most 46 4 (lit< tt) (λ over. parts (pair_place 46) (inr (inr (inr (refl, over)))));
+      };
+      wide = All-from_get_or IsWidePair (fib_pairs wd) (0, 0) (λ n h. let low : n < 93 = omega (arith, length-fib_pairs wd) in rw (pair n low) (number_at-bound wd (pair_place n) 4 bytes, number_at-bound wd (pair_place n + 4) 4 bytes));
+    }

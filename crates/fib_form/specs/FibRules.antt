@@ -1,0 +1,60 @@
+-- The rules on the FIB, 16 to 24, in their order. A place is an offset in WordDocument.
+use Rattle.std.specs.Prelude.{◌≡◌, ◌≢◌, ◌⊎◌, ℕ, ◌+◌, ◌*◌, ◌<◌, ◌≤◌, List, length}
+use Rattle.doc_bits.specs.Number.{u16_at, u32_at}
+use Rattle.doc_bits.specs.Rules.{Rules, rule, ◌then◌, IsFirst, Among, Breaks, IsLeastOfAll}
+use Rattle.fib_form.specs.Fib.{early_form, fib_encrypted, fib_obfuscated, fib_glossary, fib_ccp_text, fib_ccp_ftn, fib_ccp_hdd, fib_pair, pair_place}
+
+-- at this place there is another 16-bit number than the wanted one
+abbrev pub IsOther : List ℕ → ℕ → ℕ → ℕ → Type 0
+IsOther wd place wanted p = (p ≡ place) × (u16_at wd place ≢ wanted)
+
+-- the stream is shorter than a FIB
+abbrev pub IsShort : List ℕ → ℕ → Type 0
+IsShort wd p = (p ≡ length wd) × (length wd < early_form.size)
+
+-- the document is encrypted or obfuscated
+abbrev pub IsHidden : List ℕ → ℕ → Type 0
+IsHidden wd p = (p ≡ 10) × ((fib_encrypted wd ≡ 1) ⊎ (fib_obfuscated wd ≡ 1))
+
+-- the document is a glossary
+abbrev pub IsGlossary : List ℕ → ℕ → Type 0
+IsGlossary wd p = (p ≡ 10) × (fib_glossary wd ≡ 1)
+
+-- csw, cslw, cbRgFcLcb or cswNew is not that of the form
+abbrev pub IsWrongSize : List ℕ → ℕ → Type 0
+IsWrongSize wd p =
+    IsOther wd 32 14 p ⊎ (IsOther wd 62 22 p ⊎ (IsOther wd 152 early_form.pair_count p ⊎ IsOther wd 898 0 p))
+
+-- Profile: comments, endnotes and text boxes are refused. The count of one of their four stories is not 0
+abbrev pub HasOtherStory : List ℕ → ℕ → ℕ → Type 0
+HasOtherStory wd k p = (p ≡ 92 + 4 * k) × (u32_at wd (92 + 4 * k) ≢ 0)
+
+-- there is no main text, or the three stories have more than 500,000 characters
+abbrev pub IsWrongLength : List ℕ → ℕ → Type 0
+IsWrongLength wd p =
+    (p ≡ 76) × ((fib_ccp_text wd ≡ 0) ⊎ (500000 < fib_ccp_text wd + fib_ccp_ftn wd + fib_ccp_hdd wd))
+
+-- the part that a pair names is longer than an empty table
+abbrev pub IsLongPart : List ℕ → ℕ → ℕ → ℕ → Type 0
+IsLongPart wd n most p = (p ≡ pair_place n) × (most < (fib_pair wd n).1)
+
+-- Profile: bookmarks, drawings and endnotes are refused
+abbrev pub HasRefusedPart : List ℕ → ℕ → Type 0
+HasRefusedPart wd p =
+    IsLongPart wd 21 6 p ⊎ (IsLongPart wd 40 4 p ⊎ (IsLongPart wd 41 4 p ⊎ IsLongPart wd 46 4 p))
+
+abbrev pub fib_rules : List ℕ → Rules ℕ
+fib_rules wd =
+    rule 16 (IsShort wd)
+    then rule 17 (IsOther wd 0 0xA5EC)
+    then rule 18 (IsOther wd 2 0x00C1)
+    then rule 19 (IsHidden wd)
+    then rule 20 (IsGlossary wd)
+    then rule 21 (IsWrongSize wd)
+    then rule 22 (Among 4 (HasOtherStory wd))
+    then rule 23 (IsWrongLength wd)
+    then rule 24 (HasRefusedPart wd)
+
+-- the first broken rule is the least of all broken ones, at its least place
+abbrev pub FirstIsLeast : Type 0
+FirstIsLeast = (wd : List ℕ) (r p : ℕ) → IsFirst (fib_rules wd) r p → IsLeastOfAll (λ a b. a ≤ b) (Breaks (fib_rules wd)) r p

@@ -1,0 +1,4 @@
+pub mod Fib
+pub mod FibFields
+pub mod FibRules
+pub mod FibBytes

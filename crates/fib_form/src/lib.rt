@@ -1,0 +1,18 @@
+//! The FIB, the file information block that `WordDocument` begins with: read, judged by rules 16 to 24, and written.
+#![tactic(auto)]
+
+mod fault;
+mod fib;
+mod laws;
+mod offsets;
+mod pairs;
+mod reading;
+mod writing;
+
+pub use fault::{FibFault, QuickSavesFull};
+pub use fib::{Fib, KeptFib};
+pub use laws::{fib_is_read_back, first_fib_fault_is_least};
+pub use pairs::Pairs;
+
+#[cfg(test)]
+mod tests;

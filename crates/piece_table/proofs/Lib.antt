@@ -1,0 +1,4 @@
+pub mod ByteLemmas
+pub mod ClxLemmas
+pub mod ClxRuleLemmas
+pub mod PieceLemmas

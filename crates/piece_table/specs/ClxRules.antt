@@ -1,0 +1,76 @@
+-- The rules on the Clx, 27 to 30, in their order. A place is an offset in the table stream, where the Clx begins at `at`.
+use Rattle.std.specs.Prelude.{◌≡◌, ◌≢◌, ◌⊎◌, ℕ, ◌+◌, ◌*◌, ◌<◌, ◌≤◌, List, length, IsSome}
+use Rattle.doc_bits.specs.Plc.{PlcPart, plc_cp}
+use Rattle.doc_bits.specs.Rules.{Rules, rule, ◌then◌, given, IsFirst, Among, From, Breaks, IsLeastOfAll}
+use Rattle.sprm_table.specs.Prms.{code_of_isprm}
+use Rattle.piece_table.specs.declared.fault.ClxFault.{ClxFault}
+use Rattle.piece_table.specs.declared.fault.ClxFault.TheVariants.{Rule, Memory}
+use Rattle.piece_table.specs.declared.pcd.Prm.{Prm}
+use Rattle.piece_table.specs.declared.pcd.Prm.TheVariants.{Nothing, Sprm, Prc}
+use Rattle.piece_table.specs.Piece.{TextPiece, piece_end}
+use Rattle.piece_table.specs.Clx.{SpellsClx, IsWrongAt, plc_place, pcd_place, pcd_prm, clx_piece}
+
+-- there are too many pieces, or the first CP is not 0
+abbrev pub IsWrongStart : PlcPart → ℕ → ℕ → Type 0
+IsWrongStart plc base p = (p ≡ base) × ((16384 < plc.count) ⊎ (plc_cp plc.bytes 0 ≢ 0))
+
+-- the CP after piece k is not above the one before it
+abbrev pub IsNoAscent : PlcPart → ℕ → ℕ → ℕ → Type 0
+IsNoAscent plc base k p = (p ≡ base + 4 * (k + 1)) × (plc_cp plc.bytes (k + 1) ≤ plc_cp plc.bytes k)
+
+-- the last CP is not the text length
+abbrev pub IsWrongEnd : PlcPart → ℕ → ℕ → ℕ → Type 0
+IsWrongEnd plc base text_len p = (p ≡ base + 4 * plc.count) × (plc_cp plc.bytes plc.count ≢ text_len)
+
+abbrev pub HasWrongCp : PlcPart → ℕ → ℕ → ℕ → Type 0
+HasWrongCp plc base text_len p = IsWrongStart plc base p ⊎ (Among plc.count (IsNoAscent plc base) p ⊎ IsWrongEnd plc base text_len p)
+
+-- bytes of a piece are in the FIB or beyond the stream
+abbrev pub LeavesStream : ℕ → TextPiece → Type 0
+LeavesStream wd_len piece = (piece.at < 900) ⊎ (wd_len < piece_end piece)
+
+abbrev pub StaysInStream : ℕ → TextPiece → Type 0
+StaysInStream wd_len piece = (900 ≤ piece.at) × (piece_end piece ≤ wd_len)
+
+-- piece k leaves the stream
+abbrev pub IsOutside : PlcPart → ℕ → ℕ → ℕ → ℕ → Type 0
+IsOutside plc base wd_len k p =
+    (p ≡ base + (pcd_place plc k + 2)) × LeavesStream wd_len (clx_piece plc k)
+
+-- a Prm that is read, among so many Prcs
+abbrev pub IsReadPrm : ℕ → Prm → Type 0
+IsReadPrm prcs Nothing = Unit {0}
+IsReadPrm prcs (Sprm isprm operand) = IsSome (code_of_isprm isprm)
+IsReadPrm prcs (Prc number) = number < prcs
+
+-- the Prm of piece k is not read
+abbrev pub IsUnread : PlcPart → ℕ → ℕ → ℕ → ℕ → Type 0
+IsUnread plc base prcs k p = (p ≡ base + (pcd_place plc k + 6)) × ¬ (IsReadPrm prcs (pcd_prm plc k))
+
+-- the rules on the pieces; `base` is where their Plc begins
+abbrev pub piece_rules : PlcPart → ℕ → ℕ → ℕ → ℕ → Rules ℕ
+piece_rules plc base prcs wd_len text_len =
+    rule 28 (HasWrongCp plc base text_len)
+    then rule 29 (Among plc.count (IsOutside plc base wd_len))
+    then rule 30 (Among plc.count (IsUnread plc base prcs))
+
+abbrev pub clx_rules : List ℕ → ℕ → ℕ → ℕ → Rules ℕ
+clx_rules clx at wd_len text_len =
+    rule 27 (From at (IsWrongAt clx))
+    then given (SpellsClx clx) (λ parts. piece_rules parts.plc (at + plc_place parts) (length parts.prcs) wd_len text_len)
+
+-- a refusal names the first broken rule; want of memory is free
+abbrev pub IsClxFault : Rules ℕ → ClxFault → Type 0
+IsClxFault rules (Rule r p) = IsFirst rules r p
+IsClxFault rules Memory = Unit {0}
+
+-- a refusal that is not for want of memory
+abbrev pub NamesFirst : Rules ℕ → ClxFault → Type 0
+NamesFirst rules (Rule r p) = IsFirst rules r p
+NamesFirst rules Memory = ⊥
+
+-- the first broken rule is the least of all broken ones, at its least place
+abbrev pub FirstClxFaultIsLeast : Type 0
+FirstClxFaultIsLeast =
+    (clx : List ℕ) (at wd_len text_len r p : ℕ) →
+    IsFirst (clx_rules clx at wd_len text_len) r p → IsLeastOfAll (λ a b. a ≤ b) (Breaks (clx_rules clx at wd_len text_len)) r p

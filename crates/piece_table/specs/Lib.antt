@@ -1,0 +1,4 @@
+pub mod Piece
+pub mod Clx
+pub mod ClxRules
+pub mod Front

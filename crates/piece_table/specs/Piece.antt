@@ -1,0 +1,57 @@
+-- Pieces of text. The text is one list with an entry a CP, so no piece is searched for.
+use Rattle.std.specs.Prelude.{◌≡◌, ℕ, ◌+◌, ◌*◌, ◌^◌, ◌<◌, ◌≤◌, List, length, map, flat_map, sum_by, All, Bool, Option, slice_get, if◌then◌else◌}
+use Rattle.std.specs.List.{range_with_len}
+
+-- a piece: the byte of WordDocument where it begins, whether its units have two bytes, and its number of units
+pub record TextPiece : Type 0 where
+  pub at : ℕ
+  pub wide : Bool
+  pub len : ℕ
+
+-- pieces, and the number of further ones for which there is memory
+pub record PieceTable : Type 0 where
+  pub pieces : List TextPiece
+  pub spare : ℕ
+
+-- where a unit stands: its first byte in WordDocument, and whether it has two
+pub record UnitPlace : Type 0 where
+  pub at : ℕ
+  pub wide : Bool
+
+-- the number of bytes of a unit
+abbrev pub unit_bytes : Bool → ℕ
+unit_bytes wide = if wide then 2 else 1
+
+-- the places of a piece's units
+abbrev pub unit_places : TextPiece → List UnitPlace
+unit_places piece = map (λ j. record { at = piece.at + j * unit_bytes piece.wide; wide = piece.wide }) (range_with_len 0 piece.len)
+
+-- the places of all units, one a CP
+unfoldable pub flat_pieces : List TextPiece → List UnitPlace
+flat_pieces pieces = flat_map unit_places pieces
+
+-- the place of the unit of a CP, if there is one
+abbrev pub place_of_cp : List TextPiece → ℕ → Option UnitPlace
+place_of_cp pieces cp = slice_get (flat_pieces pieces) cp
+
+-- the number of CPs
+abbrev pub total_length : List TextPiece → ℕ
+total_length pieces = sum_by (λ piece. piece.len) pieces
+
+-- the byte after a piece's last
+abbrev pub piece_end : TextPiece → ℕ
+piece_end piece = piece.at + piece.len * unit_bytes piece.wide
+
+-- a piece has units, and its bytes have 32-bit places
+pub record IsPiece (piece : TextPiece) : Type 0 where
+  pub some : 1 ≤ piece.len
+  pub end : piece_end piece < 2 ^ 32
+
+-- the pieces that a table may have
+pub record ArePieces (pieces : List TextPiece) : Type 0 where
+  pub each : All IsPiece pieces
+  pub total : total_length pieces ≤ 500001
+
+-- each piece covers as many entries as it has units
+abbrev pub FlatLengthIsTotal : Type 0
+FlatLengthIsTotal = (pieces : List TextPiece) → length (flat_pieces pieces) ≡ total_length pieces

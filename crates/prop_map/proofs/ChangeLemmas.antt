@@ -1,0 +1,60 @@
+-- Changes of a map that stands in a tree: an entry put, entries removed, a whole map put over it.
+use Rattle.std.proofs.Common.{◌≡◌, ℕ, ◌+◌, ◌<◌, Bool, true, false, cond, List, [], ◌∷◌, length, take, get_or, Option, Some, None, IsTrue, refl, sym, ap, ◌∙◌, arith, length-take}
+use Rattle.std.proofs.lemmas.List.{take_more, get_or-take, get_or_default}
+use Rattle.std.specs.declared.cmp.Ordering.TheVariants.{Less, Equal, Greater}
+use Rattle.std.specs.Ordering.{nat_cmp, match_ordering, eq_by_cmp}
+use Rattle.std.specs.Option.{option_or}
+use Rattle.std.specs.Cmp.{nat_cmp_total}
+use Rattle.std.specs.BTreeMap.{insert_entry}
+use Rattle.std.specs.FinMap.{find, put, is_sorted, from_sorted, retain_keys, get, get-retain_keys, get-from_sorted, same_map, nat_cmp-IsAntisymmetric}
+use Rattle.std.specs.FinMap.Entries.{by_order, where_key, is_sorted-where_key, find-where_key, find-append}
+use Rattle.prop_map.specs.Settings.{Settings}
+use Rattle.prop_map.specs.Entries.{Entries}
+use Rattle.prop_map.proofs.EntriesLemmas.{true_of, of_true, rises, find_gap}
+
+-- a tree puts an entry where a map does
+pub insert_entry-put : (es : Entries) (code : ℕ) (v : List ℕ) → insert_entry nat_cmp es code v ≡ put nat_cmp code v es
+insert_entry-put [] code v = refl
+insert_entry-put (e ∷ es) code v =
+    elim (nat_cmp code e.0) as (λ r. match_ordering r ((code, v) ∷ e ∷ es) ((e.0, v) ∷ es) (e ∷ insert_entry nat_cmp es code v) ≡ by_order r ((code, v) ∷ e ∷ es) ((e.0, v) ∷ es) (e ∷ put nat_cmp code v es)) [
+      | Less ↦ refl
+      | Equal ↦ refl
+      | Greater ↦ ap (λ rest. e ∷ rest) (insert_entry-put es code v)
+    ]
+
+-- equal codes pass a test alike
+alike : (p : ℕ → Bool) (q x : ℕ) → nat_cmp q x ≡ Equal → p x ≡ p q
+alike p q x e = ap p (sym (nat_cmp-IsAntisymmetric q x e))
+
+pub sorted-where : (p : ℕ → Bool) (es : Entries) → IsTrue (is_sorted nat_cmp es) → IsTrue (is_sorted nat_cmp (where_key nat_cmp p es))
+sorted-where p es h = true_of _ (is_sorted-where_key nat_cmp p es (of_true _ h))
+
+pub get-retained : (m : Settings) (p : ℕ → Bool) (q : ℕ) → get (retain_keys m p) q ≡ cond (p q) (get m q) None
+get-retained m p q = get-retain_keys m p q (λ x e. alike p q x e)
+
+pub from_sorted-where : (p : ℕ → Bool) (es : Entries) → IsTrue (is_sorted nat_cmp es) → from_sorted {R = nat_cmp} (where_key nat_cmp p es) ≡ retain_keys (from_sorted es) p
+from_sorted-where p es h = same_map nat_cmp_total nat_cmp-IsAntisymmetric _ _ (λ q.
+    get-from_sorted nat_cmp _ q (of_true _ (sorted-where p es h))
+    ∙ (find-where_key nat_cmp p q (λ x e. alike p q x e) es
+    ∙ sym (get-retained (from_sorted es) p q ∙ ap (λ o. cond (p q) o None) (get-from_sorted nat_cmp es q (of_true _ h)))))
+
+-- ---- the entries of a map in order, each put over another map
+
+-- the code of an entry is not among the entries before it
+find-earlier : (es : Entries) (i : ℕ) (d : ℕ × List ℕ) → IsTrue (is_sorted nat_cmp es) → i < length es → find nat_cmp (get_or es i d).0 (take i es) ≡ None
+find-earlier es i d h within =
+    let long : length (take i es) ≡ i = omega (arith, length-take i es) in
+    find_gap i (get_or es i d).0 (take i es) (omega arith)
+    (λ j e l. rw (get_or-take i es j e l, get_or_default es i d e within) (rises es j i e (of_true _ h) l within))
+    (λ j e low l. absurd (omega arith))
+
+either : (b : Bool) (v : List ℕ) (o before : Option (List ℕ)) → cond b (Some v) (option_or o before) ≡ option_or (cond b (Some v) o) before
+either true v o before = refl
+either false v o before = refl
+
+pub put_more : (es : Entries) (i : ℕ) (d : ℕ × List ℕ) (q : ℕ) (now before : Option (List ℕ)) → IsTrue (is_sorted nat_cmp es) → i < length es → now ≡ option_or (find nat_cmp q (take i es)) before → cond (eq_by_cmp nat_cmp q (get_or es i d).0) (Some (get_or es i d).1) now ≡ option_or (find nat_cmp q (take (i + 1) es)) before
+put_more es i d q now before h within was =
+    let e = get_or es i d in
+    let found : find nat_cmp q (take (i + 1) es) ≡ cond (eq_by_cmp nat_cmp q e.0) (Some e.1) (find nat_cmp q (take i es)) =
+    ap (find nat_cmp q) (take_more es i d within) ∙ find-append nat_cmp nat_cmp_total (take i es) e.0 e.1 q (find-earlier es i d h within) in
+    rw (was, found) (either (eq_by_cmp nat_cmp q e.0) e.1 (find nat_cmp q (take i es)) before)

@@ -1,0 +1,10 @@
+pub mod EntriesLemmas
+pub mod ChangeLemmas
+pub mod ActingLemmas
+pub mod PrintLemmas
+pub mod OverlayLemmas
+pub mod ModifierLemmas
+pub mod GroupLemmas
+pub mod ListedLemmas
+pub mod PrintedLemmas
+pub mod LawLemmas

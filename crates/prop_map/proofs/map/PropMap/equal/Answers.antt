@@ -1,0 +1,9 @@
+use Rattle.std.proofs.Common.{sym, ap, ◌∙◌}
+use Rattle.std.specs.FinMap.{entries, same_entries_map}
+use Rattle.prop_map.proofs.map.PropMap.equal.Goals as goal
+
+pub returns : goal.returns
+returns c = (
+  λ t. same_entries_map _ _ (sym c.entries.ensures ∙ (c.same_entries.ensures.0 t ∙ c.entries-2.ensures)),
+  λ e. c.same_entries.ensures.1 (c.entries.ensures ∙ (ap entries e ∙ sym c.entries-2.ensures)),
+)

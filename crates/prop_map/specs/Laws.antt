@@ -1,0 +1,46 @@
+-- What the definitions imply.
+use Rattle.std.specs.Prelude.{◌≡◌, ℕ, true, false, List, ◌∷◌, ◌++◌, Option, Some, None}
+use Rattle.std.specs.Option.{option_or}
+use Rattle.std.specs.List.{All}
+use Rattle.std.specs.FinMap.{insert}
+use Rattle.sprm_table.specs.Sprm.{Prl, IsSetting}
+use Rattle.prop_map.specs.declared.modifiers.Modifier.{Modifier}
+use Rattle.prop_map.specs.Settings.{Settings}
+use Rattle.prop_map.specs.Formed.{IsPropertyMap}
+use Rattle.prop_map.specs.Acting.{sets_code, clears_code, value_after, style_of, ArePropertiesAfter}
+use Rattle.prop_map.specs.Modifiers.{IsModifierOf}
+
+abbrev pub NoneSets : ℕ → ℕ → List Prl → Type 0
+NoneSets groups code list = All (λ e. sets_code groups code e ≡ false) list
+
+abbrev pub NoneClears : ℕ → ℕ → List Prl → Type 0
+NoneClears groups code list = All (λ e. clears_code groups code e ≡ false) list
+
+-- what a list leaves at a code where `before` was: the value of the last entry that sets it, where no later entry removes
+-- it; what was there, where no entry sets or removes it; nothing, where an entry removes it and no later one sets it
+pub record IsSaidCodeByCode (groups code : ℕ) (before : Option (List ℕ)) : Type 0 where
+  pub set : (front back : List Prl) (prl : Prl) → sets_code groups code prl ≡ true → NoneSets groups code back → NoneClears groups code back → value_after (front ++ prl ∷ back) groups code before ≡ Some prl.1
+  pub kept : (list : List Prl) → NoneSets groups code list → NoneClears groups code list → value_after list groups code before ≡ before
+  pub removed : (front back : List Prl) (prl : Prl) → clears_code groups code prl ≡ true → NoneSets groups code back → value_after (front ++ prl ∷ back) groups code before ≡ None
+
+abbrev pub SaidCodeByCode : Type 0
+SaidCodeByCode = (groups code : ℕ) (before : Option (List ℕ)) → IsSaidCodeByCode groups code before
+
+-- two lists joined act as the first and then the second
+pub record IsActedInTurn (first next : List Prl) (groups : ℕ) : Type 0 where
+  pub values : (code : ℕ) (before : Option (List ℕ)) → value_after (first ++ next) groups code before ≡ value_after next groups code (value_after first groups code before)
+  pub style : style_of (first ++ next) groups ≡ option_or (style_of next groups) (style_of first groups)
+
+abbrev pub ListsActInTurn : Type 0
+ListsActInTurn = (first next : List Prl) (groups : ℕ) → IsActedInTurn first next groups
+
+-- no two maps are the map after a list
+abbrev pub ActingIsOne : Type 0
+ActingIsOne = (list : List Prl) (groups : ℕ) (old one other : Settings) → ArePropertiesAfter list groups old one → ArePropertiesAfter list groups old other → one ≡ other
+
+-- no two modifiers are that of a list
+abbrev pub ModifierIsOne : Type 0
+ModifierIsOne = (list : List Prl) (one other : Modifier) → IsModifierOf list one → IsModifierOf list other → one ≡ other
+
+abbrev pub SettingsStayFormed : Type 0
+SettingsStayFormed = (groups : ℕ) (map : Settings) (prl : Prl) → IsPropertyMap groups map → IsSetting groups prl → IsPropertyMap groups (insert map prl.0 prl.1)

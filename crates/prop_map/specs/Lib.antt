@@ -1,0 +1,8 @@
+pub mod Settings
+pub mod Entries
+pub mod Acting
+pub mod Formed
+pub mod Steps
+pub mod Printing
+pub mod Modifiers
+pub mod Laws

@@ -1,0 +1,24 @@
+//! Settings: finite maps from sprm codes to values, what a list of sprms makes of them, and the
+//! modifiers of pieces.
+#![tactic(auto)]
+
+mod acting;
+mod codes;
+mod draft;
+mod laws;
+mod map;
+mod modifiers;
+mod overlay;
+mod printing;
+mod sorted;
+
+pub use acting::{Acted, act};
+pub use codes::{CHARACTER_GROUPS, PARAGRAPH_GROUPS, PRC_GROUPS, SECTION_GROUPS, may_hold};
+pub use laws::{
+    acting_is_one, lists_act_in_turn, modifier_is_one, said_code_by_code, settings_stay_formed,
+};
+pub use map::PropMap;
+pub use modifiers::Modifier;
+
+#[cfg(test)]
+mod tests;

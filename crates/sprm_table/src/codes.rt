@@ -1,0 +1,18 @@
+/// A sprm: the word that names a property and says what its operand is.
+#[derive(Clone, Copy, Debug, PartialEq, Eq, PartialOrd, Ord)]
+pub struct Code(pub u16);
+
+/// What a sprm does to a map of properties.
+#[derive(Clone, Copy, Debug, PartialEq, Eq)]
+pub enum Class {
+    /// Sets its code to its operand.
+    Plain,
+    /// The same; over a style the value may turn the style's own round.
+    Toggle,
+    /// Removes what was set before it.
+    Clear,
+    /// Names the style.
+    Style,
+    /// Is not read.
+    Refused,
+}
