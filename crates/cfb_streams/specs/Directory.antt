@@ -1,5 +1,5 @@
 -- [MS-CFB] Directory Entry: 128 bytes, whose fields are named here by the offset in the file at which the entry stands.
-use Rattle.std.specs.Prelude.{◌≡◌, ◌⊎◌, ℕ, ◌+◌, ◌-◌, ◌*◌, ◌/◌, ◌<◌, ◌≤◌, List, length, slice_index, slice_range, nat_lt, if◌then◌else◌}
+use Rattle.std.specs.Prelude.{◌≡◌, ◌⊎◌, ℕ, ◌+◌, ◌-◌, ◌*◌, ◌/◌, ◌<◌, List, length, slice_index, slice_range, nat_lt, if◌then◌else◌}
 use Rattle.doc_bits.specs.Number.{u16_at, u32_at}
 
 -- a unit of the name
@@ -47,13 +47,6 @@ entry_size file at = u32_at file (at + 120)
 -- Profile: the upper case of a unit, of ASCII letters alone
 abbrev pub upper_case : ℕ → ℕ
 upper_case unit = if nat_lt unit 97 then unit else (if nat_lt unit 123 then unit - 32 else unit)
-
--- the entry has this name, of 1 to 31 units; a name length that is odd or not from 4 to 64 is that of no name
-pub record HasName (file : List ℕ) (at : ℕ) (name : List ℕ) : Type 0 where
-  pub some : 1 ≤ length name
-  pub short : length name ≤ 31
-  pub long : entry_name_length file at ≡ 2 * length name + 2
-  pub units : (i : ℕ) → i < length name → upper_case (entry_unit file at i) ≡ upper_case (slice_index name i)
 
 -- the entry's name, unit by unit
 pub record IsNameOf (file : List ℕ) (at : ℕ) (name : List ℕ) : Type 0 where

@@ -2,7 +2,7 @@
 ghost use Rattle.std.specs.Prelude.{◌≡◌, [], ℕ, ◌+◌, ◌*◌, ◌<◌, ◌≤◌, ◌↔◌, IsTrue, IfOk, OnOk, length, slice_index};
 ghost use Rattle.doc_bits.specs.Rules.{LeastOrNone};
 ghost use Rattle.cfb_streams.specs.Chain.{AreSectorsOf};
-ghost use Rattle.cfb_streams.specs.Directory.{upper_case, HasName};
+ghost use Rattle.cfb_streams.specs.Directory.{upper_case};
 ghost use Rattle.cfb_streams.specs.Reach.{entry_place as place_of, entry_count, BreaksRoot, ListsReached};
 ghost use Rattle.cfb_streams.specs.Seen.{IsSeen, Follows};
 
@@ -39,9 +39,6 @@ pub const TYPE_ROOT: u8 = 5;
 
 /// A link that names no entry.
 pub const NOSTREAM: u32 = 0xFFFF_FFFF;
-
-/// The most units of a name.
-pub const MAX_NAME: usize = 31;
 
 /// The entries of one sector.
 const ENTRIES: usize = 4;
@@ -134,23 +131,4 @@ pub fn upper(unit: u16) -> u16
     } else {
         unit
     }
-}
-
-/// Whether the entry at an offset has the name. ASCII letters are compared by their upper case.
-pub fn has_name(file: &[u8], at: usize, name: &[u16]) -> bool
-    requires { at + 128 ≤ length file.now }
-    ensures { IsTrue result ↔ HasName file.now at name.now }
-{
-    if name.is_empty() || name.len() > MAX_NAME {
-        return false;
-    }
-    if get16(file, at + NAME_LEN) as usize != 2 * name.len() + 2 {
-        return false;
-    }
-    for i in 0..name.len() {
-        if upper(get16(file, at + 2 * i)) != upper(name[i]) {
-            return false;
-        }
-    }
-    true
 }

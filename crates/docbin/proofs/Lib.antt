@@ -5,3 +5,4 @@ pub mod TableLemmas
 pub mod ContentsLemmas
 pub mod RefusalLemmas
 pub mod ListingLemmas
+pub mod OneLemmas

@@ -49,6 +49,11 @@ abbrev pub IsVerdict : Action → (name file : List ℕ) → ℕ → List ℕ �
 IsVerdict action name file status text =
     IsRefused (judged_rules action file) name status text ⊎ (Hold (judged_rules action file) × IsAnswer action file status text)
 
+-- an action says one thing of a file
+abbrev pub VerdictIsOne : Type 0
+VerdictIsOne =
+    (action : Action) (name file : List ℕ) (status other : ℕ) (text said : List ℕ) → IsVerdict action name file status text → IsVerdict action name file other said → (status ≡ other) × (text ≡ said)
+
 -- the file was read whole and judged
 pub record IsJudged (action : Action) (name : List ℕ) (held : Option Files) (status : ℕ) (text : List ℕ) : Type 0 where
   pub file : List ℕ

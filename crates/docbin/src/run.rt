@@ -3,7 +3,7 @@ ghost use Rattle.std.specs.Prelude.{◌≡◌, ◌≢◌, ℕ, List, map, IfOk};
 ghost use Rattle.std.specs.String.{string_bytes};
 ghost use Rattle.doc_outer.specs.Counts.{Rose};
 ghost use Rattle.doc_outer.specs.Written.{Appends, AppendsPrefix};
-ghost use Rattle.docbin.specs.Endings.{IsEnding, IsVerdict, NamesRule};
+ghost use Rattle.docbin.specs.Endings.{IsEnding, IsVerdict, NamesRule, VerdictIsOne};
 ghost use Rattle.docbin.specs.declared.request.Action.TheVariants as Action;
 
 use crate::lines::{missing_line, rule_line, shelf_fault_line, usage_line};
@@ -53,6 +53,9 @@ pub fn docbin_run<S: Shelf, K: Sink>(
     ensures ending { result ≢ STATUS_SINK_FAULT → result ≢ STATUS_MEMORY → (text : List ℕ)
         × IsEnding (map string_bytes words.now) (S.held shelf.old) result text
         × Appends (K.written out.old) (K.written out.new) text }
+
+    // The words and the bytes of a file have one verdict.
+    ensures only { VerdictIsOne }
 
     // A status for what failed outside shows in a count of this run.
     ensures missing { result ≡ STATUS_MISSING → Rose (S.missed shelf.old) (S.missed shelf.new) }
