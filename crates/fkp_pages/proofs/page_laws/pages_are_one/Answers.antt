@@ -1,0 +1,5 @@
+use Rattle.fkp_pages.proofs.WholePages.{pages_are_one}
+use Rattle.fkp_pages.proofs.page_laws.pages_are_one.Goals as goal
+
+pub returns : goal.returns
+returns c = pages_are_one

@@ -1,0 +1,12 @@
+pub mod Fkp
+pub mod Stretch
+pub mod Bin
+pub mod Properties
+pub mod Runs
+pub mod Laws
+pub mod Packing
+pub mod Written
+pub mod PageBytes
+pub mod Pages
+pub mod Found
+pub mod InARow

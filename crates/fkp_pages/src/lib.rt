@@ -1,0 +1,35 @@
+//! Formatted disk pages: the properties of runs of characters and of paragraphs by byte place, and
+//! the bin tables that name the pages.
+#![tactic(auto)]
+
+mod bin_table;
+mod kind;
+mod laws;
+mod lists;
+mod packing;
+mod page_laws;
+mod page_writer;
+mod page_writers;
+mod reading;
+mod writable;
+mod written;
+
+pub use bin_table::{BinRange, bin_at, bin_range, is_bin_table, write_bin};
+pub use kind::{PAGE_LEN, PageKind, RunAnswer};
+pub use laws::{
+    bin_page_is_one, list_at_is_one, list_is_spelled, run_answer_is_one, spelled_list_is_read,
+};
+pub use lists::{Bin, Bins, ChpRuns, PapRuns, Run, Starts};
+pub use packing::Pages;
+pub use page_laws::{
+    lists_have_settings, packing_is_one, pages_are_one, pages_are_whole, pages_stand_in_a_row,
+    places_have_lists, row_is_printable, run_fits_alone, runs_are_found,
+};
+pub use page_writers::{write_chpx_pages, write_papx_pages};
+pub use reading::{Stretch, chpx_at, chpx_stretch, papx_at, papx_stretch};
+pub use writable::{are_chp_runs, are_pap_runs};
+
+#[cfg(test)]
+mod page_tests;
+#[cfg(test)]
+mod tests;
