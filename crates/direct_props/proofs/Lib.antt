@@ -1,0 +1,5 @@
+pub mod AnswerLemmas
+pub mod StretchLemmas
+pub mod CharacterLemmas
+pub mod LawLemmas
+pub mod RightLemmas

@@ -1,0 +1,4 @@
+pub mod Direct
+pub mod PageRules
+pub mod Stretches
+pub mod Laws

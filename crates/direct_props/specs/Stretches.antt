@@ -1,0 +1,52 @@
+-- How far around a place its list is the same.
+use Rattle.std.specs.Prelude.{◌≡◌, ℕ, ◌+◌, ◌≤◌, List, length, drop, slice_range, slice_get, slice_index, Some, ◌++◌, ⊤}
+use Rattle.doc_bits.specs.Rules.{Nowhere}
+use Rattle.sprm_table.specs.Sprm.{HasSprmFaultAt, IsAcceptedList}
+use Rattle.fkp_pages.specs.declared.kind.PageKind.{PageKind}
+use Rattle.fkp_pages.specs.declared.kind.RunAnswer.{RunAnswer}
+use Rattle.fkp_pages.specs.declared.kind.RunAnswer.TheVariants.{Found, Empty, NoRun, BadCount, Leaves}
+use Rattle.fkp_pages.specs.Fkp.{least_list}
+use Rattle.fkp_pages.specs.Runs.{run_groups}
+use Rattle.prop_map.specs.Settings.{Settings}
+use Rattle.prop_map.specs.declared.modifiers.Modifier.{Modifier}
+use Rattle.fkp_pages.specs.Properties.{HasListAt}
+use Rattle.direct_props.specs.Direct.{IsDirectCharacter}
+use Rattle.direct_props.specs.PageRules.{IsRightBetween}
+
+-- a list with room for itself before the last byte of a page, whose sprms have no fault
+pub record IsRightList (kind : PageKind) (page : List ℕ) (from to : ℕ) : Type 0 where
+  pub room : from + least_list kind ≤ to
+  pub within : to ≤ 511
+  pub sprms : Nowhere (HasSprmFaultAt (slice_range page (from + least_list kind) to) (run_groups kind))
+
+-- the answer is a run without settings, or one with such a list
+abbrev pub HasRightList : PageKind → List ℕ → RunAnswer → Type 0
+HasRightList kind page (Found from to) = IsRightList kind page from to
+HasRightList kind page Empty = ⊤
+HasRightList kind page NoRun = ⊥
+HasRightList kind page BadCount = ⊥
+HasRightList kind page (Leaves entry) = ⊥
+
+-- each place from the first to the last breaks no rule and has the list, and the place is among them
+pub record HasListAround (kind : PageKind) (wd bin : List ℕ) (fc first last : ℕ) (list : List ℕ) : Type 0 where
+  pub from : first ≤ fc
+  pub to : fc ≤ last
+  pub right : IsRightBetween kind wd bin first last
+  pub has : (other : ℕ) → first ≤ other → other ≤ last → HasListAt kind bin wd other list
+  pub long : least_list kind ≤ length list
+  pub accepted : IsAcceptedList (drop (least_list kind) list) (run_groups kind)
+
+-- each place from the first to the last has these direct settings, and the place is among them
+pub record HasSettingsAround (wd bin : List ℕ) (modifier : Modifier) (fc first last : ℕ) (settings : Settings) : Type 0 where
+  pub from : first ≤ fc
+  pub to : fc ≤ last
+  pub each : (other : ℕ) → first ≤ other → other ≤ last → IsDirectCharacter wd bin other modifier settings
+
+-- the new list is the old one with the direct settings of each place
+pub record AddsCharacters (wd bin places : List ℕ) (modifier : Modifier) (old new : List Settings) : Type 0 where
+  pub added : List Settings
+  pub joined : new ≡ old ++ added
+  pub len : length added ≡ length places
+  pub each :
+      (k : ℕ) (settings : Settings) → slice_get added k ≡ Some settings →
+      IsDirectCharacter wd bin (slice_index places k) modifier settings

@@ -1,0 +1,17 @@
+//! Direct settings: what the pages of a file and the modifiers of its pieces give to each unit and
+//! to each paragraph mark, and the rules on the pages.
+#![tactic(auto)]
+
+mod characters;
+mod laws;
+mod lists;
+mod marks;
+mod rules;
+
+pub use characters::{CharacterSettings, push_characters};
+pub use laws::{direct_character_is_one, direct_mark_is_one, first_page_fault_is_least};
+pub use marks::{DirectMark, read_mark};
+pub use rules::{PageFault, judge_each, judge_places};
+
+#[cfg(test)]
+mod tests;
