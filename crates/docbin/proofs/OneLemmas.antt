@@ -12,9 +12,8 @@ use Rattle.fib_form.specs.Fib.{fib_ccp_text, fib_pair, table_part}
 use Rattle.fib_form.specs.FibFields.{fib_fields, text_length}
 use Rattle.fib_form.specs.FibRules.{fib_rules}
 use Rattle.fib_form.proofs.FibRuleLemmas.{fib_rules-IsSingle}
-use Rattle.piece_table.specs.Clx.{ClxParts, clx_pieces}
 use Rattle.piece_table.specs.ClxRules.{clx_rules}
-use Rattle.piece_table.proofs.ClxLemmas.{parts_unique}
+use Rattle.piece_table.proofs.UniqueLemmas.{clx_pieces_one}
 use Rattle.piece_table.proofs.ClxRuleLemmas.{clx_rules-IsSingle}
 use Rattle.cfb_streams.specs.Contents.{Stream, Contents, HasNamed}
 use Rattle.cfb_streams.specs.Directory.{AreSameNames, IsNameOf, EntryBefore, upper_case, entry_unit}
@@ -107,7 +106,7 @@ judged_single Streams file = single_in File (container_rules file) (container_si
 -- one Clx has one list of pieces
 table_text_one : (wd table text said : List ℕ) → IsTextOfTable wd table text → IsTextOfTable wd table said → text ≡ said
 table_text_one wd table text said a b =
-    let pieces : a.pieces ≡ b.pieces = a.clx.pieces_are ∙ (ap (λ (p : ClxParts). clx_pieces p.plc) (parts_unique (table_part wd table clx_pair) a.clx.parts b.clx.parts a.clx.spelt b.clx.spelt) ∙ sym b.clx.pieces_are) in
+    let pieces : a.pieces ≡ b.pieces = clx_pieces_one (table_part wd table clx_pair) a.pieces b.pieces a.clx b.clx in
     a.shows ∙ (ap (λ ps. shown true (text_units wd ps (fib_ccp_text wd))) pieces ∙ sym b.shows)
 
 wd_text_one : (file : List ℕ) (contents : Contents) (wd text said : List ℕ) → HasContents file contents → IsTextOfWd contents wd text → IsTextOfWd contents wd said → text ≡ said

@@ -1,4 +1,4 @@
--- The rules 1 to 30, in their order: those of the container, of the FIB, of the parts and of the Clx, each in its part.
+-- The rules 1 to 32, in their order: those of the container, of the FIB, of the parts and of the Clx, each in its part.
 use Rattle.std.specs.Prelude.{◌≡◌, ◌<◌, ◌^◌, ℕ, List, length, codes, if◌then◌else◌, ◌==◌, slice_get, Some}
 use Rattle.doc_bits.specs.declared.places.Where.TheVariants.{File, Wd}
 use Rattle.doc_bits.specs.Rules.{Rules, rule, ◌then◌, given}
@@ -36,6 +36,6 @@ abbrev pub contents_rules : Contents → Rules Place
 contents_rules contents =
     rules_in File (rule 15 (HasNoStream contents wd_name 0)) then given (HasNamed contents.streams wd_name) (wd_rules contents)
 
--- the rules 1 to 30
+-- the rules 1 to 32
 abbrev pub text_rules : List ℕ → Rules Place
 text_rules file = rules_in File (container_rules file) then given (HasContents file) contents_rules

@@ -164,6 +164,104 @@ fn text_judges_and_prints(rt: HostRuntime) -> Result<(), Fail> {
     Ok(())
 }
 
+// Prcs before the Pcdt of the hello file.
+#[test]
+fn text_judges_prcs(rt: HostRuntime) -> Result<(), Fail> {
+    let alloc = rt.alloc();
+    let rows: [(&[Put], u8, &str, &str); 4] = [
+        // The first Prc has a sprm that is not read.
+        (
+            &[
+                Put(WD + 422, 4, 28),
+                Put(TABLE + 232, 3, 0x0401),
+                Put(TABLE + 235, 4, 0x4610),
+                Put(TABLE + 239, 1, 2),
+                Put(TABLE + 240, 4, 16),
+                Put(TABLE + 244, 4, 0),
+                Put(TABLE + 248, 4, 6),
+                Put(TABLE + 252, 2, 0),
+                Put(TABLE + 254, 4, 1_024),
+                Put(TABLE + 258, 2, 1),
+            ],
+            1,
+            "rule 31 Table 235\n",
+            "a Prc that is not read",
+        ),
+        (
+            &[
+                Put(WD + 422, 4, 28),
+                Put(TABLE + 232, 3, 0x0401),
+                Put(TABLE + 235, 4, 0x4610),
+                Put(TABLE + 239, 1, 2),
+                Put(TABLE + 240, 4, 16),
+                Put(TABLE + 244, 4, 0),
+                Put(TABLE + 248, 4, 6),
+                Put(TABLE + 252, 2, 0),
+                Put(TABLE + 254, 4, 1_024),
+                Put(TABLE + 258, 2, 0),
+            ],
+            0,
+            "Hello\n",
+            "a Prc that no piece names",
+        ),
+        // The first piece names the second Prc.
+        (
+            &[
+                Put(WD + 422, 4, 47),
+                Put(TABLE + 232, 3, 0x0401),
+                Put(TABLE + 235, 4, 0x4610),
+                Put(TABLE + 239, 3, 0x0401),
+                Put(TABLE + 242, 4, 0x4610),
+                Put(TABLE + 246, 1, 2),
+                Put(TABLE + 247, 4, 28),
+                Put(TABLE + 251, 4, 0),
+                Put(TABLE + 255, 4, 2),
+                Put(TABLE + 259, 4, 6),
+                Put(TABLE + 263, 2, 0),
+                Put(TABLE + 265, 4, 1_024),
+                Put(TABLE + 269, 2, 3),
+                Put(TABLE + 271, 2, 0),
+                Put(TABLE + 273, 4, 1_028),
+                Put(TABLE + 277, 2, 1),
+            ],
+            1,
+            "rule 31 Table 235\n",
+            "two Prcs that are not read",
+        ),
+        // A Prc of one sprm, whose operand has 253 bytes.
+        (
+            &[
+                Put(WD + 422, 4, 280),
+                Put(TABLE + 232, 3, 0x01_0001),
+                Put(TABLE + 235, 3, 0xFD_CA02),
+                Put(TABLE + 491, 1, 2),
+                Put(TABLE + 492, 4, 16),
+                Put(TABLE + 500, 4, 6),
+                Put(TABLE + 506, 4, 1_024),
+                Put(TABLE + 510, 2, 1),
+            ],
+            1,
+            "rule 32 Table 232\n",
+            "a Prc that is too long",
+        ),
+    ];
+    for (changes, status, text, what) in rows {
+        let mut file = hello_file(alloc)?;
+        for change in changes {
+            put_number(&mut file, *change);
+        }
+        let (got, printed) = run(alloc, &file, &["text", "f.doc"])?;
+        assert_eq!(rt; got, status, "{what}");
+        let line = if status == 1 {
+            printed.as_str().strip_prefix("f.doc: ").unwrap_or("")
+        } else {
+            printed.as_str()
+        };
+        assert_eq!(rt; line, text, "{what}");
+    }
+    Ok(())
+}
+
 #[test]
 fn streams_are_listed(rt: HostRuntime) -> Result<(), Fail> {
     let alloc = rt.alloc();

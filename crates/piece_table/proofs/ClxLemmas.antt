@@ -8,7 +8,7 @@ use Rattle.doc_bits.specs.Number.{u32_at}
 use Rattle.std.specs.Prelude.{slice_range}
 use Rattle.doc_bits.specs.Plc.{PlcPart, IsPlcOf}
 use Rattle.piece_table.specs.Clx.{prc_bytes, pcdt_bytes, IsGrpprl, IsPlcPcd, BeginsPrc, BeginsPcdt, ClxParts, SpellsClx, IsWrongAt}
-use Rattle.piece_table.specs.Front.{IsPrcFront, IsPcdtFront, AreParts}
+use Rattle.piece_table.specs.Front.{IsPrcFront, IsPcdtFront, ArePrcs, AreAllPrcs, AreParts}
 use Rattle.piece_table.proofs.ByteLemmas.{AreBytes, AreBytes-drop, front_spelt, spelt_front, spelt_body, sized_unique}
 
 pub prc_unique : (a b x y : List ℕ) → IsGrpprl a → IsGrpprl b → prc_bytes a ++ x ≡ prc_bytes b ++ y → (a ≡ b) × (x ≡ y)
@@ -70,59 +70,45 @@ front_of_prc bytes none prc =
     let within = read.1.1 in
     none (length prc.grpprl) (record { clxt = read.0; count = read.1.0; most = short; within = omega arith })
 
--- the Prcs before an offset
-pub record Walked (clx : List ℕ) (at count : ℕ) : Type 0 where
-  pub prcs : List (List ℕ)
-  pub sizes : All IsGrpprl prcs
-  pub spelt : clx ≡ flat_map prc_bytes prcs ++ drop at clx
-  pub count_is : count ≡ length prcs
-  pub within : at ≤ length clx
-
-pub walked_none : (clx : List ℕ) → Walked clx 0 0
-walked_none clx = record { prcs = []; sizes = λ k d low. absurd (omega arith); spelt = refl; count_is = refl; within = omega arith }
+pub prcs_none : (clx : List ℕ) → ArePrcs clx [] 0
+prcs_none clx = record { sizes = λ k d low. absurd (omega arith); spelt = refl; within = omega arith }
 
 -- one Prc more
-pub walked_more : (clx : List ℕ) (at count size : ℕ) → AreBytes clx → Walked clx at count → IsPrcFront (drop at clx) size → Walked clx (at + (3 + size)) (count + 1)
-walked_more clx at count size are walked front =
+pub prcs_more : (clx : List ℕ) (prcs : List (List ℕ)) (at size : ℕ) → AreBytes clx → ArePrcs clx prcs at → IsPrcFront (drop at clx) size → ArePrcs clx (prcs ++ slice_range clx (at + 3) (at + 3 + size) ∷ []) (at + 3 + size)
+prcs_more clx prcs at size are before front =
     let rest = drop at clx in
     let prc = prc_of_front rest size (AreBytes-drop at clx are) front in
     let most = front.most in
     let long = front.within in
-    let within = walked.within in
+    let within = before.within in
     let grpprl = take size (drop 3 rest) in
-    let behind : drop size (drop 3 rest) ≡ drop (at + (3 + size)) clx = drop-drop size 3 rest ∙ drop-drop (3 + size) at clx in
-    let list = walked.prcs ++ grpprl ∷ [] in
-    let joined : flat_map prc_bytes list ≡ flat_map prc_bytes walked.prcs ++ prc_bytes grpprl =
-    flat_map-append prc_bytes walked.prcs (grpprl ∷ []) ∙ ap (λ l. flat_map prc_bytes walked.prcs ++ l) (append-nil (prc_bytes grpprl)) in
-    let whole : clx ≡ flat_map prc_bytes walked.prcs ++ (prc_bytes grpprl ++ drop (at + (3 + size)) clx) =
-    walked.spelt ∙ ap (λ l. flat_map prc_bytes walked.prcs ++ l) (prc.1 ∙ ap (λ l. prc_bytes grpprl ++ l) behind) in
-    let count_is = walked.count_is in
+    let same : slice_range clx (at + 3) (at + 3 + size) ≡ grpprl =
+    let width : at + 3 + size - (at + 3) ≡ size = omega arith in
+    ap (λ n. take n (drop (at + 3) clx)) width ∙ ap (take size) (sym (drop-drop 3 at clx)) in
+    let behind : drop size (drop 3 rest) ≡ drop (at + 3 + size) clx = ap (drop size) (drop-drop 3 at clx) ∙ drop-drop size (at + 3) clx in
+    let list = prcs ++ grpprl ∷ [] in
+    let end = drop (at + 3 + size) clx in
+    let joined : flat_map prc_bytes list ≡ flat_map prc_bytes prcs ++ prc_bytes grpprl =
+    flat_map-append prc_bytes prcs (grpprl ∷ []) ∙ ap (λ l. flat_map prc_bytes prcs ++ l) (append-nil (prc_bytes grpprl)) in
+    let whole : clx ≡ flat_map prc_bytes prcs ++ (prc_bytes grpprl ++ end) =
+    before.spelt ∙ ap (λ l. flat_map prc_bytes prcs ++ l) (prc.1 ∙ ap (λ l. prc_bytes grpprl ++ l) behind) in
     let short : IsGrpprl grpprl = omega (arith, prc.0) in
-    record {
-      prcs = list;
-      sizes = All-push IsGrpprl walked.prcs grpprl walked.sizes short;
-      spelt = whole ∙ (sym (append_assoc (flat_map prc_bytes walked.prcs) (prc_bytes grpprl) (drop (at + (3 + size)) clx)) ∙ ap (λ l. l ++ drop (at + (3 + size)) clx) (sym joined));
-      count_is = omega (arith, length-append walked.prcs (grpprl ∷ []));
+    let more : ArePrcs clx list (at + 3 + size) = record {
+      sizes = All-push IsGrpprl prcs grpprl before.sizes short;
+      spelt = whole ∙ (sym (append_assoc (flat_map prc_bytes prcs) (prc_bytes grpprl) end) ∙ ap (λ l. l ++ end) (sym joined));
       within = omega (arith, length-drop at clx);
-    }
+    } in
+    subst (λ g. ArePrcs clx (prcs ++ g ∷ []) (at + 3 + size)) (sym same) more
 
 -- a slice from an offset on
 pub rest_is : (xs : List ℕ) (at : ℕ) → take (length xs - at) (drop at xs) ≡ drop at xs
 rest_is xs at = take_all (length xs - at) (drop at xs) (omega (arith, length-drop at xs))
 
 -- where the rest begins
-pub walked_place : (clx : List ℕ) (at count : ℕ) (walked : Walked clx at count) → at ≡ length (flat_map prc_bytes walked.prcs)
-walked_place clx at count walked =
-    let within = walked.within in
-    omega (arith, ap length walked.spelt, length-append (flat_map prc_bytes walked.prcs) (drop at clx), length-drop at clx)
-
--- there are no more Prcs than bytes before the rest
-prcs_below : (prcs : List (List ℕ)) → length prcs ≤ length (flat_map prc_bytes prcs)
-prcs_below [] = omega arith
-prcs_below (g ∷ prcs) = let more = prcs_below prcs in omega (arith, length-append (prc_bytes g) (flat_map prc_bytes prcs))
-
-pub walked_below : (clx : List ℕ) (at count : ℕ) → Walked clx at count → count ≤ at
-walked_below clx at count walked = let is = walked.count_is in omega (arith, walked_place clx at count walked, prcs_below walked.prcs)
+pub prcs_place : (clx : List ℕ) (prcs : List (List ℕ)) (at : ℕ) → ArePrcs clx prcs at → at ≡ length (flat_map prc_bytes prcs)
+prcs_place clx prcs at are =
+    let within = are.within in
+    omega (arith, ap length are.spelt, length-append (flat_map prc_bytes prcs) (drop at clx), length-drop at clx)
 
 -- a Pcdt at the front
 pub pcdt_of_front : (bytes : List ℕ) (plc : PlcPart) → AreBytes bytes → IsPcdtFront bytes plc → bytes ≡ pcdt_bytes plc.bytes ++ drop (length plc.bytes) (drop 5 bytes)
@@ -149,27 +135,26 @@ spells_no_wrong clx parts spells = λ p wrong.
     let same = prcs_unique parts.prcs wrong.prcs pcdt wrong.left spells.sizes wrong.sizes (sym spells.spelt ∙ wrong.spelt) (pcdt_no_prc parts.plc.bytes spells.more) wrong.no_prc in
     wrong.no_pcdt (record { plc = parts.plc; more = spells.more; table = spells.table; spelt = sym same.1 })
 
--- the walk ended at a Pcdt
-pub parts_found : (clx : List ℕ) (at count : ℕ) (plc : PlcPart) → AreBytes clx → Walked clx at count → IsPcdtFront (drop at clx) plc → Nowhere (IsWrongAt clx) × AreParts clx count (at + 5) plc
-parts_found clx at count plc are walked front =
+-- a Pcdt follows the Prcs
+pub parts_found : (clx : List ℕ) (prcs : List (List ℕ)) (at : ℕ) (plc : PlcPart) → AreBytes clx → ArePrcs clx prcs at → IsPcdtFront (drop at clx) plc → Nowhere (IsWrongAt clx) × AreParts clx (record { prcs = prcs; plc = plc }) (at + 5)
+parts_found clx prcs at plc bytes are front =
     let rest = drop at clx in
-    let pcdt = pcdt_of_front rest plc (AreBytes-drop at clx are) front in
+    let pcdt = pcdt_of_front rest plc (AreBytes-drop at clx bytes) front in
     let more = drop (length plc.bytes) (drop 5 rest) in
-    let parts : ClxParts = record { prcs = walked.prcs; plc = plc } in
-    let spells : SpellsClx clx parts = record { more = more; sizes = walked.sizes; table = front.table; spelt = walked.spelt ∙ ap (λ l. flat_map prc_bytes walked.prcs ++ l) pcdt } in (
-      spells_no_wrong clx parts spells,
-      record { parts = parts; spelt = spells; count = walked.count_is; place_is = ap (λ n. n + 5) (walked_place clx at count walked); plc_is = refl },
-    )
+    let parts : ClxParts = record { prcs = prcs; plc = plc } in
+    let spells : SpellsClx clx parts = record { more = more; sizes = are.sizes; table = front.table; spelt = are.spelt ∙ ap (λ l. flat_map prc_bytes prcs ++ l) pcdt } in
+    (spells_no_wrong clx parts spells, record { spelt = spells; place_is = ap (λ n. n + 5) (prcs_place clx prcs at are) })
 
--- the walk ended at neither a Prc nor a Pcdt
-pub parts_wrong : (clx : List ℕ) (at count : ℕ) → Walked clx at count → ((size : ℕ) → ¬ (IsPrcFront (drop at clx) size)) → ((plc : PlcPart) → ¬ (IsPcdtFront (drop at clx) plc)) → IsLeast (λ a b. a ≤ b) (IsWrongAt clx) at
-parts_wrong clx at count walked none_prc none_pcdt =
-    let no_prc = front_of_prc (drop at clx) none_prc in
-    let here = walked_place clx at count walked in
+-- neither a Prc nor a Pcdt follows them
+pub parts_wrong : (clx : List ℕ) (prcs : List (List ℕ)) (at : ℕ) → AreAllPrcs clx prcs at → ((plc : PlcPart) → ¬ (IsPcdtFront (drop at clx) plc)) → IsLeast (λ a b. a ≤ b) (IsWrongAt clx) at
+parts_wrong clx prcs at all none_pcdt =
+    let are = all.are in
+    let no_prc = front_of_prc (drop at clx) all.none in
+    let here = prcs_place clx prcs at are in
     record {
-      broken = record { prcs = walked.prcs; left = drop at clx; sizes = walked.sizes; spelt = walked.spelt; here = here; no_prc = no_prc; no_pcdt = front_of_pcdt (drop at clx) none_pcdt };
+      broken = record { prcs = prcs; left = drop at clx; sizes = are.sizes; spelt = are.spelt; here = here; no_prc = no_prc; no_pcdt = front_of_pcdt (drop at clx) none_pcdt };
       least = λ p other.
-          let same = prcs_unique walked.prcs other.prcs (drop at clx) other.left walked.sizes other.sizes (sym walked.spelt ∙ other.spelt) no_prc other.no_prc in
+          let same = prcs_unique prcs other.prcs (drop at clx) other.left are.sizes other.sizes (sym are.spelt ∙ other.spelt) no_prc other.no_prc in
           let place : p ≡ at = other.here ∙ (ap (λ l. length (flat_map prc_bytes l)) (sym same.0) ∙ sym here) in
           omega arith;
     }

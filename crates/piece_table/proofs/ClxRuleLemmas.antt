@@ -1,24 +1,48 @@
 -- The rules on the Clx have one first broken one.
-use Rattle.std.proofs.Common.{◌≡◌, ℕ, ◌+◌, ◌*◌, ◌≤◌, List, length, refl, inl, inr, ap, subst, ◌∙◌, ◌++◌, All, flat_map, length-append, arith, lit<, lit≤}
-use Rattle.doc_bits.specs.Rules.{IsSingle, Ascends, IsLeast, IsFirst, Hold, Nowhere, Among, From}
+use Rattle.std.proofs.Common.{◌≡◌, ℕ, ◌+◌, ◌*◌, ◌≤◌, ◌⊎◌, Option, Some, None, List, length, refl, inl, inr, ap, subst, ◌++◌, All, flat_map, length-append, arith, lit<, lit≤}
+use Rattle.doc_bits.specs.Rules.{IsSingle, Ascends, IsLeast, IsFirst, Hold, Nowhere, Among, From, rule}
 use Rattle.doc_bits.specs.Number.{number_bytes}
 use Rattle.doc_bits.proofs.NumberLemmas.{length-number_bytes}
 use Rattle.piece_table.specs.declared.fault.ClxFault.{ClxFault}
 use Rattle.piece_table.specs.declared.fault.ClxFault.TheVariants.{Rule, Memory}
-use Rattle.piece_table.specs.Piece.{TextPiece, piece_end}
-use Rattle.piece_table.specs.Clx.{IsWrongAt, IsClx, prc_bytes, pcdt_bytes, pcd_place, clx_piece, clx_pieces}
-use Rattle.piece_table.specs.ClxRules.{clx_rules, piece_rules, HasWrongCp, IsNoAscent, IsOutside, StaysInStream, IsClxFault, NamesFirst}
+use Rattle.sprm_table.specs.Prms.{code_of_isprm}
+use Rattle.piece_table.specs.declared.pcd.Prm.{Prm}
+use Rattle.piece_table.specs.declared.pcd.Prm.TheVariants.{Nothing, Sprm, Prc}
+use Rattle.piece_table.specs.Piece.{piece_end}
+use Rattle.piece_table.specs.Clx.{IsWrongAt, ClxParts, plc_place, prc_bytes, pcdt_bytes, pcd_place, pcd_prm, clx_piece, clx_pieces}
+use Rattle.piece_table.specs.ClxRules.{clx_rules, piece_rules, prc_rules, parts_rules, IsUnread, IsReadPrm, AreReadPrms, IsFaultyPrc, IsLongPrc, HasWrongCp, IsNoAscent, IsOutside, StaysInStream, IsClxFault, NamesFirst}
 use Rattle.doc_bits.specs.Plc.{PlcPart, plc_cp}
 use Rattle.std.proofs.lemmas.Bool.{cases_lt}
+use Rattle.std.specs.Option.{IsSome}
 use Rattle.piece_table.specs.Front.{AscendsTo, EndsWithin, AreParts}
 use Rattle.piece_table.proofs.PieceLemmas.{All-clx_pieces}
 use Rattle.piece_table.proofs.ClxLemmas.{parts_unique}
 
 pub clx_rules-IsSingle : (clx : List ℕ) (at wd_len text_len : ℕ) → IsSingle (clx_rules clx at wd_len text_len)
-clx_rules-IsSingle clx at wd_len text_len = (tt, (parts_unique clx, λ parts spelt. (tt, (tt, tt))))
+clx_rules-IsSingle clx at wd_len text_len = (tt, (parts_unique clx, λ parts spelt. ((tt, (tt, tt)), (tt, tt))))
 
-pub clx_rules-Ascends : (clx : List ℕ) (at wd_len text_len : ℕ) → Ascends (clx_rules clx at wd_len text_len) 27 31
-clx_rules-Ascends clx at wd_len text_len = (28, ((lit≤ tt, lit< tt), (lit≤ tt, lit≤ tt, (lit≤ tt, λ parts spelt. (29, ((lit≤ tt, lit< tt), (lit≤ tt, lit≤ tt, (30, ((lit≤ tt, lit< tt), (lit≤ tt, lit≤ tt, (lit≤ tt, lit< tt)))))))))))
+piece_rules-Ascends : (plc : PlcPart) (base prcs wd_len text_len : ℕ) → Ascends (piece_rules plc base prcs wd_len text_len) 28 31
+piece_rules-Ascends plc base prcs wd_len text_len = (29, ((lit≤ tt, lit< tt), (lit≤ tt, lit≤ tt, (30, ((lit≤ tt, lit< tt), (lit≤ tt, lit≤ tt, (lit≤ tt, lit< tt)))))))
+
+prc_rules-Ascends : (parts : ClxParts) (at : ℕ) → Ascends (prc_rules parts at) 31 33
+prc_rules-Ascends parts at = (32, ((lit≤ tt, lit< tt), (lit≤ tt, lit≤ tt, (lit≤ tt, lit< tt))))
+
+pub clx_rules-Ascends : (clx : List ℕ) (at wd_len text_len : ℕ) → Ascends (clx_rules clx at wd_len text_len) 27 33
+clx_rules-Ascends clx at wd_len text_len = (
+  28,
+  (
+    (lit≤ tt, lit< tt),
+    (
+      lit≤ tt,
+      lit≤ tt,
+      (
+        lit≤ tt,
+        λ parts spelt.
+            (31, (piece_rules-Ascends parts.plc (at + plc_place parts) (length parts.prcs) wd_len text_len, (lit≤ tt, lit≤ tt, prc_rules-Ascends parts at))),
+      ),
+    ),
+  ),
+)
 
 -- the CPs begin as they should
 abbrev pub Starts : PlcPart → Type 0
@@ -50,9 +74,6 @@ no_wrong_cp plc base text_len starts none ends = λ q h. elim h [
   | inl start ↦ elim start.1 [ inl many ↦ let few = starts.0 in absurd (omega arith) | inr not_zero ↦ absurd (not_zero starts.1) ]
   | inr later ↦ elim later [ inl fall ↦ absurd (none q fall) | inr end ↦ absurd (end.1 ends) ]
 ]
-
-moved : {p q : PlcPart} {a b x y : ℕ} → p ≡ q → a ≡ b → x ≡ y → (P : PlcPart → ℕ → ℕ → Type 0) → P p a x → P q b y
-moved {p = p} {q = q} {a = a} {b = b} {x = x} {y = y} e f g P h = subst (λ z. P q b z) g (subst (λ z. P q z x) f (subst (λ z. P z a x) e h))
 
 -- where no CP is wrong they ascend to the text length
 pub ascends_of : (plc : PlcPart) (base text_len : ℕ) → Nowhere (HasWrongCp plc base text_len) → AscendsTo plc text_len
@@ -95,25 +116,52 @@ stays_of plc base wd_len none = All-clx_pieces plc (StaysInStream wd_len) (λ k 
 ))
 
 -- what is not wrong in the Clx is not wrong at its place
-nowhere_from : (breaks : ℕ → Type 0) (base : ℕ) → Nowhere breaks → Nowhere (From base breaks)
+pub nowhere_from : (breaks : ℕ → Type 0) (base : ℕ) → Nowhere breaks → Nowhere (From base breaks)
 nowhere_from breaks base none = λ p from. none from.offset from.broken
 
--- the rules on the pieces, where the parts are known
-pub hold_clx : (clx : List ℕ) (at wd_len text_len prcs place : ℕ) (plc : PlcPart) → Nowhere (IsWrongAt clx) → AreParts clx prcs place plc → Hold (piece_rules plc (at + place) prcs wd_len text_len) → Hold (clx_rules clx at wd_len text_len)
-hold_clx clx at wd_len text_len prcs place plc none are holds = (
-  nowhere_from (IsWrongAt clx) at none,
-  (are.parts, (are.spelt, moved are.plc_is are.place_is are.count (λ plc place prcs. Hold (piece_rules plc (at + place) prcs wd_len text_len)) holds)),
-)
+-- ---- the parts
 
-pub fault_clx : (clx : List ℕ) (at wd_len text_len prcs place : ℕ) (plc : PlcPart) (fault : ClxFault) → Nowhere (IsWrongAt clx) → AreParts clx prcs place plc → NamesFirst (piece_rules plc (at + place) prcs wd_len text_len) fault → IsClxFault (clx_rules clx at wd_len text_len) fault
-fault_clx clx at wd_len text_len prcs place plc (Rule r p) none are first =
-    inr (nowhere_from (IsWrongAt clx) at none, (are.parts, (are.spelt, moved are.plc_is are.place_is are.count (λ plc place prcs. IsFirst (piece_rules plc (at + place) prcs wd_len text_len) r p) first)))
-fault_clx clx at wd_len text_len prcs place plc Memory none are first = absurd first
+-- a Prm is read or not
+read_or_not : (prcs : ℕ) (prm : Prm) → IsReadPrm prcs prm ⊎ ¬ (IsReadPrm prcs prm)
+read_or_not prcs Nothing = inl tt
+read_or_not prcs (Sprm isprm operand) = some_or_not (code_of_isprm isprm)
+  where
+    some_or_not : {A : Type 0} (o : Option A) → IsSome o ⊎ ¬ (IsSome o)
+    some_or_not None = inr (λ some. cc (some))
+    some_or_not (Some x) = inl refl
+read_or_not prcs (Prc number) = elim (cases_lt number prcs) [ inl low ↦ inl low | inr high ↦ inr (λ low. omega arith) ]
+
+-- where none is not read all are
+pub read_prms : (plc : PlcPart) (base prcs : ℕ) → Nowhere (Among plc.count (IsUnread plc base prcs)) → AreReadPrms plc prcs
+read_prms plc base prcs none = λ k below. elim (read_or_not prcs (pcd_prm plc k)) [
+  | inl read ↦ read
+  | inr unread ↦ absurd (none (base + (pcd_place plc k + 6)) (record { entry = k; below = below; broken = (refl, unread) }))
+]
+
+-- the rules on the pieces, with the place of their Plc
+pub hold_pieces : (parts : ClxParts) (at place wd_len text_len : ℕ) → place ≡ plc_place parts → Hold (piece_rules parts.plc (at + place) (length parts.prcs) wd_len text_len) → Hold (piece_rules parts.plc (at + plc_place parts) (length parts.prcs) wd_len text_len)
+hold_pieces parts at place wd_len text_len is holds = subst (λ p. Hold (piece_rules parts.plc (at + p) (length parts.prcs) wd_len text_len)) is holds
+
+pub fault_pieces : (parts : ClxParts) (at place wd_len text_len : ℕ) (fault : ClxFault) → place ≡ plc_place parts → NamesFirst (piece_rules parts.plc (at + place) (length parts.prcs) wd_len text_len) fault → IsClxFault (parts_rules parts at wd_len text_len) fault
+fault_pieces parts at place wd_len text_len (Rule r p) is first = inl (subst (λ q. IsFirst (piece_rules parts.plc (at + q) (length parts.prcs) wd_len text_len) r p) is first)
+fault_pieces parts at place wd_len text_len Memory is first = absurd first
+
+-- rule 32, where those before it hold
+pub fault_long : (parts : ClxParts) (at wd_len text_len : ℕ) (fault : ClxFault) → Hold (piece_rules parts.plc (at + plc_place parts) (length parts.prcs) wd_len text_len) → Nowhere (Among (length parts.prcs) (IsFaultyPrc parts at)) → IsClxFault (rule 32 (Among (length parts.prcs) (IsLongPrc parts at))) fault → IsClxFault (parts_rules parts at wd_len text_len) fault
+fault_long parts at wd_len text_len (Rule r p) holds none first = inr (holds, inr (none, first))
+fault_long parts at wd_len text_len Memory holds none first = tt
+
+-- the rules on the parts, where they are known
+pub hold_clx : (clx : List ℕ) (at wd_len text_len place : ℕ) (parts : ClxParts) → Nowhere (From at (IsWrongAt clx)) → AreParts clx parts place → Hold (parts_rules parts at wd_len text_len) → Hold (clx_rules clx at wd_len text_len)
+hold_clx clx at wd_len text_len place parts none are holds = (none, (parts, (are.spelt, holds)))
+
+pub fault_clx : (clx : List ℕ) (at wd_len text_len place : ℕ) (parts : ClxParts) (fault : ClxFault) → Nowhere (From at (IsWrongAt clx)) → AreParts clx parts place → IsClxFault (parts_rules parts at wd_len text_len) fault → IsClxFault (clx_rules clx at wd_len text_len) fault
+fault_clx clx at wd_len text_len place parts (Rule r p) none are first = inr (none, (parts, (are.spelt, first)))
+fault_clx clx at wd_len text_len place parts Memory none are first = tt
 
 -- the Plc is within the Clx
-pub parts_within : (clx : List ℕ) (prcs place : ℕ) (plc : PlcPart) → AreParts clx prcs place plc → place + length plc.bytes ≤ length clx
-parts_within clx prcs place plc are =
-    let parts = are.parts in
+pub parts_within : (clx : List ℕ) (place : ℕ) (parts : ClxParts) → AreParts clx parts place → place + length parts.plc.bytes ≤ length clx
+parts_within clx place parts are =
     let spelt = are.spelt in
     let place_is = are.place_is in
     let front = flat_map prc_bytes parts.prcs in
@@ -121,13 +169,8 @@ parts_within clx prcs place plc are =
     omega (
       arith,
       ap length spelt.spelt,
-      ap (λ p. length p.bytes) are.plc_is,
       length-append front (pcdt_bytes body ++ spelt.more),
       length-append (pcdt_bytes body) spelt.more,
       length-append (number_bytes 4 (length body)) body,
       length-number_bytes 4 (length body),
     )
-
--- the pieces of the Plc are those of the Clx
-pub is_clx : (clx : List ℕ) (prcs place : ℕ) (plc : PlcPart) (pieces : List TextPiece) → AreParts clx prcs place plc → pieces ≡ clx_pieces plc → IsClx clx pieces
-is_clx clx prcs place plc pieces are e = record { parts = are.parts; spelt = are.spelt; pieces_are = e ∙ ap clx_pieces are.plc_is }

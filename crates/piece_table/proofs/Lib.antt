@@ -2,3 +2,15 @@ pub mod ByteLemmas
 pub mod ClxLemmas
 pub mod ClxRuleLemmas
 pub mod PieceLemmas
+pub mod PrcLemmas
+pub mod MarkLemmas
+pub mod SprmModifierLemmas
+pub mod NumberingLemmas
+pub mod UniqueLemmas
+pub mod FitLemmas
+pub mod PrcPrintLemmas
+pub mod PlcPrintLemmas
+pub mod ClxPrintLemmas
+pub mod PlcBackLemmas
+pub mod ReadBackLemmas
+pub mod PrintedClxLemmas

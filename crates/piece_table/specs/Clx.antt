@@ -1,12 +1,14 @@
 -- [MS-DOC] Clx: any number of Prcs and then one Pcdt. Bytes after it are ignored.
-use Rattle.std.specs.Prelude.{◌≡◌, ℕ, ◌+◌, ◌-◌, ◌*◌, ◌/◌, ◌%◌, ◌^◌, ◌<◌, ◌≤◌, ◌==◌, true, false, List, ◌∷◌, ◌++◌, length, map, flat_map, All, if◌then◌else◌}
+use Rattle.std.specs.Prelude.{◌≡◌, ℕ, ◌+◌, ◌-◌, ◌*◌, ◌/◌, ◌%◌, ◌^◌, ◌<◌, ◌≤◌, ◌==◌, true, false, List, ◌∷◌, ◌++◌, length, take, map, flat_map, All, Some, slice_get, if◌then◌else◌}
 use Rattle.std.specs.List.{range_with_len}
 use Rattle.doc_bits.specs.Number.{u16_at, u32_at, number_bytes}
 use Rattle.doc_bits.specs.Plc.{PlcPart, IsPlcOf, plc_cp}
 use Rattle.piece_table.specs.declared.pcd.Prm.{Prm}
 use Rattle.piece_table.specs.declared.pcd.Prm.TheVariants.{Nothing, Sprm, Prc}
 use Rattle.piece_table.specs.declared.pcd.FcCompressed.{FcCompressed}
-use Rattle.piece_table.specs.Piece.{TextPiece}
+use Rattle.piece_table.specs.declared.pieces.Piece.{Piece}
+use Rattle.piece_table.specs.Piece.{TextPiece, bare_piece}
+use Rattle.piece_table.specs.PrmLists.{IsPrmModifier}
 
 -- a clxt, the size of a body in that many bytes, and the body
 abbrev pub sized_bytes : ℕ → ℕ → List ℕ → List ℕ
@@ -66,6 +68,10 @@ pub record IsWrongAt (clx : List ℕ) (offset : ℕ) : Type 0 where
   pub no_prc : ¬ (BeginsPrc left)
   pub no_pcdt : ¬ (BeginsPcdt left)
 
+-- where a Prc begins in the Clx
+abbrev pub prc_place : List (List ℕ) → ℕ → ℕ
+prc_place prcs number = length (flat_map prc_bytes (take number prcs))
+
 -- where the Plc begins: after the Prcs, clxt and lcb
 abbrev pub plc_place : ClxParts → ℕ
 plc_place parts = length (flat_map prc_bytes parts.prcs) + 5
@@ -88,19 +94,32 @@ pcd_place plc k = 4 * (plc.count + 1) + 8 * k
 abbrev pub pcd_fc : PlcPart → ℕ → FcCompressed
 pcd_fc plc k = fc_compressed (u32_at plc.bytes (pcd_place plc k + 2))
 
-abbrev pub pcd_prm : PlcPart → ℕ → Prm
-pcd_prm plc k = prm_of (u16_at plc.bytes (pcd_place plc k + 6))
+abbrev pub prm_word : PlcPart → ℕ → ℕ
+prm_word plc k = u16_at plc.bytes (pcd_place plc k + 6)
 
--- a piece of a Clx
-abbrev pub clx_piece : PlcPart → ℕ → TextPiece
+abbrev pub pcd_prm : PlcPart → ℕ → Prm
+pcd_prm plc k = prm_of (prm_word plc k)
+
+-- a piece of a Clx, without its modifier
+abbrev pub clx_piece : PlcPart → ℕ → Piece
 clx_piece plc k = record { at = (pcd_fc plc k).at; wide = (pcd_fc plc k).wide; len = plc_cp plc.bytes (k + 1) - plc_cp plc.bytes k }
 
--- the pieces of a Clx
-unfoldable pub clx_pieces : PlcPart → List TextPiece
+-- the pieces of a Clx, without their modifiers
+unfoldable pub clx_pieces : PlcPart → List Piece
 clx_pieces plc = map (clx_piece plc) (range_with_len 0 plc.count)
+
+-- each piece has the modifier of its Prm
+abbrev pub HaveModifiers : ClxParts → List TextPiece → Type 0
+HaveModifiers parts pieces =
+    (k : ℕ) (piece : TextPiece) → slice_get pieces k ≡ Some piece → IsPrmModifier parts.prcs (pcd_prm parts.plc k) piece.modifier
 
 -- the bytes begin with a Clx that has these pieces
 pub record IsClx (clx : List ℕ) (pieces : List TextPiece) : Type 0 where
   pub parts : ClxParts
   pub spelt : SpellsClx clx parts
-  pub pieces_are : pieces ≡ clx_pieces parts.plc
+  pub pieces_are : map bare_piece pieces ≡ clx_pieces parts.plc
+  pub modifiers : HaveModifiers parts pieces
+
+-- a Clx has one list of pieces at most
+abbrev pub ClxPiecesAreOne : Type 0
+ClxPiecesAreOne = (clx : List ℕ) (a b : List TextPiece) → IsClx clx a → IsClx clx b → a ≡ b

@@ -1,14 +1,20 @@
--- The rules on the Clx, 27 to 30, in their order. A place is an offset in the table stream, where the Clx begins at `at`.
-use Rattle.std.specs.Prelude.{◌≡◌, ◌≢◌, ◌⊎◌, ℕ, ◌+◌, ◌*◌, ◌<◌, ◌≤◌, List, length, IsSome}
+-- The rules on the Clx, 27 to 32, in their order. A place is an offset in the table stream, where the Clx begins at `at`.
+use Rattle.std.specs.Prelude.{◌≡◌, ◌≢◌, ◌⊎◌, ℕ, ◌+◌, ◌*◌, ◌<◌, ◌≤◌, List, length, IsSome, Some, slice_get}
 use Rattle.doc_bits.specs.Plc.{PlcPart, plc_cp}
 use Rattle.doc_bits.specs.Rules.{Rules, rule, ◌then◌, given, IsFirst, Among, From, Breaks, IsLeastOfAll}
 use Rattle.sprm_table.specs.Prms.{code_of_isprm}
+use Rattle.sprm_table.specs.Sprm.{HasSprmFaultAt}
+use Rattle.prop_map.specs.declared.modifiers.Modifier.{Modifier}
+use Rattle.prop_map.specs.Formed.{prc_groups}
+use Rattle.prop_map.specs.Printing.{printed_list}
 use Rattle.piece_table.specs.declared.fault.ClxFault.{ClxFault}
 use Rattle.piece_table.specs.declared.fault.ClxFault.TheVariants.{Rule, Memory}
 use Rattle.piece_table.specs.declared.pcd.Prm.{Prm}
 use Rattle.piece_table.specs.declared.pcd.Prm.TheVariants.{Nothing, Sprm, Prc}
-use Rattle.piece_table.specs.Piece.{TextPiece, piece_end}
-use Rattle.piece_table.specs.Clx.{SpellsClx, IsWrongAt, plc_place, pcd_place, pcd_prm, clx_piece}
+use Rattle.piece_table.specs.declared.pieces.Piece.{Piece}
+use Rattle.piece_table.specs.Piece.{piece_end}
+use Rattle.piece_table.specs.PrmLists.{IsPrmModifier}
+use Rattle.piece_table.specs.Clx.{ClxParts, SpellsClx, prc_place, IsWrongAt, plc_place, pcd_place, pcd_prm, clx_piece}
 
 -- there are too many pieces, or the first CP is not 0
 abbrev pub IsWrongStart : PlcPart → ℕ → ℕ → Type 0
@@ -26,10 +32,10 @@ abbrev pub HasWrongCp : PlcPart → ℕ → ℕ → ℕ → Type 0
 HasWrongCp plc base text_len p = IsWrongStart plc base p ⊎ (Among plc.count (IsNoAscent plc base) p ⊎ IsWrongEnd plc base text_len p)
 
 -- bytes of a piece are in the FIB or beyond the stream
-abbrev pub LeavesStream : ℕ → TextPiece → Type 0
+abbrev pub LeavesStream : ℕ → Piece → Type 0
 LeavesStream wd_len piece = (piece.at < 900) ⊎ (wd_len < piece_end piece)
 
-abbrev pub StaysInStream : ℕ → TextPiece → Type 0
+abbrev pub StaysInStream : ℕ → Piece → Type 0
 StaysInStream wd_len piece = (900 ≤ piece.at) × (piece_end piece ≤ wd_len)
 
 -- piece k leaves the stream
@@ -43,6 +49,10 @@ IsReadPrm prcs Nothing = Unit {0}
 IsReadPrm prcs (Sprm isprm operand) = IsSome (code_of_isprm isprm)
 IsReadPrm prcs (Prc number) = number < prcs
 
+-- those of all pieces are read
+abbrev pub AreReadPrms : PlcPart → ℕ → Type 0
+AreReadPrms plc prcs = (k : ℕ) → k < plc.count → IsReadPrm prcs (pcd_prm plc k)
+
 -- the Prm of piece k is not read
 abbrev pub IsUnread : PlcPart → ℕ → ℕ → ℕ → ℕ → Type 0
 IsUnread plc base prcs k p = (p ≡ base + (pcd_place plc k + 6)) × ¬ (IsReadPrm prcs (pcd_prm plc k))
@@ -54,10 +64,44 @@ piece_rules plc base prcs wd_len text_len =
     then rule 29 (Among plc.count (IsOutside plc base wd_len))
     then rule 30 (Among plc.count (IsUnread plc base prcs))
 
+-- a piece names the Prc
+pub record IsNamedPrc (plc : PlcPart) (number : ℕ) : Type 0 where
+  pub piece : ℕ
+  pub below : piece < plc.count
+  pub names : pcd_prm plc piece ≡ Prc number
+
+-- the Prc has a sprm fault at the place, and a piece names it
+pub record IsFaultyPrc (parts : ClxParts) (at number place : ℕ) : Type 0 where
+  pub named : IsNamedPrc parts.plc number
+  pub grpprl : List ℕ
+  pub there : slice_get parts.prcs number ≡ Some grpprl
+  pub fault : From (at + (prc_place parts.prcs number + 3)) (HasSprmFaultAt grpprl prc_groups) place
+
+-- Profile: the settings of a modifier fit a page, as those of characters and of a mark
+pub record FitsPages (modifier : Modifier) : Type 0 where
+  pub chp : length (printed_list modifier.chp) ≤ 255
+  pub pap : length (printed_list modifier.pap) ≤ 480
+
+-- the modifier of the Prc does not fit, and a piece names it; the place is that of the Prc
+pub record IsLongPrc (parts : ClxParts) (at number place : ℕ) : Type 0 where
+  pub named : IsNamedPrc parts.plc number
+  pub modifier : Modifier
+  pub does : IsPrmModifier parts.prcs (Prc number) modifier
+  pub long : ¬ (FitsPages modifier)
+  pub here : place ≡ at + prc_place parts.prcs number
+
+-- the rules on the Prcs
+abbrev pub prc_rules : ClxParts → ℕ → Rules ℕ
+prc_rules parts at =
+    rule 31 (Among (length parts.prcs) (IsFaultyPrc parts at)) then rule 32 (Among (length parts.prcs) (IsLongPrc parts at))
+
+abbrev pub parts_rules : ClxParts → ℕ → ℕ → ℕ → Rules ℕ
+parts_rules parts at wd_len text_len =
+    piece_rules parts.plc (at + plc_place parts) (length parts.prcs) wd_len text_len then prc_rules parts at
+
 abbrev pub clx_rules : List ℕ → ℕ → ℕ → ℕ → Rules ℕ
 clx_rules clx at wd_len text_len =
-    rule 27 (From at (IsWrongAt clx))
-    then given (SpellsClx clx) (λ parts. piece_rules parts.plc (at + plc_place parts) (length parts.prcs) wd_len text_len)
+    rule 27 (From at (IsWrongAt clx)) then given (SpellsClx clx) (λ parts. parts_rules parts at wd_len text_len)
 
 -- a refusal names the first broken rule; want of memory is free
 abbrev pub IsClxFault : Rules ℕ → ClxFault → Type 0

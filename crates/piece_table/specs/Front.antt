@@ -1,10 +1,10 @@
 -- What the reader of a Clx finds at the front of some bytes.
-use Rattle.std.specs.Prelude.{◌≡◌, ℕ, ◌+◌, ◌<◌, ◌≤◌, List, length, slice_index, slice_range}
+use Rattle.std.specs.Prelude.{◌≡◌, ℕ, ◌+◌, ◌<◌, ◌≤◌, List, ◌++◌, length, drop, flat_map, All, slice_index, slice_index_or, slice_range, Bool, false, IsTrue, ◌↔◌}
 use Rattle.doc_bits.specs.Number.{u16_at, u32_at}
 use Rattle.doc_bits.specs.Plc.{PlcPart, plc_cp}
-use Rattle.piece_table.specs.Clx.{ClxParts, SpellsClx, IsPlcPcd, plc_place, clx_piece}
-use Rattle.piece_table.specs.declared.pieces.Piece.{Piece}
-use Rattle.piece_table.specs.Piece.{TextPiece, piece_end}
+use Rattle.piece_table.specs.Clx.{ClxParts, SpellsClx, IsPlcPcd, IsGrpprl, prc_bytes, plc_place, clx_piece}
+use Rattle.piece_table.specs.ClxRules.{IsNamedPrc}
+use Rattle.piece_table.specs.Piece.{piece_end}
 
 -- a Prc with a sprm list of that many bytes
 pub record IsPrcFront (bytes : List ℕ) (size : ℕ) : Type 0 where
@@ -21,13 +21,21 @@ pub record IsPcdtFront (bytes : List ℕ) (plc : PlcPart) : Type 0 where
   pub bytes_are : plc.bytes ≡ slice_range bytes 5 (5 + length plc.bytes)
   pub table : IsPlcPcd plc
 
--- the parts of a Clx: the number of its Prcs, where its Plc begins, and the Plc
-pub record AreParts (clx : List ℕ) (prcs place : ℕ) (plc : PlcPart) : Type 0 where
-  pub parts : ClxParts
+-- the Prcs at the front, and where what follows them begins
+pub record ArePrcs (clx : List ℕ) (prcs : List (List ℕ)) (end : ℕ) : Type 0 where
+  pub sizes : All IsGrpprl prcs
+  pub spelt : clx ≡ flat_map prc_bytes prcs ++ drop end clx
+  pub within : end ≤ length clx
+
+-- and no further one follows
+pub record AreAllPrcs (clx : List ℕ) (prcs : List (List ℕ)) (end : ℕ) : Type 0 where
+  pub are : ArePrcs clx prcs end
+  pub none : (size : ℕ) → ¬ (IsPrcFront (drop end clx) size)
+
+-- the parts of a Clx, and where its Plc begins
+pub record AreParts (clx : List ℕ) (parts : ClxParts) (place : ℕ) : Type 0 where
   pub spelt : SpellsClx clx parts
-  pub count : prcs ≡ length parts.prcs
   pub place_is : place ≡ plc_place parts
-  pub plc_is : plc ≡ parts.plc
 
 -- the CPs begin with 0, ascend, and end with the text length
 pub record AscendsTo (plc : PlcPart) (text_len : ℕ) : Type 0 where
@@ -39,6 +47,7 @@ pub record AscendsTo (plc : PlcPart) (text_len : ℕ) : Type 0 where
 abbrev pub EndsWithin : PlcPart → ℕ → Type 0
 EndsWithin plc wd_len = (k : ℕ) → k < plc.count → piece_end (clx_piece plc k) ≤ wd_len
 
--- a piece of the code, as it is seen
-abbrev pub text_piece : Piece → TextPiece
-text_piece piece = record { at = piece.at; wide = piece.wide; len = piece.len }
+-- a Prc is marked exactly where a piece names it
+pub record MarksNamed (parts : ClxParts) (marks : List Bool) : Type 0 where
+  pub count : length marks ≡ length parts.prcs
+  pub marked : (number : ℕ) → IsTrue (slice_index_or marks number false) ↔ IsNamedPrc parts.plc number

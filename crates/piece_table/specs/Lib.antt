@@ -1,4 +1,9 @@
 pub mod Piece
+pub mod Codes
 pub mod Clx
+pub mod PrmLists
 pub mod ClxRules
 pub mod Front
+pub mod Numbering
+pub mod Printing
+pub mod PrintSteps

@@ -1,22 +1,32 @@
 -- Pieces of text. The text is one list with an entry a CP, so no piece is searched for.
-use Rattle.std.specs.Prelude.{◌≡◌, ℕ, ◌+◌, ◌*◌, ◌^◌, ◌<◌, ◌≤◌, List, length, map, flat_map, sum_by, All, Bool, Option, slice_get, if◌then◌else◌}
+use Rattle.std.specs.Prelude.{◌≡◌, ℕ, ◌+◌, ◌*◌, ◌^◌, ◌<◌, ◌≤◌, List, [], ◌∷◌, length, map, flat_map, sum_by, All, Bool, true, Option, slice_get, if◌then◌else◌}
 use Rattle.std.specs.List.{range_with_len}
+use Rattle.prop_map.specs.declared.modifiers.Modifier.{Modifier}
+use Rattle.prop_map.specs.Modifiers.{no_modifier, IsFormedModifier}
+use Rattle.piece_table.specs.declared.pieces.Piece.{Piece}
 
--- a piece: the byte of WordDocument where it begins, whether its units have two bytes, and its number of units
+-- a piece: the byte of WordDocument where it begins, whether its units have two bytes, its number of units, and its
+-- modifier
 pub record TextPiece : Type 0 where
   pub at : ℕ
   pub wide : Bool
   pub len : ℕ
+  pub modifier : Modifier
+
+-- the same without the modifier
+abbrev pub bare_piece : TextPiece → Piece
+bare_piece piece = record { at = piece.at; wide = piece.wide; len = piece.len }
 
 -- pieces, and the number of further ones for which there is memory
 pub record PieceTable : Type 0 where
   pub pieces : List TextPiece
   pub spare : ℕ
 
--- where a unit stands: its first byte in WordDocument, and whether it has two
+-- where a unit stands: its first byte in WordDocument, and whether it has two; and the modifier of its piece
 pub record UnitPlace : Type 0 where
   pub at : ℕ
   pub wide : Bool
+  pub modifier : Modifier
 
 -- the number of bytes of a unit
 abbrev pub unit_bytes : Bool → ℕ
@@ -24,7 +34,8 @@ unit_bytes wide = if wide then 2 else 1
 
 -- the places of a piece's units
 abbrev pub unit_places : TextPiece → List UnitPlace
-unit_places piece = map (λ j. record { at = piece.at + j * unit_bytes piece.wide; wide = piece.wide }) (range_with_len 0 piece.len)
+unit_places piece =
+    map (λ j. record { at = piece.at + j * unit_bytes piece.wide; wide = piece.wide; modifier = piece.modifier }) (range_with_len 0 piece.len)
 
 -- the places of all units, one a CP
 unfoldable pub flat_pieces : List TextPiece → List UnitPlace
@@ -39,18 +50,27 @@ abbrev pub total_length : List TextPiece → ℕ
 total_length pieces = sum_by (λ piece. piece.len) pieces
 
 -- the byte after a piece's last
-abbrev pub piece_end : TextPiece → ℕ
+abbrev pub piece_end : Piece → ℕ
 piece_end piece = piece.at + piece.len * unit_bytes piece.wide
 
 -- a piece has units, and its bytes have 32-bit places
-pub record IsPiece (piece : TextPiece) : Type 0 where
+pub record IsPiece (piece : Piece) : Type 0 where
   pub some : 1 ≤ piece.len
   pub end : piece_end piece < 2 ^ 32
 
+-- so it is, and its modifier has maps that a document may hold
+pub record IsTextPiece (piece : TextPiece) : Type 0 where
+  pub units : IsPiece (bare_piece piece)
+  pub formed : IsFormedModifier piece.modifier
+
 -- the pieces that a table may have
 pub record ArePieces (pieces : List TextPiece) : Type 0 where
-  pub each : All IsPiece pieces
+  pub each : All IsTextPiece pieces
   pub total : total_length pieces ≤ 500001
+
+-- one piece of 16-bit units without a modifier
+abbrev pub one_piece : ℕ → ℕ → List TextPiece
+one_piece at len = record { at = at; wide = true; len = len; modifier = no_modifier } ∷ []
 
 -- each piece covers as many entries as it has units
 abbrev pub FlatLengthIsTotal : Type 0

@@ -4,7 +4,6 @@ ghost use Rattle.doc_bits.specs.Rules.{Hold, IsFirst, LeastOrNone, Among, Nowher
 ghost use Rattle.doc_bits.specs.Plc.{PlcPart, plc_cp};
 ghost use Rattle.piece_table.specs.Clx.{IsPlcPcd, clx_piece, pcd_place};
 ghost use Rattle.piece_table.specs.ClxRules.{HasWrongCp, IsNoAscent, IsOutside, LeavesStream, IsUnread, IsReadPrm, piece_rules, NamesFirst};
-ghost use Rattle.piece_table.specs.Front.{text_piece};
 
 use crate::collect::piece_of;
 use crate::pcd::prm_of_piece;
@@ -107,7 +106,7 @@ fn outside(plc: &Plc<'_>, base: u32, wd_len: u32) -> Option<u32>
 
 /// Whether a piece has bytes in the FIB or beyond the stream.
 fn is_outside(piece: Piece, wd_len: u32) -> bool
-    ensures { IsTrue result ↔ LeavesStream wd_len (text_piece piece) }
+    ensures { IsTrue result ↔ LeavesStream wd_len piece }
 {
     piece.at < TEXT_BEGINS || piece.end() > wd_len as u64
 }

@@ -1,17 +1,22 @@
-//! The piece table of a document: read from the Clx, and judged by rules 27 to 30.
+//! The piece table of a document: read from the Clx, judged by rules 27 to 32, and written again.
 #![tactic(auto)]
 
 mod collect;
 mod fault;
 mod judge;
 mod laws;
+mod modifier_table;
 mod parts;
 mod pcd;
 mod pieces;
+mod prcs;
+mod printing;
 mod reading;
 
 pub use fault::ClxFault;
-pub use laws::{first_clx_fault_is_least, flat_length_is_total};
+pub use laws::{
+    clx_is_read_back, clx_pieces_are_one, first_clx_fault_is_least, flat_length_is_total,
+};
 pub use pcd::{FcCompressed, Prm};
 pub use pieces::{Piece, PieceList};
 pub use reading::read_clx;

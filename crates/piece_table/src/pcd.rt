@@ -1,7 +1,7 @@
 // [MS-DOC] Pcd: what stands beside the CPs of a piece.
 ghost use Rattle.std.specs.Prelude.{◌≡◌, ◌<◌, IsTrue, ◌↔◌};
 ghost use Rattle.doc_bits.specs.Plc.{PlcPart};
-ghost use Rattle.piece_table.specs.Clx.{fc_compressed, prm_of, pcd_fc, pcd_prm, IsPlcPcd};
+ghost use Rattle.piece_table.specs.Clx.{fc_compressed, prm_of, pcd_fc, pcd_prm, prm_word as prm_word_of, IsPlcPcd};
 
 use doc_bits::{Plc, get16, get32};
 
@@ -41,7 +41,7 @@ impl FcCompressed {
 }
 
 impl Prm {
-    fn read(number: u16) -> Prm
+    pub(crate) fn read(number: u16) -> Prm
         ensures { result ≡ prm_of number }
     {
         if number % 2 == 1 {
@@ -65,11 +65,20 @@ pub fn fc_of(plc: &Plc<'_>, k: usize) -> FcCompressed
     FcCompressed::read(get32(plc.entry(k), 2))
 }
 
+/// The number that is the Prm of a piece.
+pub fn prm_word(plc: &Plc<'_>, k: usize) -> u16
+    requires table { IsPlcPcd plc.now }
+    requires piece { k < plc.now.count }
+    ensures { result ≡ prm_word_of plc.now k }
+{
+    get16(plc.entry(k), 6)
+}
+
 /// The Prm of a piece.
 pub fn prm_of_piece(plc: &Plc<'_>, k: usize) -> Prm
     requires table { IsPlcPcd plc.now }
     requires piece { k < plc.now.count }
     ensures { result ≡ pcd_prm plc.now k }
 {
-    Prm::read(get16(plc.entry(k), 6))
+    Prm::read(prm_word(plc, k))
 }

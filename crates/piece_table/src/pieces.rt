@@ -1,6 +1,9 @@
-ghost use Rattle.std.specs.Prelude.{◌≡◌, ℕ, ◌+◌, ◌*◌, ◌<◌, ◌≤◌, length, slice_get};
+ghost use Rattle.std.specs.Prelude.{◌≡◌, ℕ, ◌+◌, ◌*◌, ◌^◌, ◌<◌, ◌≤◌, length, map, slice_get, Some, option_map, IfOk};
 ghost use Rattle.piece_table.specs.Piece.{TextPiece, PieceTable, total_length, piece_end, IsPiece};
 
+use doc_bits::Memory;
+use prop_map::Modifier;
+use std::alloc::Global;
 use std::marker::Model;
 
 /// A piece of text: the byte of `WordDocument` where it begins, whether its units have two bytes, and its number of units.
@@ -12,43 +15,86 @@ pub struct Piece {
 }
 
 impl Piece {
-    ghost use Rattle.piece_table.specs.Front.{text_piece};
-
     /// The byte after the last one.
     pub fn end(self) -> u64
-        ensures { result ≡ piece_end (text_piece self) }
+        ensures { result ≡ piece_end self }
     {
         let unit_bytes: u64 = if self.wide { 2 } else { 1 };
         self.at as u64 + self.len as u64 * unit_bytes
     }
 }
 
-/// The pieces of a text, one after the other.
+/// A piece, and the number of its modifier in the list.
+#[derive(Clone, Copy, Debug, PartialEq, Eq)]
+pub(crate) struct Entry {
+    pub(crate) piece: Piece,
+    pub(crate) modifier: usize,
+}
+
+/// The pieces of a text, one after the other. A modifier that several pieces have is kept once.
 #[derive(Drop)]
 pub struct PieceList {
-    pub(crate) items: Vec<Piece>,
+    pub(crate) items: Vec<Entry>,
+    pub(crate) modifiers: Vec<Modifier>,
     pub(crate) total: u32,
 }
 
 impl Model for PieceList {
     ghost use Rattle.std.specs.Prelude.{◌≡◌, ◌-◌, map, vec_len, vec_capacity};
     ghost use Rattle.piece_table.specs.Piece.{PieceTable, ArePieces, total_length};
+    ghost use Rattle.piece_table.specs.Codes.{table_code};
+    ghost use Rattle.piece_table.specs.Numbering.{AreNumbered, text_piece};
 
     ghost Value = { PieceTable };
 
-    ghost use Rattle.piece_table.specs.Front.{text_piece};
+    ghost coded = { table_code };
 
     ghost view = { λ list. record {
-      pieces = map text_piece list.items.items;
+      pieces = map (text_piece list.modifiers.items) list.items.items;
       spare = vec_capacity list.items - vec_len list.items;
     } };
 
-    ghost invariant = { λ list. ArePieces (map text_piece list.items.items)
-        × (list.total ≡ total_length (map text_piece list.items.items)) };
+    ghost invariant = { λ list. AreNumbered list.modifiers.items list.items.items
+        × (ArePieces (map (text_piece list.modifiers.items) list.items.items)
+        × (list.total ≡ total_length (map (text_piece list.modifiers.items) list.items.items))) };
 }
 
 impl PieceList {
-    ghost use Rattle.piece_table.specs.Front.{text_piece};
+    ghost use Rattle.piece_table.specs.Piece.{bare_piece, one_piece, ArePieces};
+    ghost use Rattle.piece_table.specs.Numbering.{AreNumbered, text_piece};
+
+    /// One piece of 16-bit units from a byte of `WordDocument` on. It has no modifier.
+    pub fn one(alloc: Global, at: u32, len: u32) -> Result<PieceList, Memory>
+        requires some { 1 ≤ len }
+        requires most { len ≤ 500001 }
+        requires end { at + 2 * len < 2 ^ 32 }
+        ensures { IfOk result (λ list. list.pieces ≡ one_piece at len) }
+    {
+        let mut modifiers = Vec::new(alloc);
+        modifiers.push(Modifier::none(alloc))?;
+        let mut items = Vec::new(alloc);
+        let piece = Piece {
+            at,
+            wide: true,
+            len,
+        };
+        items.push(Entry { piece, modifier: 0 })?;
+        Ok(PieceList::of(items, modifiers, len))
+    }
+
+    /// The pieces that are listed.
+    pub(crate) fn of(items: Vec<Entry>, modifiers: Vec<Modifier>, total: u32) -> PieceList
+        requires numbered { AreNumbered modifiers.items items.items }
+        requires pieces { ArePieces (map (text_piece modifiers.items) items.items) }
+        requires total { total ≡ total_length (map (text_piece modifiers.items) items.items) }
+        ensures { result.pieces ≡ map (text_piece modifiers.items) items.items }
+    {
+        PieceList {
+            items,
+            modifiers,
+            total,
+        }
+    }
 
     /// The number of pieces.
     pub fn len(&self) -> usize
@@ -68,9 +114,17 @@ impl PieceList {
     /// A piece by its number.
     pub fn piece(&self, i: usize) -> Piece
         requires { i < length self.now.pieces }
-        ensures value { slice_get self.now.pieces i ≡ Some (text_piece result) }
-        ensures sound { IsPiece (text_piece result) }
+        ensures value { option_map bare_piece (slice_get self.now.pieces i) ≡ Some result }
+        ensures sound { IsPiece result }
     {
-        self.items[i]
+        self.items[i].piece
+    }
+
+    /// What the sprms of a piece do.
+    pub fn modifier(&self, i: usize) -> &Modifier
+        requires { i < length self.now.pieces }
+        ensures { option_map (λ piece. piece.modifier) (slice_get self.now.pieces i) ≡ Some result.now }
+    {
+        &self.modifiers[self.items[i].modifier]
     }
 }

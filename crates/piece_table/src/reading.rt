@@ -1,16 +1,18 @@
-ghost use Rattle.std.specs.Prelude.{◌≡◌, ◌+◌, ◌^◌, ◌<◌, ◌≤◌, length, All, MatchResult, IfOk};
-ghost use Rattle.doc_bits.specs.Rules.{Hold};
-ghost use Rattle.piece_table.specs.Clx.{IsClx};
-ghost use Rattle.piece_table.specs.ClxRules.{clx_rules, IsClxFault, StaysInStream};
-ghost use Rattle.piece_table.specs.Piece.{total_length};
+ghost use Rattle.std.specs.Prelude.{◌≡◌, ◌+◌, ◌^◌, ◌<◌, ◌≤◌, length, map, All, MatchResult, IfOk};
+ghost use Rattle.doc_bits.specs.Rules.{Hold, IsFirst};
+ghost use Rattle.doc_bits.specs.Plc.{PlcPart};
+ghost use Rattle.piece_table.specs.Clx.{ClxParts, IsPlcPcd, SpellsClx, plc_place, IsClx, clx_pieces, HaveModifiers};
+ghost use Rattle.piece_table.specs.ClxRules.{clx_rules, parts_rules, IsClxFault, StaysInStream, FitsPages};
+ghost use Rattle.piece_table.specs.Piece.{total_length, bare_piece};
 
 use crate::collect::pieces_of;
 use crate::judge::judge;
-use crate::parts::parts_of;
+use crate::parts::{Parts, parts_of};
+use crate::prcs::{faulty_prc, named_prcs, prc_modifiers};
 use crate::{ClxFault, PieceList};
 use std::alloc::Global;
 
-const RULE_CLX: u8 = 27;
+const RULE_SPRM: u8 = 31;
 
 /// Reads the pieces of a Clx that stands at `at` in the table stream. `wd_len` is the length of `WordDocument` in bytes,
 /// `text_len` the number of CPs.
@@ -28,24 +30,49 @@ pub fn read_clx(
         (IsClxFault (clx_rules clx.now at wd_len text_len)) }
 
     // What the rules say of the pieces.
-    ensures within { IfOk result (λ list. All (StaysInStream wd_len) list.pieces) }
+    ensures within { IfOk result (λ list. All (λ piece. StaysInStream wd_len (bare_piece piece)) list.pieces) }
     ensures total { IfOk result (λ list. total_length list.pieces ≡ text_len) }
+    ensures fit { IfOk result (λ list. All (λ piece. FitsPages piece.modifier) list.pieces) }
 {
-    let parts = match parts_of(clx) {
-        Ok(parts) => parts,
-        Err(offset) => {
-            return Err(ClxFault::Rule {
-                rule: RULE_CLX,
-                offset: at + offset as u32,
-            });
-        }
-    };
+    let parts = parts_of(alloc, clx, at)?;
+    read_parts(alloc, &parts, at, wd_len, text_len)
+}
+
+/// The pieces of the parts of a Clx.
+fn read_parts(
+    alloc: Global,
+    parts: &Parts<'_>,
+    at: u32,
+    wd_len: u32,
+    text_len: u32,
+) -> Result<PieceList, ClxFault>
+    requires place { at + parts.now.place + length parts.now.plc.bytes < 2 ^ 32 }
+    requires table { IsPlcPcd parts.now.plc }
+    requires place_is { parts.now.place ≡ plc_place (record { prcs = parts.now.prcs; plc = parts.now.plc }) }
+    requires text { text_len ≤ 500001 }
+    ensures read { MatchResult result
+        (λ list. Hold (parts_rules (record { prcs = parts.now.prcs; plc = parts.now.plc }) at wd_len text_len)
+        × ((map bare_piece list.pieces ≡ clx_pieces parts.now.plc) × HaveModifiers (record { prcs = parts.now.prcs; plc = parts.now.plc }) list.pieces))
+        (IsClxFault (parts_rules (record { prcs = parts.now.prcs; plc = parts.now.plc }) at wd_len text_len)) }
+    ensures within { IfOk result (λ list. All (λ piece. StaysInStream wd_len (bare_piece piece)) list.pieces) }
+    ensures total { IfOk result (λ list. total_length list.pieces ≡ text_len) }
+    ensures fit { IfOk result (λ list. All (λ piece. FitsPages piece.modifier) list.pieces) }
+{
     judge(
         &parts.plc,
         at + parts.place as u32,
-        parts.prcs,
+        parts.prcs.len(),
         wd_len,
         text_len,
     )?;
-    Ok(pieces_of(alloc, &parts.plc, text_len)?)
+    let named = named_prcs(alloc, parts)?;
+    if let Some(offset) = faulty_prc(parts, &named, at) {
+        return Err(ClxFault::Rule {
+            rule: RULE_SPRM,
+            offset,
+        });
+    }
+    let modifiers = prc_modifiers(alloc, parts, &named, at)?;
+    let list = pieces_of(alloc, parts, modifiers, text_len)?;
+    Ok(list)
 }

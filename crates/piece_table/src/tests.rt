@@ -1,4 +1,6 @@
 use super::*;
+use doc_bits::{Bytes, Memory};
+use std::alloc::Global;
 use std::test::Fail;
 
 /// The Clx of one piece: CPs 0 and 6, FcCompressed 1,024, Prm 0.
@@ -109,7 +111,7 @@ fn each_rule_is_named_at_its_place(rt: HostRuntime) -> Result<(), Fail> {
 fn a_prc_stands_before_the_pieces(rt: HostRuntime) -> Result<(), Fail> {
     // Prc of 4 bytes, then the Pcdt with Prm 1, then a byte that is ignored.
     let mut clx = [
-        1, 4, 0, 16, 70, 0, 0, 2, 16, 0, 0, 0, 0, 0, 0, 0, 6, 0, 0, 0, 0, 0, 0, 4, 0, 0, 1, 0, 9,
+        1, 4, 0, 53, 8, 1, 0, 2, 16, 0, 0, 0, 0, 0, 0, 0, 6, 0, 0, 0, 0, 0, 0, 4, 0, 0, 1, 0, 9,
     ];
     assert!(rt; read_clx(rt.alloc(), &clx, 232, 4096, 6).is_ok());
     clx[26] = 3;
@@ -137,5 +139,107 @@ fn a_prc_stands_before_the_pieces(rt: HostRuntime) -> Result<(), Fail> {
             offset: 232
         })
     );
+    Ok(())
+}
+
+/// A list of one sprm that is not read.
+const REFUSED: [u8; 4] = [0x10, 0x46, 0, 0];
+
+/// A list of sprmCFBold.
+const BOLD: [u8; 3] = [0x35, 8, 1];
+
+/// Appends a Prc: of `R` a sprm that is not read, of `B` sprmCFBold, of `L` a sprm with 253 bytes, which is one more
+/// than fits, of others one with 252 bytes.
+fn push_kind(clx: &mut Bytes, kind: u8) -> Result<(), Memory> {
+    clx.push_all(&[1])?;
+    match kind {
+        b'R' => {
+            clx.push16(4)?;
+            clx.push_all(&REFUSED)
+        }
+        b'B' => {
+            clx.push16(3)?;
+            clx.push_all(&BOLD)
+        }
+        b'L' => push_long(clx, 253),
+        _ => push_long(clx, 252),
+    }
+}
+
+fn push_long(clx: &mut Bytes, len: u8) -> Result<(), Memory> {
+    clx.push16(3 + u16::from(len))?;
+    clx.push_all(&[0x02, 0xCA, len])?;
+    for _ in 0..len {
+        clx.push_all(&[0])?;
+    }
+    Ok(())
+}
+
+/// A Clx of these Prcs and of two pieces, of two 16-bit units each, with these Prms.
+fn two_pieces(alloc: Global, kinds: &[u8], prms: [u16; 2]) -> Result<Bytes, Memory> {
+    let mut clx = Bytes::new(alloc);
+    for kind in kinds {
+        push_kind(&mut clx, *kind)?;
+    }
+    clx.push_all(&[2, 28, 0, 0, 0, 0, 0, 0, 0, 2, 0, 0, 0, 4, 0, 0, 0])?;
+    for prm in prms {
+        clx.push_all(&[0, 0, 0, 4, 0, 0])?;
+        clx.push16(prm)?;
+    }
+    Ok(clx)
+}
+
+#[test]
+fn prcs_that_pieces_name_are_judged(rt: HostRuntime) -> Result<(), Fail> {
+    let rows: [(&[u8], [u16; 2], Option<(u8, u32)>, &str); 8] = [
+        (b"R", [0, 1], Some((31, 235)), "a sprm that is not read"),
+        (b"R", [0, 0], None, "a Prc that no piece names"),
+        (b"BR", [1, 1], None, "the same behind another"),
+        (b"BRR", [5, 3], Some((31, 241)), "named in the other order"),
+        (
+            b"LR",
+            [1, 3],
+            Some((31, 494)),
+            "all sprms come before any length",
+        ),
+        (b"BLL", [5, 3], Some((32, 238)), "two long ones"),
+        (b"BL", [1, 0], None, "a long one that no piece names"),
+        (b"F", [1, 1], None, "one that fits"),
+    ];
+    for (kinds, prms, wanted, what) in rows {
+        let clx = two_pieces(rt.alloc(), kinds, prms)?;
+        if clx.as_slice().len() < 1_000 {
+            let fault = match read_clx(rt.alloc(), clx.as_slice(), 232, 4096, 4) {
+                Ok(_) => None,
+                Err(ClxFault::Rule { rule, offset }) => Some((rule, offset)),
+                Err(ClxFault::Memory) => Some((0, 0)),
+            };
+            assert_eq!(rt; fault, wanted, "{what}");
+        }
+    }
+    Ok(())
+}
+
+// Bold by a Prc, by a Prm of one sprm, and by none.
+#[test]
+fn pieces_have_the_modifiers_of_their_prms(rt: HostRuntime) -> Result<(), Fail> {
+    for (prms, same) in [([1, 0x01AA], true), ([1, 0], false), ([1, 1], true)] {
+        let clx = two_pieces(rt.alloc(), b"B", prms)?;
+        if clx.as_slice().len() < 1_000 {
+            let list = read_clx(rt.alloc(), clx.as_slice(), 232, 4096, 4)?;
+            if list.len() == 2 {
+                assert!(rt; !list.modifier(0).is_none());
+                let equal = list.modifier(0).chp.equal(&list.modifier(1).chp);
+                assert_eq!(rt; equal, same);
+            }
+        }
+    }
+    Ok(())
+}
+
+#[test]
+fn a_printed_clx_is_read_again(rt: HostRuntime) -> Result<(), Fail> {
+    let one = PieceList::one(rt.alloc(), 1024, 6)?;
+    assert_eq!(rt; one.print_clx(rt.alloc())?.as_slice(), HELLO.as_slice());
     Ok(())
 }

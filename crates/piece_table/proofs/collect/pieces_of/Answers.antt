@@ -1,19 +1,32 @@
--- Each turn adds the piece of the next Pcd.
-use Rattle.std.proofs.Common.{◌≡◌, map, sym, subst, arith}
-use Rattle.piece_table.specs.Piece.{ArePieces, total_length}
-use Rattle.piece_table.specs.Clx.{clx_pieces}
-use Rattle.piece_table.specs.Front.{text_piece}
-use Rattle.piece_table.proofs.PieceLemmas.{piece_more, all_pieces, pieces_sound}
+-- The entries are seen as the pieces of the Clx.
+use Rattle.std.proofs.Common.{◌∙◌, map, sym, ap, subst}
+use Rattle.piece_table.specs.Piece.{bare_piece}
+use Rattle.piece_table.specs.Clx.{ClxParts, HaveModifiers}
+use Rattle.piece_table.proofs.PieceLemmas.{pieces_sound}
+use Rattle.piece_table.proofs.NumberingLemmas.{seen_bare, seen_modifiers, seen_formed, seen_numbered}
 use Rattle.piece_table.proofs.collect.pieces_of.Goals as goal
 
-pub loop-k-preserved : goal.loop-k-preserved
-loop-k-preserved c =
-    rw c.in_ok-push.ensures.items (piece_more c.loop-k.items.items c.piece_of.result c.args.plc.now c.loop-k.k c.loop-k.invariant c.piece_of.ensures)
+pub of-requires-clause-numbered : goal.of-requires-clause-numbered
+of-requires-clause-numbered c =
+    let parts : ClxParts = record { prcs = c.args.parts.now.prcs; plc = c.args.parts.now.plc } in
+    rw c.into_modifiers-modifiers.ensures (seen_numbered parts _ c.in_ok-items.items.items parts.plc.count c.in_ok-items.ensures.met.first c.in_ok-items.ensures.entries)
 
-pub returns : goal.returns
-returns c = all_pieces c.loop-k.items.items c.args.plc.now c.loop-k.k (omega arith) c.loop-k.invariant
+pub of-requires-clause-pieces : goal.of-requires-clause-pieces
+of-requires-clause-pieces c =
+    let parts : ClxParts = record { prcs = c.args.parts.now.prcs; plc = c.args.parts.now.plc } in
+    rw c.into_modifiers-modifiers.ensures (pieces_sound parts.plc c.args.text_len _ c.requires.cps c.requires.within c.requires.text (seen_bare parts _ c.in_ok-items.items.items c.in_ok-items.ensures.entries) (seen_formed parts _ c.in_ok-items.items.items parts.plc.count c.in_ok-items.ensures.met.formed c.in_ok-items.ensures.entries)).0
 
-pub invariant_of-result : goal.invariant_of-result
-invariant_of-result c =
-    let is : map text_piece c.loop-k.items.items ≡ clx_pieces c.args.plc.now = all_pieces c.loop-k.items.items c.args.plc.now c.loop-k.k (omega arith) c.loop-k.invariant in
-    subst (λ pieces. ArePieces pieces × (c.args.text_len ≡ total_length pieces)) (sym is) (pieces_sound c.args.plc.now c.args.text_len c.requires.cps c.requires.within c.requires.text)
+pub of-requires-clause-total : goal.of-requires-clause-total
+of-requires-clause-total c =
+    let parts : ClxParts = record { prcs = c.args.parts.now.prcs; plc = c.args.parts.now.plc } in
+    rw c.into_modifiers-modifiers.ensures (pieces_sound parts.plc c.args.text_len _ c.requires.cps c.requires.within c.requires.text (seen_bare parts _ c.in_ok-items.items.items c.in_ok-items.ensures.entries) (seen_formed parts _ c.in_ok-items.items.items parts.plc.count c.in_ok-items.ensures.met.formed c.in_ok-items.ensures.entries)).1
+
+pub returns-clause-pieces : goal.returns-clause-pieces
+returns-clause-pieces c =
+    let parts : ClxParts = record { prcs = c.args.parts.now.prcs; plc = c.args.parts.now.plc } in
+    ap (map bare_piece) c.of.ensures ∙ rw c.into_modifiers-modifiers.ensures (seen_bare parts _ c.in_ok-items.items.items c.in_ok-items.ensures.entries)
+
+pub returns-clause-modifiers : goal.returns-clause-modifiers
+returns-clause-modifiers c =
+    let parts : ClxParts = record { prcs = c.args.parts.now.prcs; plc = c.args.parts.now.plc } in
+    subst (HaveModifiers parts) (sym c.of.ensures) (rw c.into_modifiers-modifiers.ensures (seen_modifiers parts _ c.in_ok-items.items.items c.in_ok-items.ensures.entries))
