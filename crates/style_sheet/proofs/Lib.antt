@@ -1,0 +1,11 @@
+pub mod ChainLemmas
+pub mod OneChainLemmas
+pub mod ChangeLemmas
+pub mod ReadLemmas
+pub mod WordLemmas
+pub mod LengthLemmas
+pub mod SlotLemmas
+pub mod StdLemmas
+pub mod StyleBackLemmas
+pub mod SheetBackLemmas
+pub mod UniqueLemmas

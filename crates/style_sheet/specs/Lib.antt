@@ -1,0 +1,9 @@
+pub mod Sheet
+pub mod Slots
+pub mod Formed
+pub mod Chain
+pub mod Changes
+pub mod Counted
+pub mod StyleDefinition
+pub mod Stsh
+pub mod Written

@@ -1,0 +1,106 @@
+// [MS-DOC] STD: the style that one spells. `base` is cbSTDBaseInFile.
+ghost use Rattle.std.specs.Prelude.{◌≡◌, ◌+◌, ◌*◌, ◌<◌, ◌≤◌, length, slice_index, IfOk};
+ghost use Rattle.doc_bits.specs.Number.{u16_at};
+ghost use Rattle.sprm_table.specs.Sprm.{IsAcceptedList};
+ghost use Rattle.prop_map.specs.Formed.{IsPropertyMap};
+ghost use Rattle.style_sheet.specs.Formed.{IsFormedBase, IsFormedKind, IsFormedStyle};
+ghost use Rattle.style_sheet.specs.StyleDefinition.{base_of, IsStd, HasAcceptedLists, IsMapOf, AreUpxes, IsNameOf, SpellsKind, SpellsStyle};
+
+use crate::counted::{counted_bytes, next_place};
+use crate::definition::{first_upx, kind_number, upx_count};
+use crate::{Kind, Style, UpxList};
+use doc_bits::{Bytes, Memory, Units, get16};
+use prop_map::{Acted, CHARACTER_GROUPS, PARAGRAPH_GROUPS, PropMap, act};
+use std::alloc::Global;
+
+/// The style that an STD spells.
+pub(crate) fn read_style(alloc: Global, std: &[u8], base: usize) -> Result<Style, Memory>
+    requires std { IsStd std.now base }
+    requires base { (8 < base) × (base < 20) }
+    requires lists { HasAcceptedLists std.now base }
+    ensures spelt { IfOk result (SpellsStyle std.now base) }
+    ensures formed { IfOk result IsFormedStyle }
+{
+    let first = get16(std, 0);
+    Ok(Style {
+        sti: first % 4096,
+        flags: (first / 4096) as u8,
+        base: base_of(get16(std, 2) / 16),
+        next: get16(std, 4) / 16,
+        grfstd: get16(std, 8),
+        name: read_name(alloc, std, base)?,
+        kind: read_kind(alloc, std, base)?,
+    })
+}
+
+// The base that a number of 12 bits names; all bits set are none.
+fn base_of(number: u16) -> Option<u16>
+    requires { number < 4096 }
+    ensures base { result ≡ base_of number }
+    ensures formed { IsFormedBase result }
+{
+    if number == 0xFFF { None } else { Some(number) }
+}
+
+fn read_name(alloc: Global, std: &[u8], base: usize) -> Result<Units, Memory>
+    requires std { IsStd std.now base }
+    requires base { (8 < base) × (base < 20) }
+    ensures { IfOk result (IsNameOf std.now base) }
+{
+    let mut name = Units::new(alloc);
+    for i in 0..get16(std, base) as usize {
+        name.push_all(&[get16(std, base + 2 + 2 * i)])?;
+    }
+    Ok(name)
+}
+
+fn read_kind(alloc: Global, std: &[u8], base: usize) -> Result<Kind, Memory>
+    requires std { IsStd std.now base }
+    requires base { (8 < base) × (base < 20) }
+    requires lists { HasAcceptedLists std.now base }
+    ensures spelt { IfOk result (SpellsKind std.now base) }
+    ensures formed { IfOk result IsFormedKind }
+{
+    let at = first_upx(std, base);
+    match kind_number(std) {
+        1 => {
+            let next = next_place(std, at);
+            Ok(Kind::Para {
+                pap: settings(alloc, &counted_bytes(std, at)[2..], PARAGRAPH_GROUPS)?,
+                chp: settings(alloc, counted_bytes(std, next), CHARACTER_GROUPS)?,
+            })
+        }
+        2 => Ok(Kind::Char {
+            chp: settings(alloc, counted_bytes(std, at), CHARACTER_GROUPS)?,
+        }),
+        stk => Ok(Kind::Other {
+            stk: stk as u8,
+            upxes: read_upxes(alloc, std, base)?,
+        }),
+    }
+}
+
+// The settings that a list makes of none.
+fn settings(alloc: Global, list: &[u8], groups: u8) -> Result<PropMap, Memory>
+    requires { IsAcceptedList list.now groups }
+    ensures map { IfOk result (IsMapOf list.now groups) }
+    ensures formed { IfOk result (IsPropertyMap groups) }
+{
+    let none = PropMap::new(alloc);
+    let Acted { map, istd: _ } = act(alloc, list, groups, &none)?;
+    Ok(map)
+}
+
+fn read_upxes(alloc: Global, std: &[u8], base: usize) -> Result<UpxList, Memory>
+    requires std { IsStd std.now base }
+    requires base { (8 < base) × (base < 20) }
+    ensures { IfOk result (AreUpxes std.now base) }
+{
+    let mut upxes = UpxList::new(alloc);
+    let mut at = first_upx(std, base);
+    for _upx in 0..upx_count(std) {
+        upxes.add(Bytes::from_slice(alloc, counted_bytes(std, at))?)?;
+        at = next_place(std, at);
+    }
+    Ok(upxes)
+}

@@ -1,0 +1,18 @@
+// Laws over the definitions alone.
+ghost use Rattle.style_sheet.specs.Chain.{BaseChainIsOne};
+ghost use Rattle.style_sheet.specs.Written.{SheetIsOne, SheetIsReadBack};
+
+/// A style has one chain of bases at most.
+pub fn base_chain_is_one()
+    ensures { BaseChainIsOne }
+{}
+
+/// A part holds one sheet at most.
+pub fn sheet_is_one()
+    ensures { SheetIsOne }
+{}
+
+/// A sheet as it is written breaks no rule and is read back.
+pub fn sheet_is_read_back()
+    ensures { SheetIsReadBack }
+{}

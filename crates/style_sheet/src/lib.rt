@@ -1,0 +1,27 @@
+//! The style sheet: its styles, their chains of bases, and the STSH that spells it.
+#![tactic(auto)]
+
+mod bases;
+mod chains;
+mod changes;
+mod counted;
+mod decoding;
+mod definition;
+mod fault;
+mod laws;
+mod printing;
+mod reading;
+mod sheet;
+mod slots;
+mod styles;
+mod upxes;
+
+pub use chains::Chain;
+pub use fault::StyleFault;
+pub use laws::{base_chain_is_one, sheet_is_one, sheet_is_read_back};
+pub use sheet::StyleSheet;
+pub use styles::{Kind, Style};
+pub use upxes::UpxList;
+
+#[cfg(test)]
+mod tests;
