@@ -1,0 +1,10 @@
+pub mod ValueLemmas
+pub mod PlaceLemmas
+pub mod StopLemmas
+pub mod StopListLemmas
+pub mod FormedLemmas
+pub mod LayerLemmas
+pub mod FormedLayerLemmas
+pub mod ToggleLemmas
+pub mod OneLemmas
+pub mod LastLemmas

@@ -1,0 +1,136 @@
+-- Values laid over one another.
+use Rattle.std.proofs.Common.{◌≡◌, ℕ, ◌+◌, ◌<◌, ◌==◌, Bool, true, false, not, cond, List, [], ◌∷◌, ◌++◌, length, take, get_or, Option, Some, None, IsTrue, refl, sym, ap, ◌∙◌, arith, subst, length-take}
+use Rattle.std.proofs.lemmas.List.{take_more, get_or-take, get_or_default, append-nil, length-append}
+use Rattle.std.proofs.Math.Seq.{take-append_seam, get_or-append_seam}
+use Rattle.std.proofs.lemmas.List.Elements.{filter_map-append}
+use Rattle.std.proofs.lemmas.List.Sums.{fold-append}
+use Rattle.std.proofs.lemmas.Bool.{eqb-true}
+use Rattle.std.specs.Ordering.{nat_cmp, eq_by_cmp}
+use Rattle.std.specs.Cmp.{nat_cmp_total, unsigned_tied}
+use Rattle.std.specs.List.{filter_map, last_or}
+use Rattle.std.specs.Map.{lookup}
+use Rattle.std.specs.BTreeMap.{is_at}
+use Rattle.std.specs.FinMap.{empty, get, get-empty, insert, find, is_sorted, from_sorted, get-insert, get-from_sorted, same_map, nat_cmp-IsAntisymmetric}
+use Rattle.std.specs.FinMap.Entries.{find-append}
+use Rattle.sprm_table.specs.Codes.{class_of}
+use Rattle.prop_map.specs.Settings.{Settings}
+use Rattle.prop_map.specs.Entries.{Entries}
+use Rattle.prop_map.proofs.EntriesLemmas.{of_true, rises, find_gap}
+use Rattle.effective_props.specs.Toggles.{toggled}
+use Rattle.effective_props.specs.Values.{tabs_code, is_toggle, values_at, value_of, effective_value}
+use Rattle.effective_props.specs.ValueSteps.{value_over, layer_over, IsValueOver}
+
+-- a tree finds a value where a map does
+pub find-lookup : (code : ℕ) (es : Entries) → find nat_cmp code es ≡ lookup (is_at (nat_cmp code)) es
+find-lookup code [] = refl
+find-lookup code (e ∷ es) = ap (cond (eq_by_cmp nat_cmp code e.0) (Some e.1)) (find-lookup code es)
+
+-- ---- one value
+
+pub put_over : (code other : ℕ) (old : Settings) (value made : List ℕ) → (code == tabs_code) ≡ false → Some made ≡ value_over code (get old code) value → get (insert old code made) other ≡ cond (other == code) (layer_over code (get old code) (Some value)) (get old other)
+put_over code other old value made plain is =
+    get-insert nat_cmp_total old code made other
+    ∙ (ap (λ b. cond b (Some made) (get old other)) (unsigned_tied other code)
+    ∙ ap (λ o. cond (other == code) o (get old other)) (is ∙ ap (λ b. cond b (get old code) (value_over code (get old code) value)) (sym plain)))
+
+-- ---- the values of one layer, in the order of their codes
+
+pub find-before : (es : Entries) (i : ℕ) (d : ℕ × List ℕ) → IsTrue (is_sorted nat_cmp es) → i < length es → find nat_cmp (get_or es i d).0 (take i es) ≡ None
+find-before es i d h within =
+    let long : length (take i es) ≡ i = omega (arith, length-take i es) in
+    find_gap i (get_or es i d).0 (take i es) (omega arith)
+    (λ j e l. rw (get_or-take i es j e l, get_or_default es i d e within) (rises es j i e (of_true _ h) l within))
+    (λ j e low l. absurd (omega arith))
+
+-- the entries so far with one more
+pub find-more : (es : Entries) (i : ℕ) (d : ℕ × List ℕ) (code : ℕ) → IsTrue (is_sorted nat_cmp es) → i < length es → find nat_cmp code (take (i + 1) es) ≡ cond (code == (get_or es i d).0) (Some (get_or es i d).1) (find nat_cmp code (take i es))
+find-more es i d code h within =
+    let e = get_or es i d in
+    ap (find nat_cmp code) (take_more es i d within)
+    ∙ (find-append nat_cmp nat_cmp_total (take i es) e.0 e.1 code (find-before es i d h within)
+    ∙ ap (λ b. cond b (Some e.1) (find nat_cmp code (take i es))) (unsigned_tied code e.0))
+
+-- the first i entries of a layer were laid over what was there
+abbrev pub LaysUpTo : Entries → Settings → Settings → Type 0
+LaysUpTo es old now = (code : ℕ) → get now code ≡ layer_over code (get old code) (find nat_cmp code es)
+
+pub lay_more : (es : Entries) (i : ℕ) (d : ℕ × List ℕ) (old now new : Settings) → IsTrue (is_sorted nat_cmp es) → i < length es → LaysUpTo (take i es) old now → IsValueOver (get_or es i d).0 (get_or es i d).1 now new → LaysUpTo (take (i + 1) es) old new
+lay_more es i d old now new h within upto step code =
+    let e = get_or es i d in
+    step code ∙ (elim (code == e.0) as (λ b. (code == e.0) ≡ b → cond b (layer_over e.0 (get now e.0) (Some e.1)) (get now code) ≡ layer_over code (get old code) (cond b (Some e.1) (find nat_cmp code (take i es)))) [
+      | true ↦ λ is.
+          let key = eqb-true code e.0 is in
+          let here = upto e.0 ∙ ap (layer_over e.0 (get old e.0)) (find-before es i d h within) in
+          ap (λ o. layer_over e.0 o (Some e.1)) here ∙ ap (λ k. layer_over k (get old k) (Some e.1)) (sym key)
+      | false ↦ λ is. upto code
+    ] refl ∙ ap (layer_over code (get old code)) (sym (find-more es i d code h within)))
+
+-- ---- the values as a map again, in the order of their codes
+
+pub put_next : (es done rest : Entries) (entry : ℕ × List ℕ) (made : Settings) → done ++ entry ∷ rest ≡ es → IsTrue (is_sorted nat_cmp es) → ((code : ℕ) → get made code ≡ find nat_cmp code done) → (code : ℕ) → get (insert made entry.0 entry.1) code ≡ find nat_cmp code (done ++ entry ∷ [])
+put_next es done rest entry made joined h has code =
+    let sorted = subst (λ l. IsTrue (is_sorted nat_cmp l)) (sym joined) h in
+    let within : length done < length (done ++ entry ∷ rest) = omega (arith, length-append done (entry ∷ rest)) in
+    let before = find-before (done ++ entry ∷ rest) (length done) entry sorted within in
+    let none : find nat_cmp entry.0 done ≡ None = rw (get_or-append_seam done entry rest entry, take-append_seam done (entry ∷ rest)) at before in
+    get-insert nat_cmp_total made entry.0 entry.1 code
+    ∙ (ap (cond (eq_by_cmp nat_cmp code entry.0) (Some entry.1)) (has code)
+    ∙ sym (find-append nat_cmp nat_cmp_total done entry.0 entry.1 code none))
+
+pub all_put : (es done rest : Entries) (made self : Settings) → done ++ rest ≡ es → rest ≡ [] → IsTrue (is_sorted nat_cmp es) → ((code : ℕ) → get made code ≡ find nat_cmp code done) → from_sorted es ≡ self → made ≡ self
+all_put es done rest made self joined none h has is =
+    let all : done ≡ es = sym (append-nil done) ∙ (ap (λ r. done ++ r) (sym none) ∙ joined) in
+    same_map nat_cmp_total nat_cmp-IsAntisymmetric made self (λ code.
+    has code ∙ (ap (find nat_cmp code) all ∙ (sym (get-from_sorted nat_cmp es code (of_true _ h)) ∙ ap (λ m. get m code) is)))
+
+-- ---- one more layer
+
+pub last_of_more : (before : Option (List ℕ)) (values : List (List ℕ)) (value : List ℕ) → last_or before (values ++ value ∷ []) ≡ Some value
+last_of_more before [] value = refl
+last_of_more before (v ∷ values) value = last_of_more (Some v) values value
+
+value_of_more : (code : ℕ) (values : List (List ℕ)) (value : List ℕ) → value_of code (values ++ value ∷ []) ≡ value_over code (value_of code values) value
+value_of_more code values value =
+    elim (is_toggle (class_of code)) as (λ b. cond b (toggle_of (values ++ value ∷ [])) (last_or None (values ++ value ∷ [])) ≡ cond b (toggled (cond b (toggle_of values) (last_or None values)) value) (Some value)) [
+      | true ↦ fold-append toggled None values (value ∷ [])
+      | false ↦ last_of_more None values value
+    ]
+  where
+    toggle_of : List (List ℕ) → Option (List ℕ)
+    toggle_of vs = value_of 0x0835 vs
+
+pub effective_more : (layers : List Settings) (layer : Settings) (code : ℕ) → effective_value (layers ++ layer ∷ []) code ≡ layer_over code (effective_value layers code) (get layer code)
+effective_more layers layer code =
+    let f : Settings → Option (List ℕ) = λ m. get m code in
+    let values = values_at layers code in
+    ap (λ vs. cond (code == tabs_code) None (value_of code vs)) (filter_map-append f layers (layer ∷ []))
+    ∙ elim (get layer code) as (λ o. cond (code == tabs_code) None (value_of code (values ++ cons o)) ≡ layer_over code (cond (code == tabs_code) None (value_of code values)) o) [
+      | None ↦ ap (λ vs. cond (code == tabs_code) None (value_of code vs)) (append-nil values)
+      | Some value ↦ elim (code == tabs_code) as (λ b. cond b None (value_of code (values ++ value ∷ [])) ≡ cond b (cond b None (value_of code values)) (value_over code (cond b None (value_of code values)) value)) [
+        | true ↦ refl
+        | false ↦ value_of_more code values value
+      ]
+    ]
+  where
+    cons : Option (List ℕ) → List (List ℕ)
+    cons o = filter_map (λ x. x) (o ∷ [])
+
+pub false_of : (b : Bool) → true ≡ not b → b ≡ false
+false_of true e = cc
+false_of false e = refl
+
+pub none_put : (made : Settings) (code : ℕ) → made ≡ empty → get made code ≡ None
+none_put made code e = ap (λ m. get m code) e ∙ get-empty nat_cmp code
+
+no_value : Option (List ℕ)
+no_value = None
+
+either_none : (b c : Bool) → no_value ≡ cond b no_value (cond c no_value no_value)
+unfolding no_value
+either_none true c = refl
+either_none false true = refl
+either_none false false = refl
+
+pub effective_none : (made : Settings) (code : ℕ) → made ≡ empty → get made code ≡ effective_value [] code
+unfolding no_value
+effective_none made code e = none_put made code e ∙ either_none (code == tabs_code) (is_toggle (class_of code))

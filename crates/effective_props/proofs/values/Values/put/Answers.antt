@@ -1,0 +1,13 @@
+use Rattle.std.proofs.Common.{ap, ◌∙◌}
+use Rattle.std.specs.FinMap.{from_sorted, insert}
+use Rattle.prop_map.proofs.EntriesLemmas.{sorted-put, from_sorted-put}
+use Rattle.prop_map.proofs.ChangeLemmas.{insert_entry-put}
+use Rattle.effective_props.proofs.values.Values.put.Goals as goal
+
+pub invariant_of-self-2 : goal.invariant_of-self-2
+invariant_of-self-2 c = rw (c.in_ok-insert.ensures.entries, insert_entry-put c.self.inside.tree.entries c.args.code.0 c.args.value) (sorted-put c.self.inside.tree.entries c.args.code.0 c.args.value c.self.invariant)
+
+pub returns : goal.returns
+returns c =
+    ap from_sorted (c.in_ok-insert.ensures.entries ∙ insert_entry-put c.self.inside.tree.entries c.args.code.0 c.args.value)
+    ∙ (from_sorted-put c.self.inside.tree.entries c.args.code.0 c.args.value c.self.invariant ∙ ap (λ m. insert m c.args.code.0 c.args.value) c.self.view_is)

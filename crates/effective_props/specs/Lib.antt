@@ -1,0 +1,11 @@
+pub mod Toggles
+pub mod Values
+pub mod ValueSteps
+pub mod TabChange
+pub mod TabForm
+pub mod Stops
+pub mod StopSteps
+pub mod Layers
+pub mod LayerParts
+pub mod Effective
+pub mod Laws

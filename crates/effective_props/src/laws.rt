@@ -1,0 +1,33 @@
+// Laws over the definitions alone.
+ghost use Rattle.effective_props.specs.Laws.{ToggleIsSaidByLastValue, LastLayerDecides, EffectiveMapIsOne, StopsAreOne, EffectiveCharacterIsOne, EffectiveParagraphIsOne};
+
+/// A toggle is said by its last value that goes by nothing, and by how often later values turn it
+/// round.
+pub fn toggle_is_said_by_last_value()
+    ensures { ToggleIsSaidByLastValue }
+{}
+
+/// A code that is no toggle has the value of the last layer that has it.
+pub fn last_layer_decides()
+    ensures { LastLayerDecides }
+{}
+
+/// Layers make one map.
+pub fn effective_map_is_one()
+    ensures { EffectiveMapIsOne }
+{}
+
+/// Layers make one list of tab stops.
+pub fn stops_are_one()
+    ensures { StopsAreOne }
+{}
+
+/// A character has one map of effective settings.
+pub fn effective_character_is_one()
+    ensures { EffectiveCharacterIsOne }
+{}
+
+/// A paragraph mark has one map of effective settings, and one list of tab stops.
+pub fn effective_paragraph_is_one()
+    ensures { EffectiveParagraphIsOne }
+{}

@@ -1,0 +1,22 @@
+//! Effective settings: what the styles of a paragraph, the character style and the direct settings
+//! make together, layer by layer, and the tab stops.
+#![tactic(auto)]
+
+mod effective;
+mod laws;
+mod layers;
+mod stops;
+mod tab_change;
+mod tabs;
+mod toggles;
+mod values;
+
+pub use effective::{ParaEffect, effective_char, effective_para};
+pub use laws::{
+    effective_character_is_one, effective_map_is_one, effective_paragraph_is_one,
+    last_layer_decides, stops_are_one, toggle_is_said_by_last_value,
+};
+pub use tabs::{Tab, Tabs};
+
+#[cfg(test)]
+mod tests;

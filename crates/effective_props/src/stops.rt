@@ -1,0 +1,69 @@
+// Tab stops, layer by layer: a tree, so that each change costs the logarithm of its size.
+ghost use Rattle.std.specs.Prelude.{◌≡◌, map, OnOk, IfOk};
+ghost use Rattle.std.specs.Ordering.{int_cmp};
+ghost use Rattle.std.specs.BTreeMap.{IsOrdered};
+ghost use Rattle.effective_props.specs.TabChange.{deleted_count, added_count};
+ghost use Rattle.effective_props.specs.Stops.{AreStops};
+ghost use Rattle.effective_props.specs.StopSteps.{ChangesByLayer, DeletesUpTo, AddsUpTo, tab_of};
+
+use crate::tab_change::TabChange;
+use crate::values::SPRM_P_CHG_TABS_PAPX;
+use crate::{Tab, Tabs};
+use doc_bits::Memory;
+use prop_map::PropMap;
+use std::alloc::Global;
+use std::collections::BTreeMap;
+
+/// The stops of the layers.
+pub(crate) fn stops_of(alloc: Global, layers: &[PropMap]) -> Result<Tabs, Memory>
+    ensures { IfOk result (AreStops layers.now) }
+{
+    let mut stops = BTreeMap::new(alloc);
+    for layer in layers {
+        change_by_layer(&mut stops, layer)?;
+    }
+    let tabs = tabs_of(alloc, stops)?;
+    Ok(tabs)
+}
+
+// The stops as a list.
+fn tabs_of(alloc: Global, stops: BTreeMap<i16, u8>) -> Result<Tabs, Memory>
+    ensures tabs { IfOk result (λ tabs. tabs ≡ map tab_of stops.entries) }
+    ensures ordered { IsOrdered int_cmp stops }
+{
+    let mut tabs = Tabs::new(alloc);
+    for (at, kind) in stops {
+        tabs.add(Tab { at, kind })?;
+    }
+    Ok(tabs)
+}
+
+fn change_by_layer(stops: &mut BTreeMap<i16, u8>, layer: &PropMap) -> Result<(), Memory>
+    ensures { OnOk result (ChangesByLayer layer.now stops.old stops.new) }
+{
+    if let Some(value) = layer.get(SPRM_P_CHG_TABS_PAPX) {
+        if let Some(change) = TabChange::of(value) {
+            delete(stops, &change);
+            add(stops, &change)?;
+        }
+    }
+    Ok(())
+}
+
+fn delete(stops: &mut BTreeMap<i16, u8>, change: &TabChange<'_>)
+    ensures { DeletesUpTo change.now (deleted_count change.now) stops.old stops.new }
+{
+    for i in 0..change.deleted() {
+        stops.remove(&change.deleted_position(i));
+    }
+}
+
+fn add(stops: &mut BTreeMap<i16, u8>, change: &TabChange<'_>) -> Result<(), Memory>
+    ensures { OnOk result (AddsUpTo change.now (added_count change.now) stops.old stops.new) }
+{
+    for i in 0..change.added() {
+        let tab = change.added_tab(i);
+        stops.insert(tab.at, tab.kind)?;
+    }
+    Ok(())
+}
