@@ -1,0 +1,15 @@
+pub mod FormedLemmas
+pub mod StreamLemmas
+pub mod MarkLemmas
+pub mod WalkLemmas
+pub mod EndLemmas
+pub mod NestingLemmas
+pub mod FieldLemmas
+pub mod ItemLemmas
+pub mod RowLemmas
+pub mod PlaceLemmas
+pub mod TextPlaceLemmas
+pub mod StyleLemmas
+pub mod SheetLemmas
+pub mod SoundLemmas
+pub mod BlankLemmas

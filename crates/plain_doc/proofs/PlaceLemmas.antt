@@ -1,0 +1,96 @@
+-- The least place of a rule over the texts of a document: the main text first, then the notes and the header texts by
+-- their numbers.
+use Rattle.std.proofs.Common.{◌≡◌, ◌⊎◌, inl, inr, ℕ, ◌<◌, ◌≤◌, List, length, Option, Some, None, refl, sym, ◌∙◌, ap, subst, arith}
+use Rattle.std.specs.Prelude.{slice_get}
+use Rattle.std.proofs.lemmas.Bool.{cases_lt}
+use Rattle.std.proofs.lemmas.Option.{slice_get_within}
+use Rattle.doc_bits.specs.declared.places.Where.{Where}
+use Rattle.doc_bits.specs.declared.places.Where.TheVariants.{File, Wd, Table, Sheet, Main, Note, Head}
+use Rattle.doc_bits.specs.Rules.{Nowhere, IsLeast}
+use Rattle.doc_bits.specs.Places.{Place, rank, inner, Upto}
+use Rattle.plain_doc.specs.declared.item.Item.{Item}
+use Rattle.plain_doc.specs.declared.document.Document.{Document}
+use Rattle.plain_doc.specs.declared.rules_texts.Side.{Side}
+use Rattle.plain_doc.specs.declared.rules_texts.Side.TheVariants.{Notes, Heads}
+use Rattle.plain_doc.specs.RulesOfTexts.{InTexts, text_of, LeastPlaceOrNone}
+use Rattle.plain_doc.specs.TextRules.{InList, part_of}
+
+-- a place of a part that comes before, one in the same part, and one in an earlier text of a list
+pub upto_later : (p q : Place) → rank p.0 < rank q.0 → Upto p q
+upto_later p q h = record { part = omega arith; number = λ e. absurd (omega arith); offset = λ e f. absurd (omega arith) }
+
+pub upto_same : (p q : Place) → p.0 ≡ q.0 → p.1 ≤ q.1 → Upto p q
+upto_same p q e h =
+    let f : rank p.0 ≡ rank q.0 = ap rank e in
+    let g : inner p.0 ≡ inner q.0 = ap inner e in
+    record { part = omega arith; number = λ _. omega arith; offset = λ _ _. h }
+
+upto_next : (p q : Place) → rank p.0 ≡ rank q.0 → inner p.0 < inner q.0 → Upto p q
+upto_next p q e h = record { part = omega arith; number = λ _. omega arith; offset = λ _ f. absurd (omega arith) }
+
+-- of two parts of a rule, the first comes first
+pub least_first : (A B : Place → Type 0) (p : Place) → IsLeast Upto A p → ((q : Place) → B q → Upto p q) → IsLeast Upto (λ q. A q ⊎ B q) p
+least_first A B p first later = record {
+  broken = inl first.broken;
+  least = λ q w. elim w [ inl a ↦ first.least q a | inr b ↦ later q b ];
+}
+
+-- where the first holds, it is the second
+pub least_second : (A B : Place → Type 0) (o : Option Place) → Nowhere A → LeastPlaceOrNone B o → LeastPlaceOrNone (λ q. A q ⊎ B q) o
+least_second A B None none second = λ q w. elim w [ inl a ↦ none q a | inr b ↦ second q b ]
+least_second A B (Some p) none second = record {
+  broken = inr second.broken;
+  least = λ q w. elim w [ inl a ↦ absurd (none q a) | inr b ↦ second.least q b ];
+}
+
+-- two ways to say one rule
+pub same_places : (A B : Place → Type 0) (o : Option Place) → ((q : Place) → A q → B q) → ((q : Place) → B q → A q) → LeastPlaceOrNone A o → LeastPlaceOrNone B o
+same_places A B None to from h = λ q b. h q (from q b)
+same_places A B (Some p) to from h = record { broken = to p h.broken; least = λ q b. h.least q (from q b) }
+
+rank_of : (side : Side) (j k : ℕ) → rank (part_of side j) ≡ rank (part_of side k)
+rank_of Notes j k = refl
+rank_of Heads j k = refl
+
+inner_of : (side : Side) (k : ℕ) → inner (part_of side k) ≡ k
+inner_of Notes k = refl
+inner_of Heads k = refl
+
+-- the text of this number, where it is there, does not break the rule
+pub HoldsInText : Side → List (List Item) → (Where → List Item → ℕ → Type 0) → ℕ → Type 0
+HoldsInText side texts breaks k = (text : List Item) → slice_get texts k ≡ Some text → (at : ℕ) → ¬ (breaks (part_of side k) text at)
+
+pub holds_here : (side : Side) (texts : List (List Item)) (breaks : Where → List Item → ℕ → Type 0) (k : ℕ) (text : List Item) → slice_get texts k ≡ Some text → Nowhere (breaks (part_of side k) text) → HoldsInText side texts breaks k
+unfolding HoldsInText
+holds_here side texts breaks k text there none = λ other is at broken.
+    let same : other ≡ text = cc in none at (subst (λ t. breaks (part_of side k) t at) same broken)
+
+-- where no text breaks it, the list does not
+pub list_holds : (side : Side) (texts : List (List Item)) (breaks : Where → List Item → ℕ → Type 0) (n : ℕ) → length texts ≤ n → ((k : ℕ) → k < n → HoldsInText side texts breaks k) → Nowhere (InList side texts breaks)
+unfolding HoldsInText
+list_holds side texts breaks n all before = λ place w.
+    let within = slice_get_within texts w.number w.text w.there in
+    before w.number (omega arith) w.text w.there place.1 (subst (λ part. breaks part w.text place.1) w.here w.broken)
+
+-- the first text that breaks it has the least place
+pub list_first : (side : Side) (texts : List (List Item)) (breaks : Where → List Item → ℕ → Type 0) (k at : ℕ) (text : List Item) → ((j : ℕ) → j < k → HoldsInText side texts breaks j) → slice_get texts k ≡ Some text → IsLeast (λ a b. a ≤ b) (breaks (part_of side k) text) at → IsLeast Upto (InList side texts breaks) (part_of side k, at)
+unfolding HoldsInText
+list_first side texts breaks k at text before there first = record {
+  broken = record { number = k; text = text; there = there; here = refl; broken = first.broken };
+  least = λ q w.
+      let broken : breaks (part_of side w.number) w.text q.1 = subst (λ part. breaks part w.text q.1) w.here w.broken in
+      let ranks : rank (part_of side k) ≡ rank q.0 = rank_of side k w.number ∙ ap rank (sym w.here) in
+      let number : inner q.0 ≡ w.number = ap inner w.here ∙ inner_of side w.number in
+      let own : inner (part_of side k) ≡ k = inner_of side k in
+      elim (cases_lt w.number k) [
+        | inl low ↦ absurd (before w.number low w.text w.there q.1 broken)
+        | inr high ↦ elim (cases_lt k w.number) [
+          | inl over ↦ upto_next (part_of side k, at) q ranks (omega arith)
+          | inr under ↦
+              let e : w.number ≡ k = omega arith in
+              let same : w.text ≡ text = (let a = w.there in let b = subst (λ n. slice_get texts n ≡ Some text) (sym e) there in cc) in
+              let le : at ≤ q.1 = first.least q.1 (subst (λ t. breaks (part_of side k) t q.1) same (subst (λ n. breaks (part_of side n) w.text q.1) e broken)) in
+              upto_same (part_of side k, at) q (ap (part_of side) (sym e) ∙ sym w.here) le
+        ]
+      ];
+}

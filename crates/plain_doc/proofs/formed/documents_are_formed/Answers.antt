@@ -1,0 +1,21 @@
+-- What the calls say of their parts.
+use Rattle.std.proofs.Common.{rules}
+use Rattle.plain_doc.proofs.formed.documents_are_formed.Goals as goal
+
+pub returns : goal.returns
+returns c =
+    record {
+      main = c.len.ensures.formed;
+      notes = c.len-2.ensures.formed;
+      heads = c.len-3.ensures.formed;
+      sheet = c.slots.ensures.formed;
+      carried = record {
+        parts = c.args.document.now.carried.short;
+        lists = c.args.document.now.carried.lists;
+        clsid = search rules;
+        languages = c.are_words.ensures;
+        flags = c.args.document.now.carried.kept;
+        ordered = c.count.ensures.ordered;
+        streams = c.args.document.now.carried.others;
+      };
+    }

@@ -1,0 +1,15 @@
+pub mod Document
+pub mod Paragraphs
+pub mod Carried
+pub mod NothingCarried
+pub mod Blank
+pub mod Nesting
+pub mod OpenFields
+pub mod RulesOfItems
+pub mod Rows
+pub mod RulesOfTexts
+pub mod TextRules
+pub mod RulesOfSheet
+pub mod StyleRules
+pub mod Sound
+pub mod Formed

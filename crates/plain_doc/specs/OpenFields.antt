@@ -1,0 +1,28 @@
+-- How the field characters of a text are gone through: which fields are open after each. Nesting says what it comes to.
+use Rattle.std.specs.Prelude.{ℕ, ◌==◌, nat_lt, Bool, true, false, List, [], ◌∷◌, length, Option, Some, None, if◌then◌else◌}
+
+-- for each open field, the innermost first, whether its separator has been met
+abbrev pub Open : Type 0
+Open = List Bool
+
+-- after a beginning, 0x13, where one field more may be open
+abbrev pub begun : ℕ → Open → Option Open
+begun limit fields = if nat_lt (length fields) limit then Some (false ∷ fields) else None
+
+-- after a separator, 0x14, of which a field has one
+abbrev pub separated : Open → Option Open
+separated [] = None
+separated (true ∷ fields) = None
+separated (false ∷ fields) = Some (true ∷ fields)
+
+-- after an end, 0x15
+abbrev pub ended : Open → Option Open
+ended [] = None
+ended (field ∷ fields) = Some fields
+
+-- after a field character
+abbrev pub after_unit : ℕ → ℕ → Open → Option Open
+after_unit limit unit fields =
+    if unit == 0x13 then begun limit fields else
+    if unit == 0x14 then separated fields else
+    if unit == 0x15 then ended fields else None

@@ -1,0 +1,76 @@
+-- Rules on the styles of a document, and on the numbers of its parts.
+use Rattle.std.specs.Prelude.{◌≡◌, ◌≢◌, ℕ, ◌+◌, ◌*◌, ◌%◌, ◌<◌, ◌≤◌, List, length, is_some, ⊤}
+use Rattle.std.specs.Option.{ForSome}
+use Rattle.std.specs.List.{count_by, sum_by}
+use Rattle.doc_bits.specs.declared.places.Where.TheVariants.{Sheet as SheetPart, Main}
+use Rattle.doc_bits.specs.Places.{Place}
+use Rattle.style_sheet.specs.declared.styles.Style.{Style}
+use Rattle.style_sheet.specs.declared.styles.Kind.{Kind}
+use Rattle.style_sheet.specs.declared.styles.Kind.TheVariants.{Para, Char, Other}
+use Rattle.style_sheet.specs.Sheet.{Sheet, style_at}
+use Rattle.plain_doc.specs.declared.item.Item.{Item}
+use Rattle.plain_doc.specs.declared.document.Document.{Document}
+use Rattle.plain_doc.specs.RulesOfItems.{printed_length, IsShortChp, IsShortPap}
+
+-- a style of the sheet breaks the rule; its number is the offset
+abbrev pub InSheet : (ℕ → Type 0) → Place → Type 0
+InSheet breaks place = (place.0 ≡ SheetPart) × breaks place.1
+
+-- there is a style, and it is not right
+abbrev pub IsWrongStyle : (Style → Type 0) → Sheet → ℕ → Type 0
+IsWrongStyle right sheet istd = ¬ (ForSome (style_at sheet istd) right)
+
+-- the settings of a style are short enough for the pages of a file
+abbrev pub HasShortKind : Kind → Type 0
+HasShortKind (Para pap chp) = IsShortPap pap × IsShortChp chp
+HasShortKind (Char chp) = IsShortChp chp
+HasShortKind (Other stk upxes) = ⊤
+
+abbrev pub IsShortStyle : Style → Type 0
+IsShortStyle style = HasShortKind style.kind
+
+-- [MS-DOC] LPUpx: a 16-bit count and so many bytes. Profile: each is padded to an even length
+abbrev pub upx_size : ℕ → ℕ
+upx_size len = 2 + (len + len % 2)
+
+-- a style number and the settings of paragraphs, and those of characters; the settings of characters; the upxes as they are
+abbrev pub upxes_size : Kind → ℕ
+upxes_size (Para pap chp) = upx_size (2 + printed_length pap) + upx_size (printed_length chp)
+upxes_size (Char chp) = upx_size (printed_length chp)
+upxes_size (Other stk upxes) = sum_by (λ upx. upx_size (length upx)) upxes
+
+-- [MS-DOC] STD as it is written, without its count: five numbers, the name after its count and before a zero unit, the upxes
+abbrev pub std_size : Style → ℕ
+std_size style = 10 + (2 + (2 * length style.name + 2)) + upxes_size style.kind
+
+-- [MS-DOC] LPStd: the count of an STD has 15 bits
+abbrev pub FitsStd : Style → Type 0
+FitsStd style = std_size style ≤ 32767
+
+-- the number of references to notes
+abbrev pub note_count : List Item → ℕ
+note_count main = count_by (λ item. is_some item.note) main
+
+-- the number of sections
+abbrev pub section_count : List Item → ℕ
+section_count main = count_by (λ item. is_some item.sect) main
+
+-- [MS-DOC] PlcfHdd: six texts for the separators of notes, and six headers and footers a section
+abbrev pub head_count : List Item → ℕ
+head_count main = 6 + 6 * section_count main
+
+-- the items of all texts
+abbrev pub item_count : Document → ℕ
+item_count document = length document.main + (sum_by length document.notes + sum_by length document.heads)
+
+-- Profile: the most items of all texts
+abbrev pub most_items : ℕ
+most_items = 499998
+
+-- the texts are not as many as this; the place is their number
+abbrev pub IsOtherCount : List (List Item) → ℕ → Place → Type 0
+IsOtherCount texts count place = (place ≡ (Main, length texts)) × (length texts ≢ count)
+
+-- there are too many items
+abbrev pub HasTooManyItems : Document → Place → Type 0
+HasTooManyItems document place = (place ≡ (Main, most_items)) × (most_items < item_count document)

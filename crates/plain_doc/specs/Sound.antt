@@ -1,0 +1,65 @@
+-- The rules on documents, 60 to 71, in their order, and the documents that break none.
+use Rattle.std.specs.Prelude.{ℕ, ◌⊎◌, length}
+use Rattle.doc_bits.specs.Rules.{Rules, rule, ◌then◌, Hold, Breaks, IsLeastOfAll}
+use Rattle.doc_bits.specs.Places.{Place, Upto, IsFirstPlace}
+use Rattle.style_sheet.specs.Chain.{BreaksBases}
+use Rattle.plain_doc.specs.declared.judge.DocFault.{DocFault}
+use Rattle.plain_doc.specs.declared.document.Document.{Document}
+use Rattle.plain_doc.specs.Nesting.{BreaksNesting}
+use Rattle.plain_doc.specs.Rows.{BreaksRows}
+use Rattle.plain_doc.specs.RulesOfItems.{IsWrongItem, IsPlacedRight, HasShortSettings}
+use Rattle.plain_doc.specs.RulesOfTexts.{InTexts, HasWrongEnd, HasParagraphStyle}
+use Rattle.plain_doc.specs.RulesOfSheet.{InSheet, IsWrongStyle, IsShortStyle, FitsStd, note_count, head_count, IsOtherCount, HasTooManyItems}
+
+-- each text ends right, its items are placed right, its fields nest, its rows are whole, its marks have styles of paragraphs
+abbrev pub text_rules : Document → Rules Place
+text_rules document =
+    rule 60 (InTexts document HasWrongEnd) then
+    rule 61 (InTexts document (λ part text. IsWrongItem (IsPlacedRight part (length text)) text)) then
+    rule 62 (InTexts document (λ part text. BreaksNesting text)) then
+    rule 63 (InTexts document (λ part text. BreaksRows text)) then
+    rule 64 (InTexts document (λ part text. IsWrongItem (λ place item. HasParagraphStyle document.sheet item) text))
+
+-- style 0 is one of paragraphs, and the bases of each style of paragraphs or characters end
+abbrev pub base_rules : Document → Rules Place
+base_rules document = rule 65 (InSheet (BreaksBases document.sheet))
+
+-- as many notes as references, six heads and six a section, not too many items
+abbrev pub count_rules : Document → Rules Place
+count_rules document =
+    rule 66 (IsOtherCount document.notes (note_count document.main)) then
+    rule 67 (IsOtherCount document.heads (head_count document.main)) then
+    rule 68 (HasTooManyItems document)
+
+-- the settings of a style or of an item are too long for the pages of a file
+abbrev pub HasLongSettings : Document → Place → Type 0
+HasLongSettings document place =
+    InSheet (IsWrongStyle IsShortStyle document.sheet) place ⊎
+    InTexts document (λ part text. IsWrongItem (λ i item. HasShortSettings item) text) place
+
+-- the settings fit the pages of a file, and each style fits an STD
+abbrev pub size_rules : Document → Rules Place
+size_rules document =
+    rule 70 (HasLongSettings document) then
+    rule 71 (InSheet (IsWrongStyle FitsStd document.sheet))
+
+abbrev pub document_rules : Document → Rules Place
+document_rules document =
+    text_rules document then
+    base_rules document then
+    count_rules document then
+    size_rules document
+
+-- the document breaks none of the rules
+abbrev pub IsSound : Document → Type 0
+IsSound document = Hold (document_rules document)
+
+-- it names the first of the rules that is broken, at its least place
+abbrev pub NamesFirstRule : Rules Place → DocFault → Type 0
+NamesFirstRule rules fault = IsFirstPlace rules fault.rule (fault.place, fault.at)
+
+-- the first broken rule of a document is the least of all that are broken, at its least place
+abbrev pub FirstDocFaultIsLeast : Type 0
+FirstDocFaultIsLeast =
+    (document : Document) (number : ℕ) (place : Place) →
+    IsFirstPlace (document_rules document) number place → IsLeastOfAll Upto (Breaks (document_rules document)) number place

@@ -1,0 +1,134 @@
+// What a document carries along unread.
+ghost use Rattle.std.specs.Prelude.{◌≡◌, ◌↔◌, ◌<◌, [], ◌∷◌, length, slice_get, IsTrue, IfOk};
+ghost use Rattle.fib_form.specs.FibFields.{IsKeptFlags};
+ghost use Rattle.plain_doc.specs.Carried.{ArePartsShort, AreListsWithLevels, AreCarriedStreams};
+
+use cfb_streams::Streams;
+use doc_bits::{Bytes, Memory};
+use std::alloc::Global;
+
+/// What a document carries along unread: parts of the table stream as they are, the CLSID of the
+/// root, languages and flags of the FIB, and the other streams of the file.
+#[derive(Drop)]
+pub struct Carried {
+    /// [MS-DOC] SttbfFfn, the fonts.
+    pub fonts: Bytes,
+    /// [MS-DOC] Dop, the properties of the document.
+    pub dop: Bytes,
+    /// [MS-DOC] SttbfAssoc, the associated strings.
+    pub assoc: Bytes,
+    /// [MS-DOC] PlfLst, the lists.
+    pub lst: Bytes,
+    /// [MS-DOC] the LVLs that stand after PlfLst.
+    pub levels: Bytes,
+    /// [MS-DOC] PlfLfo, the uses of lists.
+    pub lfo: Bytes,
+    pub clsid: [u8; 16],
+    /// [MS-DOC] FibBase.lid.
+    pub lid: u16,
+    /// [MS-DOC] FibRgW97.lidFE.
+    pub lid_fe: u16,
+    /// fDot, fReadOnlyRecommended and fFarEast, at their places in the FIB.
+    pub flags: u16,
+    pub streams: Streams,
+    pub ghost short: { ArePartsShort (fonts ∷ dop ∷ assoc ∷ lst ∷ levels ∷ lfo ∷ []) },
+    pub ghost lists: { AreListsWithLevels lst levels },
+    pub ghost kept: { IsKeptFlags flags },
+    pub ghost others: { AreCarriedStreams streams },
+}
+
+impl Carried {
+    /// The same parts and streams.
+    pub fn copy(&self, alloc: Global) -> Result<Carried, Memory>
+        ensures { IfOk result (λ copy. copy ≡ self.now) }
+    {
+        Ok(Carried {
+            fonts: copy_part(alloc, &self.fonts)?,
+            dop: copy_part(alloc, &self.dop)?,
+            assoc: copy_part(alloc, &self.assoc)?,
+            lst: copy_part(alloc, &self.lst)?,
+            levels: copy_part(alloc, &self.levels)?,
+            lfo: copy_part(alloc, &self.lfo)?,
+            clsid: self.clsid,
+            lid: self.lid,
+            lid_fe: self.lid_fe,
+            flags: self.flags,
+            streams: copy_streams(alloc, &self.streams)?,
+        })
+    }
+
+    /// Whether both have the same parts, numbers and streams.
+    pub fn equal(&self, other: &Carried) -> bool
+        ensures { IsTrue result ↔ self.now ≡ other.now }
+    {
+        self.same_numbers(other)
+            && self.same_parts(other)
+            && same_streams(&self.streams, &other.streams)
+    }
+
+    fn same_numbers(&self, other: &Carried) -> bool
+        ensures { IsTrue result
+            ↔ (self.now.clsid ≡ other.now.clsid) × (self.now.lid ≡ other.now.lid)
+            × (self.now.lid_fe ≡ other.now.lid_fe) × (self.now.flags ≡ other.now.flags) }
+    {
+        self.clsid == other.clsid
+            && self.lid == other.lid
+            && self.lid_fe == other.lid_fe
+            && self.flags == other.flags
+    }
+
+    fn same_parts(&self, other: &Carried) -> bool
+        ensures { IsTrue result
+            ↔ (self.now.fonts ≡ other.now.fonts) × (self.now.dop ≡ other.now.dop)
+            × (self.now.assoc ≡ other.now.assoc) × (self.now.lst ≡ other.now.lst)
+            × (self.now.levels ≡ other.now.levels) × (self.now.lfo ≡ other.now.lfo) }
+    {
+        self.fonts.as_slice() == other.fonts.as_slice()
+            && self.dop.as_slice() == other.dop.as_slice()
+            && self.assoc.as_slice() == other.assoc.as_slice()
+            && self.lst.as_slice() == other.lst.as_slice()
+            && self.levels.as_slice() == other.levels.as_slice()
+            && self.lfo.as_slice() == other.lfo.as_slice()
+    }
+}
+
+fn copy_part(alloc: Global, part: &Bytes) -> Result<Bytes, Memory>
+    ensures { IfOk result (λ copy. copy ≡ part.now) }
+{
+    Bytes::from_slice(alloc, part.as_slice())
+}
+
+fn copy_streams(alloc: Global, streams: &Streams) -> Result<Streams, Memory>
+    ensures { IfOk result (λ copy. copy ≡ streams.now) }
+{
+    let mut copy = Streams::new(alloc);
+    let count = streams.count();
+    for i in 0..count {
+        copy.add(streams.name(i), streams.bytes(i))?;
+    }
+    Ok(copy)
+}
+
+fn same_streams(streams: &Streams, other: &Streams) -> bool
+    ensures { IsTrue result ↔ streams.now ≡ other.now }
+{
+    let count = streams.count();
+    if count != other.count() {
+        return false;
+    }
+    for i in 0..count {
+        if !same_stream(streams, other, i) {
+            return false;
+        }
+    }
+    true
+}
+
+// Whether both have the same name and bytes at a place.
+fn same_stream(streams: &Streams, other: &Streams, i: usize) -> bool
+    requires there { i < length streams.now }
+    requires other_there { i < length other.now }
+    ensures { IsTrue result ↔ slice_get streams.now i ≡ slice_get other.now i }
+{
+    streams.name(i) == other.name(i) && streams.bytes(i) == other.bytes(i)
+}

@@ -1,0 +1,124 @@
+// The nesting of fields.
+ghost use Rattle.std.specs.Prelude.{◌≡◌, ◌^◌, ◌<◌, ◌↔◌, [], ◌∷◌, length, IsTrue, MatchBool, Some, None};
+ghost use Rattle.doc_bits.specs.Rules.{LeastOrNone};
+ghost use Rattle.plain_doc.specs.Nesting.{BreaksNesting, most_open};
+ghost use Rattle.plain_doc.specs.OpenFields.{begun, separated, ended, after_unit};
+
+use crate::Item;
+use std::marker::Model;
+
+/// The most fields that may be open at once.
+const MOST_OPEN: usize = 128;
+
+/// The character that begins a field.
+const FIELD_BEGIN: u16 = 0x13;
+
+/// The character between the instruction of a field and its result.
+const FIELD_SEPARATOR: u16 = 0x14;
+
+/// The character that ends a field.
+const FIELD_END: u16 = 0x15;
+
+/// The fields that are open: for each, the outermost first, whether its separator has been met.
+#[derive(Drop)]
+struct OpenFields {
+    separated: [bool; MOST_OPEN],
+    depth: usize,
+}
+
+impl Model for OpenFields {
+    ghost use Rattle.std.specs.Prelude.{◌≤◌, List, Bool, take, reverse};
+
+    ghost Value = { List Bool };
+
+    ghost view = { λ o. reverse (take o.depth o.separated) };
+
+    ghost invariant = { λ o. o.depth ≤ 128 };
+}
+
+impl OpenFields {
+    fn new() -> OpenFields
+        ensures { result ≡ [] }
+    {
+        OpenFields {
+            separated: [false; MOST_OPEN],
+            depth: 0,
+        }
+    }
+
+    fn is_empty(&self) -> bool
+        ensures { IsTrue result ↔ self.now ≡ [] }
+    {
+        self.depth == 0
+    }
+
+    // Opens one more field, where that many may be open.
+    fn begin(&mut self) -> bool
+        ensures { MatchBool result (begun most_open self.old ≡ Some self.new) (begun most_open self.old ≡ None) }
+    {
+        if self.depth == MOST_OPEN {
+            return false;
+        }
+        self.separated[self.depth] = false;
+        self.depth += 1;
+        true
+    }
+
+    // Notes the separator of the innermost field, where it has none yet.
+    fn separate(&mut self) -> bool
+        ensures { MatchBool result (separated self.old ≡ Some self.new) (separated self.old ≡ None) }
+    {
+        if self.depth == 0 || self.separated[self.depth - 1] {
+            return false;
+        }
+        self.separated[self.depth - 1] = true;
+        true
+    }
+
+    // Closes the innermost field, where there is one.
+    fn end(&mut self) -> bool
+        ensures { MatchBool result (ended self.old ≡ Some self.new) (ended self.old ≡ None) }
+    {
+        if self.depth == 0 {
+            return false;
+        }
+        self.depth -= 1;
+        true
+    }
+
+    // Goes past a field character, where it is not a wrong one.
+    fn pass(&mut self, unit: u16) -> bool
+        ensures { MatchBool result (after_unit most_open unit self.old ≡ Some self.new) (after_unit most_open unit self.old ≡ None) }
+    {
+        if unit == FIELD_BEGIN {
+            return self.begin();
+        }
+        if unit == FIELD_SEPARATOR {
+            return self.separate();
+        }
+        if unit == FIELD_END {
+            return self.end();
+        }
+        false
+    }
+}
+
+/// The first item that breaks the nesting of fields, or the length of a text that leaves one open.
+pub(crate) fn wrong_field(text: &[Item]) -> Option<u32>
+    requires { length text.now < 2 ^ 32 }
+    ensures { LeastOrNone (BreaksNesting text.now) result }
+{
+    let mut open = OpenFields::new();
+    for (i, item) in text.iter().enumerate() {
+        if item.fld.is_some() {
+            if !open.pass(item.unit) {
+                return Some(i as u32);
+            }
+        }
+    }
+    if open.is_empty() {
+        None
+    } else {
+        Some(text.len() as u32)
+    }
+}

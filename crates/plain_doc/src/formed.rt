@@ -1,0 +1,28 @@
+// What holds of every document, and of the blank one.
+ghost use Rattle.std.specs.Prelude.{ℕ, ◌^◌, ◌<◌};
+ghost use Rattle.plain_doc.specs.Formed.{IsFormed, BlankIsFormed};
+
+use crate::Document;
+
+/// Every document is well formed: its types keep it so.
+pub fn documents_are_formed(document: &Document)
+    ensures { IsFormed document.now }
+{
+    let _ = document.main.len();
+    let _ = document.notes.len();
+    let _ = document.heads.len();
+    let _ = document.sheet.slots();
+    let carried = &document.carried;
+    let _ = carried.streams.count();
+    let _ = carried.clsid;
+    are_words(carried.lid, carried.lid_fe);
+}
+
+fn are_words(lid: u16, lid_fe: u16)
+    ensures { (lid < 2 ^ 16) × (lid_fe < 2 ^ 16) }
+{}
+
+/// The blank document is well formed.
+pub fn blank_is_formed()
+    ensures { BlankIsFormed }
+{}

@@ -1,0 +1,117 @@
+// One place of a text, with what the formatting says of it.
+ghost use Rattle.std.specs.Prelude.{◌≡◌, ◌↔◌, IsTrue, IfOk};
+
+use doc_bits::Memory;
+use prop_map::PropMap;
+use std::alloc::Global;
+
+/// How a note is numbered: by itself, or by a mark that the writer chose.
+#[derive(Clone, Copy, Debug, PartialEq, Eq)]
+pub enum NoteKind {
+    Auto,
+    Custom,
+}
+
+/// What ends a paragraph: its style, and the settings that its mark has beside the style's.
+#[derive(Drop)]
+pub struct Mark {
+    pub istd: u16,
+    pub pap: PropMap,
+}
+
+impl Mark {
+    /// The same mark. Its map is shared.
+    pub fn copy(&self, alloc: Global) -> Result<Mark, Memory>
+        ensures { IfOk result (λ copy. copy ≡ self.now) }
+    {
+        Ok(Mark {
+            istd: self.istd,
+            pap: self.pap.copy(alloc)?,
+        })
+    }
+
+    /// Whether both are the same mark.
+    pub fn equal(&self, other: &Mark) -> bool
+        ensures { IsTrue result ↔ self.now ≡ other.now }
+    {
+        self.istd == other.istd && self.pap.equal(&other.pap)
+    }
+}
+
+/// A unit of a text: its settings beside the style's, whether it ends a paragraph or a section, the
+/// byte of a field character, and whether it refers to a note.
+#[derive(Drop)]
+pub struct Item {
+    pub unit: u16,
+    pub chp: PropMap,
+    pub mark: Option<Mark>,
+    pub sect: Option<PropMap>,
+    pub fld: Option<u8>,
+    pub note: Option<NoteKind>,
+}
+
+impl Item {
+    /// The same item. Its maps are shared.
+    pub fn copy(&self, alloc: Global) -> Result<Item, Memory>
+        ensures { IfOk result (λ copy. copy ≡ self.now) }
+    {
+        Ok(Item {
+            unit: self.unit,
+            chp: self.chp.copy(alloc)?,
+            mark: copy_mark(alloc, &self.mark)?,
+            sect: copy_sect(alloc, &self.sect)?,
+            fld: self.fld,
+            note: self.note,
+        })
+    }
+
+    /// Whether both are the same item.
+    pub fn equal(&self, other: &Item) -> bool
+        ensures { IsTrue result ↔ self.now ≡ other.now }
+    {
+        self.unit == other.unit
+            && self.fld == other.fld
+            && self.note == other.note
+            && same_mark(&self.mark, &other.mark)
+            && same_sect(&self.sect, &other.sect)
+            && self.chp.equal(&other.chp)
+    }
+}
+
+fn copy_mark(alloc: Global, mark: &Option<Mark>) -> Result<Option<Mark>, Memory>
+    ensures { IfOk result (λ copy. copy ≡ mark.now) }
+{
+    match mark {
+        None => Ok(None),
+        Some(mark) => Ok(Some(mark.copy(alloc)?)),
+    }
+}
+
+fn copy_sect(alloc: Global, sect: &Option<PropMap>) -> Result<Option<PropMap>, Memory>
+    ensures { IfOk result (λ copy. copy ≡ sect.now) }
+{
+    match sect {
+        None => Ok(None),
+        Some(map) => Ok(Some(map.copy(alloc)?)),
+    }
+}
+
+fn same_mark(mark: &Option<Mark>, other: &Option<Mark>) -> bool
+    ensures { IsTrue result ↔ mark.now ≡ other.now }
+{
+    match (mark, other) {
+        (None, None) => true,
+        (Some(mark), Some(other)) => mark.equal(other),
+        _ => false,
+    }
+}
+
+fn same_sect(sect: &Option<PropMap>, other: &Option<PropMap>) -> bool
+    ensures { IsTrue result ↔ sect.now ≡ other.now }
+{
+    match (sect, other) {
+        (None, None) => true,
+        (Some(map), Some(other)) => map.equal(other),
+        _ => false,
+    }
+}

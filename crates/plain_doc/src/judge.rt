@@ -1,0 +1,142 @@
+// The rules on documents, judged in their order. No memory is taken.
+ghost use Rattle.std.specs.Prelude.{◌≡◌, MatchResult};
+ghost use Rattle.doc_bits.specs.Rules.{Hold, Nowhere, rule as rule_of};
+ghost use Rattle.plain_doc.specs.RulesOfTexts.{InTexts, LeastPlaceOrNone};
+ghost use Rattle.plain_doc.specs.TextRules.{BreaksText};
+ghost use Rattle.plain_doc.specs.Sound.{IsSound, NamesFirstRule, document_rules, text_rules, base_rules, count_rules, size_rules, HasLongSettings};
+
+use crate::Document;
+use crate::rules_counts::{all_items, notes_in, sections_in};
+use crate::rules_sheet::{StyleRule, wrong_style};
+use crate::rules_texts::{ItemRule, TextRule, first_in_texts};
+use doc_bits::Where;
+use thiserror::Error;
+
+const RULE_ENDS: u8 = 60;
+
+const RULE_PLACING: u8 = 61;
+
+const RULE_FIELDS: u8 = 62;
+
+const RULE_ROWS: u8 = 63;
+
+const RULE_STYLES: u8 = 64;
+
+const RULE_BASES: u8 = 65;
+
+const RULE_NOTES: u8 = 66;
+
+const RULE_HEADS: u8 = 67;
+
+const RULE_ITEMS: u8 = 68;
+
+const RULE_SETTINGS: u8 = 70;
+
+const RULE_STD: u8 = 71;
+
+/// The most items of all texts.
+const MOST_ITEMS: u32 = 499_998;
+
+/// Six texts separate notes.
+const SEPARATORS: usize = 6;
+
+/// Each section has six headers and footers.
+const HEADS_A_SECTION: usize = 6;
+
+/// The first broken rule, at its first place: an item of a text, a style of the sheet, or a number
+/// of texts or items.
+#[derive(Clone, Copy, Debug, PartialEq, Eq, Error)]
+#[error("rule {rule} is broken at {at}")]
+pub struct DocFault {
+    pub rule: u8,
+    pub place: Where,
+    pub at: u32,
+}
+
+/// Judges a document by the rules 60 to 71. One that breaks none is sound.
+pub fn check(document: &Document) -> Result<(), DocFault>
+    ensures { MatchResult result (λ _. IsSound document.now) (NamesFirstRule (document_rules document.now)) }
+{
+    judge_texts(document)?;
+    judge_bases(document)?;
+    judge_counts(document)?;
+    judge_sizes(document)?;
+    Ok(())
+}
+
+fn judge_texts(document: &Document) -> Result<(), DocFault>
+    ensures { MatchResult result (λ _. Hold (text_rules document.now)) (NamesFirstRule (text_rules document.now)) }
+{
+    judge_text_rule(document, RULE_ENDS, TextRule::End)?;
+    judge_text_rule(document, RULE_PLACING, TextRule::Each(ItemRule::Placing))?;
+    judge_text_rule(document, RULE_FIELDS, TextRule::Fields)?;
+    judge_text_rule(document, RULE_ROWS, TextRule::Rows)?;
+    judge_text_rule(document, RULE_STYLES, TextRule::Each(ItemRule::Styles))?;
+    Ok(())
+}
+
+fn judge_text_rule(document: &Document, number: u8, rule: TextRule) -> Result<(), DocFault>
+    ensures { MatchResult result
+        (λ _. Nowhere (InTexts document.now (BreaksText rule document.now.sheet)))
+        (NamesFirstRule (rule_of number (InTexts document.now (BreaksText rule document.now.sheet)))) }
+{
+    match first_in_texts(rule, document) {
+        None => Ok(()),
+        Some((place, at)) => Err(fault(number, place, at)),
+    }
+}
+
+fn judge_bases(document: &Document) -> Result<(), DocFault>
+    ensures { MatchResult result (λ _. Hold (base_rules document.now)) (NamesFirstRule (base_rules document.now)) }
+{
+    match document.sheet.broken_base() {
+        None => Ok(()),
+        Some(istd) => Err(fault(RULE_BASES, Where::Sheet, istd as u32)),
+    }
+}
+
+fn judge_counts(document: &Document) -> Result<(), DocFault>
+    ensures { MatchResult result (λ _. Hold (count_rules document.now)) (NamesFirstRule (count_rules document.now)) }
+{
+    let main = document.main.as_slice();
+    let notes = document.notes.len();
+    if notes != notes_in(main) {
+        return Err(fault(RULE_NOTES, Where::Main, notes as u32));
+    }
+    let heads = document.heads.len();
+    if heads != SEPARATORS + HEADS_A_SECTION * sections_in(main) {
+        return Err(fault(RULE_HEADS, Where::Main, heads as u32));
+    }
+    if all_items(document) > MOST_ITEMS as u128 {
+        return Err(fault(RULE_ITEMS, Where::Main, MOST_ITEMS));
+    }
+    Ok(())
+}
+
+fn judge_sizes(document: &Document) -> Result<(), DocFault>
+    ensures { MatchResult result (λ _. Hold (size_rules document.now)) (NamesFirstRule (size_rules document.now)) }
+{
+    if let Some((place, at)) = first_long(document) {
+        return Err(fault(RULE_SETTINGS, place, at));
+    }
+    match wrong_style(StyleRule::Written, &document.sheet) {
+        None => Ok(()),
+        Some(istd) => Err(fault(RULE_STD, Where::Sheet, istd)),
+    }
+}
+
+// The first place where settings are too long. Styles come before texts.
+fn first_long(document: &Document) -> Option<(Where, u32)>
+    ensures { LeastPlaceOrNone (HasLongSettings document.now) result }
+{
+    if let Some(istd) = wrong_style(StyleRule::Settings, &document.sheet) {
+        return Some((Where::Sheet, istd));
+    }
+    first_in_texts(TextRule::Each(ItemRule::Settings), document)
+}
+
+fn fault(rule: u8, place: Where, at: u32) -> DocFault
+    ensures { result ≡ record { rule = rule; place = place; at = at } }
+{
+    DocFault { rule, place, at }
+}

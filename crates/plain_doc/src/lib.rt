@@ -1,0 +1,36 @@
+//! The plain document: texts of items, a style sheet, and what is carried along unread.
+#![tactic(auto)]
+
+mod blank_parts;
+mod carried;
+mod document;
+mod fields;
+mod formed;
+mod item;
+mod items;
+mod judge;
+mod laws;
+mod lists;
+mod paragraphs;
+mod rows;
+mod rules_counts;
+mod rules_items;
+mod rules_sheet;
+mod rules_texts;
+mod texts;
+
+pub use blank_parts::blank;
+pub use carried::Carried;
+pub use document::{Document, equal};
+pub use formed::{blank_is_formed, documents_are_formed};
+pub use item::{Item, Mark, NoteKind};
+pub use items::Items;
+pub use judge::{DocFault, check};
+pub use laws::first_doc_fault_is_least;
+pub use paragraphs::paragraph_end;
+pub use texts::Texts;
+
+#[cfg(test)]
+mod document_tests;
+#[cfg(test)]
+mod judge_tests;

@@ -1,0 +1,116 @@
+// The rules on each item.
+ghost use Rattle.std.specs.Prelude.{◌≡◌, ◌⊎◌, ◌+◌, ◌^◌, ◌<◌, ◌≤◌, ◌↔◌, IsTrue, IsSome};
+ghost use Rattle.std.specs.Option.{ForSome};
+ghost use Rattle.doc_bits.specs.declared.places.Where.TheVariants.{Main};
+ghost use Rattle.prop_map.specs.Formed.{IsFormedMap};
+ghost use Rattle.plain_doc.specs.Document.{HasPropertyMaps};
+ghost use Rattle.plain_doc.specs.RulesOfItems.{HasMarkRight, HasSectionRight, HasFieldRight, HasNoteRight, IsPlacedRight, IsShortChp, IsShortPap, IsShortSect, HasShortSettings};
+
+use crate::{Item, Mark};
+use doc_bits::Where;
+use prop_map::PropMap;
+
+const PARAGRAPH_MARK: u16 = 0x0D;
+
+/// The unit that ends a cell or a row.
+const CELL_MARK: u16 = 0x07;
+
+/// The unit that ends a section but the last one, or a page.
+const PAGE_BREAK: u16 = 0x0C;
+
+/// The most bytes of the printed settings of a character: a Chpx counts them by a byte.
+const CHP_MOST: u64 = 255;
+
+/// The most bytes of the printed settings of a mark: a Papx holds so many beside its style number.
+const PAP_MOST: u64 = 480;
+
+/// The most bytes of the printed settings of a section.
+const SECT_MOST: u64 = 500;
+
+/// Whether what the item has stands where it may, in a text of so many items.
+pub(crate) fn is_placed_right(part: Where, len: usize, place: usize, item: &Item) -> bool
+    requires { place < 2 ^ 32 }
+    ensures { IsTrue result ↔ IsPlacedRight part len place item.now }
+{
+    has_mark_right(item)
+        && has_section_right(part, len, place, item)
+        && has_field_right(item)
+        && has_note_right(part, item)
+}
+
+fn has_mark_right(item: &Item) -> bool
+    ensures { IsTrue result ↔ HasMarkRight item.now }
+{
+    let ends = item.unit == PARAGRAPH_MARK || item.unit == CELL_MARK || item.sect.is_some();
+    item.mark.is_some() == ends
+}
+
+fn has_section_right(part: Where, len: usize, place: usize, item: &Item) -> bool
+    requires { place < 2 ^ 32 }
+    ensures { IsTrue result ↔ HasSectionRight part len place item.now }
+{
+    let is_last = place + 1 == len;
+    if part == Where::Main {
+        if is_last {
+            item.sect.is_some()
+        } else {
+            item.sect.is_none() || item.unit == PAGE_BREAK
+        }
+    } else {
+        item.sect.is_none()
+    }
+}
+
+fn has_field_right(item: &Item) -> bool
+    ensures { IsTrue result ↔ HasFieldRight item.now }
+{
+    item.fld.is_none() || (0x13 <= item.unit && item.unit <= 0x15)
+}
+
+fn has_note_right(part: Where, item: &Item) -> bool
+    ensures { IsTrue result ↔ HasNoteRight part item.now }
+{
+    item.note.is_none() || part == Where::Main
+}
+
+/// Whether the settings of an item are short enough for a file.
+pub(crate) fn has_short_settings(item: &Item) -> bool
+    requires { HasPropertyMaps item.now }
+    ensures { IsTrue result ↔ HasShortSettings item.now }
+{
+    is_short_chp(&item.chp) && has_short_pap(&item.mark) && has_short_sect(&item.sect)
+}
+
+pub(crate) fn is_short_chp(chp: &PropMap) -> bool
+    requires { IsFormedMap chp.now }
+    ensures { IsTrue result ↔ IsShortChp chp.now }
+{
+    chp.printed_len() <= CHP_MOST
+}
+
+pub(crate) fn is_short_pap(pap: &PropMap) -> bool
+    requires { IsFormedMap pap.now }
+    ensures { IsTrue result ↔ IsShortPap pap.now }
+{
+    pap.printed_len() <= PAP_MOST
+}
+
+fn has_short_pap(mark: &Option<Mark>) -> bool
+    requires { ForSome mark.now (λ mark. IsFormedMap mark.pap) }
+    ensures { IsTrue result ↔ ForSome mark.now (λ mark. IsShortPap mark.pap) }
+{
+    match mark {
+        None => true,
+        Some(mark) => is_short_pap(&mark.pap),
+    }
+}
+
+fn has_short_sect(sect: &Option<PropMap>) -> bool
+    requires { ForSome sect.now IsFormedMap }
+    ensures { IsTrue result ↔ ForSome sect.now IsShortSect }
+{
+    match sect {
+        None => true,
+        Some(sect) => sect.printed_len() <= SECT_MOST,
+    }
+}

@@ -1,0 +1,187 @@
+// The rules on texts, judged text by text in the order of their places.
+ghost use Rattle.std.specs.Prelude.{◌≡◌, ℕ, ◌^◌, ◌<◌, ◌↔◌, length, IsTrue};
+ghost use Rattle.doc_bits.specs.Rules.{LeastOrNone};
+ghost use Rattle.plain_doc.specs.Document.{IsFormedText, HasPropertyMaps};
+ghost use Rattle.plain_doc.specs.RulesOfItems.{IsWrongItem};
+ghost use Rattle.plain_doc.specs.RulesOfTexts.{InTexts, LeastPlaceOrNone, HasWrongEnd, EndsRight, IsHead, HasParagraphStyle};
+ghost use Rattle.plain_doc.specs.TextRules.{IsRightItem, BreaksText, InList, part_of};
+ghost use Rattle.style_sheet.specs.Chain.{kind_at};
+
+use crate::fields::wrong_field;
+use crate::rows::wrong_row;
+use crate::rules_items::{has_short_settings, is_placed_right};
+use crate::{Document, Item, Texts};
+use doc_bits::Where;
+use style_sheet::{Kind, StyleSheet};
+
+const PARAGRAPH_MARK: u16 = 0x0D;
+
+/// A rule on each item of a text.
+#[derive(Clone, Copy, Debug, PartialEq, Eq)]
+pub(crate) enum ItemRule {
+    /// What the item has stands where it may.
+    Placing,
+    /// The style of a mark is one of paragraphs.
+    Styles,
+    /// The settings are short enough for a file.
+    Settings,
+}
+
+/// A rule on each text.
+#[derive(Clone, Copy, Debug, PartialEq, Eq)]
+pub(crate) enum TextRule {
+    /// The text ends with the end of a paragraph.
+    End,
+    /// Fields nest.
+    Fields,
+    /// Rows are whole.
+    Rows,
+    Each(ItemRule),
+}
+
+/// The texts beside the main text.
+#[derive(Clone, Copy, Debug, PartialEq, Eq)]
+enum Side {
+    Notes,
+    Heads,
+}
+
+impl Side {
+    fn part(self, number: u32) -> Where
+        ensures { result ≡ part_of self number }
+    {
+        match self {
+            Side::Notes => Where::Note(number),
+            Side::Heads => Where::Head(number),
+        }
+    }
+}
+
+/// The first place where a text breaks the rule.
+pub(crate) fn first_in_texts(rule: TextRule, document: &Document) -> Option<(Where, u32)>
+    ensures { LeastPlaceOrNone (InTexts document.now (BreaksText rule document.now.sheet)) result }
+{
+    if let Some(at) = first_in_text(rule, &document.sheet, Where::Main, document.main.as_slice()) {
+        return Some((Where::Main, at));
+    }
+    if let Some(place) = first_in_list(rule, &document.sheet, Side::Notes, &document.notes) {
+        return Some(place);
+    }
+    first_in_list(rule, &document.sheet, Side::Heads, &document.heads)
+}
+
+// The same in the notes or in the header texts.
+fn first_in_list(
+    rule: TextRule,
+    sheet: &StyleSheet,
+    side: Side,
+    texts: &Texts,
+) -> Option<(Where, u32)>
+    ensures { LeastPlaceOrNone (InList side texts.now (BreaksText rule sheet.now)) result }
+{
+    for k in 0..texts.len() {
+        let part = side.part(k as u32);
+        if let Some(at) = first_in_text(rule, sheet, part, texts.get(k).as_slice()) {
+            return Some((part, at));
+        }
+    }
+    None
+}
+
+// The first place where this text breaks the rule.
+fn first_in_text(rule: TextRule, sheet: &StyleSheet, part: Where, text: &[Item]) -> Option<u32>
+    requires { IsFormedText text.now }
+    ensures { LeastOrNone (BreaksText rule sheet.now part text.now) result }
+{
+    match rule {
+        TextRule::End => wrong_end(part, text),
+        TextRule::Fields => wrong_field(text),
+        TextRule::Rows => wrong_row(text),
+        TextRule::Each(rule) => wrong_item(rule, sheet, part, text),
+    }
+}
+
+fn wrong_end(part: Where, text: &[Item]) -> Option<u32>
+    requires { length text.now < 2 ^ 32 }
+    ensures { LeastOrNone (HasWrongEnd part text.now) result }
+{
+    if ends_right(part, text) {
+        None
+    } else {
+        Some(text.len().saturating_sub(1) as u32)
+    }
+}
+
+fn ends_right(part: Where, text: &[Item]) -> bool
+    ensures { IsTrue result ↔ EndsRight part text.now }
+{
+    if text.is_empty() {
+        is_head(part)
+    } else {
+        text[text.len() - 1].unit == PARAGRAPH_MARK
+    }
+}
+
+fn is_head(part: Where) -> bool
+    ensures { IsTrue result ↔ IsHead part }
+{
+    match part {
+        Where::Head(_) => true,
+        Where::File | Where::Wd | Where::Table | Where::Sheet | Where::Main | Where::Note(_) =>
+            false,
+    }
+}
+
+// The first item that is not right by the rule.
+fn wrong_item(rule: ItemRule, sheet: &StyleSheet, part: Where, text: &[Item]) -> Option<u32>
+    requires { IsFormedText text.now }
+    ensures { LeastOrNone (IsWrongItem (IsRightItem rule sheet.now part (length text.now)) text.now) result }
+{
+    for (i, item) in text.iter().enumerate() {
+        if !is_right(rule, sheet, part, text.len(), i, item) {
+            return Some(i as u32);
+        }
+    }
+    None
+}
+
+fn is_right(
+    rule: ItemRule,
+    sheet: &StyleSheet,
+    part: Where,
+    len: usize,
+    place: usize,
+    item: &Item,
+) -> bool
+    requires place { place < 2 ^ 32 }
+    requires maps { HasPropertyMaps item.now }
+    ensures { IsTrue result ↔ IsRightItem rule sheet.now part len place item.now }
+{
+    match rule {
+        ItemRule::Placing => is_placed_right(part, len, place, item),
+        ItemRule::Styles => has_paragraph_style(sheet, item),
+        ItemRule::Settings => has_short_settings(item),
+    }
+}
+
+fn has_paragraph_style(sheet: &StyleSheet, item: &Item) -> bool
+    ensures { IsTrue result ↔ HasParagraphStyle sheet.now item.now }
+{
+    match &item.mark {
+        None => true,
+        Some(mark) => is_paragraph_style(sheet, mark.istd),
+    }
+}
+
+fn is_paragraph_style(sheet: &StyleSheet, istd: u16) -> bool
+    ensures { IsTrue result ↔ kind_at sheet.now istd ≡ 1 }
+{
+    match sheet.get(istd) {
+        None => false,
+        Some(style) => match &style.kind {
+            Kind::Para { .. } => true,
+            Kind::Char { .. } => false,
+            Kind::Other { .. } => false,
+        },
+    }
+}
