@@ -1,5 +1,5 @@
 -- The parts of the blank document are well formed; lists of one entry many times.
-use Rattle.std.proofs.Common.{ℕ, zero, suc, refl, ap, subst, arith, ◌≡◌, ◌∙◌, ◌+◌, ◌^◌, ◌<◌, List, [], ◌∷◌, ◌++◌, true, Option, Some, None, replicate, codes}
+use Rattle.std.proofs.Common.{ℕ, refl, ap, subst, arith, ◌≡◌, ◌∙◌, ◌+◌, ◌^◌, ◌<◌, List, [], ◌∷◌, ◌++◌, true, Option, Some, None, replicate, codes}
 use Rattle.std.specs.List.{All, list_all}
 use Rattle.std.specs.Option.{unwrap_or}
 use Rattle.std.specs.FinMap.{empty}
@@ -8,7 +8,6 @@ use Rattle.std.proofs.lemmas.Bool.{ltb-true}
 use Rattle.std.proofs.lemmas.List.{replicate-append-replicate, append_assoc}
 use Rattle.std.proofs.lemmas.List.Elements.{All-append, All-nil, All-cons, All-replicate}
 use Rattle.std.proofs.lemmas.List.Sums.{AllPass-from_list_all}
-use Rattle.sprm_table.specs.Sprm.{IsSetting, IsPrl}
 use Rattle.prop_map.specs.Formed.{IsPropertyMap, character_groups, paragraph_groups, section_groups}
 use Rattle.prop_map.proofs.ActingLemmas.{IsPropertyMap-empty}
 use Rattle.prop_map.proofs.LawLemmas.{stay_formed}

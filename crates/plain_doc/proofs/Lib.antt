@@ -11,5 +11,6 @@ pub mod PlaceLemmas
 pub mod TextPlaceLemmas
 pub mod StyleLemmas
 pub mod SheetLemmas
+pub mod TextWalkLemmas
 pub mod SoundLemmas
 pub mod BlankLemmas

@@ -5,14 +5,12 @@ use Rattle.std.specs.Prelude.{slice_get}
 use Rattle.std.proofs.lemmas.Bool.{cases_lt}
 use Rattle.std.proofs.lemmas.Option.{slice_get_within}
 use Rattle.doc_bits.specs.declared.places.Where.{Where}
-use Rattle.doc_bits.specs.declared.places.Where.TheVariants.{File, Wd, Table, Sheet, Main, Note, Head}
 use Rattle.doc_bits.specs.Rules.{Nowhere, IsLeast}
 use Rattle.doc_bits.specs.Places.{Place, rank, inner, Upto}
 use Rattle.plain_doc.specs.declared.item.Item.{Item}
-use Rattle.plain_doc.specs.declared.document.Document.{Document}
 use Rattle.plain_doc.specs.declared.rules_texts.Side.{Side}
 use Rattle.plain_doc.specs.declared.rules_texts.Side.TheVariants.{Notes, Heads}
-use Rattle.plain_doc.specs.RulesOfTexts.{InTexts, text_of, LeastPlaceOrNone}
+use Rattle.plain_doc.specs.RulesOfTexts.{LeastPlaceOrNone}
 use Rattle.plain_doc.specs.TextRules.{InList, part_of}
 
 -- a place of a part that comes before, one in the same part, and one in an earlier text of a list

@@ -2,7 +2,7 @@
 use Rattle.std.proofs.Common.{lit≤, lit<}
 use Rattle.doc_bits.specs.Rules.{IsSingle, Ascends}
 use Rattle.plain_doc.specs.declared.document.Document.{Document}
-use Rattle.plain_doc.specs.Sound.{document_rules, text_rules, base_rules, count_rules, size_rules}
+use Rattle.plain_doc.specs.Sound.{document_rules, text_rules, count_rules, size_rules}
 
 pub document_rules-IsSingle : (document : Document) → IsSingle (document_rules document)
 document_rules-IsSingle document = ((tt, (tt, (tt, (tt, tt)))), (tt, ((tt, (tt, tt)), (tt, tt))))

@@ -1,16 +1,16 @@
 -- The texts of a document are its main text, its notes and its header texts.
-use Rattle.std.proofs.Common.{◌≡◌, ◌⊎◌, inl, inr, ℕ, ◌<◌, ◌≤◌, Option, Some, None, refl, sym, ◌∙◌, ap, subst, arith}
+use Rattle.std.proofs.Common.{◌≡◌, ◌⊎◌, inl, inr, ℕ, ◌≤◌, Option, Some, refl, sym, ◌∙◌, ap, subst, arith}
 use Rattle.std.proofs.lemmas.Option.{none-some}
 use Rattle.doc_bits.specs.declared.places.Where.{Where}
 use Rattle.doc_bits.specs.declared.places.Where.TheVariants.{File, Wd, Table, Sheet, Main, Note, Head}
 use Rattle.doc_bits.specs.Rules.{Nowhere, IsLeast}
-use Rattle.doc_bits.specs.Places.{Place, rank, inner, Upto}
+use Rattle.doc_bits.specs.Places.{Place, rank, Upto}
 use Rattle.std.proofs.Common.{List}
 use Rattle.plain_doc.specs.declared.item.Item.{Item}
 use Rattle.plain_doc.specs.declared.document.Document.{Document}
 use Rattle.plain_doc.specs.declared.rules_texts.Side.TheVariants.{Notes, Heads}
 use Rattle.plain_doc.specs.RulesOfTexts.{InTexts, text_of, LeastPlaceOrNone}
-use Rattle.plain_doc.specs.TextRules.{InList, part_of}
+use Rattle.plain_doc.specs.TextRules.{InList}
 use Rattle.plain_doc.proofs.PlaceLemmas.{upto_later, upto_same, least_first, least_second, same_places}
 
 module _ (document : Document) (breaks : Where → List Item → ℕ → Type 0) where

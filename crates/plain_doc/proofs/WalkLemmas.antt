@@ -1,13 +1,11 @@
 -- Going through field characters with the open fields in hand: fields leave what is open as it was.
-use Rattle.std.proofs.Common.{◌≡◌, ◌⊎◌, inl, inr, ℕ, zero, suc, ◌+◌, ◌<◌, ◌≤◌, Bool, true, false, List, [], ◌∷◌, ◌++◌, length, Option, Some, None, refl, sym, ◌∙◌, ap, subst, append_assoc, arith}
+use Rattle.std.proofs.Common.{◌≡◌, ℕ, zero, suc, ◌+◌, ◌<◌, ◌≤◌, true, false, List, [], ◌∷◌, ◌++◌, length, Option, Some, None, refl, ◌∙◌, ap, append_assoc, arith}
 use Rattle.std.specs.List.{All, flat_map}
-use Rattle.std.specs.Prelude.{◌==◌, nat_lt, replicate}
-use Rattle.std.proofs.lemmas.Bool.{cases_eq, ne_eqb, lt-ltb, le-ltb}
-use Rattle.std.proofs.lemmas.List.{append-nil}
+use Rattle.std.proofs.lemmas.Bool.{lt-ltb}
 use Rattle.std.proofs.lemmas.List.Concat.{flat_map-cons}
-use Rattle.std.proofs.lemmas.List.Elements.{All-nil, All-cons, All-head, All-tail}
-use Rattle.plain_doc.specs.Nesting.{result_part, IsField, JoinsFields, AreFields, CanBecomeFields}
-use Rattle.plain_doc.specs.OpenFields.{Open, begun, separated, ended, after_unit}
+use Rattle.std.proofs.lemmas.List.Elements.{All-head, All-tail}
+use Rattle.plain_doc.specs.Nesting.{result_part, IsField, AreFields}
+use Rattle.plain_doc.specs.OpenFields.{Open, after_unit}
 
 abbrev step : ℕ → ℕ → Option Open → Option Open
 step limit unit None = None

@@ -1,7 +1,6 @@
 -- The texts of a document as contracts see them, and which of them are well formed.
-use Rattle.std.specs.Prelude.{ℕ, ◌^◌, ◌<◌, List, length, All}
+use Rattle.std.specs.Prelude.{◌^◌, ◌<◌, List, length, All}
 use Rattle.std.specs.Option.{ForSome}
-use Rattle.prop_map.specs.Settings.{Settings}
 use Rattle.prop_map.specs.Formed.{IsPropertyMap, character_groups, paragraph_groups, section_groups}
 use Rattle.plain_doc.specs.declared.item.Item.{Item}
 

@@ -12,4 +12,5 @@ pub mod TextRules
 pub mod RulesOfSheet
 pub mod StyleRules
 pub mod Sound
+pub mod TextWalk
 pub mod Formed

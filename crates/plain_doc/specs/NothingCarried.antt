@@ -1,5 +1,5 @@
 -- A document may carry nothing.
-use Rattle.std.specs.Prelude.{◌≡◌, ℕ, List, [], ◌∷◌}
+use Rattle.std.specs.Prelude.{[], ◌∷◌}
 use Rattle.std.proofs.Common.{refl, arith}
 use Rattle.doc_bits.specs.Number.{number_at}
 use Rattle.doc_parts.specs.Levels.{levels_before, level_start, AreLevelsFrom, level_count}

@@ -1,5 +1,6 @@
 -- How the field characters of a text are gone through: which fields are open after each. Nesting says what it comes to.
-use Rattle.std.specs.Prelude.{ℕ, ◌==◌, nat_lt, Bool, true, false, List, [], ◌∷◌, length, Option, Some, None, if◌then◌else◌}
+use Rattle.std.specs.Prelude.{ℕ, ◌==◌, nat_lt, Bool, true, false, List, [], ◌∷◌, length, Option, Some, None, if◌then◌else◌, is_some}
+use Rattle.plain_doc.specs.declared.item.Item.{Item}
 
 -- for each open field, the innermost first, whether its separator has been met
 abbrev pub Open : Type 0
@@ -26,3 +27,7 @@ after_unit limit unit fields =
     if unit == 0x13 then begun limit fields else
     if unit == 0x14 then separated fields else
     if unit == 0x15 then ended fields else None
+
+-- after an item, which is a field character where it has a byte
+abbrev pub after_item : ℕ → Item → Open → Option Open
+after_item limit item fields = if is_some item.fld then after_unit limit item.unit fields else Some fields

@@ -1,5 +1,5 @@
 -- Where paragraphs end.
-use Rattle.std.specs.Prelude.{◌≡◌, ℕ, ◌<◌, ◌≤◌, List, Some, IsSome, slice_get}
+use Rattle.std.specs.Prelude.{◌≡◌, ℕ, ◌≤◌, List, Some, IsSome, slice_get}
 use Rattle.plain_doc.specs.declared.item.Item.{Item}
 
 -- the item there has a mark

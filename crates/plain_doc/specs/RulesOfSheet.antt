@@ -1,24 +1,20 @@
 -- Rules on the styles of a document, and on the numbers of its parts.
-use Rattle.std.specs.Prelude.{◌≡◌, ◌≢◌, ℕ, ◌+◌, ◌*◌, ◌%◌, ◌<◌, ◌≤◌, List, length, is_some, ⊤}
+use Rattle.std.specs.Prelude.{◌≡◌, ◌≢◌, ℕ, ◌+◌, ◌*◌, ◌<◌, ◌≤◌, List, length, is_some, ⊤}
 use Rattle.std.specs.Option.{ForSome}
 use Rattle.std.specs.List.{count_by, sum_by}
 use Rattle.doc_bits.specs.declared.places.Where.TheVariants.{Sheet as SheetPart, Main}
 use Rattle.doc_bits.specs.Places.{Place}
-use Rattle.style_sheet.specs.declared.styles.Style.{Style}
 use Rattle.style_sheet.specs.declared.styles.Kind.{Kind}
 use Rattle.style_sheet.specs.declared.styles.Kind.TheVariants.{Para, Char, Other}
 use Rattle.style_sheet.specs.Sheet.{Sheet, style_at}
+use Rattle.style_sheet.specs.Written.{written_slot}
 use Rattle.plain_doc.specs.declared.item.Item.{Item}
 use Rattle.plain_doc.specs.declared.document.Document.{Document}
-use Rattle.plain_doc.specs.RulesOfItems.{printed_length, IsShortChp, IsShortPap}
+use Rattle.plain_doc.specs.RulesOfItems.{IsShortChp, IsShortPap}
 
 -- a style of the sheet breaks the rule; its number is the offset
 abbrev pub InSheet : (ℕ → Type 0) → Place → Type 0
 InSheet breaks place = (place.0 ≡ SheetPart) × breaks place.1
-
--- there is a style, and it is not right
-abbrev pub IsWrongStyle : (Style → Type 0) → Sheet → ℕ → Type 0
-IsWrongStyle right sheet istd = ¬ (ForSome (style_at sheet istd) right)
 
 -- the settings of a style are short enough for the pages of a file
 abbrev pub HasShortKind : Kind → Type 0
@@ -26,26 +22,13 @@ HasShortKind (Para pap chp) = IsShortPap pap × IsShortChp chp
 HasShortKind (Char chp) = IsShortChp chp
 HasShortKind (Other stk upxes) = ⊤
 
-abbrev pub IsShortStyle : Style → Type 0
-IsShortStyle style = HasShortKind style.kind
+-- the settings of the style of this number, where there is one
+abbrev pub HasShortStyle : Sheet → ℕ → Type 0
+HasShortStyle sheet istd = ForSome (style_at sheet istd) (λ style. HasShortKind style.kind)
 
--- [MS-DOC] LPUpx: a 16-bit count and so many bytes. Profile: each is padded to an even length
-abbrev pub upx_size : ℕ → ℕ
-upx_size len = 2 + (len + len % 2)
-
--- a style number and the settings of paragraphs, and those of characters; the settings of characters; the upxes as they are
-abbrev pub upxes_size : Kind → ℕ
-upxes_size (Para pap chp) = upx_size (2 + printed_length pap) + upx_size (printed_length chp)
-upxes_size (Char chp) = upx_size (printed_length chp)
-upxes_size (Other stk upxes) = sum_by (λ upx. upx_size (length upx)) upxes
-
--- [MS-DOC] STD as it is written, without its count: five numbers, the name after its count and before a zero unit, the upxes
-abbrev pub std_size : Style → ℕ
-std_size style = 10 + (2 + (2 * length style.name + 2)) + upxes_size style.kind
-
--- [MS-DOC] LPStd: the count of an STD has 15 bits
-abbrev pub FitsStd : Style → Type 0
-FitsStd style = std_size style ≤ 32767
+-- [MS-DOC] LPStd: the count of an STD has 15 bits. The STD of the style of this number, where there is one, is so short
+abbrev pub FitsStd : Sheet → ℕ → Type 0
+FitsStd sheet istd = length (written_slot istd (style_at sheet istd)) ≤ 32767
 
 -- the number of references to notes
 abbrev pub note_count : List Item → ℕ

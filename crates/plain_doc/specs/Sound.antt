@@ -3,13 +3,14 @@ use Rattle.std.specs.Prelude.{ℕ, ◌⊎◌, length}
 use Rattle.doc_bits.specs.Rules.{Rules, rule, ◌then◌, Hold, Breaks, IsLeastOfAll}
 use Rattle.doc_bits.specs.Places.{Place, Upto, IsFirstPlace}
 use Rattle.style_sheet.specs.Chain.{BreaksBases}
+use Rattle.style_sheet.specs.Written.{IsWritable}
 use Rattle.plain_doc.specs.declared.judge.DocFault.{DocFault}
 use Rattle.plain_doc.specs.declared.document.Document.{Document}
 use Rattle.plain_doc.specs.Nesting.{BreaksNesting}
 use Rattle.plain_doc.specs.Rows.{BreaksRows}
 use Rattle.plain_doc.specs.RulesOfItems.{IsWrongItem, IsPlacedRight, HasShortSettings}
 use Rattle.plain_doc.specs.RulesOfTexts.{InTexts, HasWrongEnd, HasParagraphStyle}
-use Rattle.plain_doc.specs.RulesOfSheet.{InSheet, IsWrongStyle, IsShortStyle, FitsStd, note_count, head_count, IsOtherCount, HasTooManyItems}
+use Rattle.plain_doc.specs.RulesOfSheet.{InSheet, HasShortStyle, FitsStd, note_count, head_count, IsOtherCount, HasTooManyItems}
 
 -- each text ends right, its items are placed right, its fields nest, its rows are whole, its marks have styles of paragraphs
 abbrev pub text_rules : Document → Rules Place
@@ -34,14 +35,14 @@ count_rules document =
 -- the settings of a style or of an item are too long for the pages of a file
 abbrev pub HasLongSettings : Document → Place → Type 0
 HasLongSettings document place =
-    InSheet (IsWrongStyle IsShortStyle document.sheet) place ⊎
+    InSheet (λ istd. ¬ (HasShortStyle document.sheet istd)) place ⊎
     InTexts document (λ part text. IsWrongItem (λ i item. HasShortSettings item) text) place
 
 -- the settings fit the pages of a file, and each style fits an STD
 abbrev pub size_rules : Document → Rules Place
 size_rules document =
     rule 70 (HasLongSettings document) then
-    rule 71 (InSheet (IsWrongStyle FitsStd document.sheet))
+    rule 71 (InSheet (λ istd. ¬ (FitsStd document.sheet istd)))
 
 abbrev pub document_rules : Document → Rules Place
 document_rules document =
@@ -63,3 +64,7 @@ abbrev pub FirstDocFaultIsLeast : Type 0
 FirstDocFaultIsLeast =
     (document : Document) (number : ℕ) (place : Place) →
     IsFirstPlace (document_rules document) number place → IsLeastOfAll Upto (Breaks (document_rules document)) number place
+
+-- the styles of a document that breaks no rule can be printed
+abbrev pub SoundSheetIsWritable : Type 0
+SoundSheetIsWritable = (document : Document) → IsSound document → IsWritable document.sheet

@@ -2,6 +2,7 @@
 ghost use Rattle.std.specs.Prelude.{◌≡◌, ℕ, ◌+◌, ◌<◌, ◌≤◌, [], ◌∷◌, ◌++◌, length, replicate, Some, None, IfOk};
 ghost use Rattle.plain_doc.specs.Blank.{blank_item, normal_style, heading_style, default_font_style, one_setting, blank_sheet, blank_carried, blank_document};
 
+use crate::rules_items::PARAGRAPH_MARK;
 use crate::{Carried, Document, Item, Items, Mark, Texts};
 use cfb_streams::Streams;
 use doc_bits::{Bytes, Memory, Units};
@@ -9,9 +10,6 @@ use prop_map::PropMap;
 use sprm_table::Code;
 use std::alloc::Global;
 use style_sheet::{Kind, Style, StyleSheet};
-
-/// The unit of a paragraph mark.
-const PARAGRAPH_MARK: u16 = 0x0D;
 
 /// The header texts of one section, with the six separators of the notes.
 const HEADS: usize = 12;

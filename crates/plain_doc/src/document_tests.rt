@@ -1,3 +1,4 @@
+ghost use Rattle.std.specs.Prelude.{All, IfOk};
 ghost use Rattle.plain_doc.specs.Document.{HasPropertyMaps};
 
 use super::*;
@@ -31,6 +32,17 @@ fn text_of(rt: &HostRuntime, units: &[u16]) -> Result<Items, Fail> {
             return Err(Fail::new("the text is too long"));
         }
         items.add(item_of(rt, *unit, None))?;
+    }
+    Ok(items)
+}
+
+// Items of these units, in a list of their own.
+fn list_of(rt: &HostRuntime, units: &[u16]) -> Result<Vec<Item>, Fail>
+    ensures { IfOk result (λ items. All HasPropertyMaps items.items) }
+{
+    let mut items = Vec::new(rt.alloc());
+    for unit in units {
+        items.push(item_of(rt, *unit, None))?;
     }
     Ok(items)
 }
@@ -119,6 +131,28 @@ fn texts_are_spliced_and_copied(rt: HostRuntime) -> Result<(), Fail> {
         assert_eq!(rt; first_units(&rt, &texts)?.as_slice(), after);
         let copy = texts.copy(rt.alloc(), 0, texts.len())?;
         assert!(rt; copy.equal(&texts));
+    }
+    Ok(())
+}
+
+#[test]
+fn a_list_becomes_a_text_and_is_cut(rt: HostRuntime) -> Result<(), Fail> {
+    // The units, how many are left, and they.
+    let rows: [(&[u16], usize, &[u16]); 4] = [
+        (&[1, 2, 3], 2, &[1, 2]),
+        (&[1, 2, 3], 3, &[1, 2, 3]),
+        (&[1, 2, 3], 0, &[]),
+        (&[], 0, &[]),
+    ];
+    for (units, len, front) in rows {
+        let list = list_of(&rt, units)?;
+        if list.len() > 1000 || list.len() < len {
+            return Err(Fail::new("no such list"));
+        }
+        let mut text = Items::from_vec(list);
+        assert_eq!(rt; units_of(&rt, text.as_slice())?.as_slice(), units);
+        text.truncate(len);
+        assert_eq!(rt; units_of(&rt, text.as_slice())?.as_slice(), front);
     }
     Ok(())
 }
@@ -262,6 +296,6 @@ fn a_paragraph_ends_at_the_first_mark(rt: HostRuntime) -> Result<(), Fail> {
 
 #[test]
 fn an_item_is_small(rt: HostRuntime) -> Result<(), Fail> {
-    assert!(rt; mem::size_of::<Item>() <= 88);
+    assert!(rt; mem::size_of::<Item>() <= 80);
     Ok(())
 }

@@ -2,7 +2,7 @@
 ghost use Rattle.std.specs.Prelude.{◌≡◌, ◌^◌, ◌<◌, ◌↔◌, [], ◌∷◌, length, IsTrue, MatchBool, Some, None};
 ghost use Rattle.doc_bits.specs.Rules.{LeastOrNone};
 ghost use Rattle.plain_doc.specs.Nesting.{BreaksNesting, most_open};
-ghost use Rattle.plain_doc.specs.OpenFields.{begun, separated, ended, after_unit};
+ghost use Rattle.plain_doc.specs.OpenFields.{begun, separated, ended, after_unit, after_item};
 
 use crate::Item;
 use std::marker::Model;
@@ -21,7 +21,7 @@ const FIELD_END: u16 = 0x15;
 
 /// The fields that are open: for each, the outermost first, whether its separator has been met.
 #[derive(Drop)]
-struct OpenFields {
+pub(crate) struct OpenFields {
     separated: [bool; MOST_OPEN],
     depth: usize,
 }
@@ -37,7 +37,7 @@ impl Model for OpenFields {
 }
 
 impl OpenFields {
-    fn new() -> OpenFields
+    pub(crate) fn new() -> OpenFields
         ensures { result ≡ [] }
     {
         OpenFields {
@@ -46,7 +46,7 @@ impl OpenFields {
         }
     }
 
-    fn is_empty(&self) -> bool
+    pub(crate) fn is_empty(&self) -> bool
         ensures { IsTrue result ↔ self.now ≡ [] }
     {
         self.depth == 0
@@ -84,6 +84,16 @@ impl OpenFields {
         }
         self.depth -= 1;
         true
+    }
+
+    // Goes past an item, where it is not a wrong field character.
+    pub(crate) fn pass_item(&mut self, item: &Item) -> bool
+        ensures { MatchBool result (after_item most_open item.now self.old ≡ Some self.new) (after_item most_open item.now self.old ≡ None) }
+    {
+        if item.fld.is_none() {
+            return true;
+        }
+        self.pass(item.unit)
     }
 
     // Goes past a field character, where it is not a wrong one.

@@ -1,8 +1,8 @@
 // What holds of every document, and of the blank one.
-ghost use Rattle.std.specs.Prelude.{ℕ, ◌^◌, ◌<◌};
 ghost use Rattle.plain_doc.specs.Formed.{IsFormed, BlankIsFormed};
 
 use crate::Document;
+use crate::ranges::is_word;
 
 /// Every document is well formed: its types keep it so.
 pub fn documents_are_formed(document: &Document)
@@ -15,12 +15,9 @@ pub fn documents_are_formed(document: &Document)
     let carried = &document.carried;
     let _ = carried.streams.count();
     let _ = carried.clsid;
-    are_words(carried.lid, carried.lid_fe);
+    is_word(carried.lid);
+    is_word(carried.lid_fe);
 }
-
-fn are_words(lid: u16, lid_fe: u16)
-    ensures { (lid < 2 ^ 16) × (lid_fe < 2 ^ 16) }
-{}
 
 /// The blank document is well formed.
 pub fn blank_is_formed()

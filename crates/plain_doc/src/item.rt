@@ -43,11 +43,11 @@ impl Mark {
 #[derive(Drop)]
 pub struct Item {
     pub unit: u16,
+    pub fld: Option<u8>,
+    pub note: Option<NoteKind>,
     pub chp: PropMap,
     pub mark: Option<Mark>,
     pub sect: Option<PropMap>,
-    pub fld: Option<u8>,
-    pub note: Option<NoteKind>,
 }
 
 impl Item {

@@ -1,10 +1,11 @@
 // The items of one text. After want of memory a list is what it was.
-ghost use Rattle.std.specs.Prelude.{◌≡◌, ℕ, ◌+◌, ◌-◌, ◌^◌, ◌<◌, ◌≤◌, [], ◌∷◌, ◌++◌, length, slice_get, slice_set, slice_range, Some, IsTrue, ◌↔◌, IfOk, OnOk, OnErr};
+ghost use Rattle.std.specs.Prelude.{◌≡◌, ℕ, ◌+◌, ◌-◌, ◌^◌, ◌<◌, ◌≤◌, [], ◌∷◌, ◌++◌, length, take, slice_get, slice_set, slice_range, All, Some, IsTrue, ◌↔◌, IfOk, OnOk, OnErr};
 ghost use Rattle.std.specs.List.{splice};
 ghost use Rattle.plain_doc.specs.Document.{HasPropertyMaps, IsFormedText};
 
 use crate::Item;
 use crate::lists::splice_list;
+use crate::ranges::are_formed;
 use doc_bits::Memory;
 use std::alloc::Global;
 use std::marker::Model;
@@ -41,6 +42,16 @@ impl Items {
         }
     }
 
+    /// The text with these items. None is moved.
+    pub fn from_vec(items: Vec<Item>) -> Items
+        requires few { length items.items < 2 ^ 32 }
+        requires maps { All HasPropertyMaps items.items }
+        ensures { result ≡ items.items }
+    {
+        are_formed(&items);
+        Items { items }
+    }
+
     /// The number of items. Every text is well formed.
     pub fn len(&self) -> usize
         ensures len { result ≡ length self.now }
@@ -65,6 +76,14 @@ impl Items {
     {
         self.items.push(item)?;
         Ok(())
+    }
+
+    /// Drops the items from `len` on. It takes no memory.
+    pub fn truncate(&mut self, len: usize)
+        requires { len ≤ length self.old }
+        ensures { self.new ≡ take len self.old }
+    {
+        self.items.truncate(len);
     }
 
     /// All items, in their order.

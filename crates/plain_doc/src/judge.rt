@@ -3,12 +3,14 @@ ghost use Rattle.std.specs.Prelude.{◌≡◌, MatchResult};
 ghost use Rattle.doc_bits.specs.Rules.{Hold, Nowhere, rule as rule_of};
 ghost use Rattle.plain_doc.specs.RulesOfTexts.{InTexts, LeastPlaceOrNone};
 ghost use Rattle.plain_doc.specs.TextRules.{BreaksText};
+ghost use Rattle.plain_doc.specs.TextWalk.{AreTextsRight, HasCounts};
 ghost use Rattle.plain_doc.specs.Sound.{IsSound, NamesFirstRule, document_rules, text_rules, base_rules, count_rules, size_rules, HasLongSettings};
 
 use crate::Document;
-use crate::rules_counts::{all_items, notes_in, sections_in};
+use crate::rules_counts::{Counts, all_items, counts_in};
 use crate::rules_sheet::{StyleRule, wrong_style};
 use crate::rules_texts::{ItemRule, TextRule, first_in_texts};
+use crate::text_walk::right_counts;
 use doc_bits::Where;
 use thiserror::Error;
 
@@ -57,10 +59,33 @@ pub struct DocFault {
 pub fn check(document: &Document) -> Result<(), DocFault>
     ensures { MatchResult result (λ _. IsSound document.now) (NamesFirstRule (document_rules document.now)) }
 {
+    // Only where one walk over the texts finds something wrong they are judged rule by rule.
+    match right_counts(document) {
+        Some(counts) => judge_beside(document, counts),
+        None => judge_each(document),
+    }
+}
+
+// Judges a document whose texts break no rule on texts.
+fn judge_beside(document: &Document, counts: Counts) -> Result<(), DocFault>
+    requires right { AreTextsRight document.now }
+    requires counts { HasCounts document.now.main counts }
+    ensures { MatchResult result (λ _. IsSound document.now) (NamesFirstRule (document_rules document.now)) }
+{
+    judge_bases(document)?;
+    judge_counts(document, counts)?;
+    judge_sizes(document, first_long_style(document))?;
+    Ok(())
+}
+
+// The same of any document, rule by rule.
+fn judge_each(document: &Document) -> Result<(), DocFault>
+    ensures { MatchResult result (λ _. IsSound document.now) (NamesFirstRule (document_rules document.now)) }
+{
     judge_texts(document)?;
     judge_bases(document)?;
-    judge_counts(document)?;
-    judge_sizes(document)?;
+    judge_counts(document, counts_in(document.main.as_slice()))?;
+    judge_sizes(document, first_long(document))?;
     Ok(())
 }
 
@@ -95,16 +120,16 @@ fn judge_bases(document: &Document) -> Result<(), DocFault>
     }
 }
 
-fn judge_counts(document: &Document) -> Result<(), DocFault>
+fn judge_counts(document: &Document, counts: Counts) -> Result<(), DocFault>
+    requires { HasCounts document.now.main counts }
     ensures { MatchResult result (λ _. Hold (count_rules document.now)) (NamesFirstRule (count_rules document.now)) }
 {
-    let main = document.main.as_slice();
     let notes = document.notes.len();
-    if notes != notes_in(main) {
+    if notes != counts.notes {
         return Err(fault(RULE_NOTES, Where::Main, notes as u32));
     }
     let heads = document.heads.len();
-    if heads != SEPARATORS + HEADS_A_SECTION * sections_in(main) {
+    if heads != SEPARATORS + HEADS_A_SECTION * counts.sections {
         return Err(fault(RULE_HEADS, Where::Main, heads as u32));
     }
     if all_items(document) > MOST_ITEMS as u128 {
@@ -113,10 +138,12 @@ fn judge_counts(document: &Document) -> Result<(), DocFault>
     Ok(())
 }
 
-fn judge_sizes(document: &Document) -> Result<(), DocFault>
+// `long` is the first place where settings are too long.
+fn judge_sizes(document: &Document, long: Option<(Where, u32)>) -> Result<(), DocFault>
+    requires { LeastPlaceOrNone (HasLongSettings document.now) long }
     ensures { MatchResult result (λ _. Hold (size_rules document.now)) (NamesFirstRule (size_rules document.now)) }
 {
-    if let Some((place, at)) = first_long(document) {
+    if let Some((place, at)) = long {
         return Err(fault(RULE_SETTINGS, place, at));
     }
     match wrong_style(StyleRule::Written, &document.sheet) {
@@ -133,6 +160,17 @@ fn first_long(document: &Document) -> Option<(Where, u32)>
         return Some((Where::Sheet, istd));
     }
     first_in_texts(TextRule::Each(ItemRule::Settings), document)
+}
+
+// The same, where no settings of texts are too long.
+fn first_long_style(document: &Document) -> Option<(Where, u32)>
+    requires { AreTextsRight document.now }
+    ensures { LeastPlaceOrNone (HasLongSettings document.now) result }
+{
+    match wrong_style(StyleRule::Settings, &document.sheet) {
+        None => None,
+        Some(istd) => Some((Where::Sheet, istd)),
+    }
 }
 
 fn fault(rule: u8, place: Where, at: u32) -> DocFault

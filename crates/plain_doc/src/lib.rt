@@ -12,11 +12,13 @@ mod judge;
 mod laws;
 mod lists;
 mod paragraphs;
+mod ranges;
 mod rows;
 mod rules_counts;
 mod rules_items;
 mod rules_sheet;
 mod rules_texts;
+mod text_walk;
 mod texts;
 
 pub use blank_parts::blank;
@@ -26,7 +28,7 @@ pub use formed::{blank_is_formed, documents_are_formed};
 pub use item::{Item, Mark, NoteKind};
 pub use items::Items;
 pub use judge::{DocFault, check};
-pub use laws::first_doc_fault_is_least;
+pub use laws::{first_doc_fault_is_least, sound_sheet_is_writable};
 pub use paragraphs::paragraph_end;
 pub use texts::Texts;
 

@@ -4,10 +4,8 @@ ghost use Rattle.doc_bits.specs.Rules.{LeastOrNone};
 ghost use Rattle.plain_doc.specs.Rows.{paragraph_value, is_on, is_row_mark, is_mark_outside, HasCells, FitsRow, BreaksRows, cells_after};
 
 use crate::Item;
+use crate::rules_items::CELL_MARK;
 use sprm_table::Code;
-
-/// The unit that ends a cell or a row.
-const CELL_MARK: u16 = 0x07;
 
 /// The paragraph is in a table.
 const SPRM_P_F_IN_TABLE: Code = Code(0x2416);
@@ -37,8 +35,8 @@ pub(crate) fn wrong_row(text: &[Item]) -> Option<u32>
     }
 }
 
-// Whether an item may stand where the open row has so many cells.
-fn fits_row(cells: usize, item: &Item) -> bool
+/// Whether an item may stand where the open row has so many cells.
+pub(crate) fn fits_row(cells: usize, item: &Item) -> bool
     ensures { IsTrue result ↔ FitsRow cells item.now }
 {
     if is_row_end(item) {
@@ -47,8 +45,8 @@ fn fits_row(cells: usize, item: &Item) -> bool
     cells == 0 || !ends_outside(item)
 }
 
-// The cells of the open row after an item.
-fn next_cells(cells: usize, item: &Item) -> usize
+/// The cells of the open row after an item.
+pub(crate) fn next_cells(cells: usize, item: &Item) -> usize
     requires { cells < 2 ^ 32 }
     ensures after { result ≡ cells_after cells item.now }
     ensures few { result ≤ cells + 1 }

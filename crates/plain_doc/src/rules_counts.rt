@@ -2,11 +2,30 @@
 ghost use Rattle.std.specs.Prelude.{◌≡◌, ◌+◌, ◌*◌, ◌^◌, ◌<◌, ◌≤◌, length};
 ghost use Rattle.std.specs.List.{sum_by};
 ghost use Rattle.plain_doc.specs.RulesOfSheet.{note_count, section_count, item_count};
+ghost use Rattle.plain_doc.specs.TextWalk.{HasCounts};
 
 use crate::{Document, Item, Texts};
 
-/// How many items refer to notes.
-pub(crate) fn notes_in(main: &[Item]) -> usize
+/// How many items of a text refer to notes, and how many end a section.
+#[derive(Clone, Copy)]
+pub(crate) struct Counts {
+    pub(crate) notes: usize,
+    pub(crate) sections: usize,
+}
+
+/// The counts of a text, by a walk for each.
+pub(crate) fn counts_in(text: &[Item]) -> Counts
+    requires { length text.now < 2 ^ 32 }
+    ensures { HasCounts text.now result }
+{
+    Counts {
+        notes: notes_in(text),
+        sections: sections_in(text),
+    }
+}
+
+// How many items refer to notes.
+fn notes_in(main: &[Item]) -> usize
     ensures { result ≡ note_count main.now }
 {
     let mut count = 0;
@@ -18,8 +37,8 @@ pub(crate) fn notes_in(main: &[Item]) -> usize
     count
 }
 
-/// How many items end a section.
-pub(crate) fn sections_in(main: &[Item]) -> usize
+// How many items end a section.
+fn sections_in(main: &[Item]) -> usize
     ensures count { result ≡ section_count main.now }
     ensures few { result ≤ length main.now }
 {

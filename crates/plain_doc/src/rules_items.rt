@@ -10,10 +10,11 @@ use crate::{Item, Mark};
 use doc_bits::Where;
 use prop_map::PropMap;
 
-const PARAGRAPH_MARK: u16 = 0x0D;
+/// The unit that ends a paragraph.
+pub(crate) const PARAGRAPH_MARK: u16 = 0x0D;
 
 /// The unit that ends a cell or a row.
-const CELL_MARK: u16 = 0x07;
+pub(crate) const CELL_MARK: u16 = 0x07;
 
 /// The unit that ends a section but the last one, or a page.
 const PAGE_BREAK: u16 = 0x0C;

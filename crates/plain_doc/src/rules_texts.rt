@@ -9,12 +9,10 @@ ghost use Rattle.style_sheet.specs.Chain.{kind_at};
 
 use crate::fields::wrong_field;
 use crate::rows::wrong_row;
-use crate::rules_items::{has_short_settings, is_placed_right};
+use crate::rules_items::{PARAGRAPH_MARK, has_short_settings, is_placed_right};
 use crate::{Document, Item, Texts};
 use doc_bits::Where;
 use style_sheet::{Kind, StyleSheet};
-
-const PARAGRAPH_MARK: u16 = 0x0D;
 
 /// A rule on each item of a text.
 #[derive(Clone, Copy, Debug, PartialEq, Eq)]
@@ -41,13 +39,13 @@ pub(crate) enum TextRule {
 
 /// The texts beside the main text.
 #[derive(Clone, Copy, Debug, PartialEq, Eq)]
-enum Side {
+pub(crate) enum Side {
     Notes,
     Heads,
 }
 
 impl Side {
-    fn part(self, number: u32) -> Where
+    pub(crate) fn part(self, number: u32) -> Where
         ensures { result ≡ part_of self number }
     {
         match self {
@@ -112,7 +110,7 @@ fn wrong_end(part: Where, text: &[Item]) -> Option<u32>
     }
 }
 
-fn ends_right(part: Where, text: &[Item]) -> bool
+pub(crate) fn ends_right(part: Where, text: &[Item]) -> bool
     ensures { IsTrue result ↔ EndsRight part text.now }
 {
     if text.is_empty() {
@@ -164,7 +162,7 @@ fn is_right(
     }
 }
 
-fn has_paragraph_style(sheet: &StyleSheet, item: &Item) -> bool
+pub(crate) fn has_paragraph_style(sheet: &StyleSheet, item: &Item) -> bool
     ensures { IsTrue result ↔ HasParagraphStyle sheet.now item.now }
 {
     match &item.mark {

@@ -1,5 +1,6 @@
 -- How a shown text goes on: by a pair, or by a unit alone.
-use Rattle.std.proofs.Common.{◌≡◌, ℕ, Bool, true, false, List, [], ◌∷◌, ◌++◌, refl, append_assoc, encode_utf8}
+use Rattle.std.proofs.Common.{◌≡◌, ℕ, Bool, true, false, List, [], ◌∷◌, ◌++◌, refl, sym, ◌∙◌, ◌&&◌, nat_le, nat_lt, append_assoc, encode_utf8}
+use Rattle.std.proofs.lemmas.List.{append-nil}
 use Rattle.std.proofs.Common.{◌<◌, lit<}
 use Rattle.std.specs.Str.{IsUtf8}
 use Rattle.std.proofs.lemmas.Str.Ascii.{IsAscii-cons, IsAscii-nil}
@@ -33,6 +34,20 @@ completed-pair lines text more first second rest e m = rw (m, shown-pair lines f
 -- a text goes on by a unit alone
 pub completed-apart : (lines : Bool) (text more : List ℕ) (first second : ℕ) (rest : List ℕ) → is_pair first second ≡ false → more ≡ text ++ shown_alone lines first → more ++ shown lines (second ∷ rest) ≡ text ++ shown lines (first ∷ second ∷ rest)
 completed-apart lines text more first second rest e m = rw (m, shown-apart lines first second rest e, append_assoc) refl
+
+apart_low : (low high more : Bool) → (low && high) ≡ false → (low && (high && more)) ≡ false
+apart_low false high more e = refl
+apart_low true false more e = refl
+apart_low true true more e = absurd (cc (e))
+
+-- a unit that begins no pair is shown alone, whatever follows
+pub shown-first : (lines : Bool) (unit : ℕ) (rest : List ℕ) → (nat_le 0xD800 unit && nat_lt unit 0xDC00) ≡ false → shown lines (unit ∷ rest) ≡ shown_alone lines unit ++ shown lines rest
+shown-first lines unit [] e = shown-last lines unit ∙ rw (shown-nil lines) (sym (append-nil (shown_alone lines unit)))
+shown-first lines unit (next ∷ rest) e = shown-apart lines unit next rest (apart_low (nat_le 0xD800 unit) (nat_lt unit 0xDC00) _ e)
+
+-- a text goes on by a unit that begins no pair
+pub completed-first : (lines : Bool) (text more : List ℕ) (unit : ℕ) (rest : List ℕ) → (nat_le 0xD800 unit && nat_lt unit 0xDC00) ≡ false → more ≡ text ++ shown_alone lines unit → more ++ shown lines rest ≡ text ++ shown lines (unit ∷ rest)
+completed-first lines text more unit rest e m = rw (m, shown-first lines unit rest e, append_assoc) refl
 
 -- six bytes below 128 are a text
 pub six_are_utf8 : (a b c d : ℕ) → a < 128 → b < 128 → c < 128 → d < 128 → IsUtf8 (92 ∷ 117 ∷ a ∷ b ∷ c ∷ d ∷ [])

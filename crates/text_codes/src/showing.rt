@@ -1,5 +1,5 @@
-// The text that is shown for units. A surrogate pair is one character, so each unit waits for the next one.
-ghost use Rattle.std.specs.Prelude.{◌≡◌, ◌<◌, ◌++◌, ◌⊎◌, ◌↔◌, List, ℕ, [], ◌∷◌, length, Bool, true, false, IfOk, OnOk, OnErr, IfSome, MatchOption, IsTrue, encode_utf8};
+// The text that is shown for units. A surrogate pair is one character, so a high surrogate waits for the next unit.
+ghost use Rattle.std.specs.Prelude.{◌≡◌, ◌<◌, ◌++◌, ◌⊎◌, ◌↔◌, ◌&&◌, nat_le, nat_lt, List, ℕ, [], ◌∷◌, length, Bool, true, false, IfOk, OnOk, OnErr, IfSome, MatchOption, IsTrue, encode_utf8};
 ghost use Rattle.std.specs.String.{string_bytes};
 ghost use Rattle.text_codes.specs.Shown.{Showing, shown, shown_alone, completed, escape, hex_digit, is_pair, pair_code, is_escaped};
 
@@ -46,8 +46,7 @@ impl ShownText {
         ensures err { OnErr result (self.new ≡ self.old) }
     {
         let Some(first) = self.waiting else {
-            self.waiting = Some(unit);
-            return Ok(());
+            return self.push_first(unit);
         };
         if let Some(character) = pair(first, unit) {
             self.text.push(character)?;
@@ -56,6 +55,21 @@ impl ShownText {
         }
         push_alone(&mut self.text, self.lines, first)?;
         self.waiting = Some(unit);
+        Ok(())
+    }
+
+    /// Adds a unit where none waits.
+    #[inline(always)]
+    fn push_first(&mut self, unit: u16) -> Result<(), Memory>
+        requires { self.old.waiting ≡ [] }
+        ensures ok { OnOk result ((units : List ℕ) → completed self.new units ≡ completed self.old (unit ∷ units)) }
+        ensures err { OnErr result (self.new ≡ self.old) }
+    {
+        if is_high(unit) {
+            self.waiting = Some(unit);
+            return Ok(());
+        }
+        push_alone(&mut self.text, self.lines, unit)?;
         Ok(())
     }
 
@@ -87,6 +101,14 @@ pub fn show_units(alloc: Global, units: &[u16]) -> Result<Text, Memory>
     text.finish()
 }
 
+/// Whether a unit is the first one of surrogate pairs.
+#[inline(always)]
+fn is_high(unit: u16) -> bool
+    ensures { result ≡ (nat_le 0xD800 unit && nat_lt unit 0xDC00) }
+{
+    unit >= 0xD800 && unit < 0xDC00
+}
+
 /// The character of a surrogate pair, where the two units are one.
 fn pair(first: u16, second: u16) -> Option<char>
     ensures { MatchOption result
@@ -103,6 +125,7 @@ fn pair(first: u16, second: u16) -> Option<char>
 }
 
 /// Appends a unit that is in no pair.
+#[inline(always)]
 fn push_alone(text: &mut String, lines: bool, unit: u16) -> Result<(), Memory>
     ensures ok { OnOk result (string_bytes text.new ≡ string_bytes text.old ++ shown_alone lines unit) }
     ensures err { OnErr result (string_bytes text.new ≡ string_bytes text.old) }
@@ -127,6 +150,7 @@ fn escapes(unit: u16) -> bool
 }
 
 /// Appends a reverse solidus, the letter u and the four digits of a unit.
+#[inline(never)]
 fn push_escape(text: &mut String, unit: u16) -> Result<(), Memory>
     ensures ok { OnOk result (string_bytes text.new ≡ string_bytes text.old ++ escape unit) }
     ensures err { OnErr result (string_bytes text.new ≡ string_bytes text.old) }

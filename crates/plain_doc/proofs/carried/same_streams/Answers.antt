@@ -1,6 +1,5 @@
 -- The streams so far and the next one.
-use Rattle.std.proofs.Common.{rules, ◌≡◌}
-use Rattle.std.specs.Prelude.{slice_get}
+use Rattle.std.proofs.Common.{rules}
 use Rattle.plain_doc.proofs.StreamLemmas.{take_next_same}
 use Rattle.plain_doc.proofs.carried.same_streams.Goals as goal
 

@@ -1,14 +1,15 @@
 use Rattle.plain_doc.specs.RulesOfItems.{IsWrongItem, HasShortSettings}
-use Rattle.plain_doc.specs.RulesOfSheet.{IsWrongStyle, IsShortStyle}
+use Rattle.plain_doc.specs.declared.rules_sheet.StyleRule.TheVariants.{Settings}
+use Rattle.plain_doc.specs.StyleRules.{IsWrongStyle}
 use Rattle.plain_doc.proofs.SheetLemmas.{style_first, texts_after}
 use Rattle.plain_doc.proofs.judge.first_long.Goals as goal
 
 pub returns-in-Some : goal.returns-in-Some
 returns-in-Some c =
     style_first c.args.document.now (λ part text. IsWrongItem (λ i item. HasShortSettings item) text)
-    (IsWrongStyle IsShortStyle c.args.document.now.sheet) c.in-Some.istd c.in-Some.ensures
+    (IsWrongStyle Settings c.args.document.now.sheet) c.in-Some.istd c.in-Some.ensures
 
 pub returns : goal.returns
 returns c =
     texts_after c.args.document.now (λ part text. IsWrongItem (λ i item. HasShortSettings item) text)
-    (IsWrongStyle IsShortStyle c.args.document.now.sheet) c.first_in_texts.result c.in_default.ensures c.first_in_texts.ensures
+    (IsWrongStyle Settings c.args.document.now.sheet) c.first_in_texts.result c.in_default.ensures c.first_in_texts.ensures

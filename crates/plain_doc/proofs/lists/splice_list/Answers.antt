@@ -1,8 +1,7 @@
 -- What the iterator over the fresh entries gives is all of them.
-use Rattle.std.proofs.Common.{rules, sym, ap, ◌∙◌, ◌≡◌, List, Vec, length, map}
+use Rattle.std.proofs.Common.{rules, sym, ap, ◌∙◌, ◌≡◌, length, map}
 use Rattle.std.specs.List.{splice}
 use Rattle.std.specs.Vec.{vec_len}
-use Rattle.std.specs.Iterator.{Drains, DrainsIf}
 use Rattle.std.proofs.lemmas.Iterator.{items_from_drains}
 use Rattle.std.proofs.lemmas.Iterator.Adapters.{YieldsList-from_vec}
 use Rattle.std.proofs.lemmas.List.{map-id}

@@ -1,5 +1,4 @@
 use Rattle.std.proofs.Common.{◌≡◌, ℕ, ◌<◌, ◌≤◌, take}
-use Rattle.doc_bits.specs.Rules.{Nowhere}
 use Rattle.plain_doc.specs.RulesOfItems.{IsWrongItem}
 use Rattle.plain_doc.specs.Rows.{open_cells, FitsRow}
 use Rattle.plain_doc.proofs.rows.wrong_row.Given as goal

@@ -1,20 +1,19 @@
 use Rattle.std.proofs.Common.{refl, below_more, arith}
 use Rattle.std.proofs.lemmas.Bool.{false≢true}
-use Rattle.plain_doc.specs.RulesOfSheet.{IsWrongStyle}
-use Rattle.plain_doc.specs.StyleRules.{IsRightStyle}
+use Rattle.plain_doc.specs.StyleRules.{IsWrongStyle}
 use Rattle.plain_doc.proofs.ItemLemmas.{first_number}
 use Rattle.plain_doc.proofs.StyleLemmas.{none_wrong}
 use Rattle.plain_doc.proofs.rules_sheet.wrong_style.Goals as goal
 
-pub returns-then-not-is_right_slot : goal.returns-then-not-is_right_slot
-returns-then-not-is_right_slot c =
-    first_number (IsWrongStyle (IsRightStyle c.args.rule) c.args.sheet.now) c.loop-istd.istd c.loop-istd.invariant
-    (λ right. false≢true (c.if-not-is_right_slot.ensures.1 right))
+pub returns-then-not-is_right_style : goal.returns-then-not-is_right_style
+returns-then-not-is_right_style c =
+    first_number (IsWrongStyle c.args.rule c.args.sheet.now) c.loop-istd.istd c.loop-istd.invariant
+    (λ right. false≢true (c.if-not-is_right_style.ensures.1 right))
 
 pub loop-istd-preserved : goal.loop-istd-preserved
 loop-istd-preserved c =
-    below_more (λ k. IsWrongStyle (IsRightStyle c.args.rule) c.args.sheet.now k → ⊥) c.loop-istd.istd c.loop-istd.invariant
-    (λ wrong. wrong (c.if-not-is_right_slot.ensures.0 refl))
+    below_more (λ k. IsWrongStyle c.args.rule c.args.sheet.now k → ⊥) c.loop-istd.istd c.loop-istd.invariant
+    (λ wrong. wrong (c.if-not-is_right_style.ensures.0 refl))
 
 pub returns : goal.returns
-returns c = none_wrong (IsRightStyle c.args.rule) c.args.sheet.now c.loop-istd.istd (omega (arith, c.slots-istd-end.ensures.count)) c.loop-istd.invariant
+returns c = none_wrong c.args.rule c.args.sheet.now c.loop-istd.istd (omega (arith, c.slots-istd-end.ensures.count)) c.loop-istd.invariant

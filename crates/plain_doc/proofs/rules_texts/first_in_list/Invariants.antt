@@ -1,7 +1,5 @@
-use Rattle.std.proofs.Common.{◌≡◌, ℕ, ◌<◌, List, Some}
-use Rattle.std.specs.Prelude.{slice_get}
-use Rattle.plain_doc.specs.declared.item.Item.{Item}
-use Rattle.plain_doc.specs.TextRules.{BreaksText, part_of}
+use Rattle.std.proofs.Common.{ℕ, ◌<◌}
+use Rattle.plain_doc.specs.TextRules.{BreaksText}
 use Rattle.plain_doc.proofs.PlaceLemmas.{HoldsInText}
 use Rattle.plain_doc.proofs.rules_texts.first_in_list.Given as goal
 

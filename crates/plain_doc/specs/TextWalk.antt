@@ -1,0 +1,52 @@
+-- One walk over a text: what it carries from item to item, and what it asks of each. It says whether a rule is broken.
+use Rattle.std.specs.Prelude.{◌≡◌, ◌≢◌, ℕ, ◌+◌, ◌^◌, ◌<◌, List, [], ◌∷◌, Some, None}
+use Rattle.doc_bits.specs.declared.places.Where.{Where}
+use Rattle.doc_bits.specs.Rules.{Hold, Nowhere}
+use Rattle.style_sheet.specs.Sheet.{Sheet}
+use Rattle.plain_doc.specs.declared.item.Item.{Item}
+use Rattle.plain_doc.specs.declared.document.Document.{Document}
+use Rattle.plain_doc.specs.declared.rules_counts.Counts.{Counts}
+use Rattle.plain_doc.specs.declared.rules_texts.ItemRule.{ItemRule}
+use Rattle.plain_doc.specs.declared.rules_texts.TextRule.{TextRule}
+use Rattle.plain_doc.specs.declared.text_walk.TextWalk.{TextWalk}
+use Rattle.plain_doc.specs.Nesting.{most_open}
+use Rattle.plain_doc.specs.OpenFields.{after_item}
+use Rattle.plain_doc.specs.Rows.{FitsRow, cells_after}
+use Rattle.plain_doc.specs.RulesOfSheet.{note_count, section_count}
+use Rattle.plain_doc.specs.RulesOfItems.{IsWrongItem, HasShortSettings}
+use Rattle.plain_doc.specs.RulesOfTexts.{InTexts}
+use Rattle.plain_doc.specs.Sound.{text_rules}
+use Rattle.plain_doc.specs.TextRules.{IsRightItem, BreaksText}
+
+-- an item that ends nothing and has nothing beside its settings
+pub record IsPlain (item : Item) : Type 0 where
+  pub mark : item.mark ≡ None
+  pub sect : item.sect ≡ None
+  pub fld : item.fld ≡ None
+  pub note : item.note ≡ None
+  pub paragraph : item.unit ≢ 0x0D
+  pub cell : item.unit ≢ 0x07
+
+-- the item breaks no rule where it stands, and what the walk carries after it
+pub record PassesItem (sheet : Sheet) (part : Where) (len place : ℕ) (item : Item) (before after : TextWalk) : Type 0 where
+  pub right : (rule : ItemRule) → IsRightItem rule sheet part len place item
+  pub row : FitsRow before.cells item
+  pub cells : after.cells ≡ cells_after before.cells item
+  pub fields : after_item most_open item before.fields ≡ Some after.fields
+  pub notes : after.notes ≡ before.notes + note_count (item ∷ [])
+  pub sections : after.sections ≡ before.sections + section_count (item ∷ [])
+
+-- the text breaks none of the rules on texts
+abbrev pub IsRightText : Sheet → Where → List Item → Type 0
+IsRightText sheet part text = (rule : TextRule) → Nowhere (BreaksText rule sheet part text)
+
+-- no text of the document does, and the settings of no item are too long
+pub record AreTextsRight (document : Document) : Type 0 where
+  pub rules : Hold (text_rules document)
+  pub settings : Nowhere (InTexts document (λ part text. IsWrongItem (λ i item. HasShortSettings item) text))
+
+-- how many items of the text refer to notes, and how many end a section
+pub record HasCounts (text : List Item) (counts : Counts) : Type 0 where
+  pub notes : counts.notes ≡ note_count text
+  pub sections : counts.sections ≡ section_count text
+  pub few : counts.sections < 2 ^ 32
