@@ -1,0 +1,7 @@
+use Rattle.std.proofs.lemmas.Bool.Decides.{same_from_decides}
+use Rattle.doc_show.specs.Story.{same_settings}
+use Rattle.doc_show.proofs.SettingsLemmas.{same_settings-Decides}
+use Rattle.doc_show.proofs.story.has_same_settings.Goals as goal
+
+pub returns : goal.returns
+returns c = same_from_decides c.equal.result (same_settings c.args.one.now c.args.other.now) c.equal.ensures (same_settings-Decides c.args.one.now c.args.other.now)

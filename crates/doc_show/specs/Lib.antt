@@ -1,0 +1,8 @@
+pub mod Settings
+pub mod Stretches
+pub mod Story
+pub mod Listing
+pub mod Counts
+pub mod MainText
+pub mod Properties
+pub mod Laws
