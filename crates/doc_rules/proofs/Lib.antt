@@ -1,0 +1,15 @@
+pub mod ContentsLemmas
+pub mod CutLemmas
+pub mod FieldLemmas
+pub mod ListLemmas
+pub mod PartLemmas
+pub mod RefusalLemmas
+pub mod RowLemmas
+pub mod SectionLemmas
+pub mod UnitLemmas
+pub mod NameLemmas
+pub mod OneLemmas
+pub mod TextLemmas
+pub mod FileLemmas
+pub mod RightPlaces
+pub mod FormatLemmas

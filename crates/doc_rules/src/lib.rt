@@ -1,0 +1,48 @@
+//! Judges a Word document by the rules on its text and its parts, and reads them.
+#![tactic(auto)]
+
+mod bins;
+mod fault;
+mod formats;
+mod heads;
+#[cfg(test)]
+mod hello;
+mod judging;
+mod laws;
+mod levels;
+mod loading;
+mod narrow;
+mod notes;
+mod pair_rules;
+mod parts;
+mod sections;
+mod sheets;
+mod source;
+mod story_ends;
+mod story_fields;
+mod table_parts;
+mod text_cuts;
+mod units;
+
+pub use bins::judge_bins;
+pub use fault::{ReadFault, refused_container};
+pub use formats::judge_formats;
+pub use heads::read_heads;
+pub use judging::judge;
+pub use laws::{first_file_fault_is_least, parts_are_one};
+pub use levels::read_levels;
+pub use loading::{LoadedText, load_text};
+pub use notes::{Notes, read_notes};
+pub use parts::{DocParts, read_parts};
+pub use sections::read_sections;
+pub use sheets::read_sheet;
+pub use source::{Source, Story};
+pub use story_ends::judge_ends;
+pub use story_fields::{StoryFields, read_fields};
+pub use table_parts::TablePart;
+pub use units::{TextUnits, read_units};
+
+#[cfg(test)]
+mod format_tests;
+#[cfg(test)]
+mod tests;
