@@ -1,0 +1,130 @@
+-- The streams of a file that breaks no rule of its container are within bounds.
+use Rattle.std.proofs.Common.{◌≡◌, ◌≢◌, inl, inr, ℕ, ◌<◌, ◌≤◌, List, [], ◌∷◌, ◌++◌, length, slice_index, sym, ap, ◌∙◌, subst, arith}
+use Rattle.std.proofs.lemmas.Bool.{cases_lt}
+use Rattle.std.proofs.lemmas.List.{length-take}
+use Rattle.std.proofs.lemmas.Option.{slice_get_within}
+use Rattle.doc_bits.specs.Rules.{Nowhere, Hold}
+use Rattle.cfb_streams.specs.Opening.{IsWhole}
+use Rattle.cfb_streams.specs.Header.{valid_below}
+use Rattle.cfb_streams.specs.Chain.{fat_table}
+use Rattle.cfb_streams.specs.Directory.{upper_case, entry_name_length, IsNameOf, EntryBefore, ComesBefore}
+use Rattle.cfb_streams.specs.Reach.{entry_place, IsEntry, BreaksName}
+use Rattle.cfb_streams.specs.StreamRules.{Parts, stream_head}
+use Rattle.cfb_streams.specs.Order.{AreOrdered, ListsStreams}
+use Rattle.cfb_streams.specs.Contents.{Stream, Contents}
+use Rattle.cfb_streams.specs.Container.{container_rules, IsStreamOf, HasContents}
+use Rattle.cfb_streams.proofs.ChainLemmas.{pushed_before, pushed_last, length_pushed, length_below, path_short}
+use Rattle.cfb_streams.proofs.StreamLemmas.{length-cut}
+use Rattle.cfb_streams.proofs.ReachLemmas.{reached_there}
+use Rattle.cfb_streams.proofs.ContentLemmas.{chain_inside}
+use Rattle.cfb_streams.proofs.OrderLemmas.{name_length, name_short, name_some}
+use Rattle.cfb_streams.proofs.LoadLemmas.{whole_length}
+use Rattle.cfb_streams.proofs.SingleLemmas.{directory_unique}
+use Rattle.doc_read.specs.CarriedParts.{AreWithinBounds}
+
+-- no name comes before itself
+not_itself : (file : List ℕ) (at : ℕ) → ¬ EntryBefore file at at
+not_itself file at before = elim before [
+  | inl shorter ↦ omega arith
+  | inr same ↦ let differs = same.1.1 in let less = differs.less in omega arith
+]
+
+-- entries in the order of their names are distinct
+entries-apart : (file directory entries : List ℕ) → AreOrdered file directory entries → (i j : ℕ) → i < j → j < length entries → slice_index entries i ≢ slice_index entries j
+entries-apart file directory entries order i j less below same =
+    not_itself file (entry_place directory (slice_index entries j))
+    (subst (λ entry. EntryBefore file (entry_place directory entry) (entry_place directory (slice_index entries j))) same (order i j less below))
+
+-- a directory has at most 1,024 entries, and entry 0 is the root
+entries-few : (file directory entries : List ℕ) → length directory ≤ 256 → ListsStreams file directory entries → length entries ≤ 1023
+entries-few file directory entries short lists =
+    let there : (i : ℕ) → i < length entries → IsEntry directory (slice_index entries i) = λ i below. reached_there file directory (lists.sound i below).reached in
+    let more = length_pushed entries 0 in
+    let most = length_below (entries ++ 0 ∷ []) 1024
+    (λ i below. elim (cases_lt i (length entries)) [
+      | inl low ↦ rw (pushed_before entries 0 i low) (let entry = (there i low).1 in omega arith)
+      | inr high ↦ rw (pushed_last entries 0 i (omega arith)) (omega arith)
+    ])
+    (λ i j less below same. elim (cases_lt j (length entries)) [
+      | inl low ↦ entries-apart file directory entries lists.order i j less low
+          (sym (pushed_before entries 0 i (omega arith)) ∙ (same ∙ pushed_before entries 0 j low))
+      | inr high ↦
+          let low : i < length entries = omega arith in
+          let zero : slice_index entries i ≡ 0 = sym (pushed_before entries 0 i low) ∙ (same ∙ pushed_last entries 0 j (omega arith)) in
+          let above = (there i low).0 in
+          omega arith
+    ]) in
+    omega arith
+
+-- a stream is no longer than the file
+stream-short : (file : List ℕ) (parts : Parts) (entry : ℕ) (stream : Stream) → IsWhole file → IsStreamOf file parts entry stream → length stream.bytes ≤ 7143936
+stream-short file parts entry stream whole is =
+    elim is.holds [
+      | inl empty ↦ let none = ap length empty.bytes in omega arith
+      | inr (inl short) ↦
+          let small = short.body.is_small.small in
+          let cut = ap length short.body.joined in
+          omega (arith, cut, length-take {A = ℕ})
+      | inr (inr long) ↦
+          let head = stream_head file 512 (entry_place parts.directory entry) in
+          let inside = chain_inside file head long.sectors whole long.body.holds in
+          let few = path_short (fat_table file).entry (valid_below file) head.start long.sectors long.body.holds.chain.path in
+          let cut = length-cut 512 512 file long.sectors stream.bytes _ (λ i below. let within = inside.inside i below in omega arith) long.body.joined in
+          let most = whole.most in
+          omega arith
+    ]
+
+-- names come in the order of their entries
+comes-before : (file : List ℕ) (at other : ℕ) (name later : List ℕ) → IsNameOf file at name → IsNameOf file other later → EntryBefore file at other → ComesBefore name later
+comes-before file at other name later is is_later before =
+    let long = is.long in
+    let long_later = is_later.long in
+    elim before [
+      | inl shorter ↦ inl (omega arith)
+      | inr same ↦
+          let even = same.0 in
+          let differs = same.1.1 in
+          let place = same.1.0 in
+          let inside = differs.inside in
+          let within : place < length name = omega arith in
+          let within_later : place < length later = omega arith in
+          inr (
+            omega arith,
+            (
+              place,
+              record {
+                inside = within;
+                front = λ i low. ap upper_case (is.units i (omega arith)) ∙ (differs.front i low ∙ ap upper_case (sym (is_later.units i (omega arith))));
+                less = rw (is.units place within, is_later.units place within_later) differs.less;
+              },
+            ),
+          )
+    ]
+
+-- the length of a stream's name in bytes, with its terminator
+stream-name : (file : List ℕ) (parts : Parts) (entry : ℕ) (stream : Stream) → Nowhere (BreaksName file parts.directory) → IsStreamOf file parts entry stream → (1 ≤ length stream.name) × (length stream.name ≤ 31)
+stream-name file parts entry stream names is =
+    let right = name_length file parts.directory entry names is.is_entry.reached in
+    let most = name_short (entry_name_length file (entry_place parts.directory entry)) right in
+    let least = name_some (entry_name_length file (entry_place parts.directory entry)) right in
+    let long = is.name.long in
+    (omega arith, omega arith)
+
+pub contents-bounded : (file : List ℕ) (contents : Contents) → Hold (container_rules file) → HasContents file contents → AreWithinBounds contents
+contents-bounded file contents holds has =
+    let whole = whole_length file holds.0.0 in
+    let directory = has.parts.directory in
+    let entries = has.entries in
+    let same = directory_unique file holds.1.1.1.0 directory holds.1.1.1.1.0 has.directory in
+    let names : Nowhere (BreaksName file has.parts.directory) = subst (λ sectors. Nowhere (BreaksName file sectors)) same holds.1.1.1.1.1.1.1.0 in
+    let count = has.streams.len in
+    record {
+      few = (let few = entries-few file directory entries has.directory.short has.lists in omega arith);
+      short = λ i stream here. stream-short file has.parts (slice_index entries i) stream whole (has.streams.each i stream here);
+      some = λ i stream here. (stream-name file has.parts (slice_index entries i) stream names (has.streams.each i stream here)).0;
+      fit = λ i stream here. (stream-name file has.parts (slice_index entries i) stream names (has.streams.each i stream here)).1;
+      order = λ i j stream later less here there.
+          comes-before file (entry_place directory (slice_index entries i)) (entry_place directory (slice_index entries j)) stream.name later.name
+          (has.streams.each i stream here).name (has.streams.each j later there).name
+          (has.lists.order i j less (let within = slice_get_within contents.streams j later there in omega arith));
+    }

@@ -1,0 +1,96 @@
+-- What a document carries along is there, and well formed.
+use Rattle.std.proofs.Common.{◌≡◌, refl, ap, ℕ, ◌+◌, ◌-◌, ◌<◌, ◌≤◌, ◌^◌, List, [], ◌∷◌, length, arith, length-take, length-drop}
+use Rattle.std.specs.Prelude.{slice_range}
+use Rattle.doc_bits.specs.Rules.{Hold}
+use Rattle.doc_bits.proofs.NumberLemmas.{number_at-bound}
+use Rattle.sprm_table.proofs.OperandLemmas.{AreBytes, length-range}
+use Rattle.cfb_streams.specs.Contents.{Contents}
+use Rattle.cfb_streams.specs.Reach.{directory_head, entry_place}
+use Rattle.cfb_streams.specs.Container.{container_rules, HasContents}
+use Rattle.cfb_streams.proofs.ContentLemmas.{chain_inside}
+use Rattle.cfb_streams.proofs.LoadLemmas.{whole_length}
+use Rattle.fib_form.specs.Fib.{fib_flags}
+use Rattle.fib_form.specs.FibFields.{fib_fields}
+use Rattle.fib_form.proofs.FlagLemmas.{kept_flags-kept}
+use Rattle.plain_doc.specs.declared.carried.Carried.{Carried}
+use Rattle.plain_doc.specs.Carried.{ArePartsShort, AreListsWithLevels}
+use Rattle.plain_doc.specs.Formed.{IsFormedCarried}
+use Rattle.doc_rules.specs.declared.table_parts.TablePart.{TablePart}
+use Rattle.doc_rules.specs.declared.table_parts.TablePart.TheVariants.{SttbfFfn, Dop, SttbfAssoc, PlfLst, PlfLfo}
+use Rattle.doc_rules.specs.Source.{DocSource, part_bytes}
+use Rattle.doc_rules.specs.FileRules.{FileText, HasText, source_of}
+use Rattle.doc_read.specs.CarriedParts.{carried_streams, AreWithinBounds, HoldsCarried}
+use Rattle.doc_read.proofs.PartLemmas.{short-cons}
+use Rattle.doc_read.proofs.StreamLemmas.{carried-are_streams, carried-fit}
+
+pub clsid_long : (file : List ℕ) (contents : Contents) → Hold (container_rules file) → HasContents file contents → length contents.clsid ≡ 16
+clsid_long file contents holds has =
+    let directory = has.parts.directory in
+    let whole = whole_length file holds.0.0 in
+    let inside = chain_inside file (directory_head file) directory whole has.directory.holds in
+    let some = has.directory.holds.chain.path.some in
+    let first = inside.inside 0 some in
+    let at = entry_place directory 0 in
+    let long : length (slice_range file (at + 80) (at + 96)) ≡ at + 96 - (at + 80) = length-range file (at + 80) (at + 96) (omega arith) in
+    let same : length contents.clsid ≡ length (slice_range file (at + 80) (at + 96)) = ap length has.clsid in
+    omega arith
+
+pub record HasFormedCarried (contents : Contents) (source : DocSource) (levels : List ℕ) : Type 0 where
+  pub carried : Carried
+  pub holds : HoldsCarried contents source levels carried
+  pub formed : IsFormedCarried carried
+
+part_small : (source : DocSource) (part : TablePart) → length source.table ≤ 7143936 → length (part_bytes source part) < 2 ^ 32
+part_small source part short = simp (length-take, length-drop) (omega arith)
+
+pub carried_there : (contents : Contents) (text : FileText) (levels : List ℕ) → AreWithinBounds contents → HasText contents text → AreBytes text.wd → length contents.clsid ≡ 16 → ArePartsShort (part_bytes (source_of text) SttbfFfn ∷ part_bytes (source_of text) Dop ∷ part_bytes (source_of text) SttbfAssoc ∷ part_bytes (source_of text) PlfLst ∷ levels ∷ part_bytes (source_of text) PlfLfo ∷ []) → AreListsWithLevels (part_bytes (source_of text) PlfLst) levels → HasFormedCarried contents (source_of text) levels
+carried_there contents text levels bounds has bytes long short lists =
+    let source = source_of text in
+    let kept = (fib_fields text.wd).kept in
+    let fit = carried-fit contents text bounds has in
+    let flags = kept_flags-kept (fib_flags text.wd) in
+    record {
+      carried = record {
+        fonts = part_bytes source SttbfFfn;
+        dop = part_bytes source Dop;
+        assoc = part_bytes source SttbfAssoc;
+        lst = part_bytes source PlfLst;
+        levels = levels;
+        lfo = part_bytes source PlfLfo;
+        clsid = contents.clsid;
+        lid = kept.lid;
+        lid_fe = kept.lid_fe;
+        flags = kept.flags;
+        streams = carried_streams contents.streams;
+        short = short;
+        lists = lists;
+        kept = flags;
+        others = fit;
+      };
+      holds = record { fonts = refl; dop = refl; assoc = refl; lst = refl; levels_are = refl; lfo = refl; clsid = refl; lid = refl; lid_fe = refl; flags = refl; streams = refl };
+      formed = record {
+        parts = short;
+        lists = lists;
+        clsid = long;
+        languages = (number_at-bound text.wd _ 2 bytes, number_at-bound text.wd _ 2 bytes);
+        flags = flags;
+        ordered = carried-are_streams contents bounds;
+        streams = fit;
+      };
+    }
+
+pub all_short : (source : DocSource) (levels : List ℕ) → length source.table ≤ 7143936 → length levels ≤ length source.table → ArePartsShort (part_bytes source SttbfFfn ∷ part_bytes source Dop ∷ part_bytes source SttbfAssoc ∷ part_bytes source PlfLst ∷ levels ∷ part_bytes source PlfLfo ∷ [])
+all_short source levels short few =
+    let none : List (List ℕ) = [] in
+    let one : TablePart → List ℕ = part_bytes source in
+    let from_lfo : List (List ℕ) = one PlfLfo ∷ none in
+    let from_levels : List (List ℕ) = levels ∷ from_lfo in
+    let from_lst : List (List ℕ) = one PlfLst ∷ from_levels in
+    let from_assoc : List (List ℕ) = one SttbfAssoc ∷ from_lst in
+    let from_dop : List (List ℕ) = one Dop ∷ from_assoc in
+    short-cons (one SttbfFfn) (one SttbfFfn) from_dop refl (part_small source SttbfFfn short)
+    (short-cons (one Dop) (one Dop) from_assoc refl (part_small source Dop short)
+    (short-cons (one SttbfAssoc) (one SttbfAssoc) from_lst refl (part_small source SttbfAssoc short)
+    (short-cons (one PlfLst) (one PlfLst) from_levels refl (part_small source PlfLst short)
+    (short-cons levels levels from_lfo refl (omega arith)
+    (short-cons (one PlfLfo) (one PlfLfo) none refl (part_small source PlfLfo short) refl)))))

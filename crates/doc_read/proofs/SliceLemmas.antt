@@ -1,0 +1,97 @@
+-- The items of a part of the text.
+use Rattle.std.proofs.Common.{◌≡◌, ◌∙◌, inl, inr, refl, sym, ap, subst, ℕ, ◌+◌, ◌-◌, ◌<◌, ◌≤◌, List, [], ◌∷◌, ◌++◌, length, take, drop, get_or, Some, slice_get, slice_index, slice_range, arith, length-append, length-take, length-drop}
+use Rattle.std.proofs.lemmas.List.{map-id, get_or-drop}
+use Rattle.std.proofs.lemmas.Option.{none-some, slice_get_within, slice_get-get_or, get_or_from_slice_get}
+use Rattle.doc_parts.specs.Cps.{AreCpsInOrder}
+use Rattle.doc_parts.specs.Stories.{cut_cps, AreCuts}
+use Rattle.plain_doc.specs.declared.item.Item.{Item}
+use Rattle.plain_doc.proofs.StreamLemmas.{slice_get-take}
+use Rattle.doc_rules.specs.declared.table_parts.TablePart.TheVariants.{PlcffndTxt}
+use Rattle.doc_rules.specs.declared.source.Story.TheVariants.{Notes}
+use Rattle.doc_rules.specs.Source.{DocSource, part_bytes, story_length}
+use Rattle.doc_rules.specs.NoteRules.{HasNoteCuts}
+use Rattle.doc_read.specs.Items.{TextParts, IsItemAt, HoldsItems, HoldsTexts}
+use Rattle.doc_read.specs.Texts.{AreCutsWithin, AreCutFrom}
+use Rattle.doc_read.proofs.SettingsLemmas.{pushed}
+
+-- what stands in a range of a list stands there in the list
+slice_get-range : {X : Type 0} (xs : List X) (from to i : ℕ) (x : X) → slice_get (slice_range xs from to) i ≡ Some x → slice_get xs (from + i) ≡ Some x
+slice_get-range xs from to i x e =
+    let there : slice_get (drop from xs) i ≡ Some x = slice_get-take (to - from) (drop from xs) i x e in
+    let within = slice_get_within (drop from xs) i x there in
+    let value : get_or (drop from xs) i x ≡ x = get_or_from_slice_get (drop from xs) i x x there in
+    slice_get-get_or xs (from + i) x (omega (arith, length-drop from xs)) ∙ ap Some (sym (get_or-drop from xs i x) ∙ value)
+
+-- a CP counted from the start
+from_start : (cp : ℕ) → 0 + cp ≡ cp
+from_start cp = omega arith
+
+-- a part of the text has the items of its CPs
+pub holds_range : (parts : TextParts) (total from to : ℕ) (text : List Item) → from ≤ to → to ≤ length text → HoldsItems parts 0 total text → HoldsItems parts from to (slice_range text from to)
+holds_range parts total from to text order within holds = record {
+  len = simp (length-take, length-drop) (omega arith);
+  each = λ i item e. subst (λ cp. IsItemAt parts cp item) (from_start (from + i)) (holds.each (from + i) item (slice_get-range text from to i item e));
+}
+
+-- so has its front
+pub holds_front : (parts : TextParts) (total to : ℕ) (text : List Item) → to ≤ length text → HoldsItems parts 0 total text → HoldsItems parts 0 to (take to text)
+holds_front parts total to text within holds = record {
+  len = simp length-take (omega arith);
+  each = λ i item e. holds.each i item (slice_get-take to text i item e);
+}
+
+-- and each text that is cut out of it
+pub holds_texts : (parts : TextParts) (total begin count : ℕ) (cuts : List ℕ) (items : List Item) (texts : List (List Item)) → HoldsItems parts 0 total items → AreCutsWithin begin cuts (length items) → AreCutFrom items begin cuts count texts → HoldsTexts parts begin cuts count texts
+holds_texts parts total begin count cuts items texts holds within cut = record {
+  len = cut.len;
+  there = λ k text e more.
+      let from = begin + slice_index cuts k in
+      let to = begin + slice_index cuts (k + 1) in
+      let order = within.order k more in
+      subst (HoldsItems parts from to) (sym (cut.there k text e more)) (holds_range parts total from to items (omega arith) (within.within (k + 1) more) holds);
+  missing = cut.missing;
+}
+
+-- the cuts of a story are within the text
+pub cuts_within : (plc : List ℕ) (story_len begin len : ℕ) (cuts : List ℕ) → AreCuts plc story_len cuts → begin + story_len ≤ len → AreCutsWithin begin cuts len
+cuts_within plc story_len begin len cuts are h =
+    let cps : AreCpsInOrder (cut_cps story_len) cuts = subst (AreCpsInOrder (cut_cps story_len)) (map-id cuts) are.leading.in_order in
+    record {
+      order = λ k more. (cps (k + 1) more).after k refl;
+      within = λ k less. let here = (cps k less).within in omega arith;
+    }
+
+-- those of the notes too; without references there are none
+pub note_cuts_within : (source : DocSource) (begin len : ℕ) (cuts : List ℕ) → HasNoteCuts source cuts → begin + story_length source Notes ≤ len → AreCutsWithin begin cuts len
+note_cuts_within source begin len cuts (inl some) h =
+    cuts_within (part_bytes source PlcffndTxt) (story_length source Notes) begin len cuts some.1 h
+note_cuts_within source begin len cuts (inr none) h =
+    subst (λ list. AreCutsWithin begin list len) (sym none.1)
+    (record { order = λ k more. absurd (omega arith); within = λ k less. absurd (omega arith) })
+
+-- no text has been cut out yet
+pub texts_none : (items : List Item) (begin : ℕ) (cuts : List ℕ) → AreCutFrom items begin cuts 0 []
+texts_none items begin cuts = record {
+  len = refl;
+  there = λ k text e more. absurd (none-some text e);
+  missing = λ k text e over. absurd (none-some text e);
+}
+
+-- one more
+pub texts_more : (items : List Item) (begin : ℕ) (cuts : List ℕ) (count : ℕ) (texts : List (List Item)) (text : List Item) → AreCutFrom items begin cuts count texts →
+    (count + 1 < length cuts → text ≡ slice_range items (begin + slice_index cuts count) (begin + slice_index cuts (count + 1))) →
+    (length cuts ≤ count + 1 → text ≡ []) → AreCutFrom items begin cuts (count + 1) (texts ++ text ∷ [])
+texts_more items begin cuts count texts text are there missing = record {
+  len = omega (arith, are.len, length-append texts (text ∷ []));
+  there = λ k other g more. elim (pushed texts text other k g) [
+    | inl before ↦ are.there k other before more
+    | inr last ↦
+        let same : k ≡ count = last.0 ∙ are.len in
+        let here : text ≡ slice_range items (begin + slice_index cuts count) (begin + slice_index cuts (count + 1)) = there (omega arith) in
+        last.1 ∙ (here ∙ ap (λ n. slice_range items (begin + slice_index cuts n) (begin + slice_index cuts (n + 1))) (sym same))
+  ];
+  missing = λ k other g over. elim (pushed texts text other k g) [
+    | inl before ↦ are.missing k other before over
+    | inr last ↦ let same : k ≡ count = last.0 ∙ are.len in last.1 ∙ missing (omega arith)
+  ];
+}

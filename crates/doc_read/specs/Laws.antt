@@ -1,0 +1,27 @@
+-- What the definitions imply.
+use Rattle.std.specs.Prelude.{◌≡◌, ℕ, ◌<◌, List, slice_index}
+use Rattle.doc_bits.specs.Rules.{Hold, Breaks, IsLeastOfAll}
+use Rattle.doc_bits.specs.Places.{Place, Upto, IsFirstPlace}
+use Rattle.plain_doc.specs.declared.document.Document.{Document}
+use Rattle.plain_doc.specs.Formed.{IsFormed}
+use Rattle.doc_rules.specs.FileRules.{file_rules}
+use Rattle.doc_read.specs.Holds.{HoldsDocument, all_rules}
+
+-- a file holds at most one document
+abbrev pub DocumentIsOne : Type 0
+DocumentIsOne = (file : List ℕ) (one other : Document) → HoldsDocument file one → HoldsDocument file other → one ≡ other
+
+-- a file of bytes that breaks none of the rules 1 to 56 holds a document, which is well formed
+pub record HoldsFormed (file : List ℕ) : Type 0 where
+  pub document : Document
+  pub holds : HoldsDocument file document
+  pub formed : IsFormed document
+
+abbrev pub FilesHoldDocuments : Type 0
+FilesHoldDocuments = (file : List ℕ) → ((i : ℕ) → slice_index file i < 256) → Hold (file_rules file) → HoldsFormed file
+
+-- the first broken rule of a file is the least of all that are broken, at its least place
+abbrev pub FirstFaultIsLeast : Type 0
+FirstFaultIsLeast =
+    (file : List ℕ) (number : ℕ) (place : Place) → IsFirstPlace (all_rules file) number place →
+    IsLeastOfAll Upto (Breaks (all_rules file)) number place

@@ -1,0 +1,11 @@
+pub mod Entries
+pub mod Sections
+pub mod Marked
+pub mod Passing
+pub mod Reading
+pub mod Items
+pub mod Texts
+pub mod CarriedParts
+pub mod Holds
+pub mod Opened
+pub mod Laws

@@ -1,0 +1,37 @@
+-- What the reader hands out of an accepted file.
+use Rattle.std.specs.Prelude.{◌≡◌, ℕ, List}
+use Rattle.cfb_streams.specs.Contents.{Contents}
+use Rattle.cfb_streams.specs.Container.{HasContents}
+use Rattle.fib_form.specs.FibFields.{FibFields, fib_fields}
+use Rattle.piece_table.specs.Piece.{TextPiece}
+use Rattle.plain_doc.specs.declared.document.Document.{Document}
+use Rattle.plain_doc.specs.Sound.{IsSound}
+use Rattle.doc_rules.specs.PartRules.{PartLists, HasParts}
+use Rattle.doc_rules.specs.FileRules.{FileText, HasText, source_of}
+use Rattle.doc_read.specs.Holds.{IsDocumentFrom, HoldsDocument}
+
+pub record OpenedFile : Type 0 where
+  pub document : Document
+  pub fib : FibFields
+  pub contents : Contents
+  pub pieces : List TextPiece
+
+-- the streams have a text, its FIB has these fields, and these are its pieces; and what the parts hold makes the document
+pub record IsFoundIn (contents : Contents) (document : Document) (fib : FibFields) (pieces : List TextPiece) : Type 0 where
+  pub text : FileText
+  pub has_text : HasText contents text
+  pub lists : PartLists
+  pub has_lists : HasParts (source_of text) lists
+  pub document_is : IsDocumentFrom contents text lists document
+  pub fib_is : fib ≡ fib_fields text.wd
+  pub pieces_are : pieces ≡ text.pieces
+
+-- the document that the file holds, which is sound, the fields of its FIB, its streams with the CLSID, and the pieces of its text
+pub record IsOpened (file : List ℕ) (opened : OpenedFile) : Type 0 where
+  pub holds : HoldsDocument file opened.document
+  pub sound : IsSound opened.document
+  pub has_contents : HasContents file opened.contents
+  pub text : FileText
+  pub has_text : HasText opened.contents text
+  pub fib : opened.fib ≡ fib_fields text.wd
+  pub pieces : opened.pieces ≡ text.pieces

@@ -1,0 +1,144 @@
+-- What the items of a text are read from, as lists by CP, and what is read at each CP.
+use Rattle.std.specs.Prelude.{◌≡◌, ℕ, ◌+◌, ◌<◌, ◌≤◌, ◌^◌, Bool, true, false, List, length, map, zip, All, is_some, slice_get, slice_index, Option, Some, None, ⊤, IsTrue}
+use Rattle.prop_map.specs.Settings.{Settings}
+use Rattle.prop_map.specs.declared.modifiers.Modifier.{Modifier}
+use Rattle.prop_map.specs.Formed.{IsPropertyMap, section_groups}
+use Rattle.prop_map.specs.Modifiers.{IsFormedModifier}
+use Rattle.fkp_pages.specs.declared.kind.PageKind.TheVariants.{Chpx, Papx}
+use Rattle.fkp_pages.specs.Bin.{IsBinTable}
+use Rattle.direct_props.specs.Direct.{IsDirectCharacter, IsDirectMark}
+use Rattle.direct_props.specs.PageRules.{IsRightPlace, AreRightPlaces}
+use Rattle.piece_table.specs.Piece.{TextPiece, UnitPlace, place_of_cp}
+use Rattle.plain_doc.specs.declared.item.Item.{Item}
+use Rattle.plain_doc.specs.declared.item.Mark.{Mark}
+use Rattle.plain_doc.specs.declared.item.NoteKind.{NoteKind}
+use Rattle.plain_doc.specs.Document.{HasPropertyMaps}
+use Rattle.doc_rules.specs.declared.source.Story.TheVariants.{Main}
+use Rattle.doc_rules.specs.Source.{DocSource, story_length}
+use Rattle.doc_rules.specs.FormatRules.{is_paragraph_end}
+use Rattle.doc_rules.specs.PartRules.{PartLists}
+use Rattle.doc_read.specs.declared.marked.TextMarks.{TextMarks}
+use Rattle.doc_read.specs.declared.reading.TextSource.{TextSource}
+use Rattle.doc_read.specs.declared.reading.Passed.{Passed}
+use Rattle.doc_read.specs.Entries.{entry_at}
+use Rattle.doc_read.specs.Sections.{section_lasts}
+use Rattle.doc_read.specs.Marked.{field_bytes as bytes_of_fields, note_kinds as kinds_of_notes}
+use Rattle.doc_read.specs.Passing.{IsPassed, AreListed}
+
+-- the CPs of what stands at CPs, and what stands there
+pub record MarkLists : Type 0 where
+  pub field_cps : List ℕ
+  pub field_bytes : List ℕ
+  pub note_cps : List ℕ
+  pub note_kinds : List NoteKind
+  pub section_cps : List ℕ
+
+abbrev pub mark_lists : TextMarks → MarkLists
+mark_lists marks = record {
+  field_cps = marks.field_cps.items;
+  field_bytes = marks.field_bytes.items;
+  note_cps = marks.note_cps.items;
+  note_kinds = marks.note_kinds.items;
+  section_cps = marks.section_cps.items;
+}
+
+-- those of a document
+pub record AreMarksOf (source : DocSource) (lists : PartLists) (marks : MarkLists) : Type 0 where
+  pub fields : marks.field_cps ≡ map (λ entry. entry.0) (bytes_of_fields source lists)
+  pub bytes : marks.field_bytes ≡ map (λ entry. entry.1) (bytes_of_fields source lists)
+  pub notes : marks.note_cps ≡ map (λ entry. entry.0) (kinds_of_notes lists.refs)
+  pub kinds : marks.note_kinds ≡ map (λ entry. entry.1) (kinds_of_notes lists.refs)
+  pub sections : marks.section_cps ≡ section_lasts lists.sections (story_length source Main)
+
+-- WordDocument, its bin tables, the units and their places, what stands at CPs, and the settings of the sections
+pub record TextView : Type 0 where
+  pub wd : List ℕ
+  pub characters : List ℕ
+  pub paragraphs : List ℕ
+  pub units : List ℕ
+  pub places : List ℕ
+  pub marks : MarkLists
+  pub maps : List Settings
+
+abbrev pub text_view : TextSource → TextView
+text_view text = record {
+  wd = text.wd.now;
+  characters = text.characters.now;
+  paragraphs = text.paragraphs.now;
+  units = text.units.now;
+  places = text.places.now;
+  marks = mark_lists text.marks.now;
+  maps = text.maps.now;
+}
+
+-- what stands at a CP
+abbrev pub field_at : MarkLists → ℕ → Option ℕ
+field_at marks cp = entry_at (zip marks.field_cps marks.field_bytes) cp
+
+abbrev pub note_at : MarkLists → ℕ → Option NoteKind
+note_at marks cp = entry_at (zip marks.note_cps marks.note_kinds) cp
+
+abbrev pub section_at : List ℕ → List Settings → ℕ → Option Settings
+section_at cps maps cp = entry_at (zip cps maps) cp
+
+-- the unit of a CP ends a paragraph
+abbrev pub ends_at : TextView → ℕ → Bool
+ends_at view cp = is_paragraph_end (slice_index view.units cp) (is_some (section_at view.marks.section_cps view.maps cp))
+
+-- each unit has its pages, and what stands at CPs ascends
+pub record IsReadable (view : TextView) : Type 0 where
+  pub character_bins : IsBinTable view.characters
+  pub paragraph_bins : IsBinTable view.paragraphs
+  pub small : length view.wd < 2 ^ 32
+  pub few : length view.units ≤ 500000
+  pub same : length view.places ≡ length view.units
+  pub right_characters : AreRightPlaces Chpx view.wd view.characters view.places
+  pub right_paragraphs :
+      (cp : ℕ) → cp < length view.units → IsTrue (ends_at view cp) → IsRightPlace Papx view.wd view.paragraphs (slice_index view.places cp)
+  pub fields : AreListed view.marks.field_cps view.marks.field_bytes
+  pub notes : AreListed view.marks.note_cps view.marks.note_kinds
+  pub sections : AreListed view.marks.section_cps view.maps
+  pub formed : All (IsPropertyMap section_groups) view.maps
+
+-- what is passed before a CP
+pub record ArePassed (marks : MarkLists) (passed : Passed) (cp : ℕ) : Type 0 where
+  pub fields : IsPassed marks.field_cps passed.field cp
+  pub notes : IsPassed marks.note_cps passed.note cp
+  pub sections : IsPassed marks.section_cps passed.section cp
+
+-- a mark stands exactly where a paragraph ends
+abbrev pub IsMarkAt : Bool → List ℕ → List ℕ → ℕ → Modifier → Option Mark → Type 0
+IsMarkAt true wd bin fc modifier (Some mark) = IsDirectMark wd bin fc modifier mark.istd mark.pap
+IsMarkAt true wd bin fc modifier None = ⊥
+IsMarkAt false wd bin fc modifier (Some mark) = ⊥
+IsMarkAt false wd bin fc modifier None = ⊤
+
+-- the settings of the characters from a CP on
+abbrev pub AreCharactersFrom : TextView → Modifier → ℕ → List Settings → Type 0
+AreCharactersFrom view modifier from chps =
+    (j : ℕ) (chp : Settings) → slice_get chps j ≡ Some chp →
+    IsDirectCharacter view.wd view.characters (slice_index view.places (from + j)) modifier chp
+
+-- the item of a CP, in a piece with the modifier
+pub record IsReadAt (view : TextView) (modifier : Modifier) (cp : ℕ) (item : Item) : Type 0 where
+  pub unit_is : item.unit ≡ slice_index view.units cp
+  pub characters : IsDirectCharacter view.wd view.characters (slice_index view.places cp) modifier item.chp
+  pub sect_is : item.sect ≡ section_at view.marks.section_cps view.maps cp
+  pub mark_is :
+      IsMarkAt (is_paragraph_end item.unit (is_some item.sect)) view.wd view.paragraphs (slice_index view.places cp) modifier item.mark
+  pub fld_is : item.fld ≡ field_at view.marks cp
+  pub note_is : item.note ≡ note_at view.marks cp
+  pub maps : HasPropertyMaps item
+
+-- the same, in the piece that has the CP
+pub record IsPlacedItem (view : TextView) (pieces : List TextPiece) (cp : ℕ) (item : Item) : Type 0 where
+  pub place : UnitPlace
+  pub here : place_of_cp pieces cp ≡ Some place
+  pub read : IsReadAt view place.modifier cp item
+
+abbrev pub ArePlacedItems : TextView → List TextPiece → List Item → Type 0
+ArePlacedItems view pieces items = (cp : ℕ) (item : Item) → slice_get items cp ≡ Some item → IsPlacedItem view pieces cp item
+
+-- the maps of the modifiers are property maps
+abbrev pub HaveFormedModifiers : List TextPiece → Type 0
+HaveFormedModifiers pieces = (k : ℕ) (piece : TextPiece) → slice_get pieces k ≡ Some piece → IsFormedModifier piece.modifier

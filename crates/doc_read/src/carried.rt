@@ -1,0 +1,105 @@
+// What a document carries along unread.
+ghost use Rattle.std.specs.Prelude.{◌≡◌, ◌<◌, ◌^◌, length, IfOk};
+ghost use Rattle.doc_bits.specs.Rules.{Hold};
+ghost use Rattle.cfb_streams.specs.Directory.{upper_case};
+ghost use Rattle.doc_rules.specs.Source.{part_bytes};
+ghost use Rattle.doc_rules.specs.PartRules.{part_rules, HasParts};
+ghost use Rattle.doc_rules.specs.FileRules.{HasText, source_of};
+ghost use Rattle.doc_read.specs.CarriedParts.{AreWithinBounds, HoldsCarried, carried_streams, is_carried as is_other, is_same_name};
+
+use cfb_streams::{Container, Streams};
+use doc_bits::{Bytes, Memory};
+use doc_rules::{DocParts, LoadedText, Source, TablePart};
+use plain_doc::Carried;
+use std::alloc::Global;
+
+/// Reads what the document carries along.
+pub(crate) fn read_carried(
+    alloc: Global,
+    container: &Container,
+    text: &LoadedText<'_>,
+    source: &Source<'_>,
+    parts: &DocParts<'_>,
+) -> Result<Carried, Memory>
+    requires bounds { AreWithinBounds container.now }
+    requires text { HasText container.now text.now }
+    requires same { source.now ≡ source_of text.now }
+    requires rules { Hold (part_rules source.now) }
+    requires lists { HasParts source.now parts.now }
+    ensures { IfOk result (HoldsCarried container.now source.now parts.now.levels) }
+{
+    let fib = text.fib();
+    Ok(Carried {
+        fonts: copy_part(alloc, source, TablePart::SttbfFfn)?,
+        dop: copy_part(alloc, source, TablePart::Dop)?,
+        assoc: copy_part(alloc, source, TablePart::SttbfAssoc)?,
+        lst: copy_part(alloc, source, TablePart::PlfLst)?,
+        levels: Bytes::from_slice(alloc, parts.levels)?,
+        lfo: copy_part(alloc, source, TablePart::PlfLfo)?,
+        clsid: container.clsid(),
+        lid: fib.lid(),
+        lid_fe: fib.lid_fe(),
+        flags: fib.kept_flags(),
+        streams: copy_streams(alloc, container)?,
+    })
+}
+
+/// Copies a part of the table stream.
+fn copy_part(alloc: Global, source: &Source<'_>, part: TablePart) -> Result<Bytes, Memory>
+    ensures bytes { IfOk result (λ copy. copy ≡ part_bytes source.now part) }
+    ensures short { length (part_bytes source.now part) < 2 ^ 32 }
+    ensures small { length source.now.table < 2 ^ 32 }
+{
+    Bytes::from_slice(alloc, source.part(part))
+}
+
+/// Copies the streams that no save makes.
+fn copy_streams(alloc: Global, container: &Container) -> Result<Streams, Memory>
+    requires { AreWithinBounds container.now }
+    ensures { IfOk result (λ streams. streams ≡ carried_streams container.now.streams) }
+{
+    let mut streams = Streams::new(alloc);
+    let count = container.count();
+    for i in 0..count {
+        let name = container.name(i);
+        if is_carried(name) {
+            streams.add(name, container.bytes(i))?;
+        }
+    }
+    Ok(streams)
+}
+
+/// Whether a stream of this name is one that no save makes.
+fn is_carried(name: &[u16]) -> bool
+    ensures { result ≡ is_other name.now }
+{
+    !is_named(name, b"WordDocument") && !is_named(name, b"0Table") && !is_named(name, b"1Table")
+}
+
+/// Whether a name is this one in ASCII. Letters are compared by their upper case.
+fn is_named(name: &[u16], wanted: &[u8]) -> bool
+    ensures { result ≡ is_same_name name.now wanted.now }
+{
+    if name.len() != wanted.len() {
+        return false;
+    }
+    for i in 0..name.len() {
+        if upper(name[i]) != upper(u16::from(wanted[i])) {
+            return false;
+        }
+    }
+    true
+}
+
+/// The upper case of a unit, of ASCII letters alone.
+fn upper(unit: u16) -> u16
+    ensures { result ≡ upper_case unit }
+{
+    if unit < 97 {
+        unit
+    } else if unit < 123 {
+        unit - 32
+    } else {
+        unit
+    }
+}

@@ -1,0 +1,224 @@
+// The items of a text, piece by piece.
+ghost use Rattle.std.specs.Prelude.{◌≡◌, ◌+◌, ◌<◌, ◌≤◌, ◌++◌, ℕ, [], ◌∷◌, length, slice_index, IfOk, OnOk};
+ghost use Rattle.doc_bits.specs.Rules.{Hold};
+ghost use Rattle.prop_map.specs.Modifiers.{IsFormedModifier};
+ghost use Rattle.piece_table.specs.Piece.{total_length};
+ghost use Rattle.piece_table.specs.Clx.{IsClx};
+ghost use Rattle.direct_props.specs.Direct.{IsDirectCharacter};
+ghost use Rattle.plain_doc.specs.declared.item.Item.{Item as ItemType};
+ghost use Rattle.doc_rules.specs.FileRules.{clx_of, source_of};
+ghost use Rattle.doc_rules.specs.FormatRules.{text_count};
+ghost use Rattle.doc_rules.specs.PartRules.{part_rules, HasParts};
+ghost use Rattle.doc_read.specs.Sections.{AreSectionMaps};
+ghost use Rattle.doc_read.specs.Items.{HoldsItems};
+ghost use Rattle.doc_read.specs.Passing.{AddsEach};
+ghost use Rattle.doc_read.specs.Reading.{AreCharactersFrom, ArePassed, ArePlacedItems, HaveFormedModifiers, IsReadable, IsReadAt, mark_lists, text_view};
+
+use crate::SectionMaps;
+use crate::marked::read_marks;
+use crate::reading::{Passed, TextSource, ends_paragraph, item_at, next_marked};
+use direct_props::{CharacterSettings, push_characters};
+use doc_bits::Memory;
+use doc_rules::{DocParts, LoadedText, Source, Story, TablePart};
+use piece_table::PieceList;
+use plain_doc::{Item, Items};
+use prop_map::{Modifier, PropMap};
+use std::alloc::Global;
+
+/// Of so many units the settings are listed at a time.
+const UNITS_AT_ONCE: usize = 512;
+
+/// The items of the CPs of all three stories.
+pub(crate) fn read_items(
+    alloc: Global,
+    text: &LoadedText<'_>,
+    source: &Source<'_>,
+    parts: &DocParts<'_>,
+    sections: &SectionMaps,
+) -> Result<Items, Memory>
+    requires same { source.now ≡ source_of text.now }
+    requires pieces { IsClx (clx_of text.now.wd text.now.table) text.now.pieces }
+    requires rules { Hold (part_rules source.now) }
+    requires lists { HasParts source.now parts.now }
+    requires sections { AreSectionMaps source.now.wd parts.now.sections sections.now }
+    ensures { IfOk result (HoldsItems
+        (record { source = source.now; pieces = text.now.pieces; lists = parts.now; sections = sections.now })
+        0 (text_count source.now)) }
+{
+    has_units(source);
+    let marks = read_marks(alloc, source, parts)?;
+    let lists = TextSource {
+        wd: source.wd(),
+        characters: source.part(TablePart::PlcfBteChpx),
+        paragraphs: source.part(TablePart::PlcfBtePapx),
+        units: source.judged_units(),
+        places: source.judged_places(),
+        marks: &marks,
+        maps: sections,
+    };
+    let items = items_of_pieces(alloc, &lists, text.pieces())?;
+    Ok(Items::from_vec(items))
+}
+
+/// A text has a unit for each CP of its stories. This does nothing when it runs.
+fn has_units(source: &Source<'_>)
+    ensures { text_count source.now ≤ length source.now.text.units }
+{
+    let _begin = source.story_begin(Story::Heads);
+}
+
+/// The items of all pieces, one after the other, as far as there are units.
+fn items_of_pieces(
+    alloc: Global,
+    text: &TextSource<'_>,
+    pieces: &PieceList,
+) -> Result<Vec<Item>, Memory>
+    requires readable { IsReadable (text_view text.now) }
+    requires formed { HaveFormedModifiers pieces.now.pieces }
+    requires enough { length text.now.units.now ≤ total_length pieces.now.pieces }
+    ensures len { IfOk result (λ items. length items.items ≡ length text.now.units.now) }
+    ensures each { IfOk result (λ items. ArePlacedItems (text_view text.now) pieces.now.pieces items.items) }
+{
+    let count = text.units.len();
+    let mut items = Vec::with_capacity(alloc, count)?;
+    let mut passed = Passed {
+        field: 0,
+        note: 0,
+        section: 0,
+    };
+    for i in 0..pieces.len() {
+        // A piece may have one unit more than the stories.
+        let len = (pieces.piece(i).len as usize).min(count - items.len());
+        push_piece(
+            alloc,
+            text,
+            len,
+            pieces.modifier(i),
+            &mut items,
+            &mut passed,
+        )?;
+    }
+    Ok(items)
+}
+
+/// Appends the items of so many units of a piece.
+fn push_piece(
+    alloc: Global,
+    text: &TextSource<'_>,
+    len: usize,
+    modifier: &Modifier,
+    items: &mut Vec<Item>,
+    passed: &mut Passed,
+) -> Result<(), Memory>
+    requires readable { IsReadable (text_view text.now) }
+    requires formed { IsFormedModifier modifier.now }
+    requires within { length items.old.items + len ≤ length text.now.units.now }
+    requires passed { ArePassed (mark_lists text.now.marks.now) passed.old (length items.old.items) }
+    ensures passed { OnOk result (ArePassed (mark_lists text.now.marks.now) passed.new (length items.new.items)) }
+    ensures items { OnOk result (AddsEach (IsReadAt (text_view text.now) modifier.now) len items.old.items items.new.items) }
+{
+    let mut done = 0;
+    while done < len {
+        let some = (len - done).min(UNITS_AT_ONCE);
+        push_chunk(alloc, text, some, modifier, items, passed)?;
+        done += some;
+    }
+    Ok(())
+}
+
+/// Appends the items of so many units of a piece, whose settings are listed at once.
+#[inline(never)]
+fn push_chunk(
+    alloc: Global,
+    text: &TextSource<'_>,
+    len: usize,
+    modifier: &Modifier,
+    items: &mut Vec<Item>,
+    passed: &mut Passed,
+) -> Result<(), Memory>
+    requires readable { IsReadable (text_view text.now) }
+    requires formed { IsFormedModifier modifier.now }
+    requires within { length items.old.items + len ≤ length text.now.units.now }
+    requires passed { ArePassed (mark_lists text.now.marks.now) passed.old (length items.old.items) }
+    ensures passed { OnOk result (ArePassed (mark_lists text.now.marks.now) passed.new (length items.new.items)) }
+    ensures items { OnOk result (AddsEach (IsReadAt (text_view text.now) modifier.now) len items.old.items items.new.items) }
+{
+    let from = items.len();
+    let mut settings = CharacterSettings::new(alloc);
+    push_characters(
+        alloc,
+        text.wd,
+        text.characters,
+        &text.places[from..from + len],
+        modifier,
+        &mut settings,
+    )?;
+    push_items(alloc, text, settings.into_vec(), modifier, items, passed)?;
+    Ok(())
+}
+
+/// Appends an item for each of these settings of characters.
+#[inline(never)]
+fn push_items(
+    alloc: Global,
+    text: &TextSource<'_>,
+    chps: Vec<PropMap>,
+    modifier: &Modifier,
+    items: &mut Vec<Item>,
+    passed: &mut Passed,
+) -> Result<(), Memory>
+    requires readable { IsReadable (text_view text.now) }
+    requires formed { IsFormedModifier modifier.now }
+    requires within { length items.old.items + length chps.items ≤ length text.now.units.now }
+    requires characters { AreCharactersFrom (text_view text.now) modifier.now (length items.old.items) chps.items }
+    requires passed { ArePassed (mark_lists text.now.marks.now) passed.old (length items.old.items) }
+    ensures passed { OnOk result (ArePassed (mark_lists text.now.marks.now) passed.new (length items.new.items)) }
+    ensures items { OnOk result (AddsEach (IsReadAt (text_view text.now) modifier.now) (length chps.items) items.old.items items.new.items) }
+{
+    let mut until = next_marked(text, passed);
+    for chp in chps {
+        until = push_item(alloc, text, chp, modifier, items, passed, until)?;
+    }
+    Ok(())
+}
+
+/// Appends the item of the next CP. Up to the CP `until` nothing stands at one, and the answer is the
+/// next such CP.
+#[inline(always)]
+fn push_item(
+    alloc: Global,
+    text: &TextSource<'_>,
+    chp: PropMap,
+    modifier: &Modifier,
+    items: &mut Vec<Item>,
+    passed: &mut Passed,
+    until: u32,
+) -> Result<u32, Memory>
+    requires readable { IsReadable (text_view text.now) }
+    requires formed { IsFormedModifier modifier.now }
+    requires within { length items.old.items < length text.now.units.now }
+    requires characters { IsDirectCharacter text.now.wd.now text.now.characters.now (slice_index text.now.places.now (length items.old.items)) modifier.now chp }
+    requires passed { ArePassed (mark_lists text.now.marks.now) passed.old (length items.old.items) }
+    requires bare { (at : ℕ) → length items.old.items ≤ at → at ≤ until → ArePassed (mark_lists text.now.marks.now) passed.old at }
+    ensures pushed { OnOk result ((item : ItemType) × (IsReadAt (text_view text.now) modifier.now (length items.old.items) item
+        × (items.new.items ≡ items.old.items ++ item ∷ []))) }
+    ensures passed { OnOk result (ArePassed (mark_lists text.now.marks.now) passed.new (length items.new.items)) }
+    ensures bare { IfOk result (λ next. (at : ℕ) → length items.new.items ≤ at → at ≤ next → ArePassed (mark_lists text.now.marks.now) passed.new at) }
+{
+    let cp = items.len();
+    let unit = text.units[cp];
+    if cp as u32 >= until || ends_paragraph(unit, false) {
+        let item = item_at(alloc, text, cp as u32, chp, modifier, passed)?;
+        items.push(item)?;
+        return Ok(next_marked(text, passed));
+    }
+    items.push(Item {
+        unit,
+        chp,
+        mark: None,
+        sect: None,
+        fld: None,
+        note: None,
+    })?;
+    Ok(until)
+}

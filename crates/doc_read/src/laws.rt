@@ -1,0 +1,17 @@
+// Laws over the definitions alone.
+ghost use Rattle.doc_read.specs.Laws.{DocumentIsOne, FirstFaultIsLeast, FilesHoldDocuments};
+
+/// A file holds at most one document.
+pub fn document_is_one()
+    ensures { DocumentIsOne }
+{}
+
+/// The first broken rule of a file is the least of all that are broken, at its least place.
+pub fn first_fault_is_least()
+    ensures { FirstFaultIsLeast }
+{}
+
+/// A file of bytes that breaks none of the rules 1 to 56 holds a document, which is well formed.
+pub fn files_hold_documents()
+    ensures { FilesHoldDocuments }
+{}

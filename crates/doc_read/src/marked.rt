@@ -1,0 +1,184 @@
+// What stands at CPs of the whole text: field bytes, references to notes, ends of sections.
+ghost use Rattle.std.specs.Prelude.{◌≡◌, ◌+◌, ◌<◌, ◌≤◌, ◌^◌, ◌++◌, ℕ, All, Some, length, map, slice_get, IfOk, OnOk, IfSome};
+ghost use Rattle.prop_map.specs.Formed.{IsPropertyMap, section_groups};
+ghost use Rattle.doc_parts.specs.declared.lists.Fld.{Fld as FldType};
+ghost use Rattle.doc_rules.specs.PartRules.{HasParts};
+ghost use Rattle.doc_read.specs.Sections.{section_lasts};
+ghost use Rattle.doc_read.specs.Marked.{note_kind};
+ghost use Rattle.doc_read.specs.Passing.{AreListed, IsPassed};
+ghost use Rattle.doc_read.specs.Reading.{AreMarksOf, mark_lists, field_at, note_at, section_at};
+
+use crate::SectionMaps;
+use crate::entries::step;
+use doc_bits::Memory;
+use doc_parts::{Flds, Refs, Seds};
+use doc_rules::{DocParts, Source, Story};
+use plain_doc::NoteKind;
+use prop_map::PropMap;
+use std::alloc::Global;
+
+/// The CPs of what stands at CPs, which ascend, and what stands there.
+#[derive(Drop)]
+pub(crate) struct TextMarks {
+    pub(crate) field_cps: Vec<u32>,
+    pub(crate) field_bytes: Vec<u8>,
+    pub(crate) note_cps: Vec<u32>,
+    pub(crate) note_kinds: Vec<NoteKind>,
+    /// The last CP of each section.
+    pub(crate) section_cps: Vec<u32>,
+}
+
+impl TextMarks {
+    /// The byte of the field character at a CP.
+    pub(crate) fn byte_at(&self, next: &mut usize, cp: u32) -> Option<u8>
+        requires listed { AreListed self.now.field_cps.items self.now.field_bytes.items }
+        requires passed { IsPassed self.now.field_cps.items next.old cp }
+        ensures passed { IsPassed self.now.field_cps.items next.new (cp + 1) }
+        ensures byte { result ≡ field_at (mark_lists self.now) cp }
+    {
+        match step(&self.field_cps, next, cp) {
+            None => None,
+            Some(k) => Some(self.field_bytes[k]),
+        }
+    }
+
+    /// The kind of the note that the unit at a CP refers to.
+    pub(crate) fn kind_at(&self, next: &mut usize, cp: u32) -> Option<NoteKind>
+        requires listed { AreListed self.now.note_cps.items self.now.note_kinds.items }
+        requires passed { IsPassed self.now.note_cps.items next.old cp }
+        ensures passed { IsPassed self.now.note_cps.items next.new (cp + 1) }
+        ensures kind { result ≡ note_at (mark_lists self.now) cp }
+    {
+        match step(&self.note_cps, next, cp) {
+            None => None,
+            Some(k) => Some(self.note_kinds[k]),
+        }
+    }
+
+    /// The settings of the section that ends with a CP.
+    pub(crate) fn section_at(
+        &self,
+        alloc: Global,
+        maps: &SectionMaps,
+        next: &mut usize,
+        cp: u32,
+    ) -> Result<Option<PropMap>, Memory>
+        requires listed { AreListed self.now.section_cps.items maps.now }
+        requires maps { All (IsPropertyMap section_groups) maps.now }
+        requires passed { IsPassed self.now.section_cps.items next.old cp }
+        ensures passed { OnOk result (IsPassed self.now.section_cps.items next.new (cp + 1)) }
+        ensures section { IfOk result (λ sect. sect ≡ section_at self.now.section_cps.items maps.now cp) }
+        ensures formed { IfOk result (λ sect. IfSome sect (IsPropertyMap section_groups)) }
+    {
+        match step(&self.section_cps, next, cp) {
+            None => Ok(None),
+            Some(k) => Ok(Some(maps.get(k).copy(alloc)?)),
+        }
+    }
+}
+
+/// Reads what stands at the CPs of the whole text.
+pub(crate) fn read_marks(
+    alloc: Global,
+    source: &Source<'_>,
+    parts: &DocParts<'_>,
+) -> Result<TextMarks, Memory>
+    requires { HasParts source.now parts.now }
+    ensures { IfOk result (λ marks. AreMarksOf source.now parts.now (mark_lists marks)) }
+{
+    let main_len = source.story_len(Story::Main);
+    let notes_len = source.story_len(Story::Notes);
+    let heads_len = source.story_len(Story::Heads);
+    let mut field_cps = Vec::new(alloc);
+    let mut field_bytes = Vec::new(alloc);
+    push_fields(
+        &mut field_cps,
+        &mut field_bytes,
+        0,
+        main_len,
+        &parts.fields.main,
+    )?;
+    push_fields(
+        &mut field_cps,
+        &mut field_bytes,
+        main_len,
+        notes_len,
+        &parts.fields.notes,
+    )?;
+    push_fields(
+        &mut field_cps,
+        &mut field_bytes,
+        main_len + notes_len,
+        heads_len,
+        &parts.fields.heads,
+    )?;
+    let mut note_cps = Vec::new(alloc);
+    let mut note_kinds = Vec::new(alloc);
+    push_notes(&mut note_cps, &mut note_kinds, &parts.notes.refs)?;
+    let section_cps = last_cps(alloc, &parts.sections, main_len)?;
+    Ok(TextMarks {
+        field_cps,
+        field_bytes,
+        note_cps,
+        note_kinds,
+        section_cps,
+    })
+}
+
+/// Appends the field characters of a story of so many units, which begins at a CP of the text.
+fn push_fields(
+    cps: &mut Vec<u32>,
+    bytes: &mut Vec<u8>,
+    begin: u32,
+    len: u32,
+    fields: &Flds,
+) -> Result<(), Memory>
+    requires end { begin + len < 2 ^ 32 }
+    requires within { (k : ℕ) (fld : FldType) → slice_get fields.now k ≡ Some fld → fld.cp < len }
+    ensures cps { OnOk result (cps.new.items ≡ cps.old.items ++ map (λ fld. begin + fld.cp) fields.now) }
+    ensures bytes { OnOk result (bytes.new.items ≡ bytes.old.items ++ map (λ fld. fld.byte) fields.now) }
+{
+    for i in 0..fields.len() {
+        let (cp, _, byte) = fields.get(i);
+        cps.push(begin + cp)?;
+        bytes.push(byte)?;
+    }
+    Ok(())
+}
+
+/// Appends the references to notes.
+fn push_notes(cps: &mut Vec<u32>, kinds: &mut Vec<NoteKind>, refs: &Refs) -> Result<(), Memory>
+    ensures cps { OnOk result (cps.new.items ≡ cps.old.items ++ map (λ ref. ref.cp) refs.now) }
+    ensures kinds { OnOk result (kinds.new.items ≡ kinds.old.items ++ map (λ ref. note_kind ref.auto) refs.now) }
+{
+    for i in 0..refs.len() {
+        let (cp, auto) = refs.get(i);
+        cps.push(cp)?;
+        kinds.push(kind_of(auto))?;
+    }
+    Ok(())
+}
+
+/// How a note is numbered.
+fn kind_of(auto: bool) -> NoteKind
+    ensures { result ≡ note_kind auto }
+{
+    if auto {
+        NoteKind::Auto
+    } else {
+        NoteKind::Custom
+    }
+}
+
+/// The last CP of each section.
+fn last_cps(alloc: Global, sections: &Seds, main_len: u32) -> Result<Vec<u32>, Memory>
+    ensures { IfOk result (λ cps. cps.items ≡ section_lasts sections.now main_len) }
+{
+    let mut cps = Vec::new(alloc);
+    for k in 1..sections.len() {
+        let (start, _) = sections.get(k);
+        cps.push(start.saturating_sub(1))?;
+    }
+    cps.push(main_len.saturating_sub(1))?;
+    Ok(cps)
+}

@@ -1,0 +1,151 @@
+// Reading a whole file.
+ghost use Rattle.std.specs.Prelude.{◌≡◌, MatchResult};
+ghost use Rattle.doc_bits.specs.declared.places.Where.TheVariants.{File};
+ghost use Rattle.doc_bits.specs.Rules.{Hold};
+ghost use Rattle.doc_bits.specs.Places.{rules_in};
+ghost use Rattle.cfb_streams.specs.Container.{container_rules, HasContents};
+ghost use Rattle.plain_doc.specs.Sound.{IsSound, document_rules};
+ghost use Rattle.doc_rules.specs.Faults.{IsReadFault};
+ghost use Rattle.doc_rules.specs.FileRules.{contents_rules};
+ghost use Rattle.doc_read.specs.CarriedParts.{AreWithinBounds};
+ghost use Rattle.doc_read.specs.Holds.{all_rules};
+ghost use Rattle.doc_read.specs.Opened.{IsFoundIn, IsOpened};
+
+use crate::document::read_document;
+use cfb_streams::Container;
+use doc_rules::{ReadFault, load_text, read_parts, refused_container};
+use fib_form::Fib;
+use piece_table::PieceList;
+use plain_doc::{Document, check};
+use std::alloc::Global;
+use std::marker::Model;
+
+/// An accepted file: its document, its FIB, its streams, and the pieces of its text.
+#[derive(Drop)]
+pub struct Opened {
+    document: Document,
+    fib: Fib,
+    container: Container,
+    pieces: PieceList,
+}
+
+impl Model for Opened {
+    ghost use Rattle.doc_read.specs.Opened.{OpenedFile};
+    ghost use Rattle.std.specs.Coded.{codes};
+    ghost use Rattle.piece_table.specs.Codes.{piece_code};
+    ghost use Rattle.plain_doc.specs.contracts.document.Document as whole;
+
+    ghost Value = { OpenedFile };
+
+    ghost coded = { Prim.hlevel (codes, whole.the_row.coded, piece_code) };
+
+    ghost view = { λ o. record { document = o.document; fib = o.fib; contents = o.container; pieces = o.pieces.pieces } };
+}
+
+impl Opened {
+    pub fn document(&self) -> &Document
+        ensures { result.now ≡ self.now.document }
+    {
+        &self.document
+    }
+
+    pub fn fib(&self) -> &Fib
+        ensures { result.now ≡ self.now.fib }
+    {
+        &self.fib
+    }
+
+    pub fn container(&self) -> &Container
+        ensures { result.now ≡ self.now.contents }
+    {
+        &self.container
+    }
+
+    pub fn pieces(&self) -> &PieceList
+        ensures { result.now.pieces ≡ self.now.pieces }
+    {
+        &self.pieces
+    }
+
+    /// The same four. It takes no memory.
+    pub fn into_parts(self) -> (Document, Fib, Container, PieceList)
+        ensures document { result.0 ≡ self.document }
+        ensures fib { result.1 ≡ self.fib }
+        ensures contents { result.2 ≡ self.contents }
+        ensures pieces { result.3.pieces ≡ self.pieces }
+    {
+        (self.document, self.fib, self.container, self.pieces)
+    }
+}
+
+/// Reads a file. A file that is refused breaks a rule, and the first is named, at its least place.
+pub fn read(alloc: Global, file: &[u8]) -> Result<Opened, ReadFault>
+    ensures { MatchResult result
+        (λ opened. Hold (all_rules file.now) × IsOpened file.now opened)
+        (IsReadFault (all_rules file.now)) }
+{
+    let container = load(alloc, file)?;
+    let found = read_contents(alloc, &container)?;
+    judge(&found.document)?;
+    Ok(Opened {
+        document: found.document,
+        fib: found.fib,
+        container,
+        pieces: found.pieces,
+    })
+}
+
+/// The streams of a file.
+fn load(alloc: Global, file: &[u8]) -> Result<Container, ReadFault>
+    ensures { MatchResult result
+        (λ container. Hold (rules_in File (container_rules file.now)) × HasContents file.now container × AreWithinBounds container)
+        (IsReadFault (rules_in File (container_rules file.now))) }
+{
+    match Container::load(alloc, file) {
+        Ok(container) => Ok(container),
+        Err(fault) => Err(refused_container(fault)),
+    }
+}
+
+/// What is read from the streams of a file.
+#[derive(Drop)]
+struct Found {
+    document: Document,
+    fib: Fib,
+    pieces: PieceList,
+}
+
+/// Reads the streams of a file.
+fn read_contents(alloc: Global, container: &Container) -> Result<Found, ReadFault>
+    requires { AreWithinBounds container.now }
+    ensures { MatchResult result
+        (λ found. Hold (contents_rules container.now) × IsFoundIn container.now found.document found.fib found.pieces.pieces)
+        (IsReadFault (contents_rules container.now)) }
+{
+    let text = load_text(alloc, container)?;
+    let source = text.source();
+    let parts = read_parts(alloc, &source)?;
+    let document = read_document(alloc, container, &text, &source, parts)?;
+    let (fib, pieces) = text.into_parts();
+    Ok(Found {
+        document,
+        fib,
+        pieces,
+    })
+}
+
+/// Judges a document by the rules on documents.
+fn judge(document: &Document) -> Result<(), ReadFault>
+    ensures { MatchResult result
+        (λ _. IsSound document.now)
+        (IsReadFault (document_rules document.now)) }
+{
+    match check(document) {
+        Ok(()) => Ok(()),
+        Err(fault) => Err(ReadFault::Refused {
+            rule: fault.rule,
+            place: fault.place,
+            offset: fault.at,
+        }),
+    }
+}

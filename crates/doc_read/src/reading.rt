@@ -1,0 +1,124 @@
+// The item of one CP.
+ghost use Rattle.std.specs.Prelude.{◌≡◌, ◌+◌, ◌<◌, ◌≤◌, ◌^◌, ℕ, length, slice_index, IsTrue, IfOk, IfSome, OnOk};
+ghost use Rattle.prop_map.specs.Formed.{IsPropertyMap, paragraph_groups};
+ghost use Rattle.prop_map.specs.Modifiers.{IsFormedModifier};
+ghost use Rattle.fkp_pages.specs.declared.kind.PageKind.TheVariants.{Papx};
+ghost use Rattle.fkp_pages.specs.Bin.{IsBinTable};
+ghost use Rattle.direct_props.specs.Direct.{IsDirectCharacter};
+ghost use Rattle.direct_props.specs.PageRules.{IsRightPlace};
+ghost use Rattle.doc_rules.specs.FormatRules.{is_paragraph_end};
+ghost use Rattle.doc_read.specs.Reading.{IsMarkAt, IsReadable, IsReadAt, ArePassed, mark_lists, text_view};
+
+use crate::SectionMaps;
+use crate::entries::next_cp;
+use crate::marked::TextMarks;
+use direct_props::read_mark;
+use doc_bits::Memory;
+use plain_doc::{Item, Mark};
+use prop_map::{Modifier, PropMap};
+use std::alloc::Global;
+use text_codes::{CELL_MARK, PARAGRAPH_MARK, SECTION_MARK};
+
+/// What the items of a text are read from: `WordDocument` with its bin tables, the units and their
+/// places by CP, and what stands at CPs.
+#[derive(Drop)]
+pub(crate) struct TextSource<'a> {
+    pub(crate) wd: &'a [u8],
+    pub(crate) characters: &'a [u8],
+    pub(crate) paragraphs: &'a [u8],
+    pub(crate) units: &'a [u16],
+    pub(crate) places: &'a [u32],
+    pub(crate) marks: &'a TextMarks,
+    pub(crate) maps: &'a SectionMaps,
+}
+
+/// How many CPs of each list are passed.
+#[derive(Clone, Copy)]
+pub(crate) struct Passed {
+    pub(crate) field: usize,
+    pub(crate) note: usize,
+    pub(crate) section: usize,
+}
+
+/// Reads the item of a CP, which has these settings of characters and stands in a piece with the
+/// modifier.
+pub(crate) fn item_at(
+    alloc: Global,
+    text: &TextSource<'_>,
+    cp: u32,
+    chp: PropMap,
+    modifier: &Modifier,
+    passed: &mut Passed,
+) -> Result<Item, Memory>
+    requires readable { IsReadable (text_view text.now) }
+    requires within { cp < length text.now.units.now }
+    requires formed { IsFormedModifier modifier.now }
+    requires characters { IsDirectCharacter text.now.wd.now text.now.characters.now (slice_index text.now.places.now cp) modifier.now chp }
+    requires passed { ArePassed (mark_lists text.now.marks.now) passed.old cp }
+    ensures passed { OnOk result (ArePassed (mark_lists text.now.marks.now) passed.new (cp + 1)) }
+    ensures item { IfOk result (IsReadAt (text_view text.now) modifier.now cp) }
+{
+    let unit = text.units[cp as usize];
+    let place = text.places[cp as usize];
+    let fld = text.marks.byte_at(&mut passed.field, cp);
+    let note = text.marks.kind_at(&mut passed.note, cp);
+    let sect = text
+        .marks
+        .section_at(alloc, text.maps, &mut passed.section, cp)?;
+    let ends = ends_paragraph(unit, sect.is_some());
+    let mark = mark_at(alloc, text.wd, text.paragraphs, place, modifier, ends)?;
+    Ok(Item {
+        unit,
+        chp,
+        mark,
+        sect,
+        fld,
+        note,
+    })
+}
+
+/// The next CP where something stands, or the greatest number.
+pub(crate) fn next_marked(text: &TextSource<'_>, passed: &Passed) -> u32
+    requires readable { IsReadable (text_view text.now) }
+    ensures { (cp at : ℕ) → ArePassed (mark_lists text.now.marks.now) passed.now cp → cp ≤ at → at ≤ result
+        → ArePassed (mark_lists text.now.marks.now) passed.now at }
+{
+    let field = next_cp(&text.marks.field_cps, passed.field);
+    let note = next_cp(&text.marks.note_cps, passed.note);
+    let section = next_cp(&text.marks.section_cps, passed.section);
+    field.min(note).min(section)
+}
+
+/// Whether a unit ends a paragraph. `section_end` says that a section ends with it.
+pub(crate) fn ends_paragraph(unit: u16, section_end: bool) -> bool
+    ensures { result ≡ is_paragraph_end unit section_end }
+{
+    unit == PARAGRAPH_MARK || (unit == CELL_MARK || (unit == SECTION_MARK && section_end))
+}
+
+/// Reads the mark of a unit that ends a paragraph.
+fn mark_at(
+    alloc: Global,
+    wd: &[u8],
+    bin: &[u8],
+    fc: u32,
+    modifier: &Modifier,
+    ends: bool,
+) -> Result<Option<Mark>, Memory>
+    requires table { IsBinTable bin.now }
+    requires small { length wd.now < 2 ^ 32 }
+    requires right { IsTrue ends → IsRightPlace Papx wd.now bin.now fc }
+    requires formed { IsFormedModifier modifier.now }
+    ensures mark { IfOk result (λ mark. IsMarkAt ends wd.now bin.now fc modifier.now mark) }
+    ensures formed { IfOk result (λ mark. IfSome mark (λ mark. IsPropertyMap paragraph_groups mark.pap)) }
+{
+    if ends {
+        let mark = read_mark(alloc, wd, bin, fc, modifier)?;
+        Ok(Some(Mark {
+            istd: mark.istd,
+            pap: mark.pap,
+        }))
+    } else {
+        Ok(None)
+    }
+}

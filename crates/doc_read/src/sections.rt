@@ -1,0 +1,92 @@
+// The settings of the sections.
+ghost use Rattle.std.specs.Prelude.{◌≡◌, ◌≢◌, ◌<◌, length, slice_get, Some, IfOk};
+ghost use Rattle.doc_bits.specs.Rules.{Hold, Nowhere};
+ghost use Rattle.sprm_table.specs.Sprm.{IsAcceptedList};
+ghost use Rattle.prop_map.specs.Formed.{IsPropertyMap};
+ghost use Rattle.doc_rules.specs.SectionRules.{HasSections, HasSepxFault, LacksSepx, rules_of_sections, section_groups, sepx_list};
+ghost use Rattle.doc_read.specs.Sections.{AreSectionMaps, IsSectionSettings};
+
+use doc_bits::Memory;
+use doc_parts::{NO_SEPX, Seds, sepx};
+use doc_rules::Source;
+use prop_map::{PropMap, act};
+use std::alloc::Global;
+use std::marker::Model;
+
+/// A Sepx holds the sprms of sections.
+const SECTION_GROUPS: u8 = 1 << 4;
+
+/// The settings of each section. A map may be shared.
+#[derive(Drop)]
+pub(crate) struct SectionMaps {
+    maps: Vec<PropMap>,
+}
+
+impl Model for SectionMaps {
+    ghost use Rattle.std.specs.Prelude.{List};
+    ghost use Rattle.std.specs.Coded.{coded_list};
+    ghost use Rattle.prop_map.specs.Settings.{Settings, settings_code};
+
+    ghost Value = { List Settings };
+
+    ghost coded = { coded_list settings_code };
+
+    ghost view = { λ m. m.maps.items };
+}
+
+impl SectionMaps {
+    pub(crate) fn get(&self, k: usize) -> &PropMap
+        requires { k < length self.now }
+        ensures { slice_get self.now k ≡ Some result.now }
+    {
+        &self.maps[k]
+    }
+}
+
+/// Reads the settings of the sections.
+pub(crate) fn read_section_maps(
+    alloc: Global,
+    source: &Source<'_>,
+    sections: &Seds,
+) -> Result<SectionMaps, Memory>
+    requires rules { Hold (rules_of_sections source.now) }
+    requires sections { HasSections source.now sections.now }
+    ensures { IfOk result (AreSectionMaps source.now.wd sections.now) }
+{
+    let wd = source.wd();
+    let mut maps = Vec::with_capacity(alloc, sections.len())?;
+    for k in 0..sections.len() {
+        let (_, fc) = sections.get(k);
+        maps.push(read_section(alloc, wd, fc)?)?;
+    }
+    Ok(SectionMaps { maps })
+}
+
+/// Reads the settings of a section whose Sepx stands at `fc`.
+fn read_section(alloc: Global, wd: &[u8], fc: u32) -> Result<PropMap, Memory>
+    requires there { ¬ (LacksSepx wd.now fc) }
+    requires right { Nowhere (HasSepxFault wd.now fc) }
+    ensures settings { IfOk result (IsSectionSettings wd.now fc) }
+    ensures formed { IfOk result (IsPropertyMap section_groups) }
+{
+    let none = PropMap::new(alloc);
+    if fc == NO_SEPX {
+        return Ok(none);
+    }
+    let acted = act(alloc, section_list(wd, fc), SECTION_GROUPS, &none)?;
+    Ok(acted.map)
+}
+
+/// The list of the Sepx at `fc`.
+fn section_list(wd: &[u8], fc: u32) -> &[u8]
+    requires settings { fc ≢ NO_SEPX }
+    requires there { ¬ (LacksSepx wd.now fc) }
+    requires right { Nowhere (HasSepxFault wd.now fc) }
+    ensures list { result.now ≡ sepx_list wd.now fc }
+    ensures accepted { IsAcceptedList result.now section_groups }
+{
+    match sepx(wd, fc) {
+        None => unreachable!(),
+        Some((from, to)) => &wd[from..to],
+    }
+}
