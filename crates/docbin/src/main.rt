@@ -1,23 +1,8 @@
 //! `docbin`: the program over documents of Word 97.
 #![tactic(auto)]
 
-#[cfg(test)]
-mod hello;
-mod lines;
-mod listing;
-mod main_text;
-mod pair_rules;
-mod refusal;
-mod request;
-mod run;
-mod shown_pieces;
-mod table_text;
-#[cfg(test)]
-mod tests;
-mod unit_runs;
-
-use crate::run::{STATUS_MEMORY, docbin_run};
 use doc_outer::{HostShelf, HostSink};
+use doc_run::{STATUS_MEMORY, docbin_run};
 use std::alloc::{AllocError, Global};
 use std::env;
 use std::io::ErrorKind;

@@ -1,0 +1,4 @@
+pub mod EndingLemmas
+pub mod ListingLemmas
+pub mod PositionLemmas
+pub mod OneLemmas

@@ -1,8 +1,0 @@
-pub mod EndingLemmas
-pub mod PieceLemmas
-pub mod RunLemmas
-pub mod TableLemmas
-pub mod ContentsLemmas
-pub mod RefusalLemmas
-pub mod ListingLemmas
-pub mod OneLemmas
