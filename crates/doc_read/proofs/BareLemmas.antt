@@ -8,7 +8,7 @@ use Rattle.prop_map.specs.Modifiers.{IsFormedModifier}
 use Rattle.direct_props.specs.Direct.{IsDirectCharacter}
 use Rattle.plain_doc.specs.declared.item.Item.{Item}
 use Rattle.plain_doc.proofs.FormedLemmas.{HasPropertyMaps-from_parts}
-use Rattle.doc_rules.specs.FormatRules.{is_paragraph_end}
+use Rattle.doc_load.specs.FormatRules.{is_paragraph_end}
 use Rattle.doc_read.specs.declared.reading.Passed.{Passed}
 use Rattle.doc_read.specs.Passing.{AreUp, IsPassed, IsNotAmong}
 use Rattle.doc_read.specs.Reading.{ArePassed, IsMarkAt, IsReadAt, TextView}

@@ -7,10 +7,10 @@ use Rattle.doc_parts.specs.declared.lists.Sed.{Sed}
 use Rattle.doc_parts.specs.declared.lists.Fld.{Fld}
 use Rattle.doc_parts.specs.Cps.{AreCpsInOrder}
 use Rattle.doc_parts.specs.Fields.{fld_cps}
-use Rattle.doc_rules.specs.declared.source.Story.TheVariants.{Main, Notes}
-use Rattle.doc_rules.specs.Source.{DocSource, story_length}
-use Rattle.doc_rules.specs.PartRules.{PartLists}
-use Rattle.doc_rules.proofs.FormatLemmas.{later-more}
+use Rattle.doc_load.specs.declared.source.Story.TheVariants.{Main, Notes}
+use Rattle.doc_load.specs.Source.{DocSource, story_length}
+use Rattle.doc_load.specs.PartRules.{PartLists}
+use Rattle.doc_load.proofs.FormatLemmas.{later-more}
 use Rattle.doc_read.specs.Sections.{section_lasts}
 use Rattle.doc_read.specs.Marked.{story_bytes, field_bytes}
 use Rattle.doc_read.proofs.MarkListLemmas.{map_twice, three_parts}

@@ -4,12 +4,12 @@ use Rattle.prop_map.specs.Settings.{Settings}
 use Rattle.cfb_streams.specs.Contents.{Contents}
 use Rattle.plain_doc.specs.declared.item.Item.{Item}
 use Rattle.plain_doc.specs.declared.document.Document.{Document}
-use Rattle.doc_rules.specs.declared.source.Story.TheVariants.{Main, Notes, Heads}
-use Rattle.doc_rules.specs.declared.table_parts.TablePart.TheVariants.{PlcfHdd}
-use Rattle.doc_rules.specs.Source.{DocSource, part_bytes, story_length, story_begin}
-use Rattle.doc_rules.specs.FormatRules.{text_count}
-use Rattle.doc_rules.specs.PartRules.{PartLists, HasParts}
-use Rattle.doc_rules.specs.FileRules.{FileText, source_of}
+use Rattle.doc_load.specs.declared.source.Story.TheVariants.{Main, Notes, Heads}
+use Rattle.doc_load.specs.declared.table_parts.TablePart.TheVariants.{PlcfHdd}
+use Rattle.doc_load.specs.Source.{DocSource, part_bytes, story_length, story_begin}
+use Rattle.doc_load.specs.FormatRules.{text_count}
+use Rattle.doc_load.specs.PartRules.{PartLists, HasParts}
+use Rattle.doc_load.specs.FileRules.{FileText, source_of}
 use Rattle.doc_read.specs.Sections.{AreSectionMaps}
 use Rattle.doc_read.specs.Items.{TextParts, HoldsItems}
 use Rattle.doc_read.specs.Texts.{AreCutsWithin, AreCutFrom}

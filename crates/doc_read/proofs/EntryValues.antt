@@ -16,10 +16,10 @@ use Rattle.piece_table.proofs.NumberingLemmas.{All-from_slice_get}
 use Rattle.doc_parts.specs.declared.lists.Fld.{Fld}
 use Rattle.doc_parts.specs.Table.{table_of}
 use Rattle.doc_parts.specs.Fields.{AreFields}
-use Rattle.doc_rules.specs.declared.source.Story.TheVariants.{Main, Notes, Heads}
-use Rattle.doc_rules.specs.Units.{unit_at}
-use Rattle.doc_rules.specs.Source.{DocSource, story_begin}
-use Rattle.doc_rules.specs.PartRules.{PartLists}
+use Rattle.doc_load.specs.declared.source.Story.TheVariants.{Main, Notes, Heads}
+use Rattle.doc_load.specs.Units.{unit_at}
+use Rattle.doc_load.specs.Source.{DocSource, story_begin}
+use Rattle.doc_load.specs.PartRules.{PartLists}
 use Rattle.doc_read.specs.Entries.{entry_at}
 use Rattle.doc_read.specs.Marked.{story_bytes, field_bytes}
 use Rattle.doc_read.proofs.ExistTables.{fld_byte}

@@ -15,10 +15,10 @@ use Rattle.fib_form.proofs.FlagLemmas.{kept_flags-kept}
 use Rattle.plain_doc.specs.declared.carried.Carried.{Carried}
 use Rattle.plain_doc.specs.Carried.{ArePartsShort, AreListsWithLevels}
 use Rattle.plain_doc.specs.Formed.{IsFormedCarried}
-use Rattle.doc_rules.specs.declared.table_parts.TablePart.{TablePart}
-use Rattle.doc_rules.specs.declared.table_parts.TablePart.TheVariants.{SttbfFfn, Dop, SttbfAssoc, PlfLst, PlfLfo}
-use Rattle.doc_rules.specs.Source.{DocSource, part_bytes}
-use Rattle.doc_rules.specs.FileRules.{FileText, HasText, source_of}
+use Rattle.doc_load.specs.declared.table_parts.TablePart.{TablePart}
+use Rattle.doc_load.specs.declared.table_parts.TablePart.TheVariants.{SttbfFfn, Dop, SttbfAssoc, PlfLst, PlfLfo}
+use Rattle.doc_load.specs.Source.{DocSource, part_bytes}
+use Rattle.doc_load.specs.FileRules.{FileText, HasText, source_of}
 use Rattle.doc_read.specs.CarriedParts.{carried_streams, AreWithinBounds, HoldsCarried}
 use Rattle.doc_read.proofs.PartLemmas.{short-cons}
 use Rattle.doc_read.proofs.StreamLemmas.{carried-are_streams, carried-fit}

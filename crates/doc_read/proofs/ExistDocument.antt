@@ -14,16 +14,16 @@ use Rattle.piece_table.specs.Piece.{flat_pieces}
 use Rattle.plain_doc.specs.declared.document.Document.{Document}
 use Rattle.plain_doc.specs.Document.{IsFormedItem}
 use Rattle.plain_doc.specs.Formed.{IsFormed}
-use Rattle.doc_rules.specs.declared.table_parts.TablePart.TheVariants.{Clx, PlcfBteChpx, PlcfBtePapx}
-use Rattle.doc_rules.specs.declared.source.Story.TheVariants.{Main, Notes, Heads}
-use Rattle.doc_rules.specs.Units.{unit_at}
-use Rattle.doc_rules.specs.Source.{part_bytes, story_length, story_begin}
-use Rattle.doc_rules.specs.FormatRules.{text_count, judged_places, paragraph_places, format_rules}
-use Rattle.doc_rules.specs.SectionRules.{sed_rules}
-use Rattle.doc_rules.specs.PartRules.{PartLists, HasParts, part_rules}
-use Rattle.doc_rules.specs.FileRules.{FileText, HasText, source_of, wd_name, table_name, clx_of, text_rules}
-use Rattle.doc_rules.proofs.OneLemmas.{sections_one}
-use Rattle.doc_rules.proofs.RightPlaces.{hold_out}
+use Rattle.doc_load.specs.declared.table_parts.TablePart.TheVariants.{Clx, PlcfBteChpx, PlcfBtePapx}
+use Rattle.doc_load.specs.declared.source.Story.TheVariants.{Main, Notes, Heads}
+use Rattle.doc_load.specs.Units.{unit_at}
+use Rattle.doc_load.specs.Source.{part_bytes, story_length, story_begin}
+use Rattle.doc_load.specs.FormatRules.{text_count, judged_places, paragraph_places, format_rules}
+use Rattle.doc_load.specs.SectionRules.{sed_rules}
+use Rattle.doc_load.specs.PartRules.{PartLists, HasParts, part_rules}
+use Rattle.doc_load.specs.FileRules.{FileText, HasText, source_of, wd_name, table_name, clx_of, text_rules}
+use Rattle.doc_load.proofs.OneLemmas.{sections_one}
+use Rattle.doc_load.proofs.RightPlaces.{hold_out}
 use Rattle.style_sheet.specs.Formed.{IsFormedSheet}
 use Rattle.doc_read.specs.Sections.{AreSectionMaps}
 use Rattle.doc_read.specs.Holds.{head_texts, IsDocumentFrom}

@@ -14,11 +14,11 @@ use Rattle.piece_table.specs.ClxRules.{clx_rules}
 use Rattle.piece_table.proofs.ClxLemmas.{parts_unique}
 use Rattle.piece_table.proofs.ClxRuleLemmas.{ascends_of}
 use Rattle.piece_table.proofs.PieceLemmas.{total_of_pieces, length-flat_pieces}
-use Rattle.doc_rules.specs.declared.table_parts.TablePart.TheVariants.{Clx}
-use Rattle.doc_rules.specs.PairRules.{pair_of}
-use Rattle.doc_rules.specs.FileRules.{FileText, HasText, wd_name, table_name, clx_of, table_rules, wd_rules, text_rules}
-use Rattle.doc_rules.proofs.NameLemmas.{named_one}
-use Rattle.doc_rules.proofs.RightPlaces.{hold_out}
+use Rattle.doc_load.specs.declared.table_parts.TablePart.TheVariants.{Clx}
+use Rattle.doc_load.specs.PairRules.{pair_of}
+use Rattle.doc_load.specs.FileRules.{FileText, HasText, wd_name, table_name, clx_of, table_rules, wd_rules, text_rules}
+use Rattle.doc_load.proofs.NameLemmas.{named_one}
+use Rattle.doc_load.proofs.RightPlaces.{hold_out}
 use Rattle.doc_read.proofs.ExistText.{plc_bytes}
 
 -- the rules on the pieces hold of the text that the file has

@@ -14,13 +14,13 @@ use Rattle.piece_table.proofs.NumberingLemmas.{All-from_slice_get}
 use Rattle.plain_doc.specs.declared.item.Item.{Item}
 use Rattle.plain_doc.specs.declared.item.Mark.{Mark}
 use Rattle.plain_doc.specs.Document.{IsFormedItem}
-use Rattle.doc_rules.specs.declared.table_parts.TablePart.TheVariants.{PlcfBteChpx, PlcfBtePapx}
-use Rattle.doc_rules.specs.declared.source.Story.TheVariants.{Main}
-use Rattle.doc_rules.specs.Units.{unit_at}
-use Rattle.doc_rules.specs.Source.{DocSource, part_bytes, story_length}
-use Rattle.doc_rules.specs.FormatRules.{text_count, judged_units, judged_places, section_ends, ends_section, is_paragraph_end, ends_paragraph, paragraph_places}
-use Rattle.doc_rules.specs.PartRules.{PartLists}
-use Rattle.doc_rules.specs.FileRules.{FileText, source_of}
+use Rattle.doc_load.specs.declared.table_parts.TablePart.TheVariants.{PlcfBteChpx, PlcfBtePapx}
+use Rattle.doc_load.specs.declared.source.Story.TheVariants.{Main}
+use Rattle.doc_load.specs.Units.{unit_at}
+use Rattle.doc_load.specs.Source.{DocSource, part_bytes, story_length}
+use Rattle.doc_load.specs.FormatRules.{text_count, judged_units, judged_places, section_ends, ends_section, is_paragraph_end, ends_paragraph, paragraph_places}
+use Rattle.doc_load.specs.PartRules.{PartLists}
+use Rattle.doc_load.specs.FileRules.{FileText, source_of}
 use Rattle.doc_read.specs.Entries.{entry_at}
 use Rattle.doc_read.specs.Sections.{section_lasts, section_marks}
 use Rattle.doc_read.specs.Marked.{field_bytes, note_kinds}

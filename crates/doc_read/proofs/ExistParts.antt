@@ -11,18 +11,18 @@ use Rattle.doc_parts.specs.Table.{table_of, IsRightEntry}
 use Rattle.doc_parts.specs.Fields.{fld_form, fld_cps}
 use Rattle.doc_parts.specs.Levels.{level_start, level_count, list_part}
 use Rattle.doc_parts.proofs.LevelLemmas.{level_start-zero, level_start-up}
-use Rattle.doc_rules.specs.declared.table_parts.TablePart.{TablePart}
-use Rattle.doc_rules.specs.declared.table_parts.TablePart.TheVariants.{Stshf, PlcffndRef, PlfLst}
-use Rattle.doc_rules.specs.declared.source.Story.{Story}
-use Rattle.doc_rules.specs.declared.source.Story.TheVariants.{Main, Notes, Heads}
-use Rattle.doc_rules.specs.Source.{DocSource, part_bytes, part_place, story_begin, story_length, story_units}
-use Rattle.doc_rules.specs.FormatRules.{text_count}
+use Rattle.doc_load.specs.declared.table_parts.TablePart.{TablePart}
+use Rattle.doc_load.specs.declared.table_parts.TablePart.TheVariants.{Stshf, PlcffndRef, PlfLst}
+use Rattle.doc_load.specs.declared.source.Story.{Story}
+use Rattle.doc_load.specs.declared.source.Story.TheVariants.{Main, Notes, Heads}
+use Rattle.doc_load.specs.Source.{DocSource, part_bytes, part_place, story_begin, story_length, story_units}
+use Rattle.doc_load.specs.FormatRules.{text_count}
 use Rattle.fib_form.specs.Fib.{fib_pair}
-use Rattle.doc_rules.specs.PairRules.{pair_of}
-use Rattle.doc_rules.specs.FieldRules.{BreaksAllFields, BreaksStoryFields, field_part, HasFields}
-use Rattle.doc_rules.specs.ListRules.{HasLevels}
-use Rattle.doc_rules.specs.PartRules.{PartLists, HasParts, part_rules}
-use Rattle.doc_rules.proofs.RightPlaces.{hold_out}
+use Rattle.doc_load.specs.PairRules.{pair_of}
+use Rattle.doc_load.specs.FieldRules.{BreaksAllFields, BreaksStoryFields, field_part, HasFields}
+use Rattle.doc_load.specs.ListRules.{HasLevels}
+use Rattle.doc_load.specs.PartRules.{PartLists, HasParts, part_rules}
+use Rattle.doc_load.proofs.RightPlaces.{hold_out}
 use Rattle.doc_read.proofs.ExistTables.{refs_there, fields_there}
 use Rattle.doc_read.proofs.ExistSheet.{sheet_there}
 use Rattle.doc_read.proofs.EntryValues.{AreByteFields, fields_are_bytes}

@@ -10,7 +10,7 @@ use Rattle.prop_map.specs.Formed.{IsPropertyMap, section_groups}
 use Rattle.prop_map.proofs.ActingLemmas.{IsPropertyMap-empty}
 use Rattle.piece_table.proofs.NumberingLemmas.{All-from_slice_get}
 use Rattle.doc_parts.specs.declared.lists.Sed.{Sed}
-use Rattle.doc_rules.specs.SectionRules.{section_fc, sepx_list, BreaksSepxLists}
+use Rattle.doc_load.specs.SectionRules.{section_fc, sepx_list, BreaksSepxLists}
 use Rattle.doc_read.specs.Sections.{IsSectionSettings, AreSectionMaps}
 use Rattle.doc_read.proofs.ByteLists.{AreBytes-range}
 use Rattle.doc_read.proofs.AcceptedLemmas.{accepted_of}

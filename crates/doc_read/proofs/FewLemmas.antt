@@ -2,12 +2,12 @@
 use Rattle.std.proofs.Common.{inl, inr, ap, ℕ, ◌+◌, ◌*◌, ◌<◌, ◌≤◌, ◌^◌, List, length, arith, length-take, length-drop}
 use Rattle.cfb_streams.specs.Contents.{Contents}
 use Rattle.doc_parts.specs.declared.lists.Sed.{Sed}
-use Rattle.doc_rules.specs.declared.table_parts.TablePart.{TablePart}
-use Rattle.doc_rules.specs.declared.table_parts.TablePart.TheVariants.{PlcfSed, PlcffndTxt}
-use Rattle.doc_rules.specs.Source.{DocSource, part_bytes}
-use Rattle.doc_rules.specs.SectionRules.{HasSections}
-use Rattle.doc_rules.specs.NoteRules.{HasNoteCuts}
-use Rattle.doc_rules.specs.FileRules.{FileText, AreSmall, HasText}
+use Rattle.doc_load.specs.declared.table_parts.TablePart.{TablePart}
+use Rattle.doc_load.specs.declared.table_parts.TablePart.TheVariants.{PlcfSed, PlcffndTxt}
+use Rattle.doc_load.specs.Source.{DocSource, part_bytes}
+use Rattle.doc_load.specs.SectionRules.{HasSections}
+use Rattle.doc_load.specs.NoteRules.{HasNoteCuts}
+use Rattle.doc_load.specs.FileRules.{FileText, AreSmall, HasText}
 use Rattle.doc_read.specs.CarriedParts.{AreWithinBounds}
 
 -- the longest stream

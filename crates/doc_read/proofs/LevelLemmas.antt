@@ -8,10 +8,10 @@ use Rattle.doc_bits.proofs.NumberLemmas.{number_at-range}
 use Rattle.doc_parts.specs.Levels.{level_count, level_end, level_start, AreLevelsFrom, list_part, level_rules, HaveLength}
 use Rattle.doc_parts.proofs.LevelLemmas.{level_start-zero, level_start-more, level_start-up, level_count-empty, levels-none}
 use Rattle.plain_doc.specs.Carried.{AreListsWithLevels}
-use Rattle.doc_rules.specs.declared.table_parts.TablePart.TheVariants.{PlfLst}
-use Rattle.doc_rules.specs.Source.{DocSource, part_place, part_bytes}
-use Rattle.doc_rules.specs.ListRules.{rules_of_lists, HasLevels}
-use Rattle.doc_rules.proofs.ListLemmas.{levels_within}
+use Rattle.doc_load.specs.declared.table_parts.TablePart.TheVariants.{PlfLst}
+use Rattle.doc_load.specs.Source.{DocSource, part_place, part_bytes}
+use Rattle.doc_load.specs.ListRules.{rules_of_lists, HasLevels}
+use Rattle.doc_load.proofs.ListLemmas.{levels_within}
 
 -- a byte of a range
 byte-range : (bytes : List ℕ) (from to i : ℕ) → from + i < to → slice_index (slice_range bytes from to) i ≡ slice_index bytes (from + i)

@@ -11,13 +11,13 @@ use Rattle.doc_parts.specs.Cps.{AreCpsInOrder}
 use Rattle.doc_parts.specs.Table.{table_of}
 use Rattle.doc_parts.specs.Fields.{fld_cps}
 use Rattle.doc_parts.specs.Sections.{sed_cps, section_rules}
-use Rattle.doc_rules.specs.declared.table_parts.TablePart.TheVariants.{PlcfSed}
-use Rattle.doc_rules.specs.declared.source.Story.TheVariants.{Main, Notes, Heads}
-use Rattle.doc_rules.specs.Source.{DocSource, part_bytes, part_place, story_length}
-use Rattle.doc_rules.specs.SectionRules.{HasSections, rules_of_sections}
-use Rattle.doc_rules.specs.FormatRules.{section_ends}
-use Rattle.doc_rules.specs.PartRules.{PartLists, HasParts}
-use Rattle.doc_rules.proofs.RightPlaces.{hold_out}
+use Rattle.doc_load.specs.declared.table_parts.TablePart.TheVariants.{PlcfSed}
+use Rattle.doc_load.specs.declared.source.Story.TheVariants.{Main, Notes, Heads}
+use Rattle.doc_load.specs.Source.{DocSource, part_bytes, part_place, story_length}
+use Rattle.doc_load.specs.SectionRules.{HasSections, rules_of_sections}
+use Rattle.doc_load.specs.FormatRules.{section_ends}
+use Rattle.doc_load.specs.PartRules.{PartLists, HasParts}
+use Rattle.doc_load.proofs.RightPlaces.{hold_out}
 use Rattle.doc_read.specs.Sections.{section_lasts}
 use Rattle.doc_read.specs.Marked.{story_bytes, field_bytes, note_kind, note_kinds}
 use Rattle.doc_read.specs.Passing.{AreUp}

@@ -11,11 +11,11 @@ use Rattle.prop_map.proofs.LawLemmas.{acting_one}
 use Rattle.direct_props.specs.Direct.{MakesSettings}
 use Rattle.cfb_streams.proofs.UniqueLemmas.{contents_unique}
 use Rattle.doc_parts.specs.declared.lists.Sed.{Sed}
-use Rattle.doc_rules.specs.SectionRules.{section_fc, section_groups, sepx_list}
-use Rattle.doc_rules.specs.PartRules.{HasParts}
-use Rattle.doc_rules.specs.FileRules.{HasText, source_of}
-use Rattle.doc_rules.proofs.OneLemmas.{parts_one}
-use Rattle.doc_rules.proofs.TextLemmas.{text_one}
+use Rattle.doc_load.specs.SectionRules.{section_fc, section_groups, sepx_list}
+use Rattle.doc_load.specs.PartRules.{HasParts}
+use Rattle.doc_load.specs.FileRules.{HasText, source_of}
+use Rattle.doc_load.proofs.OneLemmas.{parts_one}
+use Rattle.doc_load.proofs.TextLemmas.{text_one}
 use Rattle.doc_read.specs.Sections.{IsSectionSettings, HaveSettings}
 use Rattle.doc_read.specs.Holds.{FileParts, HasFileParts}
 

@@ -11,13 +11,13 @@ use Rattle.direct_props.specs.Direct.{IsDirectCharacter}
 use Rattle.piece_table.specs.Piece.{TextPiece, UnitPlace, flat_pieces, total_length}
 use Rattle.plain_doc.specs.declared.item.Item.{Item}
 use Rattle.plain_doc.specs.declared.item.Mark.{Mark}
-use Rattle.doc_rules.specs.declared.table_parts.TablePart.TheVariants.{PlcfBteChpx, PlcfBtePapx}
-use Rattle.doc_rules.specs.Units.{unit_at}
-use Rattle.doc_rules.specs.Source.{DocSource, part_bytes}
-use Rattle.doc_rules.specs.FileRules.{FileText, source_of}
-use Rattle.doc_rules.specs.FormatRules.{text_count, judged_units, judged_places, is_paragraph_end}
-use Rattle.doc_rules.specs.PartRules.{PartLists}
-use Rattle.doc_rules.proofs.UnitLemmas.{total-more, length-text_units}
+use Rattle.doc_load.specs.declared.table_parts.TablePart.TheVariants.{PlcfBteChpx, PlcfBtePapx}
+use Rattle.doc_load.specs.Units.{unit_at}
+use Rattle.doc_load.specs.Source.{DocSource, part_bytes}
+use Rattle.doc_load.specs.FileRules.{FileText, source_of}
+use Rattle.doc_load.specs.FormatRules.{text_count, judged_units, judged_places, is_paragraph_end}
+use Rattle.doc_load.specs.PartRules.{PartLists}
+use Rattle.doc_load.proofs.UnitLemmas.{total-more, length-text_units}
 use Rattle.doc_read.specs.Marked.{field_bytes, note_kinds}
 use Rattle.doc_read.specs.Items.{TextParts, IsMarkOf, IsItemAt, HoldsItems}
 use Rattle.doc_read.specs.Passing.{AddsEach}

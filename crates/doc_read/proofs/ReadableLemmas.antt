@@ -4,12 +4,12 @@ use Rattle.std.specs.Prelude.{slice_index, is_some}
 use Rattle.std.proofs.lemmas.List.{length-map}
 use Rattle.doc_bits.specs.Rules.{Hold}
 use Rattle.prop_map.specs.Settings.{Settings}
-use Rattle.doc_rules.specs.declared.table_parts.TablePart.TheVariants.{PlcfBteChpx, PlcfBtePapx}
-use Rattle.doc_rules.specs.declared.source.Story.TheVariants.{Main}
-use Rattle.doc_rules.specs.Source.{DocSource, part_bytes, story_length}
-use Rattle.doc_rules.specs.FormatRules.{judged_units, judged_places, ends_section}
-use Rattle.doc_rules.specs.PartRules.{PartLists, HasParts, part_rules}
-use Rattle.doc_rules.proofs.RightPlaces.{bin_tables, right_characters, right_paragraphs}
+use Rattle.doc_load.specs.declared.table_parts.TablePart.TheVariants.{PlcfBteChpx, PlcfBtePapx}
+use Rattle.doc_load.specs.declared.source.Story.TheVariants.{Main}
+use Rattle.doc_load.specs.Source.{DocSource, part_bytes, story_length}
+use Rattle.doc_load.specs.FormatRules.{judged_units, judged_places, ends_section}
+use Rattle.doc_load.specs.PartRules.{PartLists, HasParts, part_rules}
+use Rattle.doc_load.proofs.RightPlaces.{bin_tables, right_characters, right_paragraphs}
 use Rattle.doc_read.specs.Sections.{AreSectionMaps}
 use Rattle.doc_read.specs.Marked.{field_bytes, note_kinds}
 use Rattle.doc_read.specs.Passing.{AreUp}

@@ -10,8 +10,8 @@ use Rattle.doc_parts.specs.declared.lists.Sed.{Sed}
 use Rattle.fkp_pages.specs.declared.kind.PageKind.{PageKind}
 use Rattle.fkp_pages.specs.declared.kind.PageKind.TheVariants.{Papx}
 use Rattle.direct_props.specs.PageRules.{AreRightPlaces, IsRightPlace}
-use Rattle.doc_rules.specs.Source.{DocSource}
-use Rattle.doc_rules.specs.FormatRules.{judged_units, judged_places, section_ends, is_end, ends_section, is_paragraph_end, ends_paragraph, paragraph_places}
+use Rattle.doc_load.specs.Source.{DocSource}
+use Rattle.doc_load.specs.FormatRules.{judged_units, judged_places, section_ends, is_end, ends_section, is_paragraph_end, ends_paragraph, paragraph_places}
 use Rattle.doc_read.specs.Entries.{entry_at}
 use Rattle.doc_read.specs.Sections.{section_lasts}
 use Rattle.doc_read.proofs.EntryLemmas.{entry_some}

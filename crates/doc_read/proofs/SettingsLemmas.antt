@@ -17,10 +17,10 @@ use Rattle.direct_props.proofs.CharacterLemmas.{makes_settings}
 use Rattle.doc_parts.specs.declared.lists.Sed.{Sed}
 use Rattle.doc_parts.specs.Sections.{place_of_fc_sepx}
 use Rattle.doc_parts.proofs.TableLemmas.{slice_get_before, slice_get_push}
-use Rattle.doc_rules.specs.declared.table_parts.TablePart.TheVariants.{PlcfSed}
-use Rattle.doc_rules.specs.Source.{DocSource, part_place}
-use Rattle.doc_rules.specs.SectionRules.{section_fc, section_groups, sepx_list, LacksSepx, HasSepxFault, HasSections, sed_rules, rules_of_sections}
-use Rattle.doc_rules.proofs.OneLemmas.{sections_one}
+use Rattle.doc_load.specs.declared.table_parts.TablePart.TheVariants.{PlcfSed}
+use Rattle.doc_load.specs.Source.{DocSource, part_place}
+use Rattle.doc_load.specs.SectionRules.{section_fc, section_groups, sepx_list, LacksSepx, HasSepxFault, HasSections, sed_rules, rules_of_sections}
+use Rattle.doc_load.proofs.OneLemmas.{sections_one}
 use Rattle.doc_read.specs.Sections.{IsSectionSettings, IsMadeBySepx}
 
 -- the rules on each section hold of those that the document has

@@ -6,10 +6,10 @@ use Rattle.doc_parts.specs.Cps.{AreCpsInOrder}
 use Rattle.doc_parts.specs.Stories.{cut_cps, AreCuts}
 use Rattle.plain_doc.specs.declared.item.Item.{Item}
 use Rattle.plain_doc.proofs.StreamLemmas.{slice_get-take}
-use Rattle.doc_rules.specs.declared.table_parts.TablePart.TheVariants.{PlcffndTxt}
-use Rattle.doc_rules.specs.declared.source.Story.TheVariants.{Notes}
-use Rattle.doc_rules.specs.Source.{DocSource, part_bytes, story_length}
-use Rattle.doc_rules.specs.NoteRules.{HasNoteCuts}
+use Rattle.doc_load.specs.declared.table_parts.TablePart.TheVariants.{PlcffndTxt}
+use Rattle.doc_load.specs.declared.source.Story.TheVariants.{Notes}
+use Rattle.doc_load.specs.Source.{DocSource, part_bytes, story_length}
+use Rattle.doc_load.specs.NoteRules.{HasNoteCuts}
 use Rattle.doc_read.specs.Items.{TextParts, IsItemAt, HoldsItems, HoldsTexts}
 use Rattle.doc_read.specs.Texts.{AreCutsWithin, AreCutFrom}
 use Rattle.doc_read.proofs.SettingsLemmas.{pushed}

@@ -5,8 +5,8 @@ use Rattle.cfb_streams.specs.Contents.{Stream, Contents, NamedBytes}
 use Rattle.cfb_streams.specs.Directory.{upper_case, ComesBefore}
 use Rattle.fib_form.specs.FibFields.{fib_fields}
 use Rattle.plain_doc.specs.declared.carried.Carried.{Carried}
-use Rattle.doc_rules.specs.declared.table_parts.TablePart.TheVariants.{SttbfFfn, Dop, SttbfAssoc, PlfLst, PlfLfo}
-use Rattle.doc_rules.specs.Source.{DocSource, part_bytes}
+use Rattle.doc_load.specs.declared.table_parts.TablePart.TheVariants.{SttbfFfn, Dop, SttbfAssoc, PlfLst, PlfLfo}
+use Rattle.doc_load.specs.Source.{DocSource, part_bytes}
 
 -- the names are equal: they have one length, and their units are equal in upper case
 abbrev pub is_same_name : List ℕ → List ℕ → Bool

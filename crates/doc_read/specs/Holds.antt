@@ -7,10 +7,10 @@ use Rattle.cfb_streams.specs.Contents.{Contents}
 use Rattle.cfb_streams.specs.Container.{HasContents}
 use Rattle.plain_doc.specs.declared.document.Document.{Document}
 use Rattle.plain_doc.specs.Sound.{document_rules}
-use Rattle.doc_rules.specs.declared.source.Story.TheVariants.{Main, Notes, Heads}
-use Rattle.doc_rules.specs.Source.{story_length, story_begin}
-use Rattle.doc_rules.specs.PartRules.{PartLists, HasParts}
-use Rattle.doc_rules.specs.FileRules.{FileText, HasText, source_of, file_rules}
+use Rattle.doc_load.specs.declared.source.Story.TheVariants.{Main, Notes, Heads}
+use Rattle.doc_load.specs.Source.{story_length, story_begin}
+use Rattle.doc_load.specs.PartRules.{PartLists, HasParts}
+use Rattle.doc_load.specs.FileRules.{FileText, HasText, source_of, file_rules}
 use Rattle.doc_read.specs.Sections.{HaveSettings}
 use Rattle.doc_read.specs.Items.{TextParts, HoldsItems, HoldsTexts}
 use Rattle.doc_read.specs.CarriedParts.{HoldsCarried}

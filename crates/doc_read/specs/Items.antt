@@ -5,12 +5,12 @@ use Rattle.piece_table.specs.Piece.{TextPiece, UnitPlace, place_of_cp}
 use Rattle.direct_props.specs.Direct.{IsDirectCharacter, IsDirectMark}
 use Rattle.plain_doc.specs.declared.item.Item.{Item}
 use Rattle.plain_doc.specs.declared.item.Mark.{Mark}
-use Rattle.doc_rules.specs.declared.table_parts.TablePart.TheVariants.{PlcfBteChpx, PlcfBtePapx}
-use Rattle.doc_rules.specs.declared.source.Story.TheVariants.{Main}
-use Rattle.doc_rules.specs.Units.{unit_at}
-use Rattle.doc_rules.specs.Source.{DocSource, part_bytes, story_length}
-use Rattle.doc_rules.specs.FormatRules.{is_paragraph_end}
-use Rattle.doc_rules.specs.PartRules.{PartLists}
+use Rattle.doc_load.specs.declared.table_parts.TablePart.TheVariants.{PlcfBteChpx, PlcfBtePapx}
+use Rattle.doc_load.specs.declared.source.Story.TheVariants.{Main}
+use Rattle.doc_load.specs.Units.{unit_at}
+use Rattle.doc_load.specs.Source.{DocSource, part_bytes, story_length}
+use Rattle.doc_load.specs.FormatRules.{is_paragraph_end}
+use Rattle.doc_load.specs.PartRules.{PartLists}
 use Rattle.doc_read.specs.Entries.{entry_at}
 use Rattle.doc_read.specs.Sections.{section_marks}
 use Rattle.doc_read.specs.Marked.{field_bytes, note_kinds}

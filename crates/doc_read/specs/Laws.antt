@@ -4,7 +4,7 @@ use Rattle.doc_bits.specs.Rules.{Hold, Breaks, IsLeastOfAll}
 use Rattle.doc_bits.specs.Places.{Place, Upto, IsFirstPlace}
 use Rattle.plain_doc.specs.declared.document.Document.{Document}
 use Rattle.plain_doc.specs.Formed.{IsFormed}
-use Rattle.doc_rules.specs.FileRules.{file_rules}
+use Rattle.doc_load.specs.FileRules.{file_rules}
 use Rattle.doc_read.specs.Holds.{HoldsDocument, all_rules}
 
 -- a file holds at most one document

@@ -4,9 +4,9 @@ use Rattle.doc_parts.specs.declared.lists.Fld.{Fld}
 use Rattle.doc_parts.specs.declared.lists.NoteRef.{NoteRef}
 use Rattle.plain_doc.specs.declared.item.NoteKind.{NoteKind}
 use Rattle.plain_doc.specs.declared.item.NoteKind.TheVariants.{Auto, Custom}
-use Rattle.doc_rules.specs.declared.source.Story.TheVariants.{Main, Notes, Heads}
-use Rattle.doc_rules.specs.Source.{DocSource, story_begin}
-use Rattle.doc_rules.specs.PartRules.{PartLists}
+use Rattle.doc_load.specs.declared.source.Story.TheVariants.{Main, Notes, Heads}
+use Rattle.doc_load.specs.Source.{DocSource, story_begin}
+use Rattle.doc_load.specs.PartRules.{PartLists}
 
 -- the field bytes of a story that begins at this CP
 abbrev pub story_bytes : ℕ → List Fld → List (ℕ × ℕ)

@@ -13,10 +13,10 @@ use Rattle.plain_doc.specs.declared.item.Item.{Item}
 use Rattle.plain_doc.specs.declared.item.Mark.{Mark}
 use Rattle.plain_doc.specs.declared.item.NoteKind.{NoteKind}
 use Rattle.plain_doc.specs.Document.{HasPropertyMaps}
-use Rattle.doc_rules.specs.declared.source.Story.TheVariants.{Main}
-use Rattle.doc_rules.specs.Source.{DocSource, story_length}
-use Rattle.doc_rules.specs.FormatRules.{is_paragraph_end}
-use Rattle.doc_rules.specs.PartRules.{PartLists}
+use Rattle.doc_load.specs.declared.source.Story.TheVariants.{Main}
+use Rattle.doc_load.specs.Source.{DocSource, story_length}
+use Rattle.doc_load.specs.FormatRules.{is_paragraph_end}
+use Rattle.doc_load.specs.PartRules.{PartLists}
 use Rattle.doc_read.specs.declared.marked.TextMarks.{TextMarks}
 use Rattle.doc_read.specs.declared.reading.TextSource.{TextSource}
 use Rattle.doc_read.specs.declared.reading.Passed.{Passed}

@@ -5,8 +5,8 @@ use Rattle.prop_map.specs.Settings.{Settings}
 use Rattle.prop_map.specs.Formed.{IsPropertyMap}
 use Rattle.direct_props.specs.Direct.{MakesSettings}
 use Rattle.doc_parts.specs.declared.lists.Sed.{Sed}
-use Rattle.doc_rules.specs.SectionRules.{sepx_list, section_fc, section_groups}
-use Rattle.doc_rules.specs.FormatRules.{section_ends}
+use Rattle.doc_load.specs.SectionRules.{sepx_list, section_fc, section_groups}
+use Rattle.doc_load.specs.FormatRules.{section_ends}
 
 -- [MS-DOC] Sepx: what its list makes of no settings
 pub record IsMadeBySepx (wd : List ℕ) (fc : ℕ) (settings : Settings) : Type 0 where

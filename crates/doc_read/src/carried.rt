@@ -2,14 +2,14 @@
 ghost use Rattle.std.specs.Prelude.{◌≡◌, ◌<◌, ◌^◌, length, IfOk};
 ghost use Rattle.doc_bits.specs.Rules.{Hold};
 ghost use Rattle.cfb_streams.specs.Directory.{upper_case};
-ghost use Rattle.doc_rules.specs.Source.{part_bytes};
-ghost use Rattle.doc_rules.specs.PartRules.{part_rules, HasParts};
-ghost use Rattle.doc_rules.specs.FileRules.{HasText, source_of};
+ghost use Rattle.doc_load.specs.Source.{part_bytes};
+ghost use Rattle.doc_load.specs.PartRules.{part_rules, HasParts};
+ghost use Rattle.doc_load.specs.FileRules.{HasText, source_of};
 ghost use Rattle.doc_read.specs.CarriedParts.{AreWithinBounds, HoldsCarried, carried_streams, is_carried as is_other, is_same_name};
 
 use cfb_streams::{Container, Streams};
 use doc_bits::{Bytes, Memory};
-use doc_rules::{DocParts, LoadedText, Source, TablePart};
+use doc_load::{DocParts, LoadedText, Source, TablePart};
 use plain_doc::Carried;
 use std::alloc::Global;
 

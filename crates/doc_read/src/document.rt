@@ -1,8 +1,8 @@
 // The document of the parts of a file.
 ghost use Rattle.std.specs.Prelude.{◌≡◌, IfOk};
 ghost use Rattle.doc_bits.specs.Rules.{Hold};
-ghost use Rattle.doc_rules.specs.PartRules.{part_rules, HasParts};
-ghost use Rattle.doc_rules.specs.FileRules.{HasText, source_of};
+ghost use Rattle.doc_load.specs.PartRules.{part_rules, HasParts};
+ghost use Rattle.doc_load.specs.FileRules.{HasText, source_of};
 ghost use Rattle.doc_read.specs.CarriedParts.{AreWithinBounds};
 ghost use Rattle.doc_read.specs.Holds.{IsDocumentFrom};
 
@@ -12,7 +12,7 @@ use crate::sections::read_section_maps;
 use crate::texts::cut_texts;
 use cfb_streams::Container;
 use doc_bits::Memory;
-use doc_rules::{DocParts, LoadedText, Source, Story};
+use doc_load::{DocParts, LoadedText, Source, Story};
 use plain_doc::Document;
 use std::alloc::Global;
 

@@ -14,7 +14,7 @@ mod reading;
 mod sections;
 mod texts;
 
-pub use doc_rules::ReadFault;
+pub use doc_load::ReadFault;
 pub use laws::{document_is_one, files_hold_documents, first_fault_is_least};
 pub use opened::{Opened, read};
 pub(crate) use sections::SectionMaps;

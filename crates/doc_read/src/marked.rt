@@ -2,7 +2,7 @@
 ghost use Rattle.std.specs.Prelude.{◌≡◌, ◌+◌, ◌<◌, ◌≤◌, ◌^◌, ◌++◌, ℕ, All, Some, length, map, slice_get, IfOk, OnOk, IfSome};
 ghost use Rattle.prop_map.specs.Formed.{IsPropertyMap, section_groups};
 ghost use Rattle.doc_parts.specs.declared.lists.Fld.{Fld as FldType};
-ghost use Rattle.doc_rules.specs.PartRules.{HasParts};
+ghost use Rattle.doc_load.specs.PartRules.{HasParts};
 ghost use Rattle.doc_read.specs.Sections.{section_lasts};
 ghost use Rattle.doc_read.specs.Marked.{note_kind};
 ghost use Rattle.doc_read.specs.Passing.{AreListed, IsPassed};
@@ -12,7 +12,7 @@ use crate::SectionMaps;
 use crate::entries::step;
 use doc_bits::Memory;
 use doc_parts::{Flds, Refs, Seds};
-use doc_rules::{DocParts, Source, Story};
+use doc_load::{DocParts, Source, Story};
 use plain_doc::NoteKind;
 use prop_map::PropMap;
 use std::alloc::Global;

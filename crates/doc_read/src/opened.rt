@@ -5,15 +5,15 @@ ghost use Rattle.doc_bits.specs.Rules.{Hold};
 ghost use Rattle.doc_bits.specs.Places.{rules_in};
 ghost use Rattle.cfb_streams.specs.Container.{container_rules, HasContents};
 ghost use Rattle.plain_doc.specs.Sound.{IsSound, document_rules};
-ghost use Rattle.doc_rules.specs.Faults.{IsReadFault};
-ghost use Rattle.doc_rules.specs.FileRules.{contents_rules};
+ghost use Rattle.doc_load.specs.Faults.{IsReadFault};
+ghost use Rattle.doc_load.specs.FileRules.{contents_rules};
 ghost use Rattle.doc_read.specs.CarriedParts.{AreWithinBounds};
 ghost use Rattle.doc_read.specs.Holds.{all_rules};
 ghost use Rattle.doc_read.specs.Opened.{IsFoundIn, IsOpened};
 
 use crate::document::read_document;
 use cfb_streams::Container;
-use doc_rules::{ReadFault, load_text, read_parts, refused_container};
+use doc_load::{ReadFault, load_text, read_parts, refused_container};
 use fib_form::Fib;
 use piece_table::PieceList;
 use plain_doc::{Document, check};

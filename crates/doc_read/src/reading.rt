@@ -6,7 +6,7 @@ ghost use Rattle.fkp_pages.specs.declared.kind.PageKind.TheVariants.{Papx};
 ghost use Rattle.fkp_pages.specs.Bin.{IsBinTable};
 ghost use Rattle.direct_props.specs.Direct.{IsDirectCharacter};
 ghost use Rattle.direct_props.specs.PageRules.{IsRightPlace};
-ghost use Rattle.doc_rules.specs.FormatRules.{is_paragraph_end};
+ghost use Rattle.doc_load.specs.FormatRules.{is_paragraph_end};
 ghost use Rattle.doc_read.specs.Reading.{IsMarkAt, IsReadable, IsReadAt, ArePassed, mark_lists, text_view};
 
 use crate::SectionMaps;

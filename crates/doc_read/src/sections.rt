@@ -3,12 +3,12 @@ ghost use Rattle.std.specs.Prelude.{◌≡◌, ◌≢◌, ◌<◌, length, slice
 ghost use Rattle.doc_bits.specs.Rules.{Hold, Nowhere};
 ghost use Rattle.sprm_table.specs.Sprm.{IsAcceptedList};
 ghost use Rattle.prop_map.specs.Formed.{IsPropertyMap};
-ghost use Rattle.doc_rules.specs.SectionRules.{HasSections, HasSepxFault, LacksSepx, rules_of_sections, section_groups, sepx_list};
+ghost use Rattle.doc_load.specs.SectionRules.{HasSections, HasSepxFault, LacksSepx, rules_of_sections, section_groups, sepx_list};
 ghost use Rattle.doc_read.specs.Sections.{AreSectionMaps, IsSectionSettings};
 
 use doc_bits::Memory;
 use doc_parts::{NO_SEPX, Seds, sepx};
-use doc_rules::Source;
+use doc_load::Source;
 use prop_map::{PropMap, act};
 use std::alloc::Global;
 use std::marker::Model;

@@ -1,7 +1,7 @@
 use crate::hello::{Put, WD, hello_file, put_number};
 use crate::read;
 use doc_bits::{Memory, Where};
-use doc_rules::ReadFault;
+use doc_load::ReadFault;
 use std::alloc::Global;
 use std::test::Fail;
 

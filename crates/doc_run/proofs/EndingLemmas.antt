@@ -9,9 +9,9 @@ use Rattle.doc_outer.specs.Held.{Files, Told, IsLonger, IsWhole, file_at}
 use Rattle.cfb_streams.specs.Container.{container_rules}
 use Rattle.doc_run.specs.declared.request.Action.{Action}
 use Rattle.doc_run.specs.declared.request.Action.TheVariants.{Streams, Look}
-use Rattle.doc_rules.specs.declared.fault.ReadFault.{ReadFault}
-use Rattle.doc_rules.specs.declared.fault.ReadFault.TheVariants.{Refused, Memory}
-use Rattle.doc_rules.specs.Faults.{IsReadFault}
+use Rattle.doc_load.specs.declared.fault.ReadFault.{ReadFault}
+use Rattle.doc_load.specs.declared.fault.ReadFault.TheVariants.{Refused, Memory}
+use Rattle.doc_load.specs.Faults.{IsReadFault}
 use Rattle.doc_run.specs.declared.request.View.{View}
 use Rattle.doc_run.specs.declared.request.View.TheVariants.{Text, Check, Show, Props}
 use Rattle.plain_doc.specs.declared.document.Document.{Document}

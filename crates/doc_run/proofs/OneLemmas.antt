@@ -10,7 +10,7 @@ use Rattle.cfb_streams.specs.Container.{container_rules}
 use Rattle.cfb_streams.proofs.SingleLemmas.{container_single}
 use Rattle.cfb_streams.proofs.UniqueLemmas.{contents_unique}
 use Rattle.plain_doc.specs.declared.document.Document.{Document}
-use Rattle.doc_rules.proofs.RefusalLemmas.{single_in}
+use Rattle.doc_load.proofs.RefusalLemmas.{single_in}
 use Rattle.doc_read.proofs.OneDocument.{document_one, all_single}
 use Rattle.doc_show.proofs.OneTextLemmas.{lines_one}
 use Rattle.doc_run.specs.declared.request.Action.{Action}

@@ -7,8 +7,8 @@ use Rattle.doc_outer.specs.Held.{Files, Told, IsAbsent, IsWhole}
 use Rattle.cfb_streams.specs.Contents.{Contents}
 use Rattle.cfb_streams.specs.Container.{container_rules, HasContents}
 use Rattle.plain_doc.specs.declared.document.Document.{Document}
-use Rattle.doc_rules.specs.declared.fault.ReadFault.{ReadFault}
-use Rattle.doc_rules.specs.declared.fault.ReadFault.TheVariants.{Refused, Memory}
+use Rattle.doc_load.specs.declared.fault.ReadFault.{ReadFault}
+use Rattle.doc_load.specs.declared.fault.ReadFault.TheVariants.{Refused, Memory}
 use Rattle.doc_read.specs.Holds.{HoldsDocument, all_rules}
 use Rattle.doc_show.specs.MainText.{main_text_of}
 use Rattle.doc_show.specs.Counts.{accepted_line_of}

@@ -6,11 +6,11 @@ ghost use Rattle.doc_bits.specs.Places.{rules_in};
 ghost use Rattle.cfb_streams.specs.Container.{container_rules};
 ghost use Rattle.doc_run.specs.Lines.{stream_lines};
 ghost use Rattle.doc_run.specs.Endings.{IsListingOf};
-ghost use Rattle.doc_rules.specs.Faults.{IsReadFault};
+ghost use Rattle.doc_load.specs.Faults.{IsReadFault};
 
 use cfb_streams::Container;
 use doc_bits::{Memory, Text};
-use doc_rules::{ReadFault, refused_container};
+use doc_load::{ReadFault, refused_container};
 use std::alloc::Global;
 use text_codes::show_units;
 

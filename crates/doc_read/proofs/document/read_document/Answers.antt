@@ -1,9 +1,9 @@
 use Rattle.std.proofs.Common.{◌≡◌, ◌-◌, ap, length, take, arith}
-use Rattle.doc_rules.specs.declared.source.Story.TheVariants.{Main, Notes, Heads}
-use Rattle.doc_rules.specs.Source.{DocSource, story_length, story_begin}
-use Rattle.doc_rules.specs.FormatRules.{text_count}
-use Rattle.doc_rules.specs.PartRules.{PartLists, HasParts}
-use Rattle.doc_rules.specs.FileRules.{source_of}
+use Rattle.doc_load.specs.declared.source.Story.TheVariants.{Main, Notes, Heads}
+use Rattle.doc_load.specs.Source.{DocSource, story_length, story_begin}
+use Rattle.doc_load.specs.FormatRules.{text_count}
+use Rattle.doc_load.specs.PartRules.{PartLists, HasParts}
+use Rattle.doc_load.specs.FileRules.{source_of}
 use Rattle.doc_read.specs.Sections.{AreSectionMaps}
 use Rattle.doc_read.specs.Items.{HoldsItems}
 use Rattle.doc_read.specs.Texts.{AreCutFrom}

@@ -3,7 +3,7 @@ use Rattle.std.specs.Option.{option_map}
 use Rattle.prop_map.specs.Modifiers.{IsFormedModifier}
 use Rattle.piece_table.specs.declared.pieces.Piece.{Piece}
 use Rattle.piece_table.specs.Piece.{TextPiece}
-use Rattle.doc_rules.proofs.UnitLemmas.{piece_read}
+use Rattle.doc_load.proofs.UnitLemmas.{piece_read}
 use Rattle.doc_read.specs.Passing.{AddsEach}
 use Rattle.doc_read.specs.Reading.{IsReadAt, text_view}
 use Rattle.doc_read.proofs.PlacedLemmas.{modifier_read, placed_more, length-more}

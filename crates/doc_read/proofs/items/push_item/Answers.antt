@@ -1,6 +1,6 @@
 use Rattle.std.proofs.Common.{◌≡◌, ap, subst, ◌+◌, ◌<◌, [], ◌∷◌, false, length, length-append, arith}
 use Rattle.std.specs.Prelude.{slice_index}
-use Rattle.doc_rules.specs.FormatRules.{is_paragraph_end}
+use Rattle.doc_load.specs.FormatRules.{is_paragraph_end}
 use Rattle.doc_read.specs.Reading.{IsReadAt, text_view}
 use Rattle.doc_read.proofs.BareLemmas.{bare_item, bare_read}
 use Rattle.doc_read.proofs.items.push_item.Goals as goal

@@ -1,8 +1,8 @@
 use Rattle.std.proofs.Common.{◌≡◌, ◌∙◌, sym, ap, subst, ◌<◌, ◌≤◌, ◌^◌, length, get_or}
 use Rattle.std.proofs.lemmas.Option.{slice_get-get_or}
 use Rattle.std.proofs.lemmas.List.{length-take-le}
-use Rattle.doc_rules.specs.FileRules.{clx_of}
-use Rattle.doc_rules.specs.FormatRules.{text_count, judged_units}
+use Rattle.doc_load.specs.FileRules.{clx_of}
+use Rattle.doc_load.specs.FormatRules.{text_count, judged_units}
 use Rattle.doc_read.specs.Items.{TextParts, HoldsItems}
 use Rattle.doc_read.specs.Reading.{ArePlacedItems, HaveFormedModifiers, IsReadable, mark_lists}
 use Rattle.doc_read.proofs.ModifierLemmas.{formed_modifiers}

@@ -1,8 +1,8 @@
 use Rattle.std.proofs.lemmas.Result.{err_from_is_err_and}
 use Rattle.doc_bits.specs.Rules.{given}
-use Rattle.doc_rules.specs.PartRules.{part_rules}
-use Rattle.doc_rules.specs.FileRules.{FileText, HasText, source_of, text_rules}
-use Rattle.doc_rules.proofs.RefusalLemmas.{refused-next, refused-given}
+use Rattle.doc_load.specs.PartRules.{part_rules}
+use Rattle.doc_load.specs.FileRules.{FileText, HasText, source_of, text_rules}
+use Rattle.doc_load.proofs.RefusalLemmas.{refused-next, refused-given}
 use Rattle.doc_read.proofs.opened.read_contents.Goals as goal
 
 pub returns-in_err-parts : goal.returns-in_err-parts

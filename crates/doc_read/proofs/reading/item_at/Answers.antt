@@ -1,6 +1,6 @@
 use Rattle.std.proofs.Common.{◌≡◌, ◌∙◌, refl, ap, subst}
 use Rattle.std.specs.Prelude.{slice_index, is_some}
-use Rattle.doc_rules.specs.FormatRules.{is_paragraph_end}
+use Rattle.doc_load.specs.FormatRules.{is_paragraph_end}
 use Rattle.plain_doc.proofs.FormedLemmas.{HasPropertyMaps-from_parts}
 use Rattle.doc_read.specs.Reading.{IsMarkAt}
 use Rattle.doc_read.proofs.ModifierLemmas.{formed_character}

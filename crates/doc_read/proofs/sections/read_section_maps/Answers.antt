@@ -1,7 +1,7 @@
 use Rattle.std.proofs.Common.{◌≡◌, arith}
 use Rattle.doc_parts.specs.declared.lists.Sed.{Sed}
-use Rattle.doc_rules.specs.SectionRules.{section_fc}
-use Rattle.doc_rules.proofs.RowLemmas.{index_of_get}
+use Rattle.doc_load.specs.SectionRules.{section_fc}
+use Rattle.doc_load.proofs.RowLemmas.{index_of_get}
 use Rattle.doc_read.specs.Sections.{IsSectionSettings}
 use Rattle.doc_read.proofs.SettingsLemmas.{sepx-there, sepx-right, maps_more}
 use Rattle.doc_read.proofs.sections.read_section_maps.Goals as goal

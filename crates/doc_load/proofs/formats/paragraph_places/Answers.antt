@@ -1,0 +1,42 @@
+use Rattle.std.proofs.Common.{◌≡◌, ◌∙◌, ap, sym, ◌+◌, ◌<◌, ◌&&◌, false, length, arith}
+use Rattle.std.specs.Prelude.{slice_index}
+use Rattle.std.proofs.lemmas.Bool.{lt-ltb, le-ltb}
+use Rattle.std.proofs.lemmas.List.{get_or_default}
+use Rattle.doc_load.specs.declared.source.Story.TheVariants.{Main}
+use Rattle.doc_load.specs.Source.{story_length}
+use Rattle.doc_load.specs.FormatRules.{is_end, section_ends, ends_section, ends_paragraph, is_paragraph_end, judged_places}
+use Rattle.doc_load.proofs.FormatLemmas.{one-added, none-added}
+use Rattle.doc_load.proofs.formats.paragraph_places.Goals.{then-cp-main_len, else-cp-main_len, then-ends_at+in_ok-push, else-ends_at}
+use Rattle.doc_load.proofs.formats.paragraph_places.Goals as goal
+
+pub loop-cp-preserved : goal.loop-cp-preserved
+loop-cp-preserved c =
+    let source = c.args.source.now in
+    let sections = c.args.sections.now in
+    let main = story_length source Main in
+    let main_is = c.story_len-main_len.ensures.count in
+    let main_len = c.story_len-main_len.result in
+    let cp = c.loop-cp.cp in
+    let marks = c.in_ok-marks.marks.items in
+    let marks_len = c.in_ok-marks.ensures.len in
+    let ends_in : c.if-cp-main_len.ends ≡ ends_section sections main_len cp = elim c.if-cp-main_len.branch [
+      | then-cp-main_len w ↦
+          let low : cp < main_len = w.if-cp-main_len.true in
+          let below : cp + 1 < length marks = omega arith in
+          w.ends-is ∙ (w.index.ensures ∙ (get_or_default marks (cp + 1) w.index.result.now false below ∙ (c.in_ok-marks.ensures.marks (cp + 1) (omega arith) ∙ ap (λ b. b && is_end (section_ends sections main_len) (cp + 1)) (sym (lt-ltb cp main_len low)))))
+      | else-cp-main_len w ↦
+          let high = le-ltb cp main_len w.if-cp-main_len.false in
+          w.ends-is ∙ (high ∙ ap (λ b. b && is_end (section_ends sections main_len) (cp + 1)) (sym high))
+    ] in
+    let ends : c.if-cp-main_len.ends ≡ ends_section sections main cp = ends_in ∙ ap (λ n. ends_section sections n cp) main_is in
+    let units = c.judged_units-units.result.now in
+    let tested : c.ends_at.result ≡ ends_paragraph source sections cp =
+    c.ends_at.ensures ∙ (ap (λ e. is_paragraph_end (slice_index units cp) e) ends ∙ ap (λ us. is_paragraph_end (slice_index us cp) (ends_section sections main cp)) c.judged_units-units.ensures.units) in
+    elim c.if-ends_at.branch [
+      | then-ends_at+in_ok-push w ↦
+          one-added (ends_paragraph source sections) (slice_index (judged_places source)) cp (slice_index c.judged_places-all.result.now cp) c.loop-cp.places.items c.if-ends_at.places.items
+          (sym tested ∙ w.if-ends_at.true) (ap (λ ps. slice_index ps cp) c.judged_places-all.ensures.places) (ap (λ v. v.items) w.places-is ∙ w.in_ok-push.ensures.items) c.loop-cp.invariant
+      | else-ends_at w ↦
+          none-added (ends_paragraph source sections) (slice_index (judged_places source)) cp c.loop-cp.places.items c.if-ends_at.places.items
+          (sym tested ∙ w.if-ends_at.false) (ap (λ v. v.items) w.places-is) c.loop-cp.invariant
+    ]

@@ -1,0 +1,8 @@
+use Rattle.std.proofs.Common.{◌≡◌, filter, map}
+use Rattle.std.specs.List.{range_with_len}
+use Rattle.std.specs.Prelude.{slice_index}
+use Rattle.doc_load.specs.FormatRules.{ends_paragraph, judged_places}
+use Rattle.doc_load.proofs.formats.paragraph_places.Given as goal
+
+abbrev pub invariant-loop-cp : goal.invariant-loop-cp
+invariant-loop-cp l = l.places.items ≡ map (slice_index (judged_places l.source)) (filter (ends_paragraph l.source l.sections) (range_with_len 0 l.cp))

@@ -1,0 +1,7 @@
+use Rattle.doc_bits.specs.Rules.{LeastOrNone, Among}
+use Rattle.doc_load.specs.PairRules.{HasWrongPart}
+use Rattle.doc_load.proofs.pair_rules.wrong_pair.Given as goal
+
+-- it is the least place of the pairs so far
+abbrev pub invariant-loop-k : goal.invariant-loop-k
+invariant-loop-k l = LeastOrNone (Among l.k (HasWrongPart l.wd l.table_len)) l.least

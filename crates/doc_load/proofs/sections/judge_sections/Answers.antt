@@ -1,0 +1,45 @@
+use Rattle.std.proofs.Common.{inl, inr}
+use Rattle.doc_bits.specs.declared.places.Where.TheVariants.{Wd, Table}
+use Rattle.doc_load.specs.declared.table_parts.TablePart.TheVariants.{PlcfSed}
+use Rattle.doc_load.specs.declared.source.Story.TheVariants.{Main}
+use Rattle.doc_load.specs.Source.{part_place, story_units}
+use Rattle.doc_load.specs.SectionRules.{BreaksSectionMarks, BreaksSepxs, BreaksSepxLists}
+use Rattle.doc_load.proofs.RefusalLemmas.{refused-rule, holds-rule}
+use Rattle.doc_load.proofs.sections.judge_sections.Goals as goal
+
+pub returns-in-Some : goal.returns-in-Some
+returns-in-Some c =
+    let source = c.args.source.now in
+    let marks = BreaksSectionMarks (story_units source Main) c.args.list.now (part_place source PlcfSed) in
+    inl (refused-rule Table 34 marks c.in-Some.offset c.in-Some.ensures)
+
+pub returns-in-Some-lost_sepx : goal.returns-in-Some-lost_sepx
+returns-in-Some-lost_sepx c =
+    let source = c.args.source.now in
+    let list = c.args.list.now in
+    let at = part_place source PlcfSed in
+    let marks = BreaksSectionMarks (story_units source Main) list at in
+    let sepxs = BreaksSepxs source.wd list at in
+    inr (holds-rule Table 34 marks c.in_default.ensures, inl (refused-rule Table 35 sepxs c.in-Some-lost_sepx.offset c.in-Some-lost_sepx.ensures))
+
+pub returns-in-Some-sepx_fault : goal.returns-in-Some-sepx_fault
+returns-in-Some-sepx_fault c =
+    let source = c.args.source.now in
+    let list = c.args.list.now in
+    let at = part_place source PlcfSed in
+    let marks = BreaksSectionMarks (story_units source Main) list at in
+    let sepxs = BreaksSepxs source.wd list at in
+    let lists = BreaksSepxLists source.wd list in
+    inr (holds-rule Table 34 marks c.in_default.ensures, inr (holds-rule Table 35 sepxs c.in_default-lost_sepx.ensures, refused-rule Wd 36 lists c.in-Some-sepx_fault.offset c.in-Some-sepx_fault.ensures))
+
+pub returns : goal.returns
+returns c =
+    let source = c.args.source.now in
+    let list = c.args.list.now in
+    let at = part_place source PlcfSed in (
+      holds-rule Table 34 (BreaksSectionMarks (story_units source Main) list at) c.in_default.ensures,
+      (
+        holds-rule Table 35 (BreaksSepxs source.wd list at) c.in_default-lost_sepx.ensures,
+        holds-rule Wd 36 (BreaksSepxLists source.wd list) c.in_default-sepx_fault.ensures,
+      ),
+    )

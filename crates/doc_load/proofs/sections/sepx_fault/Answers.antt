@@ -1,0 +1,34 @@
+use Rattle.std.proofs.Common.{◌≡◌, refl, length, subst, arith}
+use Rattle.doc_bits.specs.Rules.{LeastOrNone, Among}
+use Rattle.doc_bits.proofs.RuleLemmas.{least_step}
+use Rattle.doc_parts.specs.declared.lists.Sed.{Sed}
+use Rattle.doc_parts.specs.Sections.{place_of_fc_sepx}
+use Rattle.doc_load.specs.declared.table_parts.TablePart.TheVariants.{PlcfSed}
+use Rattle.doc_load.specs.Source.{part_place}
+use Rattle.doc_load.specs.SectionRules.{section_fc, LacksSepx, HasSepxFault}
+use Rattle.doc_load.proofs.RowLemmas.{index_of_get}
+use Rattle.doc_load.proofs.sections.sepx_fault.Goals as goal
+
+pub settings_fault-requires-clause-there : goal.settings_fault-requires-clause-there
+settings_fault-requires-clause-there c = λ lacks.
+    let source = c.args.source.now in
+    let list = c.args.list.now in
+    let at = part_place source PlcfSed in
+    let fc : section_fc list c.loop-k.k ≡ c.get-fc.result.1 = index_of_get (λ (sed : Sed). sed.sepx) list c.loop-k.k _ c.get-fc.ensures in
+    let lost : LacksSepx source.wd (section_fc list c.loop-k.k) = rw (fc, ← c.wd-wd.ensures.bytes) lacks in
+    c.requires (place_of_fc_sepx at (length list) c.loop-k.k) (record { entry = c.loop-k.k; below = omega (arith, c.len-k-end.ensures); broken = record { here = refl; broken = lost } })
+
+pub loop-k-preserved : goal.loop-k-preserved
+loop-k-preserved c =
+    let source = c.args.source.now in
+    let list = c.args.list.now in
+    let fc : section_fc list c.loop-k.k ≡ c.get-fc.result.1 = index_of_get (λ (sed : Sed). sed.sepx) list c.loop-k.k _ c.get-fc.ensures in
+    let here : LeastOrNone (HasSepxFault source.wd (section_fc list c.loop-k.k)) c.settings_fault.result = rw (fc, ← c.wd-wd.ensures.bytes) c.settings_fault.ensures in
+    rw c.lesser-least.ensures (least_step (λ k. HasSepxFault source.wd (section_fc list k)) c.loop-k.k _ _ c.loop-k.invariant here)
+
+pub returns : goal.returns
+returns c =
+    let source = c.args.source.now in
+    let list = c.args.list.now in
+    let all : c.loop-k.k ≡ length list = omega (arith, c.len-k-end.ensures) in
+    subst (λ n. LeastOrNone (Among n (λ k. HasSepxFault source.wd (section_fc list k))) c.loop-k.least) all c.loop-k.invariant

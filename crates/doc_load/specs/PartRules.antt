@@ -1,0 +1,61 @@
+-- The rules on the parts of a document, in their order, and what the parts hold.
+use Rattle.std.specs.Prelude.{◌≡◌, ℕ, List}
+use Rattle.doc_bits.specs.Rules.{Rules, ◌then◌}
+use Rattle.doc_bits.specs.Places.{Place}
+use Rattle.style_sheet.specs.Sheet.{Sheet}
+use Rattle.doc_parts.specs.declared.lists.Sed.{Sed}
+use Rattle.doc_parts.specs.declared.lists.Fld.{Fld}
+use Rattle.doc_parts.specs.declared.lists.NoteRef.{NoteRef}
+use Rattle.doc_load.specs.declared.source.Story.TheVariants.{Main, Notes, Heads}
+use Rattle.doc_load.specs.Source.{DocSource}
+use Rattle.doc_load.specs.SectionRules.{rules_of_sections, HasSections}
+use Rattle.doc_load.specs.BinRules.{rules_of_bins}
+use Rattle.doc_load.specs.FormatRules.{rules_of_formats}
+use Rattle.doc_load.specs.SheetRules.{rules_of_sheet, HasSheet}
+use Rattle.doc_load.specs.FieldRules.{rules_of_fields, HasFields}
+use Rattle.doc_load.specs.NoteRules.{rules_of_notes, HasRefs, HasNoteCuts}
+use Rattle.doc_load.specs.HeadRules.{rules_of_heads, HasHeadCuts}
+use Rattle.doc_load.specs.EndRules.{rules_of_ends}
+use Rattle.doc_load.specs.ListRules.{rules_of_lists, HasLevels}
+
+-- the rules 33 to 38
+abbrev pub layout_rules : DocSource → Rules Place
+layout_rules source = rules_of_sections source then rules_of_bins source
+
+-- the rules 52 to 56; those on the document (60 to 71) come next
+abbrev pub story_rules : DocSource → Rules Place
+story_rules source =
+    rules_of_fields source then rules_of_notes source then rules_of_heads source then rules_of_ends source
+    then rules_of_lists source
+
+abbrev pub part_rules : DocSource → Rules Place
+part_rules source = layout_rules source then rules_of_formats source then rules_of_sheet source then story_rules source
+
+-- what the parts hold: the sections, the styles, the field characters of each story, the references to the notes, the CPs that cut
+-- the notes and the header texts, and the bytes of the levels
+pub record PartLists : Type 0 where
+  pub sections : List Sed
+  pub sheet : Sheet
+  pub main_fields : List Fld
+  pub note_fields : List Fld
+  pub head_fields : List Fld
+  pub refs : List NoteRef
+  pub notes : List ℕ
+  pub heads : List ℕ
+  pub levels : List ℕ
+
+-- the document has these
+pub record HasParts (source : DocSource) (parts : PartLists) : Type 0 where
+  pub has_sections : HasSections source parts.sections
+  pub has_sheet : HasSheet source parts.sheet
+  pub has_main_fields : HasFields source Main parts.main_fields
+  pub has_note_fields : HasFields source Notes parts.note_fields
+  pub has_head_fields : HasFields source Heads parts.head_fields
+  pub has_refs : HasRefs source parts.refs
+  pub has_notes : HasNoteCuts source parts.notes
+  pub has_heads : HasHeadCuts source parts.heads
+  pub has_levels : HasLevels source parts.levels
+
+-- it has one of each
+abbrev pub PartsAreOne : Type 0
+PartsAreOne = (source : DocSource) (a b : PartLists) → HasParts source a → HasParts source b → a ≡ b

@@ -1,0 +1,106 @@
+// The rules on the pages: the units of the text, and those that end a paragraph.
+ghost use Rattle.std.specs.Prelude.{◌≡◌, ◌+◌, ◌<◌, ◌≤◌, ◌==◌, ◌||◌, ℕ, false, length, slice_index_or, IfOk, MatchResult};
+ghost use Rattle.doc_bits.specs.Rules.{Hold};
+ghost use Rattle.doc_load.specs.Faults.{IsReadFault};
+ghost use Rattle.doc_load.specs.SectionRules.{HasSections};
+ghost use Rattle.doc_load.specs.BinRules.{rules_of_bins};
+ghost use Rattle.doc_load.specs.FormatRules.{format_rules, is_end, is_paragraph_end, paragraph_places as places_of_paragraphs, rules_of_formats, section_ends};
+
+use crate::fault::refused_page;
+use crate::{ReadFault, Source, Story, TablePart};
+use direct_props::judge_places;
+use doc_bits::Memory;
+use doc_parts::Seds;
+use fkp_pages::PageKind;
+use std::alloc::Global;
+use text_codes::{CELL_MARK, PARAGRAPH_MARK, SECTION_MARK};
+
+/// Judges the pages of the text.
+pub fn judge_formats(alloc: Global, source: &Source<'_>, sections: &Seds) -> Result<(), ReadFault>
+    requires sections { HasSections source.now sections.now }
+    requires bins { Hold (rules_of_bins source.now) }
+    ensures { MatchResult result
+        (λ _. Hold (rules_of_formats source.now))
+        (IsReadFault (rules_of_formats source.now)) }
+{
+    match judge_runs(alloc, source, sections) {
+        Ok(()) => Ok(()),
+        Err(fault) => Err(fault),
+    }
+}
+
+/// Judges the pages of all units, and then those of the ends of paragraphs.
+fn judge_runs(alloc: Global, source: &Source<'_>, sections: &Seds) -> Result<(), ReadFault>
+    requires bins { Hold (rules_of_bins source.now) }
+    ensures { MatchResult result
+        (λ _. Hold (format_rules source.now sections.now))
+        (IsReadFault (format_rules source.now sections.now)) }
+{
+    let characters = source.part(TablePart::PlcfBteChpx);
+    if let Err(fault) = judge_places(
+        PageKind::Chpx,
+        source.wd(),
+        characters,
+        source.judged_places(),
+    ) {
+        return Err(refused_page(fault));
+    }
+    let ends = paragraph_places(alloc, source, sections)?;
+    let paragraphs = source.part(TablePart::PlcfBtePapx);
+    match judge_places(PageKind::Papx, source.wd(), paragraphs, &ends) {
+        Ok(()) => Ok(()),
+        Err(fault) => Err(refused_page(fault)),
+    }
+}
+
+/// The places in `WordDocument` of the units that end a paragraph, by CP.
+fn paragraph_places(alloc: Global, source: &Source<'_>, sections: &Seds) -> Result<Vec<u32>, Memory>
+    ensures { IfOk result (λ places. places.items ≡ places_of_paragraphs source.now sections.now) }
+{
+    let main_len = source.story_len(Story::Main);
+    let marks = section_marks(alloc, sections, main_len)?;
+    let units = source.judged_units();
+    let all = source.judged_places();
+    let mut places = Vec::new(alloc);
+    for cp in 0..units.len() {
+        let ends = cp < main_len as usize && marks[cp + 1];
+        if ends_at(units[cp], ends) {
+            places.push(all[cp])?;
+        }
+    }
+    Ok(places)
+}
+
+/// Whether a unit ends a paragraph. `section_end` says that a section ends with it.
+fn ends_at(unit: u16, section_end: bool) -> bool
+    ensures { result ≡ is_paragraph_end unit section_end }
+{
+    unit == PARAGRAPH_MARK || (unit == CELL_MARK || (unit == SECTION_MARK && section_end))
+}
+
+/// For each CP up to the end of the main text whether a section ends before it.
+fn section_marks(alloc: Global, sections: &Seds, main_len: u32) -> Result<Vec<bool>, Memory>
+    requires { main_len ≤ 500000 }
+    ensures len { IfOk result (λ marks. length marks.items ≡ main_len + 1) }
+    ensures marks { IfOk result (λ marks. (cp : ℕ) → cp ≤ main_len
+        → slice_index_or marks.items cp false ≡ is_end (section_ends sections.now main_len) cp) }
+{
+    let mut marks = vec![in alloc; false; main_len as usize + 1]?;
+    for k in 1..sections.len() {
+        let (start, _) = sections.get(k);
+        mark(&mut marks, start as usize);
+    }
+    mark(&mut marks, main_len as usize);
+    Ok(marks)
+}
+
+/// Marks a CP that is there.
+fn mark(marks: &mut Vec<bool>, at: usize)
+    ensures len { length marks.new.items ≡ length marks.old.items }
+    ensures marks { (cp : ℕ) → cp < length marks.old.items
+        → slice_index_or marks.new.items cp false ≡ (slice_index_or marks.old.items cp false || (at == cp)) }
+{
+    if at < marks.len() {
+        marks[at] = true;
+    }
+}

@@ -1,0 +1,186 @@
+// The streams of a document, its FIB, and the text by CP.
+ghost use Rattle.std.specs.Prelude.{◌≡◌, ◌<◌, ◌^◌, List, ℕ, length, MatchResult};
+ghost use Rattle.doc_bits.specs.Rules.{Hold};
+ghost use Rattle.fib_form.specs.FibFields.{fib_fields};
+ghost use Rattle.doc_load.specs.Faults.{IsReadFault};
+ghost use Rattle.piece_table.specs.Clx.{IsClx};
+ghost use Rattle.doc_load.specs.FileRules.{AreSmall, HasText, IsTextOf, clx_of, source_of, table_name as name_of_table, table_rules, wd_rules, text_rules};
+
+use crate::fault::refused_clx;
+use crate::pair_rules::wrong_pair;
+use crate::table_parts::{pair_in, part_in};
+use crate::{ReadFault, Source, TablePart, TextUnits, read_units};
+use cfb_streams::Container;
+use doc_bits::Where;
+use fib_form::Fib;
+use piece_table::{PieceList, read_clx};
+use std::alloc::Global;
+use std::marker::Model;
+
+const RULE_WORD_DOCUMENT: u8 = 15;
+
+const RULE_TABLE: u8 = 25;
+
+const RULE_PARTS: u8 = 26;
+
+/// Where the flags of the FIB stand, which name the table stream.
+const FLAGS: u32 = 10;
+
+/// `WordDocument`, `0Table` and `1Table` in units.
+const WORD_DOCUMENT: [u16; 12] = [87, 111, 114, 100, 68, 111, 99, 117, 109, 101, 110, 116];
+
+const TABLE_0: [u16; 6] = [48, 84, 97, 98, 108, 101];
+
+const TABLE_1: [u16; 6] = [49, 84, 97, 98, 108, 101];
+
+/// The two streams of a document, with the FIB, the pieces, and the units of the text by CP.
+#[derive(Drop)]
+pub struct LoadedText<'a> {
+    wd: &'a [u8],
+    table: &'a [u8],
+    fib: Fib,
+    pieces: PieceList,
+    units: TextUnits,
+}
+
+impl<'a> Model for LoadedText<'a> {
+    ghost use Rattle.doc_load.specs.FileRules.{FileText, IsLoaded};
+    ghost use Rattle.doc_load.specs.Codes.{text_code};
+
+    ghost Value = { FileText };
+
+    ghost coded = { text_code };
+
+    ghost view = { λ t. record { wd = t.wd.now; table = t.table.now; pieces = t.pieces.pieces } };
+
+    ghost invariant = { λ t. IsLoaded (record { wd = t.wd.now; table = t.table.now; pieces = t.pieces.pieces }) t.fib t.units };
+}
+
+impl<'a> LoadedText<'a> {
+    ghost use Rattle.doc_load.specs.FileRules.{source_of};
+
+    /// What the rules on the parts read.
+    pub fn source(&self) -> Source<'_>
+        ensures { result ≡ source_of self.now }
+    {
+        Source::new(self.wd, &self.fib, self.table, &self.units)
+    }
+
+    pub fn fib(&self) -> &Fib
+        ensures { result.now ≡ fib_fields self.now.wd }
+    {
+        &self.fib
+    }
+
+    pub fn pieces(&self) -> &PieceList
+        ensures { result.now.pieces ≡ self.now.pieces }
+    {
+        &self.pieces
+    }
+
+    /// The FIB and the pieces. It takes no memory.
+    pub fn into_parts(self) -> (Fib, PieceList)
+        ensures fib { result.0 ≡ fib_fields self.entry.wd }
+        ensures pieces { result.1.pieces ≡ self.entry.pieces }
+    {
+        (self.fib, self.pieces)
+    }
+}
+
+/// Loads the text of a document from the streams of its file.
+pub fn load_text<'a>(alloc: Global, container: &'a Container) -> Result<LoadedText<'a>, ReadFault>
+    requires { AreSmall container.now }
+    ensures { MatchResult result
+        (λ text. Hold (text_rules container.now) × HasText container.now text)
+        (IsReadFault (text_rules container.now)) }
+{
+    let Some(wd) = container.stream(&WORD_DOCUMENT) else {
+        return Err(ReadFault::Refused {
+            rule: RULE_WORD_DOCUMENT,
+            place: Where::File,
+            offset: 0,
+        });
+    };
+    load_wd(alloc, container, wd)
+}
+
+/// Loads the text of `WordDocument`.
+fn load_wd<'a>(
+    alloc: Global,
+    container: &'a Container,
+    wd: &'a [u8],
+) -> Result<LoadedText<'a>, ReadFault>
+    requires small { length wd.now < 2 ^ 32 }
+    requires streams { AreSmall container.now }
+    ensures { MatchResult result
+        (λ text. Hold (wd_rules container.now wd.now) × IsTextOf container.now wd.now text)
+        (IsReadFault (wd_rules container.now wd.now)) }
+{
+    let fib = match Fib::read(wd) {
+        Ok(fib) => fib,
+        Err(fault) => {
+            return Err(ReadFault::Refused {
+                rule: fault.rule,
+                place: Where::Wd,
+                offset: fault.offset,
+            });
+        }
+    };
+    let Some(table) = container.stream(table_name(&fib)) else {
+        return Err(ReadFault::Refused {
+            rule: RULE_TABLE,
+            place: Where::Wd,
+            offset: FLAGS,
+        });
+    };
+    load_table(alloc, wd, fib, table)
+}
+
+/// The units of the name of the table stream.
+fn table_name(fib: &Fib) -> &'static [u16]
+    ensures { (wd : List ℕ) → fib.now ≡ fib_fields wd → result.now ≡ name_of_table wd }
+{
+    if fib.which_table() == 1 {
+        &TABLE_1
+    } else {
+        &TABLE_0
+    }
+}
+
+/// Loads the text from both streams.
+fn load_table<'a>(
+    alloc: Global,
+    wd: &'a [u8],
+    fib: Fib,
+    table: &'a [u8],
+) -> Result<LoadedText<'a>, ReadFault>
+    requires small { length wd.now < 2 ^ 32 }
+    requires table_small { length table.now < 2 ^ 32 }
+    requires fields { fib ≡ fib_fields wd.now }
+    ensures { MatchResult result
+        (λ text. Hold (table_rules wd.now table.now) × (text.wd ≡ wd.now) × (text.table ≡ table.now)
+        × IsClx (clx_of wd.now table.now) text.pieces)
+        (IsReadFault (table_rules wd.now table.now)) }
+{
+    if let Some(offset) = wrong_pair(wd, &fib, table.len()) {
+        return Err(ReadFault::Refused {
+            rule: RULE_PARTS,
+            place: Where::Wd,
+            offset,
+        });
+    }
+    let clx = part_in(wd, &fib, table, TablePart::Clx);
+    let (fc, _) = pair_in(wd, &fib, TablePart::Clx);
+    let pieces = match read_clx(alloc, clx, fc, wd.len() as u32, fib.text_len()) {
+        Ok(pieces) => pieces,
+        Err(fault) => return Err(refused_clx(fault)),
+    };
+    let units = read_units(alloc, wd, &pieces)?;
+    Ok(LoadedText {
+        wd,
+        table,
+        fib,
+        pieces,
+        units,
+    })
+}

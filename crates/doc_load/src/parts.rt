@@ -1,0 +1,101 @@
+// The parts of a document, read in the order of their rules.
+ghost use Rattle.std.specs.Prelude.{MatchResult};
+ghost use Rattle.doc_bits.specs.Rules.{Hold};
+ghost use Rattle.doc_load.specs.Faults.{IsReadFault};
+ghost use Rattle.doc_load.specs.SectionRules.{HasSections};
+ghost use Rattle.doc_load.specs.SheetRules.{HasSheet};
+ghost use Rattle.doc_load.specs.PartRules.{layout_rules, story_rules, part_rules, HasParts};
+
+use crate::{
+    Notes, ReadFault, Source, StoryFields, judge_bins, judge_ends, judge_formats, read_fields,
+    read_heads, read_levels, read_notes, read_sections, read_sheet,
+};
+use doc_parts::{Cuts, Seds};
+use std::alloc::Global;
+use std::marker::Model;
+use style_sheet::StyleSheet;
+
+/// What the parts of the table stream hold.
+#[derive(Drop)]
+pub struct DocParts<'a> {
+    pub sections: Seds,
+    pub sheet: StyleSheet,
+    pub fields: StoryFields,
+    pub notes: Notes,
+    /// The CPs that cut the header texts' story.
+    pub heads: Cuts,
+    /// The bytes of the levels of all lists.
+    pub levels: &'a [u8],
+}
+
+impl<'a> Model for DocParts<'a> {
+    ghost use Rattle.doc_load.specs.PartRules.{PartLists};
+    ghost use Rattle.doc_load.specs.Codes.{parts_code};
+
+    ghost Value = { PartLists };
+
+    ghost coded = { parts_code };
+
+    ghost view = { λ p. record {
+      sections = p.sections;
+      sheet = p.sheet;
+      main_fields = p.fields.main;
+      note_fields = p.fields.notes;
+      head_fields = p.fields.heads;
+      refs = p.notes.refs;
+      notes = p.notes.cuts;
+      heads = p.heads;
+      levels = p.levels.now;
+    } };
+}
+
+/// Reads the parts of a document.
+pub fn read_parts<'a>(alloc: Global, source: &Source<'a>) -> Result<DocParts<'a>, ReadFault>
+    ensures { MatchResult result
+        (λ parts. Hold (part_rules source.now) × HasParts source.now parts)
+        (IsReadFault (part_rules source.now)) }
+{
+    let sections = read_layout(alloc, source)?;
+    judge_formats(alloc, source, &sections)?;
+    let sheet = read_sheet(alloc, source)?;
+    read_stories(alloc, source, sections, sheet)
+}
+
+/// Reads the sections, and judges the bin tables.
+fn read_layout(alloc: Global, source: &Source<'_>) -> Result<Seds, ReadFault>
+    ensures { MatchResult result
+        (λ sections. Hold (layout_rules source.now) × HasSections source.now sections)
+        (IsReadFault (layout_rules source.now)) }
+{
+    let sections = read_sections(alloc, source)?;
+    judge_bins(source)?;
+    Ok(sections)
+}
+
+/// Reads what belongs to the stories, and the levels of lists.
+fn read_stories<'a>(
+    alloc: Global,
+    source: &Source<'a>,
+    sections: Seds,
+    sheet: StyleSheet,
+) -> Result<DocParts<'a>, ReadFault>
+    requires sections { HasSections source.now sections }
+    requires sheet { HasSheet source.now sheet }
+    ensures { MatchResult result
+        (λ parts. Hold (story_rules source.now) × HasParts source.now parts)
+        (IsReadFault (story_rules source.now)) }
+{
+    let fields = read_fields(alloc, source)?;
+    let notes = read_notes(alloc, source)?;
+    let heads = read_heads(alloc, source, &sections)?;
+    judge_ends(source, &notes.cuts, &heads)?;
+    let levels = read_levels(source)?;
+    Ok(DocParts {
+        sections,
+        sheet,
+        fields,
+        notes,
+        heads,
+        levels,
+    })
+}

@@ -1,0 +1,150 @@
+// The rules on the sections, one function a rule.
+ghost use Rattle.std.specs.Prelude.{◌≡◌, ◌↔◌, ◌≤◌, ◌<◌, ◌^◌, ◌+◌, length, IsTrue, MatchResult};
+ghost use Rattle.doc_bits.specs.Rules.{Hold, LeastOrNone, Nowhere};
+ghost use Rattle.doc_load.specs.declared.table_parts.TablePart.TheVariants.{PlcfSed};
+ghost use Rattle.doc_load.specs.declared.source.Story.TheVariants.{Main};
+ghost use Rattle.doc_load.specs.Source.{part_place, story_units};
+ghost use Rattle.doc_load.specs.Faults.{IsReadFault};
+ghost use Rattle.doc_load.specs.SectionRules.{LacksSepx, HasSepxFault, BreaksSectionMarks, BreaksSepxs, BreaksSepxLists, HasSections, sed_rules, rules_of_sections};
+
+use crate::fault::refused_part;
+use crate::{ReadFault, Source, Story, TablePart};
+use doc_bits::{Where, lesser};
+use doc_parts::{NO_SEPX, Seds, fc_sepx_place, sections, sepx};
+use sprm_table::list_fault;
+use std::alloc::Global;
+use text_codes::SECTION_MARK;
+
+const RULE_SECTION_MARK: u8 = 34;
+
+const RULE_SEPX: u8 = 35;
+
+const RULE_SEPX_LIST: u8 = 36;
+
+/// A Sepx holds the sprms of sections.
+const SECTION_GROUPS: u8 = 1 << 4;
+
+/// Reads the sections of the main text.
+pub fn read_sections(alloc: Global, source: &Source<'_>) -> Result<Seds, ReadFault>
+    ensures { MatchResult result
+        (λ list. Hold (rules_of_sections source.now) × HasSections source.now list)
+        (IsReadFault (rules_of_sections source.now)) }
+{
+    let plc = source.part(TablePart::PlcfSed);
+    let at = source.place(TablePart::PlcfSed);
+    let list = match sections(alloc, plc, at, source.story_len(Story::Main)) {
+        Ok(list) => list,
+        Err(fault) => return Err(refused_part(fault)),
+    };
+    match judge_sections(source, &list) {
+        Ok(()) => Ok(list),
+        Err(fault) => Err(fault),
+    }
+}
+
+/// Names the first broken rule on each section.
+fn judge_sections(source: &Source<'_>, list: &Seds) -> Result<(), ReadFault>
+    requires { HasSections source.now list.now }
+    ensures { MatchResult result
+        (λ _. Hold (sed_rules source.now list.now))
+        (IsReadFault (sed_rules source.now list.now)) }
+{
+    if let Some(offset) = other_unit(source, list) {
+        return Err(ReadFault::Refused {
+            rule: RULE_SECTION_MARK,
+            place: Where::Table,
+            offset,
+        });
+    }
+    if let Some(offset) = lost_sepx(source, list) {
+        return Err(ReadFault::Refused {
+            rule: RULE_SEPX,
+            place: Where::Table,
+            offset,
+        });
+    }
+    if let Some(offset) = sepx_fault(source, list) {
+        return Err(ReadFault::Refused {
+            rule: RULE_SEPX_LIST,
+            place: Where::Wd,
+            offset,
+        });
+    }
+    Ok(())
+}
+
+/// The first section that begins after another unit than a section mark, by the place of its CP.
+fn other_unit(source: &Source<'_>, list: &Seds) -> Option<u32>
+    requires { HasSections source.now list.now }
+    ensures { LeastOrNone
+        (BreaksSectionMarks (story_units source.now Main) list.now (part_place source.now PlcfSed))
+        result }
+{
+    let units = source.units(Story::Main);
+    let at = source.place(TablePart::PlcfSed);
+    for k in 1..list.len() {
+        let (start, _) = list.get(k);
+        if units[start as usize - 1] != SECTION_MARK {
+            return Some(at + 4 * k as u32);
+        }
+    }
+    None
+}
+
+/// The first section whose Sepx is not there, by the place of its fcSepx.
+fn lost_sepx(source: &Source<'_>, list: &Seds) -> Option<u32>
+    requires { HasSections source.now list.now }
+    ensures { LeastOrNone (BreaksSepxs source.now.wd list.now (part_place source.now PlcfSed)) result }
+{
+    let wd = source.wd();
+    let at = source.place(TablePart::PlcfSed);
+    for k in 0..list.len() {
+        let (_, fc) = list.get(k);
+        if lacks_sepx(wd, fc) {
+            return Some(fc_sepx_place(at, list.len(), k));
+        }
+    }
+    None
+}
+
+/// Whether a section has settings that are not there.
+fn lacks_sepx(wd: &[u8], fc: u32) -> bool
+    ensures { IsTrue result ↔ LacksSepx wd.now fc }
+{
+    if fc == NO_SEPX {
+        return false;
+    }
+    sepx(wd, fc).is_none()
+}
+
+/// The least place of a fault in the settings of a section. They stand in any order.
+fn sepx_fault(source: &Source<'_>, list: &Seds) -> Option<u32>
+    requires { Nowhere (BreaksSepxs source.now.wd list.now (part_place source.now PlcfSed)) }
+    ensures { LeastOrNone (BreaksSepxLists source.now.wd list.now) result }
+{
+    let wd = source.wd();
+    let mut least = None;
+    for k in 0..list.len() {
+        let (_, fc) = list.get(k);
+        least = lesser(least, settings_fault(wd, fc));
+    }
+    least
+}
+
+/// The first fault in the settings of a section, by its place in `WordDocument`.
+fn settings_fault(wd: &[u8], fc: u32) -> Option<u32>
+    requires there { ¬ (LacksSepx wd.now fc) }
+    requires small { length wd.now < 2 ^ 32 }
+    ensures { LeastOrNone (HasSepxFault wd.now fc) result }
+{
+    if fc == NO_SEPX {
+        return None;
+    }
+    let Some((from, to)) = sepx(wd, fc) else {
+        return None;
+    };
+    match list_fault(&wd[from..to], SECTION_GROUPS) {
+        None => None,
+        Some(fault) => Some((from + fault.at()) as u32),
+    }
+}

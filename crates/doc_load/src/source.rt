@@ -1,0 +1,158 @@
+// What the rules on the parts of a document read.
+ghost use Rattle.std.specs.Prelude.{◌≡◌, ◌+◌, ◌<◌, ◌≤◌, ◌^◌, length};
+ghost use Rattle.doc_load.specs.Source.{part_place, part_bytes, story_length, story_begin, story_units, story_places};
+ghost use Rattle.doc_load.specs.FormatRules.{judged_places, judged_units, text_count};
+
+use crate::table_parts::{pair_in, part_in};
+use crate::{TablePart, TextUnits};
+use fib_form::Fib;
+use std::marker::Model;
+
+/// A story of the text. Its CPs are counted from its begin.
+#[derive(Clone, Copy, Debug, PartialEq, Eq)]
+pub enum Story {
+    Main,
+    Notes,
+    Heads,
+}
+
+/// `WordDocument` with its FIB, the table stream, and the text by CP.
+#[derive(Drop)]
+pub struct Source<'a> {
+    wd: &'a [u8],
+    fib: &'a Fib,
+    table: &'a [u8],
+    text: &'a TextUnits,
+}
+
+impl<'a> Model for Source<'a> {
+    ghost use Rattle.doc_load.specs.Source.{DocSource, IsSource};
+
+    ghost Value = { DocSource };
+
+    ghost view = { λ s. record { wd = s.wd.now; table = s.table.now; text = s.text.now } };
+
+    ghost invariant = { λ s. IsSource (record { wd = s.wd.now; table = s.table.now; text = s.text.now }) s.fib.now };
+}
+
+impl<'a> Source<'a> {
+    ghost use Rattle.doc_load.specs.Source.{DocSource, IsSource};
+
+    pub fn new(wd: &'a [u8], fib: &'a Fib, table: &'a [u8], text: &'a TextUnits) -> Source<'a>
+        requires { IsSource (record { wd = wd.now; table = table.now; text = text.now }) fib.now }
+        ensures { result ≡ record { wd = wd.now; table = table.now; text = text.now } }
+    {
+        Source {
+            wd,
+            fib,
+            table,
+            text,
+        }
+    }
+
+    /// The bytes of `WordDocument`.
+    pub fn wd(&self) -> &'a [u8]
+        ensures bytes { result.now ≡ self.now.wd }
+        ensures small { length result.now < 2 ^ 32 }
+    {
+        self.wd
+    }
+
+    /// The bytes of the table stream.
+    pub fn table(&self) -> &'a [u8]
+        ensures bytes { result.now ≡ self.now.table }
+        ensures small { length result.now < 2 ^ 32 }
+    {
+        self.table
+    }
+
+    /// Where a part begins in the table stream.
+    pub fn place(&self, part: TablePart) -> u32
+        ensures place { result ≡ part_place self.now part }
+        ensures addressed { result + length (part_bytes self.now part) < 2 ^ 32 }
+    {
+        pair_in(self.wd, self.fib, part).0
+    }
+
+    /// The bytes of a part.
+    pub fn part(&self, part: TablePart) -> &'a [u8]
+        ensures bytes { result.now ≡ part_bytes self.now part }
+        ensures addressed { part_place self.now part + length result.now < 2 ^ 32 }
+        ensures within { 0 < length result.now → part_place self.now part + length result.now ≤ length self.now.table }
+        ensures small { length self.now.table < 2 ^ 32 }
+    {
+        part_in(self.wd, self.fib, self.table, part)
+    }
+
+    /// The number of units of a story.
+    pub fn story_len(&self, story: Story) -> u32
+        ensures count { result ≡ story_length self.now story }
+        ensures few { result ≤ 500000 }
+    {
+        self.fib.ccp(match story {
+            Story::Main => 0,
+            Story::Notes => 1,
+            Story::Heads => 2,
+        })
+    }
+
+    /// The CP of the text where a story begins.
+    pub fn story_begin(&self, story: Story) -> u32
+        ensures begin { result ≡ story_begin self.now story }
+        ensures units { result + story_length self.now story ≤ length self.now.text.units }
+        ensures places { result + story_length self.now story ≤ length self.now.text.places }
+    {
+        match story {
+            Story::Main => 0,
+            Story::Notes => self.fib.ccp(0),
+            Story::Heads => self.fib.ccp(0) + self.fib.ccp(1),
+        }
+    }
+
+    /// The units of a story, by its CPs.
+    pub fn units(&self, story: Story) -> &'a [u16]
+        ensures units { result.now ≡ story_units self.now story }
+        ensures few { length result.now ≤ 500000 }
+        ensures count { length result.now ≡ story_length self.now story }
+    {
+        let from = self.story_begin(story) as usize;
+        &self.text.units()[from..from + self.story_len(story) as usize]
+    }
+
+    /// The places of these units in `WordDocument`.
+    pub fn places(&self, story: Story) -> &'a [u32]
+        ensures places { result.now ≡ story_places self.now story }
+        ensures few { length result.now ≤ 500000 }
+        ensures count { length result.now ≡ story_length self.now story }
+    {
+        let from = self.story_begin(story) as usize;
+        &self.text.places()[from..from + self.story_len(story) as usize]
+    }
+
+    /// The units of the three stories, by CP.
+    pub fn judged_units(&self) -> &'a [u16]
+        ensures units { result.now ≡ judged_units self.now }
+        ensures few { length result.now ≤ 500000 }
+        ensures count { length result.now ≡ length (judged_places self.now) }
+    {
+        &self.text.units()[..self.judged_count()]
+    }
+
+    /// The places of these units in `WordDocument`.
+    pub fn judged_places(&self) -> &'a [u32]
+        ensures places { result.now ≡ judged_places self.now }
+        ensures count { length result.now ≡ length (judged_units self.now) }
+    {
+        &self.text.places()[..self.judged_count()]
+    }
+
+    /// The number of CPs of the three stories.
+    fn judged_count(&self) -> usize
+        ensures count { result ≡ text_count self.now }
+        ensures few { result ≤ 500000 }
+        ensures units { result ≤ length self.now.text.units }
+        ensures places { result ≤ length self.now.text.places }
+    {
+        (self.fib.ccp(0) + self.fib.ccp(1) + self.fib.ccp(2)) as usize
+    }
+}

@@ -1,0 +1,71 @@
+// The rule on what stands after the last text of a story.
+ghost use Rattle.std.specs.Prelude.{◌≡◌, ◌≤◌, length, MatchOption, MatchResult};
+ghost use Rattle.doc_bits.specs.Rules.{Hold, LeastOrNone, Nowhere, IsLeast};
+ghost use Rattle.doc_load.specs.Faults.{IsReadFault};
+ghost use Rattle.doc_load.specs.NoteRules.{HasNoteCuts};
+ghost use Rattle.doc_load.specs.HeadRules.{HasHeadCuts};
+ghost use Rattle.doc_load.specs.EndRules.{last_end as end_of_last, IsLooseUnit, BreaksEnd, rules_of_ends};
+
+use crate::{ReadFault, Source, Story};
+use doc_bits::{Where, lesser};
+use doc_parts::Cuts;
+use text_codes::PARAGRAPH_MARK;
+
+const RULE_ENDS: u8 = 55;
+
+/// Judges the ends of the notes' story and of the header texts' story, which these CPs cut.
+pub fn judge_ends(source: &Source<'_>, notes: &Cuts, heads: &Cuts) -> Result<(), ReadFault>
+    requires notes { HasNoteCuts source.now notes.now }
+    requires heads { HasHeadCuts source.now heads.now }
+    ensures { MatchResult result
+        (λ _. Hold (rules_of_ends source.now))
+        (IsReadFault (rules_of_ends source.now)) }
+{
+    let after_notes = loose_place(source, Story::Notes, notes);
+    let after_heads = loose_place(source, Story::Heads, heads);
+    match lesser(after_notes, after_heads) {
+        None => Ok(()),
+        Some(offset) => Err(ReadFault::Refused {
+            rule: RULE_ENDS,
+            place: Where::Wd,
+            offset,
+        }),
+    }
+}
+
+/// The place of the first unit that may not stand after the last text of a story.
+fn loose_place(source: &Source<'_>, story: Story, cuts: &Cuts) -> Option<u32>
+    ensures { LeastOrNone (BreaksEnd source.now story cuts.now) result }
+{
+    let cp = loose_unit(source.units(story), last_end(cuts) as usize)?;
+    Some(source.places(story)[cp])
+}
+
+/// The CP where the last text ends; where there are no texts, the story's begin.
+fn last_end(cuts: &Cuts) -> u32
+    ensures { result ≡ end_of_last cuts.now }
+{
+    if cuts.len() == 0 {
+        return 0;
+    }
+    cuts.get(cuts.len() - 1)
+}
+
+/// The first unit from `end` on that may not stand there.
+fn loose_unit(units: &[u16], end: usize) -> Option<usize>
+    ensures { MatchOption result
+        (Nowhere (IsLooseUnit units.now end))
+        (IsLeast (λ a b. a ≤ b) (IsLooseUnit units.now end)) }
+{
+    if end >= units.len() {
+        return None;
+    }
+    if units[end] != PARAGRAPH_MARK {
+        return Some(end);
+    }
+    if end + 1 < units.len() {
+        Some(end + 1)
+    } else {
+        None
+    }
+}

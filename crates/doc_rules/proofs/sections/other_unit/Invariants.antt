@@ -1,9 +1,0 @@
-use Rattle.std.proofs.Common.{ℕ, ◌<◌}
-use Rattle.doc_rules.specs.declared.source.Story.TheVariants.{Main}
-use Rattle.doc_rules.specs.Source.{story_units}
-use Rattle.doc_rules.specs.SectionRules.{BeginsElsewhere}
-use Rattle.doc_rules.proofs.sections.other_unit.Given as goal
-
--- the sections so far begin after a section mark
-abbrev pub invariant-loop-k : goal.invariant-loop-k
-invariant-loop-k l = (k : ℕ) → k < l.k → ¬ (BeginsElsewhere (story_units l.source Main) l.list k)
