@@ -11,4 +11,3 @@ pub mod FatLemmas
 pub mod LoadLemmas
 pub mod SingleLemmas
 pub mod UniqueLemmas
-pub mod SameNameLemmas

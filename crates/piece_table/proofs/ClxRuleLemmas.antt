@@ -3,14 +3,16 @@ use Rattle.std.proofs.Common.{◌≡◌, ℕ, ◌+◌, ◌*◌, ◌≤◌, ◌�
 use Rattle.doc_bits.specs.Rules.{IsSingle, Ascends, IsLeast, IsFirst, Hold, Nowhere, Among, From, rule}
 use Rattle.doc_bits.specs.Number.{number_bytes}
 use Rattle.doc_bits.proofs.NumberLemmas.{length-number_bytes}
+use Rattle.doc_bits.proofs.RuleLemmas.{least_of_all}
 use Rattle.piece_table.specs.declared.fault.ClxFault.{ClxFault}
 use Rattle.piece_table.specs.declared.fault.ClxFault.TheVariants.{Rule, Memory}
 use Rattle.sprm_table.specs.Prms.{code_of_isprm}
 use Rattle.piece_table.specs.declared.pcd.Prm.{Prm}
 use Rattle.piece_table.specs.declared.pcd.Prm.TheVariants.{Nothing, Sprm, Prc}
+use Rattle.piece_table.specs.declared.pieces.TextBounds.{TextBounds}
 use Rattle.piece_table.specs.Piece.{piece_end}
 use Rattle.piece_table.specs.Clx.{IsWrongAt, ClxParts, plc_place, prc_bytes, pcdt_bytes, pcd_place, pcd_prm, clx_piece, clx_pieces}
-use Rattle.piece_table.specs.ClxRules.{clx_rules, piece_rules, prc_rules, parts_rules, IsUnread, IsReadPrm, AreReadPrms, IsFaultyPrc, IsLongPrc, HasWrongCp, IsNoAscent, IsOutside, StaysInStream, IsClxFault, NamesFirst}
+use Rattle.piece_table.specs.ClxRules.{clx_rules, piece_rules, prc_rules, parts_rules, IsUnread, IsReadPrm, AreReadPrms, IsFaultyPrc, IsLongPrc, HasWrongCp, IsNoAscent, IsOutside, StaysInStream, IsClxFault, NamesFirst, FirstClxFaultIsLeast}
 use Rattle.doc_bits.specs.Plc.{PlcPart, plc_cp}
 use Rattle.std.proofs.lemmas.Bool.{cases_lt}
 use Rattle.std.specs.Option.{IsSome}
@@ -18,17 +20,17 @@ use Rattle.piece_table.specs.Front.{AscendsTo, EndsWithin, AreParts}
 use Rattle.piece_table.proofs.PieceLemmas.{All-clx_pieces}
 use Rattle.piece_table.proofs.ClxLemmas.{parts_unique}
 
-pub clx_rules-IsSingle : (clx : List ℕ) (at wd_len text_len : ℕ) → IsSingle (clx_rules clx at wd_len text_len)
-clx_rules-IsSingle clx at wd_len text_len = (tt, (parts_unique clx, λ parts spelt. ((tt, (tt, tt)), (tt, tt))))
+pub clx_rules-IsSingle : (clx : List ℕ) (at : ℕ) (bounds : TextBounds) (text_len : ℕ) → IsSingle (clx_rules clx at bounds text_len)
+clx_rules-IsSingle clx at bounds text_len = (tt, (parts_unique clx, λ parts spelt. ((tt, (tt, tt)), (tt, tt))))
 
-piece_rules-Ascends : (plc : PlcPart) (base prcs wd_len text_len : ℕ) → Ascends (piece_rules plc base prcs wd_len text_len) 28 31
-piece_rules-Ascends plc base prcs wd_len text_len = (29, ((lit≤ tt, lit< tt), (lit≤ tt, lit≤ tt, (30, ((lit≤ tt, lit< tt), (lit≤ tt, lit≤ tt, (lit≤ tt, lit< tt)))))))
+piece_rules-Ascends : (plc : PlcPart) (base prcs : ℕ) (bounds : TextBounds) (text_len : ℕ) → Ascends (piece_rules plc base prcs bounds text_len) 28 31
+piece_rules-Ascends plc base prcs bounds text_len = (29, ((lit≤ tt, lit< tt), (lit≤ tt, lit≤ tt, (30, ((lit≤ tt, lit< tt), (lit≤ tt, lit≤ tt, (lit≤ tt, lit< tt)))))))
 
 prc_rules-Ascends : (parts : ClxParts) (at : ℕ) → Ascends (prc_rules parts at) 31 33
 prc_rules-Ascends parts at = (32, ((lit≤ tt, lit< tt), (lit≤ tt, lit≤ tt, (lit≤ tt, lit< tt))))
 
-pub clx_rules-Ascends : (clx : List ℕ) (at wd_len text_len : ℕ) → Ascends (clx_rules clx at wd_len text_len) 27 33
-clx_rules-Ascends clx at wd_len text_len = (
+pub clx_rules-Ascends : (clx : List ℕ) (at : ℕ) (bounds : TextBounds) (text_len : ℕ) → Ascends (clx_rules clx at bounds text_len) 27 33
+clx_rules-Ascends clx at bounds text_len = (
   28,
   (
     (lit≤ tt, lit< tt),
@@ -38,11 +40,16 @@ clx_rules-Ascends clx at wd_len text_len = (
       (
         lit≤ tt,
         λ parts spelt.
-            (31, (piece_rules-Ascends parts.plc (at + plc_place parts) (length parts.prcs) wd_len text_len, (lit≤ tt, lit≤ tt, prc_rules-Ascends parts at))),
+            (31, (piece_rules-Ascends parts.plc (at + plc_place parts) (length parts.prcs) bounds text_len, (lit≤ tt, lit≤ tt, prc_rules-Ascends parts at))),
       ),
     ),
   ),
 )
+
+-- the first broken rule is the least of all broken ones
+pub first_clx_fault_least : FirstClxFaultIsLeast
+first_clx_fault_least clx at bounds text_len r p first =
+    least_of_all (λ a b. a ≤ b) (clx_rules clx at bounds text_len) 27 33 r p (clx_rules-IsSingle clx at bounds text_len) (clx_rules-Ascends clx at bounds text_len) first
 
 -- the CPs begin as they should
 abbrev pub Starts : PlcPart → Type 0
@@ -96,20 +103,20 @@ ascends_of plc base text_len none = record {
 }
 
 -- where no piece leaves the stream all end within it
-pub ends_of : (plc : PlcPart) (base wd_len limit : ℕ) → wd_len ≤ limit → Nowhere (Among plc.count (IsOutside plc base wd_len)) → EndsWithin plc limit
-ends_of plc base wd_len limit low none = λ k below. elim (cases_lt wd_len (piece_end (clx_piece plc k))) [
+pub ends_of : (plc : PlcPart) (base : ℕ) (bounds : TextBounds) (limit : ℕ) → bounds.end ≤ limit → Nowhere (Among plc.count (IsOutside plc base bounds)) → EndsWithin plc limit
+ends_of plc base bounds limit low none = λ k below. elim (cases_lt bounds.end (piece_end (clx_piece plc k))) [
   | inl over ↦ absurd (none (base + (pcd_place plc k + 2)) (record { entry = k; below = below; broken = (refl, inr over) }))
   | inr within ↦ omega arith
 ]
 
 -- where no piece leaves the stream all stay in it
-pub stays_of : (plc : PlcPart) (base wd_len : ℕ) → Nowhere (Among plc.count (IsOutside plc base wd_len)) → All (StaysInStream wd_len) (clx_pieces plc)
-stays_of plc base wd_len none = All-clx_pieces plc (StaysInStream wd_len) (λ k below. (
-  elim (cases_lt (clx_piece plc k).at 900) [
+pub stays_of : (plc : PlcPart) (base : ℕ) (bounds : TextBounds) → Nowhere (Among plc.count (IsOutside plc base bounds)) → All (StaysInStream bounds) (clx_pieces plc)
+stays_of plc base bounds none = All-clx_pieces plc (StaysInStream bounds) (λ k below. (
+  elim (cases_lt (clx_piece plc k).at bounds.from) [
     | inl low ↦ absurd (none (base + (pcd_place plc k + 2)) (record { entry = k; below = below; broken = (refl, inl low) }))
     | inr high ↦ high
   ],
-  elim (cases_lt wd_len (piece_end (clx_piece plc k))) [
+  elim (cases_lt bounds.end (piece_end (clx_piece plc k))) [
     | inl over ↦ absurd (none (base + (pcd_place plc k + 2)) (record { entry = k; below = below; broken = (refl, inr over) }))
     | inr within ↦ within
   ],
@@ -139,25 +146,25 @@ read_prms plc base prcs none = λ k below. elim (read_or_not prcs (pcd_prm plc k
 ]
 
 -- the rules on the pieces, with the place of their Plc
-pub hold_pieces : (parts : ClxParts) (at place wd_len text_len : ℕ) → place ≡ plc_place parts → Hold (piece_rules parts.plc (at + place) (length parts.prcs) wd_len text_len) → Hold (piece_rules parts.plc (at + plc_place parts) (length parts.prcs) wd_len text_len)
-hold_pieces parts at place wd_len text_len is holds = subst (λ p. Hold (piece_rules parts.plc (at + p) (length parts.prcs) wd_len text_len)) is holds
+pub hold_pieces : (parts : ClxParts) (at place : ℕ) (bounds : TextBounds) (text_len : ℕ) → place ≡ plc_place parts → Hold (piece_rules parts.plc (at + place) (length parts.prcs) bounds text_len) → Hold (piece_rules parts.plc (at + plc_place parts) (length parts.prcs) bounds text_len)
+hold_pieces parts at place bounds text_len is holds = subst (λ p. Hold (piece_rules parts.plc (at + p) (length parts.prcs) bounds text_len)) is holds
 
-pub fault_pieces : (parts : ClxParts) (at place wd_len text_len : ℕ) (fault : ClxFault) → place ≡ plc_place parts → NamesFirst (piece_rules parts.plc (at + place) (length parts.prcs) wd_len text_len) fault → IsClxFault (parts_rules parts at wd_len text_len) fault
-fault_pieces parts at place wd_len text_len (Rule r p) is first = inl (subst (λ q. IsFirst (piece_rules parts.plc (at + q) (length parts.prcs) wd_len text_len) r p) is first)
-fault_pieces parts at place wd_len text_len Memory is first = absurd first
+pub fault_pieces : (parts : ClxParts) (at place : ℕ) (bounds : TextBounds) (text_len : ℕ) (fault : ClxFault) → place ≡ plc_place parts → NamesFirst (piece_rules parts.plc (at + place) (length parts.prcs) bounds text_len) fault → IsClxFault (parts_rules parts at bounds text_len) fault
+fault_pieces parts at place bounds text_len (Rule r p) is first = inl (subst (λ q. IsFirst (piece_rules parts.plc (at + q) (length parts.prcs) bounds text_len) r p) is first)
+fault_pieces parts at place bounds text_len Memory is first = absurd first
 
 -- rule 32, where those before it hold
-pub fault_long : (parts : ClxParts) (at wd_len text_len : ℕ) (fault : ClxFault) → Hold (piece_rules parts.plc (at + plc_place parts) (length parts.prcs) wd_len text_len) → Nowhere (Among (length parts.prcs) (IsFaultyPrc parts at)) → IsClxFault (rule 32 (Among (length parts.prcs) (IsLongPrc parts at))) fault → IsClxFault (parts_rules parts at wd_len text_len) fault
-fault_long parts at wd_len text_len (Rule r p) holds none first = inr (holds, inr (none, first))
-fault_long parts at wd_len text_len Memory holds none first = tt
+pub fault_long : (parts : ClxParts) (at : ℕ) (bounds : TextBounds) (text_len : ℕ) (fault : ClxFault) → Hold (piece_rules parts.plc (at + plc_place parts) (length parts.prcs) bounds text_len) → Nowhere (Among (length parts.prcs) (IsFaultyPrc parts at)) → IsClxFault (rule 32 (Among (length parts.prcs) (IsLongPrc parts at))) fault → IsClxFault (parts_rules parts at bounds text_len) fault
+fault_long parts at bounds text_len (Rule r p) holds none first = inr (holds, inr (none, first))
+fault_long parts at bounds text_len Memory holds none first = tt
 
 -- the rules on the parts, where they are known
-pub hold_clx : (clx : List ℕ) (at wd_len text_len place : ℕ) (parts : ClxParts) → Nowhere (From at (IsWrongAt clx)) → AreParts clx parts place → Hold (parts_rules parts at wd_len text_len) → Hold (clx_rules clx at wd_len text_len)
-hold_clx clx at wd_len text_len place parts none are holds = (none, (parts, (are.spelt, holds)))
+pub hold_clx : (clx : List ℕ) (at : ℕ) (bounds : TextBounds) (text_len place : ℕ) (parts : ClxParts) → Nowhere (From at (IsWrongAt clx)) → AreParts clx parts place → Hold (parts_rules parts at bounds text_len) → Hold (clx_rules clx at bounds text_len)
+hold_clx clx at bounds text_len place parts none are holds = (none, (parts, (are.spelt, holds)))
 
-pub fault_clx : (clx : List ℕ) (at wd_len text_len place : ℕ) (parts : ClxParts) (fault : ClxFault) → Nowhere (From at (IsWrongAt clx)) → AreParts clx parts place → IsClxFault (parts_rules parts at wd_len text_len) fault → IsClxFault (clx_rules clx at wd_len text_len) fault
-fault_clx clx at wd_len text_len place parts (Rule r p) none are first = inr (none, (parts, (are.spelt, first)))
-fault_clx clx at wd_len text_len place parts Memory none are first = tt
+pub fault_clx : (clx : List ℕ) (at : ℕ) (bounds : TextBounds) (text_len place : ℕ) (parts : ClxParts) (fault : ClxFault) → Nowhere (From at (IsWrongAt clx)) → AreParts clx parts place → IsClxFault (parts_rules parts at bounds text_len) fault → IsClxFault (clx_rules clx at bounds text_len) fault
+fault_clx clx at bounds text_len place parts (Rule r p) none are first = inr (none, (parts, (are.spelt, first)))
+fault_clx clx at bounds text_len place parts Memory none are first = tt
 
 -- the Plc is within the Clx
 pub parts_within : (clx : List ℕ) (place : ℕ) (parts : ClxParts) → AreParts clx parts place → place + length parts.plc.bytes ≤ length clx

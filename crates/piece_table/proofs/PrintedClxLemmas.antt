@@ -10,6 +10,7 @@ use Rattle.doc_bits.specs.Rules.{Nowhere, Hold}
 use Rattle.doc_bits.specs.Plc.{plc_cp}
 use Rattle.doc_bits.proofs.RuleLemmas.{none_among}
 use Rattle.prop_map.specs.Modifiers.{no_modifier, printed_modifier}
+use Rattle.piece_table.specs.declared.pieces.TextBounds.{TextBounds}
 use Rattle.piece_table.specs.Piece.{TextPiece, bare_piece, ArePieces, total_length, flat_pieces}
 use Rattle.piece_table.specs.Clx.{SpellsClx, IsClx, prc_bytes, pcdt_bytes, clx_piece, clx_pieces, plc_place}
 use Rattle.piece_table.specs.PrmLists.{IsPrmModifier}
@@ -61,8 +62,8 @@ printed_is pieces bytes printed are printable some =
           subst (λ p. IsPrmModifier parts.prcs p piece.modifier) (sym back.word) (names_does pieces printed.prcs back.prm piece.modifier printed.each back.names);
     }
 
-printed_holds : (pieces : List TextPiece) (bytes : List ℕ) (at wd_len : ℕ) (printed : IsPrintedClx pieces bytes) → ArePieces pieces → IsPrintable pieces → 1 ≤ length pieces → All (λ piece. StaysInStream wd_len (bare_piece piece)) pieces → Hold (clx_rules bytes at wd_len (total_length pieces))
-printed_holds pieces bytes at wd_len printed are printable some stays =
+printed_holds : (pieces : List TextPiece) (bytes : List ℕ) (at : ℕ) (bounds : TextBounds) (printed : IsPrintedClx pieces bytes) → ArePieces pieces → IsPrintable pieces → 1 ≤ length pieces → All (λ piece. StaysInStream bounds (bare_piece piece)) pieces → Hold (clx_rules bytes at bounds (total_length pieces))
+printed_holds pieces bytes at bounds printed are printable some stays =
     let parts = parts_of pieces printed.prcs printed.pcds in
     let ls = lens pieces in
     let spelt = printed_spelt pieces bytes printed printable some in
@@ -82,9 +83,9 @@ printed_holds pieces bytes at wd_len printed are printable some stays =
     omega arith in
     let starts : Starts parts.plc = (omega arith, cp 0 (omega arith)) in
     let ends : plc_cp parts.plc.bytes parts.plc.count ≡ total_length pieces = cp (length ls) (omega arith) ∙ (sum_all ls (length ls) refl ∙ total) in
-    let within : (k : ℕ) → k < parts.plc.count → Nowhere (IsOutside parts.plc base wd_len k) = λ k low p out.
+    let within : (k : ℕ) → k < parts.plc.count → Nowhere (IsOutside parts.plc base bounds k) = λ k low p out.
     let back = at_piece pieces bytes printed k are printable (omega arith) in
-    let stay = subst (StaysInStream wd_len) (sym back.bare) (stays k none (omega arith)) in
+    let stay = subst (StaysInStream bounds) (sym back.bare) (stays k none (omega arith)) in
     let left = stay.0 in
     let right = stay.1 in
     elim out.1 [ inl low_at ↦ omega arith | inr over ↦ omega arith ] in
@@ -104,7 +105,7 @@ printed_holds pieces bytes at wd_len printed are printable some stays =
           (
             (
               no_wrong_cp parts.plc base (total_length pieces) starts (none_among (IsNoAscent parts.plc base) parts.plc.count rises) ends,
-              (none_among (IsOutside parts.plc base wd_len) parts.plc.count within, none_among (IsUnread parts.plc base (length parts.prcs)) parts.plc.count read),
+              (none_among (IsOutside parts.plc base bounds) parts.plc.count within, none_among (IsUnread parts.plc base (length parts.prcs)) parts.plc.count read),
             ),
             (all_accepted parts at (length parts.prcs) refl (prcs_accepted pieces printed.prcs printed.pcds printed.each), none_among (IsLongPrc parts at) (length parts.prcs) short),
           ),
@@ -113,10 +114,10 @@ printed_holds pieces bytes at wd_len printed are printable some stays =
     )
 
 pub read_back : ClxIsReadBack
-read_back pieces bytes at wd_len are printable some stays printed =
+read_back pieces bytes at bounds are printable some stays printed =
     let is = printed_is pieces bytes printed are printable some in
     record {
-      holds = printed_holds pieces bytes at wd_len printed are printable some stays;
+      holds = printed_holds pieces bytes at bounds printed are printable some stays;
       is = is;
       flat = λ read read_is. ap flat_pieces (clx_pieces_one bytes read pieces read_is is);
     }

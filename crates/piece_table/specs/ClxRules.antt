@@ -1,4 +1,5 @@
 -- The rules on the Clx, 27 to 32, in their order. A place is an offset in the table stream, where the Clx begins at `at`.
+-- The bounds are those of text in WordDocument: the end of the FIB and the end of the stream.
 use Rattle.std.specs.Prelude.{◌≡◌, ◌≢◌, ◌⊎◌, ℕ, ◌+◌, ◌*◌, ◌<◌, ◌≤◌, List, length, IsSome, Some, slice_get}
 use Rattle.doc_bits.specs.Plc.{PlcPart, plc_cp}
 use Rattle.doc_bits.specs.Rules.{Rules, rule, ◌then◌, given, IsFirst, Among, From, Breaks, IsLeastOfAll}
@@ -12,6 +13,7 @@ use Rattle.piece_table.specs.declared.fault.ClxFault.TheVariants.{Rule, Memory}
 use Rattle.piece_table.specs.declared.pcd.Prm.{Prm}
 use Rattle.piece_table.specs.declared.pcd.Prm.TheVariants.{Nothing, Sprm, Prc}
 use Rattle.piece_table.specs.declared.pieces.Piece.{Piece}
+use Rattle.piece_table.specs.declared.pieces.TextBounds.{TextBounds}
 use Rattle.piece_table.specs.Piece.{piece_end}
 use Rattle.piece_table.specs.PrmLists.{IsPrmModifier}
 use Rattle.piece_table.specs.Clx.{ClxParts, SpellsClx, prc_place, IsWrongAt, plc_place, pcd_place, pcd_prm, clx_piece}
@@ -32,16 +34,16 @@ abbrev pub HasWrongCp : PlcPart → ℕ → ℕ → ℕ → Type 0
 HasWrongCp plc base text_len p = IsWrongStart plc base p ⊎ (Among plc.count (IsNoAscent plc base) p ⊎ IsWrongEnd plc base text_len p)
 
 -- bytes of a piece are in the FIB or beyond the stream
-abbrev pub LeavesStream : ℕ → Piece → Type 0
-LeavesStream wd_len piece = (piece.at < 900) ⊎ (wd_len < piece_end piece)
+abbrev pub LeavesStream : TextBounds → Piece → Type 0
+LeavesStream bounds piece = (piece.at < bounds.from) ⊎ (bounds.end < piece_end piece)
 
-abbrev pub StaysInStream : ℕ → Piece → Type 0
-StaysInStream wd_len piece = (900 ≤ piece.at) × (piece_end piece ≤ wd_len)
+abbrev pub StaysInStream : TextBounds → Piece → Type 0
+StaysInStream bounds piece = (bounds.from ≤ piece.at) × (piece_end piece ≤ bounds.end)
 
 -- piece k leaves the stream
-abbrev pub IsOutside : PlcPart → ℕ → ℕ → ℕ → ℕ → Type 0
-IsOutside plc base wd_len k p =
-    (p ≡ base + (pcd_place plc k + 2)) × LeavesStream wd_len (clx_piece plc k)
+abbrev pub IsOutside : PlcPart → ℕ → TextBounds → ℕ → ℕ → Type 0
+IsOutside plc base bounds k p =
+    (p ≡ base + (pcd_place plc k + 2)) × LeavesStream bounds (clx_piece plc k)
 
 -- a Prm that is read, among so many Prcs
 abbrev pub IsReadPrm : ℕ → Prm → Type 0
@@ -58,10 +60,10 @@ abbrev pub IsUnread : PlcPart → ℕ → ℕ → ℕ → ℕ → Type 0
 IsUnread plc base prcs k p = (p ≡ base + (pcd_place plc k + 6)) × ¬ (IsReadPrm prcs (pcd_prm plc k))
 
 -- the rules on the pieces; `base` is where their Plc begins
-abbrev pub piece_rules : PlcPart → ℕ → ℕ → ℕ → ℕ → Rules ℕ
-piece_rules plc base prcs wd_len text_len =
+abbrev pub piece_rules : PlcPart → ℕ → ℕ → TextBounds → ℕ → Rules ℕ
+piece_rules plc base prcs bounds text_len =
     rule 28 (HasWrongCp plc base text_len)
-    then rule 29 (Among plc.count (IsOutside plc base wd_len))
+    then rule 29 (Among plc.count (IsOutside plc base bounds))
     then rule 30 (Among plc.count (IsUnread plc base prcs))
 
 -- a piece names the Prc
@@ -95,13 +97,17 @@ abbrev pub prc_rules : ClxParts → ℕ → Rules ℕ
 prc_rules parts at =
     rule 31 (Among (length parts.prcs) (IsFaultyPrc parts at)) then rule 32 (Among (length parts.prcs) (IsLongPrc parts at))
 
-abbrev pub parts_rules : ClxParts → ℕ → ℕ → ℕ → Rules ℕ
-parts_rules parts at wd_len text_len =
-    piece_rules parts.plc (at + plc_place parts) (length parts.prcs) wd_len text_len then prc_rules parts at
+abbrev pub parts_rules : ClxParts → ℕ → TextBounds → ℕ → Rules ℕ
+parts_rules parts at bounds text_len =
+    piece_rules parts.plc (at + plc_place parts) (length parts.prcs) bounds text_len then prc_rules parts at
 
-abbrev pub clx_rules : List ℕ → ℕ → ℕ → ℕ → Rules ℕ
-clx_rules clx at wd_len text_len =
-    rule 27 (From at (IsWrongAt clx)) then given (SpellsClx clx) (λ parts. parts_rules parts at wd_len text_len)
+-- the bounds of text where the FIB has 900 bytes
+abbrev pub early_bounds : ℕ → TextBounds
+early_bounds wd_len = record { from = 900; end = wd_len }
+
+abbrev pub clx_rules : List ℕ → ℕ → TextBounds → ℕ → Rules ℕ
+clx_rules clx at bounds text_len =
+    rule 27 (From at (IsWrongAt clx)) then given (SpellsClx clx) (λ parts. parts_rules parts at bounds text_len)
 
 -- a refusal names the first broken rule; want of memory is free
 abbrev pub IsClxFault : Rules ℕ → ClxFault → Type 0
@@ -116,5 +122,5 @@ NamesFirst rules Memory = ⊥
 -- the first broken rule is the least of all broken ones, at its least place
 abbrev pub FirstClxFaultIsLeast : Type 0
 FirstClxFaultIsLeast =
-    (clx : List ℕ) (at wd_len text_len r p : ℕ) →
-    IsFirst (clx_rules clx at wd_len text_len) r p → IsLeastOfAll (λ a b. a ≤ b) (Breaks (clx_rules clx at wd_len text_len)) r p
+    (clx : List ℕ) (at : ℕ) (bounds : TextBounds) (text_len r p : ℕ) →
+    IsFirst (clx_rules clx at bounds text_len) r p → IsLeastOfAll (λ a b. a ≤ b) (Breaks (clx_rules clx at bounds text_len)) r p

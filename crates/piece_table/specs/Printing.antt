@@ -8,6 +8,7 @@ use Rattle.prop_map.specs.declared.modifiers.Modifier.{Modifier}
 use Rattle.prop_map.specs.Formed.{prc_groups}
 use Rattle.prop_map.specs.Modifiers.{no_modifier, printed_modifier, IsSpeltModifier}
 use Rattle.piece_table.specs.declared.pieces.Piece.{Piece}
+use Rattle.piece_table.specs.declared.pieces.TextBounds.{TextBounds}
 use Rattle.piece_table.specs.Piece.{TextPiece, bare_piece, flat_pieces, total_length, ArePieces}
 use Rattle.piece_table.specs.Clx.{prc_bytes, pcdt_bytes, IsClx}
 use Rattle.piece_table.specs.ClxRules.{FitsPages, StaysInStream, clx_rules}
@@ -66,14 +67,14 @@ pub record IsPrintedClx (pieces : List TextPiece) (bytes : List ℕ) : Type 0 wh
   pub spelt : bytes ≡ printed_prcs prcs ++ pcdt_bytes (plc_bytes (map (λ piece. piece.len) pieces) pcds)
 
 -- what is printed breaks no rule and is read again as the pieces, where there is one and all are in the stream
-pub record IsReadBack (pieces : List TextPiece) (bytes : List ℕ) (at wd_len : ℕ) : Type 0 where
-  pub holds : Hold (clx_rules bytes at wd_len (total_length pieces))
+pub record IsReadBack (pieces : List TextPiece) (bytes : List ℕ) (at : ℕ) (bounds : TextBounds) : Type 0 where
+  pub holds : Hold (clx_rules bytes at bounds (total_length pieces))
   pub is : IsClx bytes pieces
   pub flat : (read : List TextPiece) → IsClx bytes read → flat_pieces read ≡ flat_pieces pieces
 
 abbrev pub ClxIsReadBack : Type 0
 ClxIsReadBack =
-    (pieces : List TextPiece) (bytes : List ℕ) (at wd_len : ℕ) →
+    (pieces : List TextPiece) (bytes : List ℕ) (at : ℕ) (bounds : TextBounds) →
     ArePieces pieces → IsPrintable pieces → 1 ≤ length pieces →
-    All (λ piece. StaysInStream wd_len (bare_piece piece)) pieces →
-    IsPrintedClx pieces bytes → IsReadBack pieces bytes at wd_len
+    All (λ piece. StaysInStream bounds (bare_piece piece)) pieces →
+    IsPrintedClx pieces bytes → IsReadBack pieces bytes at bounds

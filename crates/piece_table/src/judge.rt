@@ -7,7 +7,7 @@ ghost use Rattle.piece_table.specs.ClxRules.{HasWrongCp, IsNoAscent, IsOutside, 
 
 use crate::collect::piece_of;
 use crate::pcd::prm_of_piece;
-use crate::{ClxFault, Piece, Prm};
+use crate::{ClxFault, Piece, Prm, TextBounds};
 use doc_bits::Plc;
 use sprm_table::prm_code;
 
@@ -20,22 +20,19 @@ const RULE_PRM: u8 = 30;
 /// The most pieces of a text.
 const MAX_PIECES: usize = 16_384;
 
-/// Where text may begin in `WordDocument`: after the FIB.
-const TEXT_BEGINS: u32 = 900;
-
 /// Names the first broken rule on the pieces. `base` is where their Plc begins in the table stream.
 pub fn judge(
     plc: &Plc<'_>,
     base: u32,
     prcs: usize,
-    wd_len: u32,
+    bounds: TextBounds,
     text_len: u32,
 ) -> Result<(), ClxFault>
     requires table { IsPlcPcd plc.now }
     requires place { base + length plc.now.bytes < 2 ^ 32 }
     ensures { MatchResult result
-        (λ _. Hold (piece_rules plc.now base prcs wd_len text_len))
-        (NamesFirst (piece_rules plc.now base prcs wd_len text_len)) }
+        (λ _. Hold (piece_rules plc.now base prcs bounds text_len))
+        (NamesFirst (piece_rules plc.now base prcs bounds text_len)) }
 {
     if let Some(offset) = wrong_cp(plc, base, text_len) {
         return Err(ClxFault::Rule {
@@ -43,7 +40,7 @@ pub fn judge(
             offset,
         });
     }
-    if let Some(offset) = outside(plc, base, wd_len) {
+    if let Some(offset) = outside(plc, base, bounds) {
         return Err(ClxFault::Rule {
             rule: RULE_BYTES,
             offset,
@@ -91,13 +88,13 @@ fn no_ascent(plc: &Plc<'_>, base: u32) -> Option<u32>
 }
 
 /// The first piece with bytes in the FIB or beyond the stream: the place of its FcCompressed.
-fn outside(plc: &Plc<'_>, base: u32, wd_len: u32) -> Option<u32>
+fn outside(plc: &Plc<'_>, base: u32, bounds: TextBounds) -> Option<u32>
     requires table { IsPlcPcd plc.now }
     requires place { base + length plc.now.bytes < 2 ^ 32 }
-    ensures { LeastOrNone (Among plc.now.count (IsOutside plc.now base wd_len)) result }
+    ensures { LeastOrNone (Among plc.now.count (IsOutside plc.now base bounds)) result }
 {
     for k in 0..plc.len() {
-        if is_outside(piece_of(plc, k), wd_len) {
+        if is_outside(piece_of(plc, k), bounds) {
             return Some(base + (pcd_offset(plc, k) + 2));
         }
     }
@@ -105,10 +102,10 @@ fn outside(plc: &Plc<'_>, base: u32, wd_len: u32) -> Option<u32>
 }
 
 /// Whether a piece has bytes in the FIB or beyond the stream.
-fn is_outside(piece: Piece, wd_len: u32) -> bool
-    ensures { IsTrue result ↔ LeavesStream wd_len piece }
+fn is_outside(piece: Piece, bounds: TextBounds) -> bool
+    ensures { IsTrue result ↔ LeavesStream bounds piece }
 {
-    piece.at < TEXT_BEGINS || piece.end() > wd_len as u64
+    piece.at < bounds.from || piece.end() > bounds.end as u64
 }
 
 /// The first piece whose Prm is not read: the place of the Prm.

@@ -18,8 +18,5 @@ pub use laws::{
     clx_is_read_back, clx_pieces_are_one, first_clx_fault_is_least, flat_length_is_total,
 };
 pub use pcd::{FcCompressed, Prm};
-pub use pieces::{Piece, PieceList};
+pub use pieces::{Piece, PieceList, TextBounds};
 pub use reading::read_clx;
-
-#[cfg(test)]
-mod tests;

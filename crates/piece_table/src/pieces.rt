@@ -24,6 +24,13 @@ impl Piece {
     }
 }
 
+/// Where text may stand in `WordDocument`: from the end of the FIB to the end of the stream, in bytes.
+#[derive(Clone, Copy, Debug, PartialEq, Eq)]
+pub struct TextBounds {
+    pub from: u32,
+    pub end: u32,
+}
+
 /// A piece, and the number of its modifier in the list.
 #[derive(Clone, Copy, Debug, PartialEq, Eq)]
 pub(crate) struct Entry {
@@ -62,6 +69,7 @@ impl Model for PieceList {
 impl PieceList {
     ghost use Rattle.piece_table.specs.Piece.{bare_piece, one_piece, ArePieces};
     ghost use Rattle.piece_table.specs.Numbering.{AreNumbered, text_piece};
+    ghost use Rattle.prop_map.specs.Modifiers.{IsFormedModifier};
 
     /// One piece of 16-bit units from a byte of `WordDocument` on. It has no modifier.
     pub fn one(alloc: Global, at: u32, len: u32) -> Result<PieceList, Memory>
@@ -98,7 +106,8 @@ impl PieceList {
 
     /// The number of pieces.
     pub fn len(&self) -> usize
-        ensures { result ≡ length self.now.pieces }
+        ensures value { result ≡ length self.now.pieces }
+        ensures sound { ArePieces self.now.pieces }
     {
         self.items.len()
     }
@@ -123,7 +132,8 @@ impl PieceList {
     /// What the sprms of a piece do.
     pub fn modifier(&self, i: usize) -> &Modifier
         requires { i < length self.now.pieces }
-        ensures { option_map (λ piece. piece.modifier) (slice_get self.now.pieces i) ≡ Some result.now }
+        ensures value { option_map (λ piece. piece.modifier) (slice_get self.now.pieces i) ≡ Some result.now }
+        ensures formed { IsFormedModifier result.now }
     {
         &self.modifiers[self.items[i].modifier]
     }

@@ -2,17 +2,20 @@ ghost use Rattle.std.specs.Prelude.{◌≡◌, ◌+◌, ◌^◌, ◌<◌, ◌≤
 ghost use Rattle.doc_bits.specs.Rules.{Hold, IsFirst};
 ghost use Rattle.doc_bits.specs.Plc.{PlcPart};
 ghost use Rattle.piece_table.specs.Clx.{ClxParts, IsPlcPcd, SpellsClx, plc_place, IsClx, clx_pieces, HaveModifiers};
-ghost use Rattle.piece_table.specs.ClxRules.{clx_rules, parts_rules, IsClxFault, StaysInStream, FitsPages};
+ghost use Rattle.piece_table.specs.ClxRules.{clx_rules, parts_rules, early_bounds, IsClxFault, StaysInStream, FitsPages};
 ghost use Rattle.piece_table.specs.Piece.{total_length, bare_piece};
 
 use crate::collect::pieces_of;
 use crate::judge::judge;
 use crate::parts::{Parts, parts_of};
 use crate::prcs::{faulty_prc, named_prcs, prc_modifiers};
-use crate::{ClxFault, PieceList};
+use crate::{ClxFault, PieceList, TextBounds};
 use std::alloc::Global;
 
 const RULE_SPRM: u8 = 31;
+
+/// The bytes of the FIB, behind which text begins.
+const FIB_LEN: u32 = 900;
 
 /// Reads the pieces of a Clx that stands at `at` in the table stream. `wd_len` is the length of `WordDocument` in bytes,
 /// `text_len` the number of CPs.
@@ -26,16 +29,20 @@ pub fn read_clx(
     requires place { at + length clx.now < 2 ^ 32 }
     requires text { text_len ≤ 500001 }
     ensures read { MatchResult result
-        (λ list. Hold (clx_rules clx.now at wd_len text_len) × IsClx clx.now list.pieces)
-        (IsClxFault (clx_rules clx.now at wd_len text_len)) }
+        (λ list. Hold (clx_rules clx.now at (early_bounds wd_len) text_len) × IsClx clx.now list.pieces)
+        (IsClxFault (clx_rules clx.now at (early_bounds wd_len) text_len)) }
 
     // What the rules say of the pieces.
-    ensures within { IfOk result (λ list. All (λ piece. StaysInStream wd_len (bare_piece piece)) list.pieces) }
+    ensures within { IfOk result (λ list. All (λ piece. StaysInStream (early_bounds wd_len) (bare_piece piece)) list.pieces) }
     ensures total { IfOk result (λ list. total_length list.pieces ≡ text_len) }
     ensures fit { IfOk result (λ list. All (λ piece. FitsPages piece.modifier) list.pieces) }
 {
     let parts = parts_of(alloc, clx, at)?;
-    read_parts(alloc, &parts, at, wd_len, text_len)
+    let bounds = TextBounds {
+        from: FIB_LEN,
+        end: wd_len,
+    };
+    read_parts(alloc, &parts, at, bounds, text_len)
 }
 
 /// The pieces of the parts of a Clx.
@@ -43,18 +50,19 @@ fn read_parts(
     alloc: Global,
     parts: &Parts<'_>,
     at: u32,
-    wd_len: u32,
+    bounds: TextBounds,
     text_len: u32,
 ) -> Result<PieceList, ClxFault>
     requires place { at + parts.now.place + length parts.now.plc.bytes < 2 ^ 32 }
     requires table { IsPlcPcd parts.now.plc }
+    requires end { bounds.end < 2 ^ 32 }
     requires place_is { parts.now.place ≡ plc_place (record { prcs = parts.now.prcs; plc = parts.now.plc }) }
     requires text { text_len ≤ 500001 }
     ensures read { MatchResult result
-        (λ list. Hold (parts_rules (record { prcs = parts.now.prcs; plc = parts.now.plc }) at wd_len text_len)
+        (λ list. Hold (parts_rules (record { prcs = parts.now.prcs; plc = parts.now.plc }) at bounds text_len)
         × ((map bare_piece list.pieces ≡ clx_pieces parts.now.plc) × HaveModifiers (record { prcs = parts.now.prcs; plc = parts.now.plc }) list.pieces))
-        (IsClxFault (parts_rules (record { prcs = parts.now.prcs; plc = parts.now.plc }) at wd_len text_len)) }
-    ensures within { IfOk result (λ list. All (λ piece. StaysInStream wd_len (bare_piece piece)) list.pieces) }
+        (IsClxFault (parts_rules (record { prcs = parts.now.prcs; plc = parts.now.plc }) at bounds text_len)) }
+    ensures within { IfOk result (λ list. All (λ piece. StaysInStream bounds (bare_piece piece)) list.pieces) }
     ensures total { IfOk result (λ list. total_length list.pieces ≡ text_len) }
     ensures fit { IfOk result (λ list. All (λ piece. FitsPages piece.modifier) list.pieces) }
 {
@@ -62,7 +70,7 @@ fn read_parts(
         &parts.plc,
         at + parts.place as u32,
         parts.prcs.len(),
-        wd_len,
+        bounds,
         text_len,
     )?;
     let named = named_prcs(alloc, parts)?;

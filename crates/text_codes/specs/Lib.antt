@@ -1,3 +1,2 @@
 pub mod Compressed
-pub mod Paragraph
 pub mod Shown

@@ -5,4 +5,4 @@ use Rattle.piece_table.proofs.judge.outside.Given as goal
 
 -- the rule holds at the pieces before this one
 abbrev pub invariant-loop-k : goal.invariant-loop-k
-invariant-loop-k l = (j : ℕ) → j < l.k → Nowhere (IsOutside l.plc l.base l.wd_len j)
+invariant-loop-k l = (j : ℕ) → j < l.k → Nowhere (IsOutside l.plc l.base l.bounds j)
