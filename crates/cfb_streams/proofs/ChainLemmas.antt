@@ -9,6 +9,7 @@ use Rattle.std.proofs.lemmas.Grind.{get_or_default_zero}
 use Rattle.std.proofs.lemmas.Map.Keys.{IsDistinct-from_apart}
 use Rattle.std.proofs.lemmas.Map.Steps.{length-le_from_distinct_below}
 use Rattle.std.proofs.Math.Seq.{get_or-append_seam}
+pub use Rattle.doc_bits.proofs.ListLemmas.{length_below}
 use Rattle.cfb_streams.specs.SectorChain.{HasSector, IsSectorPath, IsSectorChain, IsFullPath, last_of, end_of_chain}
 
 -- a number put last, and the numbers before it
@@ -62,19 +63,6 @@ walk_step entry valid start at sectors w low apart =
       ];
       next = λ _. ap entry (pushed_last sectors at (length (sectors ++ at ∷ []) - 1) (omega arith));
     }
-
--- distinct numbers below n are at most n
-pub length_below : (xs : List ℕ) (n : ℕ) → ((i : ℕ) → i < length xs → slice_index xs i < n) → ((i j : ℕ) → i < j → j < length xs → slice_index xs i ≢ slice_index xs j) → length xs ≤ n
-length_below xs n within distinct =
-    length-le_from_distinct_below xs n
-    (IsDistinct-from_apart eqb xs (λ i j d h below.
-    let a = get_or_default_zero xs i d (omega arith) in
-    let b = get_or_default_zero xs j d below in
-    ne_eqb (get_or xs i d) (get_or xs j d) (λ e. distinct i j h below (sym a ∙ (e ∙ b)))))
-    (λ q any. elim (cases_lt q n) [
-      | inl low ↦ low
-      | inr high ↦ absurd (false≢true (sym (list_any_none (eqb q) xs (All-from_get_or (λ x. eqb q x ≡ false) xs 0 (λ i h. let low = within i h in ne_eqb q (get_or xs i 0) (λ e. absurd (omega arith))))) ∙ any))
-    ])
 
 -- so many valid sectors there are at most
 pub walk_room : (entry : ℕ → ℕ) (valid start at : ℕ) (sectors : List ℕ) → IsWalk entry valid start at sectors → at < valid → ((i : ℕ) → i < length sectors → slice_index sectors i ≢ at) → length sectors < valid

@@ -11,3 +11,4 @@ pub mod FatLemmas
 pub mod LoadLemmas
 pub mod SingleLemmas
 pub mod UniqueLemmas
+pub mod SameNameLemmas

@@ -86,7 +86,7 @@ stream_eq s t a b c =
     first ∙ (second ∙ third)
 
 -- an entry has one stream
-stream_unique : (file : List ℕ) (parts : Parts) (entry : ℕ) (s t : Stream) → IsStreamOf file parts entry s → IsStreamOf file parts entry t → s ≡ t
+pub stream_unique : (file : List ℕ) (parts : Parts) (entry : ℕ) (s t : Stream) → IsStreamOf file parts entry s → IsStreamOf file parts entry t → s ≡ t
 stream_unique file parts entry s t a b =
     let name = name_unique file (entry_place parts.directory entry) s.name t.name a.name b.name in
     elim a.holds [
@@ -134,7 +134,7 @@ same_streams (x ∷ xs) (y ∷ ys) len each =
     ap (λ z. z ∷ xs) head ∙ ap (λ zs. y ∷ zs) tail
 
 -- the parts of a file are the only ones
-parts_unique : (file : List ℕ) (a b : Contents) (h : HasContents file a) (k : HasContents file b) → h.parts ≡ k.parts
+pub parts_unique : (file : List ℕ) (a b : Contents) (h : HasContents file a) (k : HasContents file b) → h.parts ≡ k.parts
 parts_unique file a b h k =
     let d = directory_unique file h.parts.directory k.parts.directory h.directory k.directory in
     let m = mini_fat_unique file h.parts.mini_fat k.parts.mini_fat h.mini_fat k.mini_fat in

@@ -3,6 +3,7 @@ pub mod SectorChain
 pub mod Chain
 pub mod Judged
 pub mod Directory
+pub mod Names
 pub mod Opening
 pub mod HeaderRules
 pub mod Seen

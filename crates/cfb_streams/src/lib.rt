@@ -18,12 +18,11 @@ mod opening;
 mod order;
 mod sharing;
 mod stream;
+mod stream_names;
 mod streams;
 
 pub use container::Container;
 pub use faults::CfbFault;
 pub use laws::{contents_are_one, first_is_least, hold_or_first};
 pub use list::Streams;
-
-#[cfg(test)]
-mod tests;
+pub use stream_names::{TABLE_0, TABLE_1, WORD_DOCUMENT, equal_names, table_name, word_document};

@@ -1,2 +1,6 @@
+pub mod TestLemmas
+pub mod ListLemmas
 pub mod NumberLemmas
+pub mod ByteListLemmas
 pub mod RuleLemmas
+pub mod PlaceLemmas

@@ -1,13 +1,13 @@
 -- Numbers in bytes: where they stand in a longer list, and how their bytes spell them.
-use Rattle.std.proofs.Common.{◌≡◌, ℕ, zero, suc, ◌+◌, ◌-◌, ◌*◌, ◌^◌, ◌<◌, ◌≤◌, List, [], ◌++◌, length, take, drop, slice_index, refl, sym, ap, ◌∙◌, arith, add_assoc, add-zero, length-take}
+use Rattle.std.proofs.Common.{◌≡◌, ℕ, zero, suc, ◌+◌, ◌-◌, ◌*◌, ◌^◌, ◌<◌, ◌≤◌, List, [], ◌∷◌, ◌++◌, length, take, drop, slice_index, refl, sym, ap, ◌∙◌, arith, add_assoc, append_assoc, add-zero, length-append, length-take}
 use Rattle.std.proofs.Math.Nat.{mul-le-mul_right, pow-succ'}
-use Rattle.std.proofs.lemmas.List.{get_or-append-add, get_or_append_left, get_or-take, get_or-drop, drop_all, append-nil, drop-drop}
+use Rattle.std.proofs.lemmas.List.{length-replicate, replicate-append-replicate, get_or-append-add, get_or_append_left, get_or-take, get_or-drop, drop_all, append-nil, drop-drop}
 use Rattle.std.specs.Prelude.{slice_range}
 use Rattle.std.specs.Int.{bytes_low_first}
 use borrow.Rule.Slice.PartMut.{put_mid}
 use Rattle.byteorder.specs.Endian.{little_from}
 use Rattle.byteorder.specs.Numbers.{little_number-reads_back, length-bytes_low_first}
-use Rattle.doc_bits.specs.Number.{number_at, number_bytes}
+use Rattle.doc_bits.specs.Number.{number_at, number_bytes, numbers, zeros}
 
 -- the lowest byte apart, and the rest as a number one place on
 pub number_at-first : (xs : List ℕ) (at k : ℕ) → number_at xs at (suc k) ≡ slice_index xs at + 256 * number_at xs (suc at) k
@@ -97,3 +97,33 @@ put_mid-number k at value xs buf e =
     let width : at + k - at ≡ k = omega arith in
     let none : drop k (take k (drop at xs)) ≡ [] = drop_all k (take k (drop at xs)) (omega (arith, length-take {A = ℕ})) in
     rw (e, width, none, append-nil (number_bytes k value), drop-drop k at xs)
+
+-- four bytes for each number
+pub length-numbers : (xs : List ℕ) → length (numbers xs) ≡ 4 * length xs
+length-numbers [] = refl
+length-numbers (x ∷ xs) =
+    let ih = length-numbers xs in
+    let four = length-number_bytes 4 x in
+    omega (arith, length-append (number_bytes 4 x) (numbers xs))
+
+-- each number stands at four times its place
+pub number_at-numbers : (xs more : List ℕ) (k : ℕ) → k < length xs → slice_index xs k < 2 ^ 32 → number_at (numbers xs ++ more) (4 * k) 4 ≡ slice_index xs k
+number_at-numbers [] more k h small = absurd (omega arith)
+number_at-numbers (x ∷ xs) more zero h small =
+    rw (append_assoc (number_bytes 4 x) (numbers xs) more) (number_at-number_bytes 4 x (numbers xs ++ more) small)
+number_at-numbers (x ∷ xs) more (suc k) h small =
+    let ih = number_at-numbers xs more k (omega arith) small in
+    let place : 4 * suc k ≡ length (number_bytes 4 x) + 4 * k = omega (arith, length-number_bytes 4 x) in
+    rw (append_assoc (number_bytes 4 x) (numbers xs) more, place)
+    (number_at-after (number_bytes 4 x) (numbers xs ++ more) (4 * k) 4 ∙ ih)
+
+-- ---- zero bytes
+
+-- zeros apart
+pub zeros-add : (n m : ℕ) → zeros (n + m) ≡ zeros n ++ zeros m
+unfolding zeros
+zeros-add n m = sym (replicate-append-replicate n m 0)
+
+pub length-zeros : (n : ℕ) → length (zeros n) ≡ n
+unfolding zeros
+length-zeros n = length-replicate n 0

@@ -3,7 +3,8 @@ use Rattle.std.proofs.Common.{◌≡◌, ◌⊎◌, inl, inr, ℕ, ◌+◌, ◌<
 use Rattle.std.proofs.lemmas.Bool.{cases_lt}
 use Rattle.doc_bits.specs.declared.places.Where.{Where}
 use Rattle.doc_bits.specs.Rules.{Rules, rule, ◌then◌, given, Nowhere, IsLeast, Hold, FirstBy, IsFirst, LeastOrNone, Among, From, lesser_of, IsSingle, Breaks, Ascends, IsLeastOfAll}
-use Rattle.doc_bits.specs.Places.{Place, rank, inner, Upto, IsFirstPlace, rules_in}
+use Rattle.doc_bits.specs.Places.{Place, IsFirstPlace, rules_in}
+use Rattle.doc_bits.proofs.PlaceLemmas.{upto_same}
 
 -- two ways to say one rule have one least place
 pub least_same : (A B : ℕ → Type 0) (o : Option ℕ) → ((p : ℕ) → A p → B p) → ((p : ℕ) → B p → A p) → LeastOrNone A o → LeastOrNone B o
@@ -44,6 +45,13 @@ least_step each n a b f s =
     ])
     (least_either (Among n each) (each n) a b f s)
 
+-- the first number at which something is broken
+pub first_number : (breaks : ℕ → Type 0) (i : ℕ) → ((k : ℕ) → k < i → breaks k → ⊥) → breaks i → IsLeast (λ a b. a ≤ b) breaks i
+first_number breaks i before here = record {
+  broken = here;
+  least = λ p w. elim (cases_lt p i) [ inl low ↦ absurd (before p low w) | inr high ↦ high ];
+}
+
 -- where the places of later entries come later, the first broken entry has the least place
 pub first_among : (each : ℕ → ℕ → Type 0) (n i p : ℕ) → ((j k a b : ℕ) → j < k → each j a → each k b → a ≤ b) → i < n → ((k : ℕ) → k < i → Nowhere (each k)) → IsLeast (λ a b. a ≤ b) (each i) p → IsLeast (λ a b. a ≤ b) (Among n each) p
 first_among each n i p order h none first = record {
@@ -74,20 +82,13 @@ hold_in part (rule number breaks) h = λ p w. h p.1 w.1
 hold_in part (first then next) h = (hold_in part first h.0, hold_in part next h.1)
 hold_in part (given is rules) h = (h.0, (h.1.0, hold_in part (rules h.0) h.1.1))
 
--- in one part the lesser offset comes first
-place_upto : (part : Where) (p : ℕ) (q : Place) → q.0 ≡ part → p ≤ q.1 → Upto (part, p) q
-place_upto part p q e h =
-    let f : rank q.0 ≡ rank part = ap rank e in
-    let g : inner q.0 ≡ inner part = ap inner e in
-    record { part = omega arith; number = λ _. omega arith; offset = λ _ _. h }
-
 -- a layer's first broken rule is that of its part
 pub first_in : (part : Where) (rules : Rules ℕ) (r p : ℕ) → IsFirst rules r p → IsFirstPlace (rules_in part rules) r (part, p)
 first_in part (rule number breaks) r p h = (
   h.0,
   record {
     broken = (refl, h.1.broken);
-    least = λ q w. place_upto part p q w.0 (h.1.least q.1 w.1);
+    least = λ q w. upto_same (part, p) q (sym w.0) (h.1.least q.1 w.1);
   },
 )
 first_in part (first then next) r p h = elim h [
@@ -154,6 +155,16 @@ breaks_within (a then b) low high s q up broken = elim broken [
       let below = up.1.1.0 in let above = up.1.1.1 in let lo = w.0 in let hi = w.1 in (omega arith, omega arith)
 ]
 breaks_within (given is rules) low high s q up broken = breaks_within (rules broken.0) low high s q (up.1 broken.0 broken.1.0) broken.1.1
+
+-- numbers that ascend within a range do so within a wider one
+pub ascends_wider : {P : Type 0} (rules : Rules P) (low high from to : ℕ) → from ≤ low → high ≤ to → Ascends rules low high → Ascends rules from to
+ascends_wider (rule number breaks) low high from to below above up = let lo = up.0 in let hi = up.1 in (omega arith, omega arith)
+ascends_wider (first then next) low high from to below above up =
+    let lo = up.1.1.0 in
+    let hi = up.1.1.1 in
+    (up.0, (ascends_wider first low up.0 from up.0 below (omega arith) up.1.0, (omega arith, omega arith, ascends_wider next up.0 high up.0 to (omega arith) above up.1.1.2)))
+ascends_wider (given is rules) low high from to below above up =
+    let lo = up.0 in (omega arith, λ x h. ascends_wider (rules x) low high from to below above (up.1 x h))
 
 -- each broken rule comes after the first one, or is the first one at a later place
 least_breaks : {P : Type 0} (upto : P → P → Type 0) (rules : Rules P) (low high r : ℕ) (p : P) → IsSingle rules → Ascends rules low high → FirstBy upto rules r p → (s : ℕ) (q : P) → Breaks rules s q → (r < s) ⊎ ((r ≡ s) × upto p q)

@@ -1,5 +1,6 @@
 -- Numbers in bytes, the lowest byte first.
-use Rattle.std.specs.Prelude.{◌≡◌, ℕ, zero, suc, ◌+◌, ◌*◌, ◌^◌, ◌<◌, ◌≤◌, List, ◌++◌, length, slice_index}
+use Rattle.std.specs.Prelude.{◌≡◌, ℕ, zero, suc, ◌+◌, ◌*◌, ◌^◌, ◌<◌, ◌≤◌, List, ◌++◌, length, replicate, slice_index}
+use Rattle.std.specs.List.{flat_map}
 use Rattle.std.specs.Int.{bytes_low_first}
 
 -- the number that `width` bytes spell from a place on: the sum of each byte times its power of 256
@@ -22,6 +23,18 @@ HasBytes bytes at width = at + width ≤ length bytes
 -- the lowest `width` bytes of a number, the lowest first
 unfoldable pub number_bytes : ℕ → ℕ → List ℕ
 number_bytes width x = bytes_low_first 0 width x
+
+-- the bytes of 32-bit numbers, one after the other
+abbrev pub numbers : List ℕ → List ℕ
+numbers xs = flat_map (number_bytes 4) xs
+
+-- zero bytes
+unfoldable pub zeros : ℕ → List ℕ
+zeros n = replicate n 0
+
+-- all numbers of the list are below 256
+abbrev pub AreBytes : List ℕ → Type 0
+AreBytes bytes = (i : ℕ) → slice_index bytes i < 256
 
 -- the bytes of a number spell it, whatever stands before and after them
 abbrev pub NumberIsReadBack : Type 0

@@ -1,8 +1,8 @@
 -- Places of a file and of a document, and their order.
-use Rattle.std.specs.Prelude.{◌≡◌, ℕ, ◌≤◌}
+use Rattle.std.specs.Prelude.{◌≡◌, ℕ, ◌≤◌, Option, MatchOption}
 use Rattle.doc_bits.specs.declared.places.Where.{Where}
 use Rattle.doc_bits.specs.declared.places.Where.TheVariants.{File, Wd, Table, Sheet, Main, Note, Head}
-use Rattle.doc_bits.specs.Rules.{Rules, rule, ◌then◌, given, FirstBy}
+use Rattle.doc_bits.specs.Rules.{Rules, rule, ◌then◌, given, Nowhere, IsLeast, FirstBy}
 
 -- what the offset counts in, and the offset
 abbrev pub Place : Type 0
@@ -37,6 +37,10 @@ pub record Upto (a b : Place) : Type 0 where
 -- the first broken rule of a file or a document
 abbrev pub IsFirstPlace : Rules Place → ℕ → Place → Type 0
 IsFirstPlace = FirstBy Upto
+
+-- the least place at which something is broken, or nothing where it holds everywhere
+abbrev pub LeastPlaceOrNone : (Place → Type 0) → Option Place → Type 0
+LeastPlaceOrNone breaks found = MatchOption found (Nowhere breaks) (IsLeast Upto breaks)
 
 -- a layer's rules, with the part named that its offsets count in
 abbrev pub rules_in : Where → Rules ℕ → Rules Place

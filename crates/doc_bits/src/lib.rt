@@ -14,6 +14,3 @@ pub use memory::Memory;
 pub use numbers::{get16, get32, put16, put32};
 pub use places::{Story, Where, lesser};
 pub use plcs::{Plc, PlcFault, plc_of};
-
-#[cfg(test)]
-mod tests;

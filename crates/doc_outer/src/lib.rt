@@ -17,6 +17,3 @@ pub use mem_sink::MemSink;
 pub use shelf::{Shelf, ShelfFault};
 pub use sink::{Sink, SinkFailed, write_all};
 pub use whole::{MAX_FILE_LEN, ReadFail, read_whole};
-
-#[cfg(test)]
-mod tests;

@@ -1,9 +1,10 @@
 -- The levels after PlfLst.
-use Rattle.std.proofs.Common.{◌≡◌, inl, inr, ℕ, zero, suc, ◌+◌, ◌*◌, ◌%◌, ◌<◌, ◌≤◌, length, refl, sym, ap, ◌∙◌, arith, add-one, eq-eqb, below_more, List}
+use Rattle.std.proofs.Common.{◌≡◌, inl, inr, ℕ, zero, suc, ◌+◌, ◌-◌, ◌*◌, ◌%◌, ◌<◌, ◌≤◌, length, refl, sym, ap, ◌∙◌, subst, arith, add-one, eq-eqb, below_more, List, take, drop}
 use Rattle.std.proofs.lemmas.Bool.{ne_eqb, cases_lt}
-use Rattle.std.specs.Prelude.{slice_index}
-use Rattle.doc_bits.specs.Number.{number_at}
-use Rattle.std.proofs.lemmas.List.{nil_from_length}
+use Rattle.std.specs.Prelude.{slice_index, slice_range}
+use Rattle.doc_bits.specs.Number.{number_at, u16_at}
+use Rattle.doc_bits.proofs.NumberLemmas.{number_at-range}
+use Rattle.std.proofs.lemmas.List.{nil_from_length, get_or-take, get_or-drop}
 use Rattle.doc_bits.specs.Rules.{Hold, IsFirst}
 use Rattle.doc_parts.specs.Levels.{levels_before, levels_of_list, level_count, level_end, level_start, AreLevelsFrom, StopsAtLevel, HasLists, list_part, level_rules}
 
@@ -118,3 +119,51 @@ level_leaves table at lcb place lists h = (
 pub level_count-empty : (part : List ℕ) → length part ≡ 0 → level_count part ≡ 0
 unfolding levels_before number_at
 level_count-empty part h = rw (nil_from_length part h) refl
+
+-- ---- levels that stand within a table stream
+
+-- a byte of a part
+index_inside : (table levels : List ℕ) (from i : ℕ) → slice_range table from (from + length levels) ≡ levels → i < length levels → slice_index table (from + i) ≡ slice_index levels i
+index_inside table levels from i e h =
+    let size : from + length levels - from ≡ length levels = omega arith in
+    let cut : take (length levels) (drop from table) ≡ levels = subst (λ n. take n (drop from table) ≡ levels) size e in
+    sym (get_or-drop from table i 0) ∙ (sym (get_or-take (length levels) (drop from table) i 0 h) ∙ ap (λ xs. slice_index xs i) cut)
+
+-- a level of a part ends where it ends in the table stream
+level_inside : (table levels : List ℕ) (from at : ℕ) → slice_range table from (from + length levels) ≡ levels → level_end levels at ≤ length levels → level_end table (from + at) ≡ from + level_end levels at
+level_inside table levels from at e low =
+    let a = slice_index levels (at + 25) in
+    let b = slice_index levels (at + 24) in
+    let text : ℕ = at + 28 + a + b in
+    let fits : text + 2 + 2 * u16_at levels text ≤ length levels = low in
+    let paragraph : slice_index table (from + at + 25) ≡ a =
+    (let place : from + at + 25 ≡ from + (at + 25) = omega arith in rw place (index_inside table levels from (at + 25) e (omega arith))) in
+    let character : slice_index table (from + at + 24) ≡ b =
+    (let place : from + at + 24 ≡ from + (at + 24) = omega arith in rw place (index_inside table levels from (at + 24) e (omega arith))) in
+    let count : u16_at table (from + text) ≡ u16_at levels text =
+    sym (number_at-range table from (from + length levels) text 2 (omega arith)) ∙ ap (λ xs. u16_at xs text) e in
+    let here : from + at + 28 + slice_index table (from + at + 25) + slice_index table (from + at + 24) ≡ from + text = rw (paragraph, character) (omega arith) in
+    rw (here, count) (omega arith)
+
+starts_inside : (table levels : List ℕ) (from k : ℕ) → slice_range table from (from + length levels) ≡ levels → ((j : ℕ) → j < k → level_start levels 0 (j + 1) ≤ length levels) → level_start table from k ≡ from + level_start levels 0 k
+starts_inside table levels from zero e whole = rw (level_start-zero table from, level_start-zero levels 0) (omega arith)
+starts_inside table levels from (suc k) e whole =
+    let ih = starts_inside table levels from k e (λ j h. whole j (omega arith)) in
+    let n : k + 1 ≡ suc k = add-one k in
+    let own = level_start-more levels 0 k in
+    let low : level_end levels (level_start levels 0 k) ≤ length levels = rw (← own) (whole k (omega arith)) in
+    subst (λ m. level_start table from m ≡ from + level_start levels 0 m) n
+    (level_start-more table from k
+    ∙ (ap (level_end table) ih
+    ∙ (level_inside table levels from (level_start levels 0 k) e low ∙ ap (λ x. from + x) (sym own))))
+
+-- whole levels that stand from a place on are levels there
+pub levels_inside : (table levels : List ℕ) (from n : ℕ) → from + length levels ≤ length table → slice_range table from (from + length levels) ≡ levels → AreLevelsFrom levels 0 n (length levels) → AreLevelsFrom table from n (from + length levels)
+levels_inside table levels from n within e are = record {
+  ends = ap (λ x. from + x) are.ends ∙ sym (starts_inside table levels from n e are.whole);
+  whole = λ k h.
+      let fits = are.whole k h in
+      rw (starts_inside table levels from (k + 1) e (λ j low. are.whole j (omega arith))) (omega arith);
+  after = omega arith;
+  within = within;
+}

@@ -4,3 +4,5 @@ pub mod LevelLemmas
 pub mod PrintLemmas
 pub mod ReadBackLemmas
 pub mod EntryLemmas
+pub mod LawLemmas
+pub mod ExistLemmas

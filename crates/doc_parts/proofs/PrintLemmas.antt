@@ -5,33 +5,14 @@ use Rattle.std.specs.List.{flat_map}
 use Rattle.std.proofs.lemmas.List.{take_at, drop_at, drop-drop}
 use Rattle.std.proofs.lemmas.List.Elements.{All-head, All-tail}
 use Rattle.doc_bits.specs.Number.{number_at, number_bytes}
-use Rattle.doc_bits.proofs.NumberLemmas.{number_at-after, number_at-number_bytes, number_at-read_back, length-number_bytes}
+pub use Rattle.doc_bits.specs.Number.{numbers}
+pub use Rattle.doc_bits.proofs.NumberLemmas.{length-numbers, number_at-numbers}
+use Rattle.doc_bits.proofs.NumberLemmas.{number_at-read_back, length-number_bytes}
 use Rattle.doc_parts.specs.Table.{printed_plc, HasPlc}
-
--- the bytes of 32-bit numbers
-abbrev pub numbers : List ℕ → List ℕ
-numbers xs = flat_map (number_bytes 4) xs
 
 -- parts end to end
 abbrev pub joined : List (List ℕ) → List ℕ
 joined parts = flat_map (λ part. part) parts
-
-pub length-numbers : (xs : List ℕ) → length (numbers xs) ≡ 4 * length xs
-length-numbers [] = refl
-length-numbers (x ∷ xs) =
-    let ih = length-numbers xs in
-    let four = length-number_bytes 4 x in
-    omega (arith, length-append (number_bytes 4 x) (numbers xs))
-
--- each number stands at four times its place
-pub number_at-numbers : (xs : List ℕ) (more : List ℕ) (k : ℕ) → All (λ x. x < 2 ^ 32) xs → k < length xs → number_at (numbers xs ++ more) (4 * k) 4 ≡ slice_index xs k
-number_at-numbers [] more k small h = absurd (omega arith)
-number_at-numbers (x ∷ xs) more zero small h =
-    rw (append_assoc (number_bytes 4 x) (numbers xs) more) (number_at-number_bytes 4 x (numbers xs ++ more) (All-head (λ x. x < 2 ^ 32) x xs small))
-number_at-numbers (x ∷ xs) more (suc k) small h =
-    let ih = number_at-numbers xs more k (All-tail (λ x. x < 2 ^ 32) x xs small) (omega arith) in
-    let place : 4 * suc k ≡ length (number_bytes 4 x) + 4 * k = omega (arith, length-number_bytes 4 x) in
-    rw (append_assoc (number_bytes 4 x) (numbers xs) more, place) (number_at-after (number_bytes 4 x) (numbers xs ++ more) (4 * k) 4 ∙ ih)
 
 pub length-joined : (size : ℕ) (parts : List (List ℕ)) → All (λ part. length part ≡ size) parts → length (joined parts) ≡ length parts * size
 length-joined size [] sized = omega arith
@@ -71,7 +52,7 @@ printed-HasPlc size (cp ∷ cps) end parts some same small last sized =
           let b = length-append (number_bytes 4 end) (joined parts) in
           let product : length parts * size ≡ length starts * size = ap (λ n. n * size) same in
           omega arith;
-      cps = λ k h. number_at-numbers starts (number_bytes 4 end ++ joined parts) k small h;
+      cps = λ k h. number_at-numbers starts (number_bytes 4 end ++ joined parts) k h (small k 0 h);
       last = subst (λ place. number_at (numbers starts ++ (number_bytes 4 end ++ joined parts)) place 4 ≡ end) front (number_at-read_back 4 end (numbers starts) (joined parts) last);
       entries = λ k h.
           let from : ℕ = 4 * (length starts + 1) + size * k in

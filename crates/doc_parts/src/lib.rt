@@ -21,6 +21,3 @@ pub use level_part::{LevelFault, levels_len, list_levels};
 pub use lists::{Cuts, Fld, Flds, NoteRef, Refs, Sed, Seds};
 pub use section_part::{NO_SEPX, fc_sepx_place, print_sections, sections, sepx};
 pub use story_parts::{note_refs, print_refs, print_texts, texts};
-
-#[cfg(test)]
-mod tests;

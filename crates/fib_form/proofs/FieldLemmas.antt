@@ -1,19 +1,11 @@
 -- Fields that are put over zeros, and read again.
 use Rattle.std.proofs.Common.{◌≡◌, ℕ, zero, suc, ◌+◌, ◌-◌, ◌^◌, ◌<◌, ◌≤◌, List, [], ◌∷◌, ◌++◌, length, take, drop, replicate, get_or, refl, sym, ap, ◌∙◌, subst, arith, append_assoc, length-append, add-zero}
 use Rattle.std.proofs.Math.Seq.{take-append_seam, drop-append_seam}
-use Rattle.std.proofs.lemmas.List.{length-replicate, replicate-append-replicate, get_or_append_left, get_or-replicate}
+use Rattle.std.proofs.lemmas.List.{length-replicate, get_or_append_left, get_or-replicate}
 use Rattle.doc_bits.specs.Number.{number_at, number_bytes}
 use Rattle.doc_bits.proofs.NumberLemmas.{number_at-after, number_at-read_back, length-number_bytes}
+pub use Rattle.doc_bits.proofs.NumberLemmas.{zeros-add, length-zeros}
 use Rattle.fib_form.specs.FibBytes.{Field, zeros, spelled}
-
--- zeros apart
-pub zeros-add : (n m : ℕ) → zeros (n + m) ≡ zeros n ++ zeros m
-unfolding zeros
-zeros-add n m = sym (replicate-append-replicate n m 0)
-
-pub length-zeros : (n : ℕ) → length (zeros n) ≡ n
-unfolding zeros
-length-zeros n = length-replicate n 0
 
 pub no_zeros : (tail : List ℕ) → zeros 0 ++ tail ≡ tail
 unfolding zeros

@@ -2,10 +2,13 @@
 use Rattle.std.proofs.Common.{◌≡◌, ℕ, List, [], ◌++◌, length, take, drop, replicate, flat_map, refl, sym, ◌∙◌, arith, append_assoc, length-append, zero-add}
 use Rattle.std.proofs.Math.Seq.{take-append_seam, drop-append_seam}
 use Rattle.doc_bits.specs.Number.{number_bytes}
+use Rattle.doc_bits.proofs.NumberLemmas.{length-number_bytes}
+use Rattle.fib_form.specs.Fib.{early_form}
 use Rattle.fib_form.specs.FibFields.{FibFields}
 use Rattle.fib_form.specs.FibBytes.{written_fib, written_fields, spelled, pair_bytes, zeros}
 use Rattle.fib_form.proofs.FieldLemmas.{Puts, puts-spelled, no_zeros, zeros-add, length-zeros, length-spelled}
 use Rattle.fib_form.proofs.FibLemmas.{followed}
+use Rattle.fib_form.proofs.PairLemmas.{length-flat_map-pair_bytes}
 
 -- fields that are put over zeros
 pub puts_fields : (fib : FibFields) (before after : List ℕ) → before ≡ zeros 154 ++ drop 154 before → Puts (written_fields fib) before after → after ≡ spelled 0 (written_fields fib) ++ drop 154 before
@@ -20,6 +23,15 @@ filled_zeros part filled n size e = rw (e, size) refl
 
 pub length-fields : (fib : FibFields) → length (spelled 0 (written_fields fib)) ≡ 154
 length-fields fib = sym (zero-add (length (spelled 0 (written_fields fib)))) ∙ length-spelled (written_fields fib) 0 154 (followed fib)
+
+-- a written FIB has its size
+pub length-written_fib : (fib : FibFields) → length fib.pairs ≡ early_form.pair_count → length (written_fib fib) ≡ early_form.size
+unfolding written_fib
+length-written_fib fib count =
+    let fields = length-fields fib in
+    let pairs = length-flat_map-pair_bytes fib.pairs in
+    let last = length-number_bytes 2 0 in
+    omega (arith, length-append (spelled 0 (written_fields fib)) (flat_map pair_bytes fib.pairs ++ number_bytes 2 0), length-append (flat_map pair_bytes fib.pairs) (number_bytes 2 0))
 
 -- zeros for the fields, and zeros after them
 pub zeros_apart : (filled tail : List ℕ) → filled ≡ zeros 900 → filled ++ tail ≡ zeros 154 ++ (zeros 746 ++ tail)

@@ -1,7 +1,8 @@
 -- The written form of a FIB. The fields are a table: offset, width in bytes and number; each byte between them is 0.
 -- The code writes numbers over zeros; this joins the fields from the first to the last.
-use Rattle.std.specs.Prelude.{◌≡◌, ℕ, ◌+◌, ◌-◌, ◌*◌, List, [], ◌∷◌, ◌++◌, replicate, flat_map, slice_index, if◌then◌else◌}
+use Rattle.std.specs.Prelude.{◌≡◌, ℕ, ◌+◌, ◌-◌, ◌*◌, List, [], ◌∷◌, ◌++◌, flat_map, slice_index, if◌then◌else◌}
 use Rattle.doc_bits.specs.Number.{number_bytes}
+unfoldable pub use Rattle.doc_bits.specs.Number.{zeros}
 use Rattle.doc_bits.specs.Rules.{Hold}
 use Rattle.fib_form.specs.Fib.{early_form}
 use Rattle.fib_form.specs.FibFields.{FibFields, fib_fields, IsFib}
@@ -15,10 +16,6 @@ pub record Field : Type 0 where
 
 abbrev pub field : ℕ → ℕ → ℕ → Field
 field place width number = record { place = place; width = width; number = number }
-
--- zero bytes
-unfoldable pub zeros : ℕ → List ℕ
-zeros n = replicate n 0
 
 -- ascending fields from an offset on, with zero bytes before each
 abbrev pub spelled : ℕ → List Field → List ℕ

@@ -2,3 +2,5 @@ pub mod Fib
 pub mod FibFields
 pub mod FibRules
 pub mod FibBytes
+pub mod Stories
+pub mod TableParts

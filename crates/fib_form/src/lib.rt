@@ -7,12 +7,13 @@ mod laws;
 mod offsets;
 mod pairs;
 mod reading;
+mod stories;
+mod table_parts;
 mod writing;
 
 pub use fault::{FibFault, QuickSavesFull};
 pub use fib::{Fib, KeptFib};
 pub use laws::{fib_is_read_back, first_fib_fault_is_least};
 pub use pairs::Pairs;
-
-#[cfg(test)]
-mod tests;
+pub use stories::StoryKind;
+pub use table_parts::TablePart;

@@ -7,33 +7,8 @@ use Rattle.doc_bits.proofs.NumberLemmas.{number_at-number_bytes, length-number_b
 use Rattle.sprm_table.specs.declared.operands.OperandSize.{OperandSize}
 use Rattle.sprm_table.specs.declared.operands.OperandSize.TheVariants.{Fixed, CountedByByte, CountedByWord}
 use Rattle.sprm_table.specs.Operands.{IsSizeOf, operand_bytes, IsOperandAt, HasNoOperand}
-
--- the numbers of the list are bytes
-abbrev pub AreBytes : List ℕ → Type 0
-AreBytes bytes = (i : ℕ) → slice_index bytes i < 256
-
--- two lists of one length in front of others
-pub same_front : (a b x y : List ℕ) → length a ≡ length b → a ++ x ≡ b ++ y → (a ≡ b) × (x ≡ y)
-same_front [] [] x y same e = (refl, e)
-same_front [] (q ∷ b) x y same e = absurd (omega arith)
-same_front (p ∷ a) [] x y same e = absurd (omega arith)
-same_front (p ∷ a) (q ∷ b) x y same e =
-    let head : p ≡ q = cc in
-    let tail : a ++ x ≡ b ++ y = cc in
-    let rest = same_front a b x y (omega arith) tail in
-    (cc (head, rest.0), rest.1)
-
--- a list in three parts
-pub three_parts : (xs : List ℕ) (from to : ℕ) → from ≤ to → xs ≡ take from xs ++ (slice_range xs from to ++ drop to xs)
-three_parts xs from to h =
-    let end : from + (to - from) ≡ to = omega arith in
-    let last : drop (to - from) (drop from xs) ≡ drop to xs = drop-drop (to - from) from xs ∙ ap (λ n. drop n xs) end in
-    let middle : slice_range xs from to ++ drop to xs ≡ drop from xs = rw (← last) (take-append-drop (to - from) (drop from xs)) in
-    rw middle (sym (take-append-drop from xs))
-
--- the length of a part
-pub length-range : (xs : List ℕ) (from to : ℕ) → to ≤ length xs → length (slice_range xs from to) ≡ to - from
-length-range xs from to h = omega (arith, length-take (to - from) (drop from xs), length-drop from xs)
+pub use Rattle.doc_bits.specs.Number.{AreBytes}
+pub use Rattle.doc_bits.proofs.ListLemmas.{same_front, three_parts, length-range}
 
 -- the first byte of a list
 pub take_one : (xs : List ℕ) → 0 < length xs → take 1 xs ≡ get_or xs 0 0 ∷ []

@@ -16,6 +16,3 @@ pub use laws::{first_fault_is_one, sprm_list_is_one};
 pub use lists::{SprmIter, list_fault};
 pub use operands::{OperandSize, operand, operand_size};
 pub use prms::prm_code;
-
-#[cfg(test)]
-mod tests;

@@ -1,2 +1,3 @@
 pub mod Compressed
+pub mod Paragraph
 pub mod Shown

@@ -8,6 +8,3 @@ mod showing;
 pub use compressed::unit_of_byte;
 pub use paragraph::{CELL_MARK, PARAGRAPH_MARK, SECTION_MARK, ends_paragraph};
 pub use showing::{ShownText, show_units};
-
-#[cfg(test)]
-mod tests;

@@ -1,4 +1,5 @@
-ghost use Rattle.std.specs.Prelude.{◌≡◌, ◌↔◌, IsTrue, ◌⊎◌};
+ghost use Rattle.std.specs.Prelude.{◌≡◌};
+ghost use Rattle.text_codes.specs.Paragraph.{is_paragraph_end};
 
 /// The unit of a paragraph mark.
 pub const PARAGRAPH_MARK: u16 = 0x0D;
@@ -11,8 +12,7 @@ pub const SECTION_MARK: u16 = 0x0C;
 
 /// Whether a unit ends a paragraph. `section_end` says that a section ends at the unit.
 pub fn ends_paragraph(unit: u16, section_end: bool) -> bool
-    ensures { IsTrue result
-        ↔ ((unit ≡ PARAGRAPH_MARK) ⊎ ((unit ≡ CELL_MARK) ⊎ ((unit ≡ SECTION_MARK) × IsTrue section_end))) }
+    ensures { result ≡ is_paragraph_end unit section_end }
 {
     unit == PARAGRAPH_MARK || unit == CELL_MARK || (unit == SECTION_MARK && section_end)
 }

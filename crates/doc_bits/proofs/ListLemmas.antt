@@ -1,0 +1,96 @@
+-- Lists: fronts and parts, what stands at a place, and what holds of each element.
+use Rattle.std.proofs.Common.{◌≡◌, ◌≢◌, ◌∙◌, inl, inr, refl, sym, ap, subst, ℕ, zero, suc, ◌+◌, ◌-◌, ◌<◌, ◌≤◌, Bool, true, false, cond, List, [], ◌∷◌, ◌++◌, length, map, take, drop, Option, Some, None, eqb, get_or, arith, append_assoc, length-append, length-take, length-drop}
+use Rattle.std.specs.Prelude.{slice_get, slice_index, slice_range}
+use Rattle.std.specs.List.{All, find}
+use Rattle.std.specs.Option.{option_map, unwrap_or}
+use Rattle.std.proofs.Math.Seq.{take-append_seam, drop-append_seam}
+use Rattle.std.proofs.lemmas.Bool.{cases_lt, ne_eqb, false≢true}
+use Rattle.std.proofs.lemmas.List.{take-append-drop, drop-drop}
+use Rattle.std.proofs.lemmas.List.Elements.{All-head, All-tail, All-from_get_or}
+use Rattle.std.proofs.lemmas.List.Folds.{list_any_none}
+use Rattle.std.proofs.lemmas.Grind.{get_or_default_zero}
+use Rattle.std.proofs.lemmas.Map.Keys.{IsDistinct-from_apart}
+use Rattle.std.proofs.lemmas.Map.Steps.{length-le_from_distinct_below}
+use Rattle.std.proofs.lemmas.Option.{same_Some, slice_get-map, slice_get-get_or}
+
+-- a map of a map
+pub map-map : {A B C : Type 0} (f : B → C) (g : A → B) (xs : List A) → map f (map g xs) ≡ map (λ x. f (g x)) xs
+map-map f g [] = refl
+map-map f g (x ∷ xs) = ap (λ ys. f (g x) ∷ ys) (map-map f g xs)
+
+-- two lists of one length in front of others
+pub same_front : {A : Type 0} (a b x y : List A) → length a ≡ length b → a ++ x ≡ b ++ y → (a ≡ b) × (x ≡ y)
+same_front [] [] x y same e = (refl, e)
+same_front [] (q ∷ b) x y same e = absurd (omega arith)
+same_front (p ∷ a) [] x y same e = absurd (omega arith)
+same_front (p ∷ a) (q ∷ b) x y same e =
+    let head : p ≡ q = cc in
+    let tail : a ++ x ≡ b ++ y = cc in
+    let rest = same_front a b x y (omega arith) tail in
+    (cc (head, rest.0), rest.1)
+
+-- a list in three parts
+pub three_parts : (xs : List ℕ) (from to : ℕ) → from ≤ to → xs ≡ take from xs ++ (slice_range xs from to ++ drop to xs)
+three_parts xs from to h =
+    let end : from + (to - from) ≡ to = omega arith in
+    let last : drop (to - from) (drop from xs) ≡ drop to xs = drop-drop (to - from) from xs ∙ ap (λ n. drop n xs) end in
+    let middle : slice_range xs from to ++ drop to xs ≡ drop from xs = rw (← last) (take-append-drop (to - from) (drop from xs)) in
+    rw middle (sym (take-append-drop from xs))
+
+-- the length of a part
+pub length-range : (xs : List ℕ) (from to : ℕ) → to ≤ length xs → length (slice_range xs from to) ≡ to - from
+length-range xs from to h = omega (arith, length-take (to - from) (drop from xs), length-drop from xs)
+
+-- the middle one of three parts
+pub range_mid : {A : Type 0} (whole xs ys zs : List A) (from to : ℕ) → whole ≡ xs ++ (ys ++ zs) → from ≡ length xs → to ≡ length xs + length ys → slice_range whole from to ≡ ys
+range_mid whole xs ys zs from to e at end =
+    let width : to - from ≡ length ys = omega arith in
+    rw (e, width, at, drop-append_seam xs (ys ++ zs)) (take-append_seam ys zs)
+
+-- ---- what stands at a place
+
+-- something stands at each place of a list
+pub there_is : {A : Type 0} (xs : List A) (k : ℕ) → k < length xs → (x : A) × (slice_get xs k ≡ Some x)
+there_is [] k h = absurd (omega arith)
+there_is (x ∷ xs) zero h = (x, refl)
+there_is (x ∷ xs) (suc k) h = there_is xs k (omega arith)
+
+-- what holds of each holds of that at a place
+pub All_at : {A : Type 0} (P : A → Type 0) (xs : List A) (k : ℕ) (x : A) → All P xs → slice_get xs k ≡ Some x → P x
+All_at P [] k x all e = absurd (cc (e))
+All_at P (y ∷ ys) zero x all e = subst P (same_Some y x e) (All-head P y ys all)
+All_at P (y ∷ ys) (suc k) x all e = All_at P ys k x (All-tail P y ys all) e
+
+-- what stands in a map of a list comes from what stands in the list
+pub from_map : {A B : Type 0} (f : A → B) (xs : List A) (k : ℕ) (y : B) → slice_get (map f xs) k ≡ Some y → (x : A) × ((slice_get xs k ≡ Some x) × (f x ≡ y))
+from_map f [] k y e = absurd (cc (e))
+from_map f (x ∷ xs) zero y e = (x, (refl, same_Some (f x) y e))
+from_map f (x ∷ xs) (suc k) y e = from_map f xs k y e
+
+-- what stands at a place of a map
+pub get-map : {A B : Type 0} (f : A → B) (xs : List A) (k : ℕ) (x : A) → slice_get xs k ≡ Some x → slice_get (map f xs) k ≡ Some (f x)
+get-map f xs k x e = slice_get-map f xs k ∙ ap (option_map f) e
+
+-- what was found has what all have
+first_or_later : {A : Type 0} (P : A → Type 0) (b : Bool) (y x : A) (later : Option A) → P y → (later ≡ Some x → P x) → cond b (Some y) later ≡ Some x → P x
+first_or_later P true y x later here rest e = subst P (same_Some y x e) here
+first_or_later P false y x later here rest e = rest e
+
+pub found_has : {A : Type 0} (P : A → Type 0) (p : A → Bool) (xs : List A) (x : A) → All P xs → find p xs ≡ Some x → P x
+found_has P p [] x all e = absurd (cc (e))
+found_has P p (y ∷ ys) x all e = first_or_later P (p y) y x (find p ys) (All-head P y ys all) (found_has P p ys x (All-tail P y ys all)) e
+
+-- ---- distinct numbers
+
+-- distinct numbers below n are at most n
+pub length_below : (xs : List ℕ) (n : ℕ) → ((i : ℕ) → i < length xs → slice_index xs i < n) → ((i j : ℕ) → i < j → j < length xs → slice_index xs i ≢ slice_index xs j) → length xs ≤ n
+length_below xs n within distinct =
+    length-le_from_distinct_below xs n
+    (IsDistinct-from_apart eqb xs (λ i j d h below.
+    let a = get_or_default_zero xs i d (omega arith) in
+    let b = get_or_default_zero xs j d below in
+    ne_eqb (get_or xs i d) (get_or xs j d) (λ e. distinct i j h below (sym a ∙ (e ∙ b)))))
+    (λ q any. elim (cases_lt q n) [
+      | inl low ↦ low
+      | inr high ↦ absurd (false≢true (sym (list_any_none (eqb q) xs (All-from_get_or (λ x. eqb q x ≡ false) xs 0 (λ i h. let low = within i h in ne_eqb q (get_or xs i 0) (λ e. absurd (omega arith))))) ∙ any))
+    ])

@@ -1,0 +1,52 @@
+// [MS-DOC] FibRgFcLcb97: the parts of the table stream, by the standard's names.
+ghost use Rattle.std.specs.Prelude.{◌≡◌, ◌<◌};
+ghost use Rattle.fib_form.specs.Fib.{early_form};
+ghost use Rattle.fib_form.specs.TableParts.{pair_of};
+
+/// A part of the table stream that is read, or carried unread.
+#[derive(Clone, Copy, Debug, PartialEq, Eq)]
+pub enum TablePart {
+    Stshf,
+    PlcffndRef,
+    PlcffndTxt,
+    PlcfSed,
+    PlcfHdd,
+    PlcfBteChpx,
+    PlcfBtePapx,
+    SttbfFfn,
+    PlcfFldMom,
+    PlcfFldHdr,
+    PlcfFldFtn,
+    Dop,
+    SttbfAssoc,
+    Clx,
+    PlfLst,
+    PlfLfo,
+}
+
+impl TablePart {
+    /// The number of its pair in the FIB.
+    pub fn pair(self) -> usize
+        ensures number { result ≡ pair_of self }
+        ensures below { result < early_form.pair_count }
+    {
+        match self {
+            TablePart::Stshf => 1,
+            TablePart::PlcffndRef => 2,
+            TablePart::PlcffndTxt => 3,
+            TablePart::PlcfSed => 6,
+            TablePart::PlcfHdd => 11,
+            TablePart::PlcfBteChpx => 12,
+            TablePart::PlcfBtePapx => 13,
+            TablePart::SttbfFfn => 15,
+            TablePart::PlcfFldMom => 16,
+            TablePart::PlcfFldHdr => 17,
+            TablePart::PlcfFldFtn => 18,
+            TablePart::Dop => 31,
+            TablePart::SttbfAssoc => 32,
+            TablePart::Clx => 33,
+            TablePart::PlfLst => 73,
+            TablePart::PlfLfo => 74,
+        }
+    }
+}
