@@ -1,5 +1,4 @@
 pub mod Settings
-pub mod Stretches
 pub mod Story
 pub mod Listing
 pub mod Counts

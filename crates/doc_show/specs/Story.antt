@@ -1,40 +1,24 @@
 -- The lines that show a text: its paragraphs, and in each the stretches of items with one format.
-use Rattle.std.specs.Prelude.{ℕ, ◌-◌, Bool, true, false, not, ◌&&◌, ◌==◌, is_some, List, [], ◌∷◌, ◌++◌, length, map, Option, Some, None, slice_get, codes}
+use Rattle.std.specs.Prelude.{ℕ, ◌-◌, Bool, false, not, ◌&&◌, is_some, List, [], ◌∷◌, ◌++◌, length, map, Option, Some, None, slice_get, codes}
 use Rattle.std.specs.List.{flat_map}
 use Rattle.std.specs.Fmt.{decimal}
-use Rattle.std.specs.FinMap.{entries}
-use Rattle.std.specs.Str.{bytes_eq}
 use Rattle.text_codes.specs.Shown.{shown}
-use Rattle.sprm_table.specs.Sprm.{Prl}
 use Rattle.prop_map.specs.Settings.{Settings}
 use Rattle.plain_doc.specs.declared.item.Item.{Item}
 use Rattle.plain_doc.specs.declared.item.Mark.{Mark}
 use Rattle.plain_doc.specs.declared.item.NoteKind.{NoteKind}
 use Rattle.plain_doc.specs.declared.item.NoteKind.TheVariants.{Auto, Custom}
+use Rattle.plain_doc.specs.Stretches.{stretches}
+use Rattle.plain_doc.specs.Settings.{same_settings, is_inside}
 use Rattle.doc_show.specs.Settings.{byte_text, settings_text}
-use Rattle.doc_show.specs.Stretches.{stretches}
 
 -- a line ends with a line feed
 abbrev pub line : List ℕ → List ℕ
 line text = text ++ 10 ∷ []
 
--- whether two lists have the same codes and values
-abbrev pub same_prls : List Prl → List Prl → Bool
-same_prls [] [] = true
-same_prls [] (b ∷ others) = false
-same_prls (a ∷ more) [] = false
-same_prls (a ∷ more) (b ∷ others) = (a.0 == b.0) && (bytes_eq a.1 b.1 && same_prls more others)
-
-abbrev pub same_settings : Settings → Settings → Bool
-same_settings one other = same_prls (entries one) (entries other)
-
 -- an item that is no field character and no reference
 abbrev pub is_plain : Item → Bool
 is_plain item = not (is_some item.fld) && not (is_some item.note)
-
--- the next item is of the same paragraph
-abbrev pub is_inside : Item → Item → Bool
-is_inside item next = not (is_some item.mark)
 
 -- the next item is of the same run
 abbrev pub is_one_run : Item → Item → Bool

@@ -1,12 +1,10 @@
 // The line on a document that breaks no rule: how much it has.
-ghost use Rattle.std.specs.Prelude.{◌≡◌, ℕ, ◌+◌, ◌*◌, ◌^◌, ◌<◌, ◌≤◌, length, IfOk};
-ghost use Rattle.std.specs.List.{sum_by};
+ghost use Rattle.std.specs.Prelude.{◌≡◌, IfOk};
 ghost use Rattle.std.specs.String.{string_bytes};
-ghost use Rattle.plain_doc.specs.RulesOfSheet.{item_count, section_count};
 ghost use Rattle.doc_show.specs.Counts.{accepted_line_of, counts_line, counts_of, style_count};
 
 use doc_bits::{Memory, Text};
-use plain_doc::{Document, Item, Texts};
+use plain_doc::{Document, all_items, sections_in};
 use std::alloc::Global;
 use style_sheet::StyleSheet;
 
@@ -35,7 +33,7 @@ fn counts_in(document: &Document) -> Counts
     ensures { result ≡ counts_of document.now }
 {
     Counts {
-        units: items_in(document),
+        units: all_items(document),
         styles: styles_in(&document.sheet),
         sections: sections_in(document.main.as_slice()),
         notes: document.notes.len(),
@@ -60,25 +58,6 @@ fn counts_text(alloc: Global, counts: &Counts) -> Result<String, Memory>
     Ok(line)
 }
 
-/// How many items all texts have. That many lengths fit 128 bits.
-fn items_in(document: &Document) -> u128
-    ensures { result ≡ item_count document.now }
-{
-    let beside = items_of(&document.notes) as u128 + items_of(&document.heads) as u128;
-    document.main.len() as u128 + beside
-}
-
-/// How many items these texts have.
-fn items_of(texts: &Texts) -> u64
-    ensures { result ≡ sum_by length texts.now }
-{
-    let mut count = 0;
-    for k in 0..texts.len() {
-        count += texts.get(k).len() as u64;
-    }
-    count
-}
-
 /// How many slots of a sheet have a style.
 fn styles_in(sheet: &StyleSheet) -> usize
     ensures { result ≡ style_count sheet.now }
@@ -86,19 +65,6 @@ fn styles_in(sheet: &StyleSheet) -> usize
     let mut count = 0;
     for istd in 0..sheet.slots() {
         if sheet.get(istd as u16).is_some() {
-            count += 1;
-        }
-    }
-    count
-}
-
-/// How many items end a section.
-fn sections_in(main: &[Item]) -> usize
-    ensures { result ≡ section_count main.now }
-{
-    let mut count = 0;
-    for item in main {
-        if item.sect.is_some() {
             count += 1;
         }
     }

@@ -1,10 +1,11 @@
-// The lines on an item of the main text: its settings and those of its paragraph, as they stand there and as they are in
-// effect.
+// The lines on an item of the main text: its settings and those of its paragraph, as they stand there and as they are
+// in effect.
 ghost use Rattle.std.specs.Prelude.{◌≡◌, ◌<◌, ◌++◌, length, IfOk, OnOk, MatchOption};
 ghost use Rattle.std.specs.List.{flat_map};
 ghost use Rattle.plain_doc.specs.Paragraphs.{HasNoParagraphEnd};
 ghost use Rattle.plain_doc.specs.Sound.{IsSound};
-ghost use Rattle.doc_show.specs.Properties.{ArePropertyLines, IsMarkFrom, item_lines, mark_lines, tab_text, tabs_line, unit_line, style_line};
+ghost use Rattle.doc_show.specs.Properties.{ArePropertyLines, IsMarkFrom, item_lines, mark_lines, tab_text, tabs_line};
+ghost use Rattle.doc_show.specs.Properties.{unit_line, style_line};
 
 use crate::settings::{push_byte, push_word};
 use crate::styles::push_map;

@@ -7,8 +7,8 @@ use doc_bits::{Memory, Text};
 use prop_map::PropMap;
 use std::str;
 
-/// Appends the text of settings.
-pub fn push_settings(text: &mut Text, map: &PropMap) -> Result<(), Memory>
+/// Appends the text of settings. After want of memory a part of it may be there, as with each call here.
+pub(crate) fn push_settings(text: &mut Text, map: &PropMap) -> Result<(), Memory>
     ensures { OnOk result (text.new ≡ text.old ++ settings_text map.now) }
 {
     for entry in map.entries() {

@@ -2,8 +2,10 @@
 ghost use Rattle.std.specs.Prelude.{◌≡◌, ◌-◌, ◌<◌, ◌++◌, false, length, map, slice_get, Some, OnOk, IfOk};
 ghost use Rattle.std.specs.List.{flat_map};
 ghost use Rattle.text_codes.specs.Shown.{shown};
-ghost use Rattle.doc_show.specs.Stretches.{stretches, BeginsStretch};
-ghost use Rattle.doc_show.specs.Story.{is_inside, is_one_run, is_plain as plain_of, item_word, mark_line, paragraph_lines, run_line, same_settings, sect_line, story_lines};
+ghost use Rattle.plain_doc.specs.Stretches.{stretches, BeginsStretch};
+ghost use Rattle.plain_doc.specs.Settings.{is_inside, same_settings};
+ghost use Rattle.doc_show.specs.Story.{is_one_run, is_plain as plain_of, item_word, mark_line, paragraph_lines};
+ghost use Rattle.doc_show.specs.Story.{run_line, sect_line, story_lines};
 
 use crate::settings::{push_byte, push_settings};
 use doc_bits::{Memory, Text};
@@ -12,8 +14,9 @@ use prop_map::PropMap;
 use std::alloc::Global;
 use text_codes::ShownText;
 
-/// Appends the lines of a text: of each paragraph its mark, its runs, and the section that ends with it.
-pub fn push_story(alloc: Global, text: &mut Text, items: &[Item]) -> Result<(), Memory>
+/// Appends the lines of a text: of each paragraph its mark, its runs, and the section that ends with it. After want of
+/// memory a part of them may be there, as with each call here.
+pub(crate) fn push_story(alloc: Global, text: &mut Text, items: &[Item]) -> Result<(), Memory>
     ensures { OnOk result (text.new ≡ text.old ++ story_lines items.now) }
 {
     let mut at = 0;

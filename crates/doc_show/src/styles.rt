@@ -5,7 +5,8 @@ ghost use Rattle.std.specs.String.{string_bytes};
 ghost use Rattle.style_sheet.specs.Sheet.{style_at};
 ghost use Rattle.doc_show.specs.Settings.{settings_text};
 ghost use Rattle.doc_show.specs.Story.{line};
-ghost use Rattle.doc_show.specs.Listing.{base_word as word_of_base, kind_lines, kind_word as word_of_kind, sheet_lines, slot_lines, style_lines};
+ghost use Rattle.doc_show.specs.Listing.{base_word as word_of_base, kind_lines, kind_word as word_of_kind, sheet_lines};
+ghost use Rattle.doc_show.specs.Listing.{slot_lines, style_lines};
 
 use crate::settings::push_settings;
 use doc_bits::{Memory, Text};
@@ -14,8 +15,9 @@ use std::alloc::Global;
 use style_sheet::{Kind, Style, StyleSheet};
 use text_codes::show_units;
 
-/// Appends the lines of each style, by its number.
-pub fn push_sheet(alloc: Global, text: &mut Text, sheet: &StyleSheet) -> Result<(), Memory>
+/// Appends the lines of each style, by its number. After want of memory a part of them may be there, as with each call
+/// here.
+pub(crate) fn push_sheet(alloc: Global, text: &mut Text, sheet: &StyleSheet) -> Result<(), Memory>
     ensures { OnOk result (text.new ≡ text.old ++ sheet_lines sheet.now) }
 {
     for istd in 0..sheet.slots() {

@@ -21,13 +21,8 @@ pub fn listing(alloc: Global, document: &Document) -> Result<Text, Memory>
     Ok(text)
 }
 
-/// Appends the lines of a text under its heading, where it has items.
-pub fn push_text(
-    alloc: Global,
-    text: &mut Text,
-    heading: &str,
-    items: &[Item],
-) -> Result<(), Memory>
+/// Appends the lines of a text under its heading, where it has items. After want of memory a part of them may be there.
+fn push_text(alloc: Global, text: &mut Text, heading: &str, items: &[Item]) -> Result<(), Memory>
     ensures { OnOk result (text.new ≡ text.old ++ text_lines heading.now items.now) }
 {
     if items.is_empty() {
@@ -38,8 +33,8 @@ pub fn push_text(
     push_story(alloc, text, items)
 }
 
-/// Appends the lines of texts, each under the word and its number.
-pub fn push_texts(alloc: Global, text: &mut Text, word: &str, texts: &Texts) -> Result<(), Memory>
+/// Appends the lines of texts, each under the word and its number. After want of memory a part of them may be there.
+fn push_texts(alloc: Global, text: &mut Text, word: &str, texts: &Texts) -> Result<(), Memory>
     ensures { OnOk result (text.new ≡ text.old ++ numbered_lines word.now texts.now) }
 {
     for k in 0..texts.len() {

@@ -1,11 +1,12 @@
 -- The parts of the blank document are well formed; lists of one entry many times.
-use Rattle.std.proofs.Common.{ℕ, refl, ap, subst, arith, ◌≡◌, ◌∙◌, ◌+◌, ◌^◌, ◌<◌, List, [], ◌∷◌, ◌++◌, true, Option, Some, None, replicate, codes}
+use Rattle.std.specs.Prelude.{slice_index}
+use Rattle.std.proofs.Common.{ℕ, inl, inr, length, refl, ap, subst, arith, ◌≡◌, ◌∙◌, ◌+◌, ◌^◌, ◌<◌, List, [], ◌∷◌, ◌++◌, true, Option, Some, None, replicate, codes}
 use Rattle.std.specs.List.{All, list_all}
 use Rattle.std.specs.Option.{unwrap_or}
 use Rattle.std.specs.FinMap.{empty}
 use Rattle.std.proofs.Math.Dec.{ltb}
-use Rattle.std.proofs.lemmas.Bool.{ltb-true}
-use Rattle.std.proofs.lemmas.List.{replicate-append-replicate, append_assoc}
+use Rattle.std.proofs.lemmas.Bool.{cases_lt, ltb-true}
+use Rattle.std.proofs.lemmas.List.{get_or_past, replicate-append-replicate, append_assoc}
 use Rattle.std.proofs.lemmas.List.Elements.{All-append, All-nil, All-cons, All-replicate}
 use Rattle.std.proofs.lemmas.List.Sums.{AllPass-from_list_all}
 use Rattle.prop_map.specs.Formed.{IsPropertyMap, character_groups, paragraph_groups, section_groups}
@@ -17,8 +18,10 @@ use Rattle.cfb_streams.specs.Contents.{AreStreams}
 use Rattle.style_sheet.specs.Formed.{IsFormedStyle, IsFormedSlot, IsFormedSheet}
 use Rattle.plain_doc.specs.Document.{HasPropertyMaps, IsFormedItem, IsFormedText}
 use Rattle.plain_doc.specs.NothingCarried.{empty_parts_are_short, no_lists, no_flags, no_streams}
-use Rattle.plain_doc.specs.Blank.{blank_item, one_setting, normal_style, heading_style, default_font_style, blank_sheet, blank_document}
-use Rattle.plain_doc.specs.Formed.{IsFormed}
+use Rattle.plain_doc.specs.Blank.{blank_item, one_setting, normal_style, heading_style, default_font_style, blank_sheet, word_clsid, blank_carried, blank_document}
+use Rattle.doc_bits.specs.Number.{AreBytes}
+use Rattle.doc_bits.proofs.ByteListLemmas.{no_bytes}
+use Rattle.plain_doc.specs.Formed.{carried_parts, IsFormed}
 use Rattle.plain_doc.proofs.FormedLemmas.{All-one, HasPropertyMaps-from_parts}
 
 -- ---- lists
@@ -132,6 +135,16 @@ no_streams_are_streams =
       total = omega arith;
     }
 
+-- numbers that a test finds to have 8 bits
+are_bytes : (xs : List ℕ) → list_all (λ x. ltb x 256) xs ≡ true → AreBytes xs
+are_bytes xs tested i = elim (cases_lt i (length xs)) [
+  | inl below ↦ ltb-true _ _ (AllPass-from_list_all (λ x. ltb x 256) xs tested i 0 below)
+  | inr past ↦ let none : slice_index xs i ≡ 0 = get_or_past xs i 0 past in omega (arith, none)
+]
+
+blank_bytes : All AreBytes (word_clsid ∷ carried_parts blank_carried)
+blank_bytes = All-cons AreBytes word_clsid (carried_parts blank_carried) (are_bytes word_clsid refl) (All-replicate AreBytes 6 [] no_bytes)
+
 pub blank_document_is_formed : IsFormed blank_document
 blank_document_is_formed =
     record {
@@ -141,6 +154,7 @@ blank_document_is_formed =
       sheet = blank_sheet_is_formed;
       carried = record {
         parts = empty_parts_are_short;
+        bytes = blank_bytes;
         lists = no_lists;
         clsid = refl;
         languages = (omega arith, omega arith);

@@ -1,10 +1,8 @@
 -- The first item of a text that is not right.
 use Rattle.std.specs.Prelude.{◌↔◌, IsTrue}
 use Rattle.std.specs.Option.{ForSome}
-use Rattle.std.proofs.Common.{◌≡◌, Bool, Option, Some, ℕ, ◌<◌, ◌≤◌, List, length, get_or, refl, ◌∙◌, subst, inl, inr}
-use Rattle.std.proofs.lemmas.Bool.{cases_lt}
+use Rattle.std.proofs.Common.{◌≡◌, Bool, Option, Some, ℕ, ◌<◌, ◌≤◌, List, length, get_or, refl, ◌∙◌, subst}
 use Rattle.std.proofs.lemmas.Option.{slice_get_read, slice_get_within, get_or_from_slice_get}
-use Rattle.doc_bits.specs.Rules.{IsLeast}
 use Rattle.plain_doc.specs.declared.item.Item.{Item}
 use Rattle.plain_doc.specs.RulesOfItems.{IsWrongItem}
 
@@ -19,13 +17,6 @@ right_there right text i item is good w = w.wrong (subst (right i) (is ∙ get_o
 -- an item that is not right is within the text
 pub wrong_within : (right : ℕ → Item → Type 0) (text : List Item) (i : ℕ) → IsWrongItem right text i → i < length text
 wrong_within right text i w = slice_get_within text i w.item w.there
-
--- the first number at which something is broken
-pub first_number : (breaks : ℕ → Type 0) (i : ℕ) → ((k : ℕ) → k < i → breaks k → ⊥) → breaks i → IsLeast (λ a b. a ≤ b) breaks i
-first_number breaks i before here = record {
-  broken = here;
-  least = λ p w. elim (cases_lt p i) [ inl low ↦ absurd (before p low w) | inr high ↦ high ];
-}
 
 -- a test of what is there tests what may be there
 pub for_some_iff : {A : Type 0} (P : A → Type 0) (o : Option A) (x : A) (b : Bool) → o ≡ Some x → (IsTrue b ↔ P x) → IsTrue b ↔ ForSome o P

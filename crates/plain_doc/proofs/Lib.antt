@@ -14,3 +14,11 @@ pub mod SheetLemmas
 pub mod TextWalkLemmas
 pub mod SoundLemmas
 pub mod BlankLemmas
+pub mod StretchLemmas
+pub mod CutLemmas
+pub mod SettingsLemmas
+pub mod BaseLemmas
+pub mod DecisionLemmas
+pub mod RightLemmas
+pub mod MainLemmas
+pub mod LawLemmas

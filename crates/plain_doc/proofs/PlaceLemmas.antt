@@ -7,44 +7,11 @@ use Rattle.std.proofs.lemmas.Option.{slice_get_within}
 use Rattle.doc_bits.specs.declared.places.Where.{Where}
 use Rattle.doc_bits.specs.Rules.{Nowhere, IsLeast}
 use Rattle.doc_bits.specs.Places.{Place, rank, inner, Upto}
+use Rattle.doc_bits.proofs.PlaceLemmas.{upto_same, upto_next}
 use Rattle.plain_doc.specs.declared.item.Item.{Item}
 use Rattle.plain_doc.specs.declared.rules_texts.Side.{Side}
 use Rattle.plain_doc.specs.declared.rules_texts.Side.TheVariants.{Notes, Heads}
-use Rattle.plain_doc.specs.RulesOfTexts.{LeastPlaceOrNone}
 use Rattle.plain_doc.specs.TextRules.{InList, part_of}
-
--- a place of a part that comes before, one in the same part, and one in an earlier text of a list
-pub upto_later : (p q : Place) → rank p.0 < rank q.0 → Upto p q
-upto_later p q h = record { part = omega arith; number = λ e. absurd (omega arith); offset = λ e f. absurd (omega arith) }
-
-pub upto_same : (p q : Place) → p.0 ≡ q.0 → p.1 ≤ q.1 → Upto p q
-upto_same p q e h =
-    let f : rank p.0 ≡ rank q.0 = ap rank e in
-    let g : inner p.0 ≡ inner q.0 = ap inner e in
-    record { part = omega arith; number = λ _. omega arith; offset = λ _ _. h }
-
-upto_next : (p q : Place) → rank p.0 ≡ rank q.0 → inner p.0 < inner q.0 → Upto p q
-upto_next p q e h = record { part = omega arith; number = λ _. omega arith; offset = λ _ f. absurd (omega arith) }
-
--- of two parts of a rule, the first comes first
-pub least_first : (A B : Place → Type 0) (p : Place) → IsLeast Upto A p → ((q : Place) → B q → Upto p q) → IsLeast Upto (λ q. A q ⊎ B q) p
-least_first A B p first later = record {
-  broken = inl first.broken;
-  least = λ q w. elim w [ inl a ↦ first.least q a | inr b ↦ later q b ];
-}
-
--- where the first holds, it is the second
-pub least_second : (A B : Place → Type 0) (o : Option Place) → Nowhere A → LeastPlaceOrNone B o → LeastPlaceOrNone (λ q. A q ⊎ B q) o
-least_second A B None none second = λ q w. elim w [ inl a ↦ none q a | inr b ↦ second q b ]
-least_second A B (Some p) none second = record {
-  broken = inr second.broken;
-  least = λ q w. elim w [ inl a ↦ absurd (none q a) | inr b ↦ second.least q b ];
-}
-
--- two ways to say one rule
-pub same_places : (A B : Place → Type 0) (o : Option Place) → ((q : Place) → A q → B q) → ((q : Place) → B q → A q) → LeastPlaceOrNone A o → LeastPlaceOrNone B o
-same_places A B None to from h = λ q b. h q (from q b)
-same_places A B (Some p) to from h = record { broken = to p h.broken; least = λ q b. h.least q (from q b) }
 
 rank_of : (side : Side) (j k : ℕ) → rank (part_of side j) ≡ rank (part_of side k)
 rank_of Notes j k = refl

@@ -8,8 +8,9 @@ use Rattle.doc_bits.specs.Places.{Place, rank, Upto}
 use Rattle.plain_doc.specs.declared.item.Item.{Item}
 use Rattle.plain_doc.specs.declared.document.Document.{Document}
 use Rattle.plain_doc.specs.RulesOfSheet.{InSheet}
-use Rattle.plain_doc.specs.RulesOfTexts.{InTexts, LeastPlaceOrNone}
-use Rattle.plain_doc.proofs.PlaceLemmas.{upto_later, upto_same, least_first, least_second}
+use Rattle.doc_bits.specs.Places.{LeastPlaceOrNone}
+use Rattle.plain_doc.specs.RulesOfTexts.{InTexts}
+use Rattle.doc_bits.proofs.PlaceLemmas.{upto_later, upto_same, least_first, least_second}
 
 pub first_style : (breaks : ℕ → Type 0) (istd : ℕ) → IsLeast (λ a b. a ≤ b) breaks istd → IsLeast Upto (InSheet breaks) (Sheet, istd)
 first_style breaks istd first = record { broken = (refl, first.broken); least = λ q w. upto_same (Sheet, istd) q (sym w.0) (first.least q.1 w.1) }

@@ -9,9 +9,10 @@ use Rattle.std.proofs.Common.{List}
 use Rattle.plain_doc.specs.declared.item.Item.{Item}
 use Rattle.plain_doc.specs.declared.document.Document.{Document}
 use Rattle.plain_doc.specs.declared.rules_texts.Side.TheVariants.{Notes, Heads}
-use Rattle.plain_doc.specs.RulesOfTexts.{InTexts, text_of, LeastPlaceOrNone}
+use Rattle.doc_bits.specs.Places.{LeastPlaceOrNone}
+use Rattle.plain_doc.specs.RulesOfTexts.{InTexts, text_of}
 use Rattle.plain_doc.specs.TextRules.{InList}
-use Rattle.plain_doc.proofs.PlaceLemmas.{upto_later, upto_same, least_first, least_second, same_places}
+use Rattle.doc_bits.proofs.PlaceLemmas.{upto_later, upto_same, least_first, least_second, same_places}
 
 module _ (document : Document) (breaks : Where → List Item → ℕ → Type 0) where
   abbrev InMain : Place → Type 0

@@ -7,6 +7,7 @@ use Rattle.std.proofs.lemmas.Option.{slice_get_read}
 use Rattle.doc_bits.specs.declared.places.Where.{Where}
 use Rattle.doc_bits.specs.declared.places.Where.TheVariants.{Main}
 use Rattle.doc_bits.specs.Rules.{Nowhere}
+use Rattle.text_codes.specs.Paragraph.{paragraph_mark}
 use Rattle.style_sheet.specs.Sheet.{Sheet}
 use Rattle.plain_doc.specs.declared.item.Item.{Item}
 use Rattle.plain_doc.specs.declared.document.Document.{Document}
@@ -22,7 +23,7 @@ use Rattle.plain_doc.specs.RulesOfItems.{IsWrongItem}
 use Rattle.plain_doc.specs.RulesOfSheet.{note_count, section_count}
 use Rattle.plain_doc.specs.RulesOfTexts.{EndsRight, InTexts, last_unit}
 use Rattle.plain_doc.specs.TextRules.{IsRightItem, BreaksText}
-use Rattle.plain_doc.specs.TextWalk.{PassesItem, IsRightText, AreTextsRight}
+use Rattle.plain_doc.specs.TextWalk.{PassesItem, KeepsTextRules, AreTextsRight}
 use Rattle.plain_doc.proofs.WalkLemmas.{after_all}
 use Rattle.plain_doc.proofs.FieldLemmas.{open_after, open_still, nothing_open}
 use Rattle.plain_doc.proofs.RowLemmas.{RightIn, open_cells-nil, open_cells_more, no_row_open}
@@ -100,18 +101,18 @@ one_passed sheet part text i item before after h is passed passes = record {
 }
 
 -- the last item of a text that ends right is a paragraph mark
-pub last_is_mark : (text : List Item) (i : ℕ) (item : Item) → i < length text → item ≡ get_or text i item → EndsRight Main text → i + 1 ≡ length text → item.unit ≡ 0x0D
+pub last_is_mark : (text : List Item) (i : ℕ) (item : Item) → i < length text → item ≡ get_or text i item → EndsRight Main text → i + 1 ≡ length text → item.unit ≡ paragraph_mark
 last_is_mark text i item h is ends last =
     let place : i ≡ length text - 1 = omega arith in
     let here : slice_get text i ≡ Some item = slice_get_read text (length text) i item refl h is in
     let unit : last_unit text ≡ Some item.unit = ap (λ n. option_map (λ item. item.unit) (slice_get text n)) (sym place) ∙ ap (λ o. option_map (λ item. item.unit) o) here in
     elim ends [
-      | inl mark ↦ (let whole : Some item.unit ≡ Some 0x0D = sym unit ∙ mark in cc)
+      | inl mark ↦ (let whole : Some item.unit ≡ Some paragraph_mark = sym unit ∙ mark in cc)
       | inr none ↦ absurd (let empty : length text ≡ 0 = ap length none.1 in omega arith)
     ]
 
 -- all items are passed, and nothing is open
-pub all_passed : (sheet : Sheet) (part : Where) (text : List Item) (walk : TextWalk) → EndsRight part text → HasPassed sheet part text (length text) walk → walk.cells ≡ 0 → walk.fields ≡ [] → IsRightText sheet part text
+pub all_passed : (sheet : Sheet) (part : Where) (text : List Item) (walk : TextWalk) → EndsRight part text → HasPassed sheet part text (length text) walk → walk.cells ≡ 0 → walk.fields ≡ [] → KeepsTextRules sheet part text
 all_passed sheet part text walk ends passed no_cells no_fields End = λ p wrong. wrong.1 ends
 all_passed sheet part text walk ends passed no_cells no_fields Fields = nothing_open text (passed.fields ∙ ap Some no_fields)
 all_passed sheet part text walk ends passed no_cells no_fields Rows = no_row_open text passed.rows (sym passed.cells ∙ no_cells)

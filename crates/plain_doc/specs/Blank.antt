@@ -1,6 +1,7 @@
 -- The blank document: one paragraph and one section, three styles, and no text in twelve headers.
 use Rattle.std.specs.Prelude.{ℕ, List, [], ◌∷◌, ◌++◌, replicate, codes, Some, None}
 use Rattle.std.specs.FinMap.{insert, empty}
+use Rattle.text_codes.specs.Paragraph.{paragraph_mark}
 use Rattle.prop_map.specs.Settings.{Settings}
 use Rattle.style_sheet.specs.declared.styles.Style.{Style}
 use Rattle.style_sheet.specs.declared.styles.Kind.TheVariants.{Para, Char}
@@ -13,7 +14,7 @@ use Rattle.plain_doc.specs.NothingCarried.{empty_parts_are_short, no_lists, no_f
 -- the mark of a paragraph of style 0, which ends a section too
 abbrev pub blank_item : Item
 blank_item = record {
-  unit = 0x0D;
+  unit = paragraph_mark;
   chp = empty;
   mark = Some (record { istd = 0; pap = empty });
   sect = Some empty;

@@ -1,5 +1,6 @@
 -- Which documents are well formed. Every value of the type is.
-use Rattle.std.specs.Prelude.{◌≡◌, ℕ, ◌^◌, ◌<◌, List, [], ◌∷◌, length}
+use Rattle.std.specs.Prelude.{◌≡◌, ℕ, ◌^◌, ◌<◌, List, [], ◌∷◌, length, All}
+use Rattle.doc_bits.specs.Number.{AreBytes}
 use Rattle.fib_form.specs.FibFields.{IsKeptFlags}
 use Rattle.cfb_streams.specs.Contents.{AreStreams}
 use Rattle.style_sheet.specs.Formed.{IsFormedSheet}
@@ -14,9 +15,10 @@ abbrev pub carried_parts : Carried → List (List ℕ)
 carried_parts carried =
     carried.fonts ∷ carried.dop ∷ carried.assoc ∷ carried.lst ∷ carried.levels ∷ carried.lfo ∷ []
 
--- what a well-formed document carries
+-- what a well-formed document carries; its parts and its CLSID are bytes
 pub record IsFormedCarried (carried : Carried) : Type 0 where
   pub parts : ArePartsShort (carried_parts carried)
+  pub bytes : All AreBytes (carried.clsid ∷ carried_parts carried)
   pub lists : AreListsWithLevels carried.lst carried.levels
   pub clsid : length carried.clsid ≡ 16
   pub languages : (carried.lid < 2 ^ 16) × (carried.lid_fe < 2 ^ 16)

@@ -14,3 +14,7 @@ pub mod StyleRules
 pub mod Sound
 pub mod TextWalk
 pub mod Formed
+pub mod RightDocument
+pub mod Stretches
+pub mod Settings
+pub mod Entries

@@ -11,7 +11,12 @@ empty_parts_are_short = refl
 
 pub no_levels : AreLevelsFrom [] 0 (level_count []) 0
 unfolding levels_before level_start number_at
-no_levels = record { ends = refl; whole = λ k below. absurd (omega (arith, below)); after = omega arith; within = omega arith }
+no_levels = record {
+  ends = refl;
+  whole = λ k below. absurd (omega (arith, below));
+  after = omega arith;
+  within = omega arith;
+}
 
 pub no_lists : AreListsWithLevels [] []
 no_lists = record { counted = λ some. absurd (omega (arith, some)); whole = no_levels }

@@ -1,9 +1,10 @@
 -- [MS-DOC] Rows of a table: cells end with 0x07, and so does the row, whose mark has sprmPFTtp, 2417, and its cells in
--- sprmTDefTable, D608. A paragraph of a cell has sprmPFInTable, 2416. No count is carried here: the cells of an open row
--- are those after the last row mark.
+-- sprmTDefTable, D608. A paragraph of a cell has sprmPFInTable, 2416. No count is carried here: the cells of an open
+-- row are those after the last row mark.
 use Rattle.std.specs.Prelude.{◌≡◌, ◌≢◌, ◌⊎◌, ℕ, ◌+◌, ◌==◌, if◌then◌else◌, Bool, false, ◌&&◌, not, List, length, take, reverse, slice_get, slice_index, is_some, Option, Some, None, IsTrue}
 use Rattle.std.specs.List.{count_by, take_while}
 use Rattle.std.specs.FinMap.{get}
+use Rattle.text_codes.specs.Paragraph.{cell_mark}
 use Rattle.plain_doc.specs.declared.item.Item.{Item}
 use Rattle.plain_doc.specs.declared.item.Mark.{Mark}
 use Rattle.plain_doc.specs.RulesOfItems.{IsWrongItem}
@@ -24,15 +25,16 @@ is_on (Some value) = length value == 1 && slice_index value 0 == 1
 
 -- the end of a row
 abbrev pub is_row_mark : Item → Bool
-is_row_mark item = item.unit == 0x07 && is_on (paragraph_value item 0x2417)
+is_row_mark item = item.unit == cell_mark && is_on (paragraph_value item 0x2417)
 
 -- the end of a cell
 abbrev pub is_cell_mark : Item → Bool
-is_cell_mark item = item.unit == 0x07 && not (is_on (paragraph_value item 0x2417))
+is_cell_mark item = item.unit == cell_mark && not (is_on (paragraph_value item 0x2417))
 
 -- the end of a paragraph that is in no table
 abbrev pub is_mark_outside : Item → Bool
-is_mark_outside item = is_some item.mark && (not (item.unit == 0x07) && not (is_on (paragraph_value item 0x2416)))
+is_mark_outside item =
+    is_some item.mark && (not (item.unit == cell_mark) && not (is_on (paragraph_value item 0x2416)))
 
 -- the cells of the row that is open after these items: the cell marks after the last row mark
 unfoldable pub open_cells : List Item → ℕ
@@ -52,7 +54,8 @@ pub record FitsRow (cells : ℕ) (item : Item) : Type 0 where
 -- an item that is not right, or the end of a text within a row
 abbrev pub BreaksRows : List Item → ℕ → Type 0
 BreaksRows text place =
-    IsWrongItem (λ i item. FitsRow (open_cells (take i text)) item) text place ⊎ ((place ≡ length text) × (open_cells text ≢ 0))
+    IsWrongItem (λ i item. FitsRow (open_cells (take i text)) item) text place
+    ⊎ ((place ≡ length text) × (open_cells text ≢ 0))
 
 -- the cells of the open row after one item more
 abbrev pub cells_after : ℕ → Item → ℕ

@@ -3,6 +3,7 @@ use Rattle.std.specs.Prelude.{◌≡◌, ◌⊎◌, ◌↔◌, ℕ, ◌+◌, ◌
 use Rattle.std.specs.Option.{ForSome}
 use Rattle.doc_bits.specs.declared.places.Where.{Where}
 use Rattle.doc_bits.specs.declared.places.Where.TheVariants.{Main}
+use Rattle.text_codes.specs.Paragraph.{paragraph_mark, cell_mark, section_mark}
 use Rattle.prop_map.specs.Settings.{Settings}
 use Rattle.prop_map.specs.Printing.{printed_list}
 use Rattle.plain_doc.specs.declared.item.Item.{Item}
@@ -15,12 +16,12 @@ pub record IsWrongItem (right : ℕ → Item → Type 0) (text : List Item) (pla
 
 -- a mark stands exactly on 0x0D, on 0x07, and where a section ends
 abbrev pub HasMarkRight : Item → Type 0
-HasMarkRight item = IsSome item.mark ↔ ((item.unit ≡ 0x0D) ⊎ ((item.unit ≡ 0x07) ⊎ IsSome item.sect))
+HasMarkRight item = IsSome item.mark ↔ ((item.unit ≡ paragraph_mark) ⊎ ((item.unit ≡ cell_mark) ⊎ IsSome item.sect))
 
--- of a text of so many items, a section ends at the last one of the main text and at a 0x0C of it alone, and at the last
--- one of the main text it does
+-- of a text of so many items, a section ends at the last one of the main text and at a 0x0C of it alone, and at the
+-- last one of the main text it does
 pub record HasSectionRight (part : Where) (len place : ℕ) (item : Item) : Type 0 where
-  pub alone : IsSome item.sect → (part ≡ Main) × ((place + 1 ≡ len) ⊎ (item.unit ≡ 0x0C))
+  pub alone : IsSome item.sect → (part ≡ Main) × ((place + 1 ≡ len) ⊎ (item.unit ≡ section_mark))
   pub last : part ≡ Main → place + 1 ≡ len → IsSome item.sect
 
 -- the byte of a field character stands on 0x13 to 0x15 alone

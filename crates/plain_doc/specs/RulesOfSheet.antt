@@ -38,9 +38,13 @@ note_count main = count_by (λ item. is_some item.note) main
 abbrev pub section_count : List Item → ℕ
 section_count main = count_by (λ item. is_some item.sect) main
 
--- [MS-DOC] PlcfHdd: six texts for the separators of notes, and six headers and footers a section
+-- [MS-DOC] PlcfHdd: six texts for the separators of notes, and six headers and footers a section. The number of header
+-- texts of so many sections, and of those before the section of this number
+abbrev pub heads_of_sections : ℕ → ℕ
+heads_of_sections sections = 6 + 6 * sections
+
 abbrev pub head_count : List Item → ℕ
-head_count main = 6 + 6 * section_count main
+head_count main = heads_of_sections (section_count main)
 
 -- the items of all texts
 abbrev pub item_count : Document → ℕ

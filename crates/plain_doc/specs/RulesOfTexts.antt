@@ -1,10 +1,10 @@
 -- Rules on the texts of a document: the main text, the notes and the header texts.
-use Rattle.std.specs.Prelude.{◌≡◌, ◌⊎◌, ℕ, ◌-◌, List, [], length, slice_get, option_map, Option, Some, None, MatchOption}
+use Rattle.std.specs.Prelude.{◌≡◌, ◌⊎◌, ℕ, ◌-◌, List, [], length, slice_get, option_map, Option, Some, None}
 use Rattle.std.specs.Option.{ForSome}
 use Rattle.doc_bits.specs.declared.places.Where.{Where}
 use Rattle.doc_bits.specs.declared.places.Where.TheVariants.{File, Wd, Table, Sheet, Main, Note, Head}
-use Rattle.doc_bits.specs.Rules.{Nowhere, IsLeast}
-use Rattle.doc_bits.specs.Places.{Place, Upto}
+use Rattle.doc_bits.specs.Places.{Place}
+use Rattle.text_codes.specs.Paragraph.{paragraph_mark}
 use Rattle.style_sheet.specs.Chain.{kind_at}
 use Rattle.style_sheet.specs.Sheet.{Sheet as StyleList}
 use Rattle.plain_doc.specs.declared.item.Item.{Item}
@@ -26,10 +26,6 @@ pub record InTexts (document : Document) (breaks : Where → List Item → ℕ �
   pub there : text_of document place.0 ≡ Some text
   pub broken : breaks place.0 text place.1
 
--- what a function answers that judges one rule: its least place, or nothing where it holds
-abbrev pub LeastPlaceOrNone : (Place → Type 0) → Option Place → Type 0
-LeastPlaceOrNone breaks found = MatchOption found (Nowhere breaks) (IsLeast Upto breaks)
-
 -- the unit of the last item
 abbrev pub last_unit : List Item → Option ℕ
 last_unit text = option_map (λ item. item.unit) (slice_get text (length text - 1))
@@ -39,7 +35,7 @@ IsHead part = (number : ℕ) × (part ≡ Head number)
 
 -- the text ends with the end of a paragraph, or it is an empty header text
 abbrev pub EndsRight : Where → List Item → Type 0
-EndsRight part text = (last_unit text ≡ Some 0x0D) ⊎ (IsHead part × (text ≡ []))
+EndsRight part text = (last_unit text ≡ Some paragraph_mark) ⊎ (IsHead part × (text ≡ []))
 
 -- it does not; the place is its last item, or 0
 abbrev pub HasWrongEnd : Where → List Item → ℕ → Type 0

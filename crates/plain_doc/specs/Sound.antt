@@ -12,7 +12,8 @@ use Rattle.plain_doc.specs.RulesOfItems.{IsWrongItem, IsPlacedRight, HasShortSet
 use Rattle.plain_doc.specs.RulesOfTexts.{InTexts, HasWrongEnd, HasParagraphStyle}
 use Rattle.plain_doc.specs.RulesOfSheet.{InSheet, HasShortStyle, FitsStd, note_count, head_count, IsOtherCount, HasTooManyItems}
 
--- each text ends right, its items are placed right, its fields nest, its rows are whole, its marks have styles of paragraphs
+-- each text ends right, its items are placed right, its fields nest, its rows are whole, its marks have styles of
+-- paragraphs
 abbrev pub text_rules : Document → Rules Place
 text_rules document =
     rule 60 (InTexts document HasWrongEnd) then
@@ -63,7 +64,8 @@ NamesFirstRule rules fault = IsFirstPlace rules fault.rule (fault.place, fault.a
 abbrev pub FirstDocFaultIsLeast : Type 0
 FirstDocFaultIsLeast =
     (document : Document) (number : ℕ) (place : Place) →
-    IsFirstPlace (document_rules document) number place → IsLeastOfAll Upto (Breaks (document_rules document)) number place
+    IsFirstPlace (document_rules document) number place →
+    IsLeastOfAll Upto (Breaks (document_rules document)) number place
 
 -- the styles of a document that breaks no rule can be printed
 abbrev pub SoundSheetIsWritable : Type 0

@@ -35,7 +35,8 @@ part_of Notes number = Note number
 part_of Heads number = Head number
 
 -- the rule is broken in one of these texts
-pub record InList (side : Side) (texts : List (List Item)) (breaks : Where → List Item → ℕ → Type 0) (place : Place) : Type 0 where
+pub record InList (side : Side) (texts : List (List Item)) (breaks : Where → List Item → ℕ → Type 0) (place : Place) :
+    Type 0 where
   pub number : ℕ
   pub text : List Item
   pub there : slice_get texts number ≡ Some text

@@ -2,6 +2,7 @@
 use Rattle.std.specs.Prelude.{◌≡◌, ◌≢◌, ℕ, ◌+◌, ◌^◌, ◌<◌, List, [], ◌∷◌, Some, None}
 use Rattle.doc_bits.specs.declared.places.Where.{Where}
 use Rattle.doc_bits.specs.Rules.{Hold, Nowhere}
+use Rattle.text_codes.specs.Paragraph.{paragraph_mark, cell_mark}
 use Rattle.style_sheet.specs.Sheet.{Sheet}
 use Rattle.plain_doc.specs.declared.item.Item.{Item}
 use Rattle.plain_doc.specs.declared.document.Document.{Document}
@@ -24,11 +25,12 @@ pub record IsPlain (item : Item) : Type 0 where
   pub sect : item.sect ≡ None
   pub fld : item.fld ≡ None
   pub note : item.note ≡ None
-  pub paragraph : item.unit ≢ 0x0D
-  pub cell : item.unit ≢ 0x07
+  pub paragraph : item.unit ≢ paragraph_mark
+  pub cell : item.unit ≢ cell_mark
 
 -- the item breaks no rule where it stands, and what the walk carries after it
-pub record PassesItem (sheet : Sheet) (part : Where) (len place : ℕ) (item : Item) (before after : TextWalk) : Type 0 where
+pub record PassesItem (sheet : Sheet) (part : Where) (len place : ℕ) (item : Item) (before after : TextWalk) :
+    Type 0 where
   pub right : (rule : ItemRule) → IsRightItem rule sheet part len place item
   pub row : FitsRow before.cells item
   pub cells : after.cells ≡ cells_after before.cells item
@@ -37,8 +39,8 @@ pub record PassesItem (sheet : Sheet) (part : Where) (len place : ℕ) (item : I
   pub sections : after.sections ≡ before.sections + section_count (item ∷ [])
 
 -- the text breaks none of the rules on texts
-abbrev pub IsRightText : Sheet → Where → List Item → Type 0
-IsRightText sheet part text = (rule : TextRule) → Nowhere (BreaksText rule sheet part text)
+abbrev pub KeepsTextRules : Sheet → Where → List Item → Type 0
+KeepsTextRules sheet part text = (rule : TextRule) → Nowhere (BreaksText rule sheet part text)
 
 -- no text of the document does, and the settings of no item are too long
 pub record AreTextsRight (document : Document) : Type 0 where

@@ -1,8 +1,9 @@
 // The blank document.
 ghost use Rattle.std.specs.Prelude.{◌≡◌, ℕ, ◌+◌, ◌<◌, ◌≤◌, [], ◌∷◌, ◌++◌, length, replicate, Some, None, IfOk};
-ghost use Rattle.plain_doc.specs.Blank.{blank_item, normal_style, heading_style, default_font_style, one_setting, blank_sheet, blank_carried, blank_document};
+ghost use Rattle.plain_doc.specs.Blank.{blank_item, normal_style, heading_style, default_font_style, one_setting};
+ghost use Rattle.plain_doc.specs.Blank.{blank_sheet, blank_carried, blank_document};
 
-use crate::rules_items::PARAGRAPH_MARK;
+use crate::rules_counts::{HEADS_A_SECTION, SEPARATORS};
 use crate::{Carried, Document, Item, Items, Mark, Texts};
 use cfb_streams::Streams;
 use doc_bits::{Bytes, Memory, Units};
@@ -10,9 +11,10 @@ use prop_map::PropMap;
 use sprm_table::Code;
 use std::alloc::Global;
 use style_sheet::{Kind, Style, StyleSheet};
+use text_codes::PARAGRAPH_MARK;
 
 /// The header texts of one section, with the six separators of the notes.
-const HEADS: usize = 12;
+const HEADS: usize = SEPARATORS + HEADS_A_SECTION;
 
 /// [MS-DOC] sprmPOutLvl.
 const SPRM_P_OUT_LVL: Code = Code(0x2640);
@@ -113,6 +115,7 @@ fn style(sti: u16, name: Units, kind: Kind) -> Style
     }
 }
 
+/// The style Normal.
 fn normal(alloc: Global) -> Result<Style, Memory>
     ensures { IfOk result (λ made. made ≡ normal_style) }
 {
@@ -123,6 +126,7 @@ fn normal(alloc: Global) -> Result<Style, Memory>
     Ok(style(0, units_of(alloc, b"Normal")?, kind))
 }
 
+/// The style heading 1: an outline level, and bold letters.
 fn heading(alloc: Global) -> Result<Style, Memory>
     ensures { IfOk result (λ made. made ≡ heading_style) }
 {
@@ -135,6 +139,7 @@ fn heading(alloc: Global) -> Result<Style, Memory>
     Ok(made)
 }
 
+/// The character style Default Paragraph Font.
 fn default_font(alloc: Global) -> Result<Style, Memory>
     ensures { IfOk result (λ made. made ≡ default_font_style) }
 {
@@ -168,6 +173,7 @@ fn units_of(alloc: Global, name: &[u8]) -> Result<Units, Memory>
     Ok(units)
 }
 
+/// Nothing but a language and the CLSID.
 fn nothing_carried(alloc: Global) -> Carried
     ensures { result ≡ blank_carried }
 {

@@ -66,6 +66,7 @@ impl Carried {
             && same_streams(&self.streams, &other.streams)
     }
 
+    /// Whether both have the same CLSID, languages and flags.
     fn same_numbers(&self, other: &Carried) -> bool
         ensures { IsTrue result
             ↔ (self.now.clsid ≡ other.now.clsid) × (self.now.lid ≡ other.now.lid)
@@ -77,6 +78,7 @@ impl Carried {
             && self.flags == other.flags
     }
 
+    /// Whether both have the same parts of the table stream.
     fn same_parts(&self, other: &Carried) -> bool
         ensures { IsTrue result
             ↔ (self.now.fonts ≡ other.now.fonts) × (self.now.dop ≡ other.now.dop)
@@ -92,12 +94,14 @@ impl Carried {
     }
 }
 
+/// The same bytes.
 fn copy_part(alloc: Global, part: &Bytes) -> Result<Bytes, Memory>
     ensures { IfOk result (λ copy. copy ≡ part.now) }
 {
     Bytes::from_slice(alloc, part.as_slice())
 }
 
+/// The same streams.
 fn copy_streams(alloc: Global, streams: &Streams) -> Result<Streams, Memory>
     ensures { IfOk result (λ copy. copy ≡ streams.now) }
 {
@@ -109,6 +113,7 @@ fn copy_streams(alloc: Global, streams: &Streams) -> Result<Streams, Memory>
     Ok(copy)
 }
 
+/// Whether both are the same streams.
 fn same_streams(streams: &Streams, other: &Streams) -> bool
     ensures { IsTrue result ↔ streams.now ≡ other.now }
 {
@@ -124,7 +129,7 @@ fn same_streams(streams: &Streams, other: &Streams) -> bool
     true
 }
 
-// Whether both have the same name and bytes at a place.
+/// Whether both have the same name and bytes at a place.
 fn same_stream(streams: &Streams, other: &Streams, i: usize) -> bool
     requires there { i < length streams.now }
     requires other_there { i < length other.now }

@@ -1,13 +1,16 @@
 // A document, as the reader finds it, edits change it and saves write it.
-ghost use Rattle.std.specs.Prelude.{◌≡◌, ◌↔◌, IsTrue, IfOk};
+ghost use Rattle.std.specs.Prelude.{◌≡◌, ◌↔◌, ◌+◌, ◌-◌, ◌^◌, ◌<◌, ◌≤◌, length, slice_get, slice_set, Some, IsTrue};
+ghost use Rattle.std.specs.Prelude.{IfOk, OnOk, OnErr};
+ghost use Rattle.std.specs.List.{splice};
+ghost use Rattle.plain_doc.specs.Document.{HasPropertyMaps};
 
-use crate::{Carried, Items, Texts};
+use crate::{Carried, Item, Items, Texts};
 use doc_bits::Memory;
 use std::alloc::Global;
 use style_sheet::StyleSheet;
 
 /// A document: its main text, its notes and header texts in their order, its styles, and what is
-/// carried along unread.
+/// carried along unread. The main text changes through `splice_main` and `replace_main` alone.
 #[derive(Drop)]
 pub struct Document {
     pub main: Items,
@@ -29,6 +32,30 @@ impl Document {
             sheet: self.sheet.copy(alloc)?,
             carried: self.carried.copy(alloc)?,
         })
+    }
+
+    /// Puts `fresh` in place of the items of the main text from `from` to before `to`. Each item is
+    /// moved once.
+    pub fn splice_main(&mut self, from: usize, to: usize, fresh: Items) -> Result<(), Memory>
+        requires ordered { from ≤ to }
+        requires within { to ≤ length self.old.main }
+        requires few { length self.old.main + length fresh < 2 ^ 32 + (to - from) }
+        ensures ok { OnOk result (self.new ≡ record self.old { main = splice self.old.main from to fresh }) }
+        ensures err { OnErr result (self.new ≡ self.old) }
+    {
+        self.main.splice(from, to, fresh)?;
+        Ok(())
+    }
+
+    /// Puts an item in place of another of the main text, and hands back the old one. It takes no
+    /// memory.
+    pub fn replace_main(&mut self, i: usize, item: Item) -> Item
+        requires within { i < length self.old.main }
+        requires maps { HasPropertyMaps item }
+        ensures old { slice_get self.old.main i ≡ Some result }
+        ensures new { self.new ≡ record self.old { main = slice_set self.old.main i item } }
+    {
+        self.main.replace(i, item)
     }
 }
 

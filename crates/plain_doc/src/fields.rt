@@ -37,6 +37,7 @@ impl Model for OpenFields {
 }
 
 impl OpenFields {
+    /// No field is open.
     pub(crate) fn new() -> OpenFields
         ensures { result ≡ [] }
     {
@@ -46,13 +47,14 @@ impl OpenFields {
         }
     }
 
+    /// Whether no field is open.
     pub(crate) fn is_empty(&self) -> bool
         ensures { IsTrue result ↔ self.now ≡ [] }
     {
         self.depth == 0
     }
 
-    // Opens one more field, where that many may be open.
+    /// Opens one more field, where that many may be open.
     fn begin(&mut self) -> bool
         ensures { MatchBool result (begun most_open self.old ≡ Some self.new) (begun most_open self.old ≡ None) }
     {
@@ -64,7 +66,7 @@ impl OpenFields {
         true
     }
 
-    // Notes the separator of the innermost field, where it has none yet.
+    /// Notes the separator of the innermost field, where it has none yet.
     fn separate(&mut self) -> bool
         ensures { MatchBool result (separated self.old ≡ Some self.new) (separated self.old ≡ None) }
     {
@@ -75,7 +77,7 @@ impl OpenFields {
         true
     }
 
-    // Closes the innermost field, where there is one.
+    /// Closes the innermost field, where there is one.
     fn end(&mut self) -> bool
         ensures { MatchBool result (ended self.old ≡ Some self.new) (ended self.old ≡ None) }
     {
@@ -86,9 +88,11 @@ impl OpenFields {
         true
     }
 
-    // Goes past an item, where it is not a wrong field character.
+    /// Goes past an item, where it is not a wrong field character.
     pub(crate) fn pass_item(&mut self, item: &Item) -> bool
-        ensures { MatchBool result (after_item most_open item.now self.old ≡ Some self.new) (after_item most_open item.now self.old ≡ None) }
+        ensures { MatchBool result
+            (after_item most_open item.now self.old ≡ Some self.new)
+            (after_item most_open item.now self.old ≡ None) }
     {
         if item.fld.is_none() {
             return true;
@@ -96,9 +100,11 @@ impl OpenFields {
         self.pass(item.unit)
     }
 
-    // Goes past a field character, where it is not a wrong one.
+    /// Goes past a field character, where it is not a wrong one.
     fn pass(&mut self, unit: u16) -> bool
-        ensures { MatchBool result (after_unit most_open unit self.old ≡ Some self.new) (after_unit most_open unit self.old ≡ None) }
+        ensures { MatchBool result
+            (after_unit most_open unit self.old ≡ Some self.new)
+            (after_unit most_open unit self.old ≡ None) }
     {
         if unit == FIELD_BEGIN {
             return self.begin();

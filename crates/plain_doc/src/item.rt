@@ -78,6 +78,7 @@ impl Item {
     }
 }
 
+/// The same mark, where there is one.
 fn copy_mark(alloc: Global, mark: &Option<Mark>) -> Result<Option<Mark>, Memory>
     ensures { IfOk result (λ copy. copy ≡ mark.now) }
 {
@@ -87,6 +88,7 @@ fn copy_mark(alloc: Global, mark: &Option<Mark>) -> Result<Option<Mark>, Memory>
     }
 }
 
+/// The same settings of a section, where there are some.
 fn copy_sect(alloc: Global, sect: &Option<PropMap>) -> Result<Option<PropMap>, Memory>
     ensures { IfOk result (λ copy. copy ≡ sect.now) }
 {
@@ -96,6 +98,7 @@ fn copy_sect(alloc: Global, sect: &Option<PropMap>) -> Result<Option<PropMap>, M
     }
 }
 
+/// Whether both are the same mark, or none.
 fn same_mark(mark: &Option<Mark>, other: &Option<Mark>) -> bool
     ensures { IsTrue result ↔ mark.now ≡ other.now }
 {
@@ -106,6 +109,7 @@ fn same_mark(mark: &Option<Mark>, other: &Option<Mark>) -> bool
     }
 }
 
+/// Whether both are the same settings of a section, or none.
 fn same_sect(sect: &Option<PropMap>, other: &Option<PropMap>) -> bool
     ensures { IsTrue result ↔ sect.now ≡ other.now }
 {

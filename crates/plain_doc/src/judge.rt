@@ -1,13 +1,15 @@
 // The rules on documents, judged in their order. No memory is taken.
 ghost use Rattle.std.specs.Prelude.{◌≡◌, MatchResult};
 ghost use Rattle.doc_bits.specs.Rules.{Hold, Nowhere, rule as rule_of};
-ghost use Rattle.plain_doc.specs.RulesOfTexts.{InTexts, LeastPlaceOrNone};
+ghost use Rattle.doc_bits.specs.Places.{LeastPlaceOrNone};
+ghost use Rattle.plain_doc.specs.RulesOfTexts.{InTexts};
 ghost use Rattle.plain_doc.specs.TextRules.{BreaksText};
 ghost use Rattle.plain_doc.specs.TextWalk.{AreTextsRight, HasCounts};
-ghost use Rattle.plain_doc.specs.Sound.{IsSound, NamesFirstRule, document_rules, text_rules, base_rules, count_rules, size_rules, HasLongSettings};
+ghost use Rattle.plain_doc.specs.Sound.{IsSound, NamesFirstRule, document_rules, text_rules, base_rules, count_rules};
+ghost use Rattle.plain_doc.specs.Sound.{size_rules, HasLongSettings};
 
 use crate::Document;
-use crate::rules_counts::{Counts, all_items, counts_in};
+use crate::rules_counts::{Counts, HEADS_A_SECTION, SEPARATORS, all_items, counts_in};
 use crate::rules_sheet::{StyleRule, wrong_style};
 use crate::rules_texts::{ItemRule, TextRule, first_in_texts};
 use crate::text_walk::right_counts;
@@ -39,12 +41,6 @@ const RULE_STD: u8 = 71;
 /// The most items of all texts.
 const MOST_ITEMS: u32 = 499_998;
 
-/// Six texts separate notes.
-const SEPARATORS: usize = 6;
-
-/// Each section has six headers and footers.
-const HEADS_A_SECTION: usize = 6;
-
 /// The first broken rule, at its first place: an item of a text, a style of the sheet, or a number
 /// of texts or items.
 #[derive(Clone, Copy, Debug, PartialEq, Eq, Error)]
@@ -66,7 +62,7 @@ pub fn check(document: &Document) -> Result<(), DocFault>
     }
 }
 
-// Judges a document whose texts break no rule on texts.
+/// Judges a document whose texts break no rule on texts.
 fn judge_beside(document: &Document, counts: Counts) -> Result<(), DocFault>
     requires right { AreTextsRight document.now }
     requires counts { HasCounts document.now.main counts }
@@ -78,7 +74,7 @@ fn judge_beside(document: &Document, counts: Counts) -> Result<(), DocFault>
     Ok(())
 }
 
-// The same of any document, rule by rule.
+/// The same of any document, rule by rule.
 fn judge_each(document: &Document) -> Result<(), DocFault>
     ensures { MatchResult result (λ _. IsSound document.now) (NamesFirstRule (document_rules document.now)) }
 {
@@ -89,6 +85,7 @@ fn judge_each(document: &Document) -> Result<(), DocFault>
     Ok(())
 }
 
+/// Judges the texts by the rules 60 to 64.
 fn judge_texts(document: &Document) -> Result<(), DocFault>
     ensures { MatchResult result (λ _. Hold (text_rules document.now)) (NamesFirstRule (text_rules document.now)) }
 {
@@ -100,6 +97,7 @@ fn judge_texts(document: &Document) -> Result<(), DocFault>
     Ok(())
 }
 
+/// Judges the texts by a rule, which has this number.
 fn judge_text_rule(document: &Document, number: u8, rule: TextRule) -> Result<(), DocFault>
     ensures { MatchResult result
         (λ _. Nowhere (InTexts document.now (BreaksText rule document.now.sheet)))
@@ -111,6 +109,7 @@ fn judge_text_rule(document: &Document, number: u8, rule: TextRule) -> Result<()
     }
 }
 
+/// Judges the bases of styles, rule 65.
 fn judge_bases(document: &Document) -> Result<(), DocFault>
     ensures { MatchResult result (λ _. Hold (base_rules document.now)) (NamesFirstRule (base_rules document.now)) }
 {
@@ -120,6 +119,7 @@ fn judge_bases(document: &Document) -> Result<(), DocFault>
     }
 }
 
+/// Judges the numbers of texts and items, rules 66 to 68.
 fn judge_counts(document: &Document, counts: Counts) -> Result<(), DocFault>
     requires { HasCounts document.now.main counts }
     ensures { MatchResult result (λ _. Hold (count_rules document.now)) (NamesFirstRule (count_rules document.now)) }
@@ -138,7 +138,7 @@ fn judge_counts(document: &Document, counts: Counts) -> Result<(), DocFault>
     Ok(())
 }
 
-// `long` is the first place where settings are too long.
+/// `long` is the first place where settings are too long.
 fn judge_sizes(document: &Document, long: Option<(Where, u32)>) -> Result<(), DocFault>
     requires { LeastPlaceOrNone (HasLongSettings document.now) long }
     ensures { MatchResult result (λ _. Hold (size_rules document.now)) (NamesFirstRule (size_rules document.now)) }
@@ -152,7 +152,7 @@ fn judge_sizes(document: &Document, long: Option<(Where, u32)>) -> Result<(), Do
     }
 }
 
-// The first place where settings are too long. Styles come before texts.
+/// The first place where settings are too long. Styles come before texts.
 fn first_long(document: &Document) -> Option<(Where, u32)>
     ensures { LeastPlaceOrNone (HasLongSettings document.now) result }
 {
@@ -162,7 +162,7 @@ fn first_long(document: &Document) -> Option<(Where, u32)>
     first_in_texts(TextRule::Each(ItemRule::Settings), document)
 }
 
-// The same, where no settings of texts are too long.
+/// The same, where no settings of texts are too long.
 fn first_long_style(document: &Document) -> Option<(Where, u32)>
     requires { AreTextsRight document.now }
     ensures { LeastPlaceOrNone (HasLongSettings document.now) result }
@@ -173,6 +173,7 @@ fn first_long_style(document: &Document) -> Option<(Where, u32)>
     }
 }
 
+/// The fault of a rule at a place.
 fn fault(rule: u8, place: Where, at: u32) -> DocFault
     ensures { result ≡ record { rule = rule; place = place; at = at } }
 {

@@ -28,11 +28,10 @@ pub use formed::{blank_is_formed, documents_are_formed};
 pub use item::{Item, Mark, NoteKind};
 pub use items::Items;
 pub use judge::{DocFault, check};
-pub use laws::{first_doc_fault_is_least, sound_sheet_is_writable};
+pub use laws::{
+    equal_settings_are_same, first_doc_fault_is_least, items_are_cut_into_stretches,
+    sound_documents_are_right, sound_sheet_is_writable, stretches_are_one,
+};
 pub use paragraphs::paragraph_end;
+pub use rules_counts::{HEADS_A_SECTION, SEPARATORS, all_items, notes_in, sections_in};
 pub use texts::Texts;
-
-#[cfg(test)]
-mod document_tests;
-#[cfg(test)]
-mod judge_tests;

@@ -1,6 +1,7 @@
 // What the types of numbers say of them. None of these functions does anything when it runs.
 ghost use Rattle.std.specs.Prelude.{ℕ, ◌^◌, ◌<◌, All};
 ghost use Rattle.std.specs.Option.{ForSome};
+ghost use Rattle.doc_bits.specs.Number.{AreBytes};
 ghost use Rattle.plain_doc.specs.Document.{HasPropertyMaps, IsFormedItem};
 
 use crate::{Item, Mark};
@@ -15,6 +16,7 @@ pub(crate) fn are_formed(items: &[Item])
     }
 }
 
+/// An item with right maps is well formed.
 fn is_formed(item: &Item)
     requires { HasPropertyMaps item.now }
     ensures { IsFormedItem item.now }
@@ -24,6 +26,7 @@ fn is_formed(item: &Item)
     has_field_byte(&item.fld);
 }
 
+/// The style number of a mark has 16 bits.
 fn has_style_number(mark: &Option<Mark>)
     ensures { ForSome mark.now (λ mark. mark.istd < 2 ^ 16) }
 {
@@ -32,6 +35,7 @@ fn has_style_number(mark: &Option<Mark>)
     }
 }
 
+/// The byte of a field character is one.
 fn has_field_byte(fld: &Option<u8>)
     ensures { ForSome fld.now (λ byte. byte < 2 ^ 8) }
 {
@@ -40,10 +44,17 @@ fn has_field_byte(fld: &Option<u8>)
     }
 }
 
+/// Bytes are below 256.
+pub(crate) fn are_bytes(bytes: &[u8])
+    ensures { AreBytes bytes.now }
+{}
+
+/// A number of 16 bits is below 2^16.
 pub(crate) fn is_word(number: u16)
     ensures { number < 2 ^ 16 }
 {}
 
+/// A byte is below 256.
 fn is_byte(number: u8)
     ensures { number < 2 ^ 8 }
 {}

@@ -1,11 +1,12 @@
 // The rows of tables.
 ghost use Rattle.std.specs.Prelude.{◌≡◌, ◌+◌, ◌^◌, ◌<◌, ◌≤◌, ◌↔◌, length, IsTrue, option_map};
 ghost use Rattle.doc_bits.specs.Rules.{LeastOrNone};
-ghost use Rattle.plain_doc.specs.Rows.{paragraph_value, is_on, is_row_mark, is_mark_outside, HasCells, FitsRow, BreaksRows, cells_after};
+ghost use Rattle.plain_doc.specs.Rows.{paragraph_value, is_on, is_row_mark, is_mark_outside, HasCells, FitsRow};
+ghost use Rattle.plain_doc.specs.Rows.{BreaksRows, cells_after};
 
 use crate::Item;
-use crate::rules_items::CELL_MARK;
 use sprm_table::Code;
+use text_codes::CELL_MARK;
 
 /// The paragraph is in a table.
 const SPRM_P_F_IN_TABLE: Code = Code(0x2416);
@@ -60,7 +61,7 @@ pub(crate) fn next_cells(cells: usize, item: &Item) -> usize
     }
 }
 
-// Whether the item's mark has a row of this many cells.
+/// Whether the item's mark has a row of this many cells.
 fn has_cells(item: &Item, cells: usize) -> bool
     ensures { IsTrue result ↔ HasCells (paragraph_value item.now 0xD608) cells }
 {
@@ -70,21 +71,21 @@ fn has_cells(item: &Item, cells: usize) -> bool
     }
 }
 
-// Whether the item ends a row.
+/// Whether the item ends a row.
 fn is_row_end(item: &Item) -> bool
     ensures { result ≡ is_row_mark item.now }
 {
     item.unit == CELL_MARK && is_set(item, SPRM_P_F_TTP)
 }
 
-// Whether the item ends a paragraph that is in no table.
+/// Whether the item ends a paragraph that is in no table.
 fn ends_outside(item: &Item) -> bool
     ensures { result ≡ is_mark_outside item.now }
 {
     item.mark.is_some() && item.unit != CELL_MARK && !is_set(item, SPRM_P_F_IN_TABLE)
 }
 
-// Whether the item's mark has the value 01 at the code.
+/// Whether the item's mark has the value 01 at the code.
 fn is_set(item: &Item, code: Code) -> bool
     ensures { result ≡ is_on (paragraph_value item.now code.0) }
 {
@@ -94,7 +95,7 @@ fn is_set(item: &Item, code: Code) -> bool
     }
 }
 
-// The value that the item's mark, where there is one, has at the code.
+/// The value that the item's mark, where there is one, has at the code.
 fn paragraph_setting(item: &Item, code: Code) -> Option<&[u8]>
     ensures { option_map (λ v. v.now) result ≡ paragraph_value item.now code.0 }
 {

@@ -6,6 +6,12 @@ ghost use Rattle.plain_doc.specs.TextWalk.{HasCounts};
 
 use crate::{Document, Item, Texts};
 
+/// [MS-DOC] PlcfHdd: six texts separate notes.
+pub const SEPARATORS: usize = 6;
+
+/// [MS-DOC] PlcfHdd: each section has six headers and footers.
+pub const HEADS_A_SECTION: usize = 6;
+
 /// How many items of a text refer to notes, and how many end a section.
 #[derive(Clone, Copy)]
 pub(crate) struct Counts {
@@ -24,8 +30,8 @@ pub(crate) fn counts_in(text: &[Item]) -> Counts
     }
 }
 
-// How many items refer to notes.
-fn notes_in(main: &[Item]) -> usize
+/// How many items refer to notes.
+pub fn notes_in(main: &[Item]) -> usize
     ensures { result ≡ note_count main.now }
 {
     let mut count = 0;
@@ -37,8 +43,8 @@ fn notes_in(main: &[Item]) -> usize
     count
 }
 
-// How many items end a section.
-fn sections_in(main: &[Item]) -> usize
+/// How many items end a section.
+pub fn sections_in(main: &[Item]) -> usize
     ensures count { result ≡ section_count main.now }
     ensures few { result ≤ length main.now }
 {
@@ -52,13 +58,14 @@ fn sections_in(main: &[Item]) -> usize
 }
 
 /// How many items all texts have. That many lengths fit 128 bits.
-pub(crate) fn all_items(document: &Document) -> u128
+pub fn all_items(document: &Document) -> u128
     ensures { result ≡ item_count document.now }
 {
     let beside = items_of(&document.notes) as u128 + items_of(&document.heads) as u128;
     document.main.len() as u128 + beside
 }
 
+/// How many items these texts have.
 fn items_of(texts: &Texts) -> u64
     ensures { result ≡ sum_by length texts.now }
 {

@@ -4,20 +4,13 @@ ghost use Rattle.std.specs.Option.{ForSome};
 ghost use Rattle.doc_bits.specs.declared.places.Where.TheVariants.{Main};
 ghost use Rattle.prop_map.specs.Formed.{IsFormedMap};
 ghost use Rattle.plain_doc.specs.Document.{HasPropertyMaps};
-ghost use Rattle.plain_doc.specs.RulesOfItems.{HasMarkRight, HasSectionRight, HasFieldRight, HasNoteRight, IsPlacedRight, IsShortChp, IsShortPap, IsShortSect, HasShortSettings};
+ghost use Rattle.plain_doc.specs.RulesOfItems.{HasMarkRight, HasSectionRight, HasFieldRight, HasNoteRight};
+ghost use Rattle.plain_doc.specs.RulesOfItems.{IsPlacedRight, IsShortChp, IsShortPap, IsShortSect, HasShortSettings};
 
 use crate::{Item, Mark};
 use doc_bits::Where;
 use prop_map::PropMap;
-
-/// The unit that ends a paragraph.
-pub(crate) const PARAGRAPH_MARK: u16 = 0x0D;
-
-/// The unit that ends a cell or a row.
-pub(crate) const CELL_MARK: u16 = 0x07;
-
-/// The unit that ends a section but the last one, or a page.
-const PAGE_BREAK: u16 = 0x0C;
+use text_codes::{CELL_MARK, PARAGRAPH_MARK, SECTION_MARK};
 
 /// The most bytes of the printed settings of a character: a Chpx counts them by a byte.
 const CHP_MOST: u64 = 255;
@@ -39,6 +32,7 @@ pub(crate) fn is_placed_right(part: Where, len: usize, place: usize, item: &Item
         && has_note_right(part, item)
 }
 
+/// Whether a mark stands exactly where a paragraph ends.
 fn has_mark_right(item: &Item) -> bool
     ensures { IsTrue result ↔ HasMarkRight item.now }
 {
@@ -46,6 +40,7 @@ fn has_mark_right(item: &Item) -> bool
     item.mark.is_some() == ends
 }
 
+/// Whether a section ends at the last item of the main text, and else at a page break of it alone.
 fn has_section_right(part: Where, len: usize, place: usize, item: &Item) -> bool
     requires { place < 2 ^ 32 }
     ensures { IsTrue result ↔ HasSectionRight part len place item.now }
@@ -55,19 +50,21 @@ fn has_section_right(part: Where, len: usize, place: usize, item: &Item) -> bool
         if is_last {
             item.sect.is_some()
         } else {
-            item.sect.is_none() || item.unit == PAGE_BREAK
+            item.sect.is_none() || item.unit == SECTION_MARK
         }
     } else {
         item.sect.is_none()
     }
 }
 
+/// Whether the byte of a field stands on a field character alone.
 fn has_field_right(item: &Item) -> bool
     ensures { IsTrue result ↔ HasFieldRight item.now }
 {
     item.fld.is_none() || (0x13 <= item.unit && item.unit <= 0x15)
 }
 
+/// Whether a note is referred to in the main text alone.
 fn has_note_right(part: Where, item: &Item) -> bool
     ensures { IsTrue result ↔ HasNoteRight part item.now }
 {
@@ -82,6 +79,7 @@ pub(crate) fn has_short_settings(item: &Item) -> bool
     is_short_chp(&item.chp) && has_short_pap(&item.mark) && has_short_sect(&item.sect)
 }
 
+/// Whether the settings of a character are short enough for a file.
 pub(crate) fn is_short_chp(chp: &PropMap) -> bool
     requires { IsFormedMap chp.now }
     ensures { IsTrue result ↔ IsShortChp chp.now }
@@ -89,6 +87,7 @@ pub(crate) fn is_short_chp(chp: &PropMap) -> bool
     chp.printed_len() <= CHP_MOST
 }
 
+/// Whether the settings of a mark are short enough for a file.
 pub(crate) fn is_short_pap(pap: &PropMap) -> bool
     requires { IsFormedMap pap.now }
     ensures { IsTrue result ↔ IsShortPap pap.now }
@@ -96,6 +95,7 @@ pub(crate) fn is_short_pap(pap: &PropMap) -> bool
     pap.printed_len() <= PAP_MOST
 }
 
+/// The same of a mark, where there is one.
 fn has_short_pap(mark: &Option<Mark>) -> bool
     requires { ForSome mark.now (λ mark. IsFormedMap mark.pap) }
     ensures { IsTrue result ↔ ForSome mark.now (λ mark. IsShortPap mark.pap) }
@@ -106,6 +106,7 @@ fn has_short_pap(mark: &Option<Mark>) -> bool
     }
 }
 
+/// Whether the settings of a section, where one ends, are short enough for a file.
 fn has_short_sect(sect: &Option<PropMap>) -> bool
     requires { ForSome sect.now IsFormedMap }
     ensures { IsTrue result ↔ ForSome sect.now IsShortSect }

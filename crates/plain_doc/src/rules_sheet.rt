@@ -32,6 +32,7 @@ pub(crate) fn wrong_style(rule: StyleRule, sheet: &StyleSheet) -> Option<u32>
     None
 }
 
+/// Whether the style of this number, where there is one, is right by the rule.
 fn is_right_style(rule: StyleRule, sheet: &StyleSheet, istd: u16) -> bool
     requires { IsFormedSheet sheet.now }
     ensures { IsTrue result ↔ IsRightStyle rule sheet.now istd }
@@ -42,6 +43,8 @@ fn is_right_style(rule: StyleRule, sheet: &StyleSheet, istd: u16) -> bool
     }
 }
 
+/// Whether the settings of the style of this number, where there is one, are short enough for a
+/// file.
 fn has_short_style(sheet: &StyleSheet, istd: u16) -> bool
     requires { IsFormedSheet sheet.now }
     ensures { IsTrue result ↔ HasShortStyle sheet.now istd }
@@ -52,6 +55,7 @@ fn has_short_style(sheet: &StyleSheet, istd: u16) -> bool
     }
 }
 
+/// The same of the settings of a kind.
 fn has_short_kind(kind: &Kind) -> bool
     requires { IsFormedKind kind.now }
     ensures { IsTrue result ↔ HasShortKind kind.now }

@@ -1,18 +1,20 @@
 // The rules on texts, judged text by text in the order of their places.
 ghost use Rattle.std.specs.Prelude.{◌≡◌, ℕ, ◌^◌, ◌<◌, ◌↔◌, length, IsTrue};
 ghost use Rattle.doc_bits.specs.Rules.{LeastOrNone};
+ghost use Rattle.doc_bits.specs.Places.{LeastPlaceOrNone};
 ghost use Rattle.plain_doc.specs.Document.{IsFormedText, HasPropertyMaps};
 ghost use Rattle.plain_doc.specs.RulesOfItems.{IsWrongItem};
-ghost use Rattle.plain_doc.specs.RulesOfTexts.{InTexts, LeastPlaceOrNone, HasWrongEnd, EndsRight, IsHead, HasParagraphStyle};
+ghost use Rattle.plain_doc.specs.RulesOfTexts.{InTexts, HasWrongEnd, EndsRight, IsHead, HasParagraphStyle};
 ghost use Rattle.plain_doc.specs.TextRules.{IsRightItem, BreaksText, InList, part_of};
 ghost use Rattle.style_sheet.specs.Chain.{kind_at};
 
 use crate::fields::wrong_field;
 use crate::rows::wrong_row;
-use crate::rules_items::{PARAGRAPH_MARK, has_short_settings, is_placed_right};
+use crate::rules_items::{has_short_settings, is_placed_right};
 use crate::{Document, Item, Texts};
 use doc_bits::Where;
 use style_sheet::{Kind, StyleSheet};
+use text_codes::PARAGRAPH_MARK;
 
 /// A rule on each item of a text.
 #[derive(Clone, Copy, Debug, PartialEq, Eq)]
@@ -45,6 +47,7 @@ pub(crate) enum Side {
 }
 
 impl Side {
+    /// The place of the text of this number.
     pub(crate) fn part(self, number: u32) -> Where
         ensures { result ≡ part_of self number }
     {
@@ -68,7 +71,7 @@ pub(crate) fn first_in_texts(rule: TextRule, document: &Document) -> Option<(Whe
     first_in_list(rule, &document.sheet, Side::Heads, &document.heads)
 }
 
-// The same in the notes or in the header texts.
+/// The same in the notes or in the header texts.
 fn first_in_list(
     rule: TextRule,
     sheet: &StyleSheet,
@@ -86,7 +89,7 @@ fn first_in_list(
     None
 }
 
-// The first place where this text breaks the rule.
+/// The first place where this text breaks the rule.
 fn first_in_text(rule: TextRule, sheet: &StyleSheet, part: Where, text: &[Item]) -> Option<u32>
     requires { IsFormedText text.now }
     ensures { LeastOrNone (BreaksText rule sheet.now part text.now) result }
@@ -99,6 +102,7 @@ fn first_in_text(rule: TextRule, sheet: &StyleSheet, part: Where, text: &[Item])
     }
 }
 
+/// The last item of a text that does not end right, or 0.
 fn wrong_end(part: Where, text: &[Item]) -> Option<u32>
     requires { length text.now < 2 ^ 32 }
     ensures { LeastOrNone (HasWrongEnd part text.now) result }
@@ -110,6 +114,7 @@ fn wrong_end(part: Where, text: &[Item]) -> Option<u32>
     }
 }
 
+/// Whether a text ends with a paragraph mark, or is an empty header text.
 pub(crate) fn ends_right(part: Where, text: &[Item]) -> bool
     ensures { IsTrue result ↔ EndsRight part text.now }
 {
@@ -120,6 +125,7 @@ pub(crate) fn ends_right(part: Where, text: &[Item]) -> bool
     }
 }
 
+/// Whether the place is a header text.
 fn is_head(part: Where) -> bool
     ensures { IsTrue result ↔ IsHead part }
 {
@@ -130,7 +136,7 @@ fn is_head(part: Where) -> bool
     }
 }
 
-// The first item that is not right by the rule.
+/// The first item that is not right by the rule.
 fn wrong_item(rule: ItemRule, sheet: &StyleSheet, part: Where, text: &[Item]) -> Option<u32>
     requires { IsFormedText text.now }
     ensures { LeastOrNone (IsWrongItem (IsRightItem rule sheet.now part (length text.now)) text.now) result }
@@ -143,6 +149,7 @@ fn wrong_item(rule: ItemRule, sheet: &StyleSheet, part: Where, text: &[Item]) ->
     None
 }
 
+/// Whether an item is right by the rule, in a text of so many items.
 fn is_right(
     rule: ItemRule,
     sheet: &StyleSheet,
@@ -162,6 +169,7 @@ fn is_right(
     }
 }
 
+/// Whether the style of the mark, where there is one, is one of paragraphs.
 pub(crate) fn has_paragraph_style(sheet: &StyleSheet, item: &Item) -> bool
     ensures { IsTrue result ↔ HasParagraphStyle sheet.now item.now }
 {
@@ -171,6 +179,7 @@ pub(crate) fn has_paragraph_style(sheet: &StyleSheet, item: &Item) -> bool
     }
 }
 
+/// Whether the style of this number is there and one of paragraphs.
 fn is_paragraph_style(sheet: &StyleSheet, istd: u16) -> bool
     ensures { IsTrue result ↔ kind_at sheet.now istd ≡ 1 }
 {

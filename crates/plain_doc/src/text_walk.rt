@@ -7,18 +7,17 @@ ghost use Rattle.plain_doc.specs.declared.rules_texts.TextRule.{TextRule};
 ghost use Rattle.plain_doc.specs.Document.{IsFormedText, HasPropertyMaps};
 ghost use Rattle.plain_doc.specs.RulesOfSheet.{note_count, section_count};
 ghost use Rattle.plain_doc.specs.TextRules.{BreaksText, InList};
-ghost use Rattle.plain_doc.specs.TextWalk.{IsPlain, PassesItem, IsRightText, AreTextsRight, HasCounts};
+ghost use Rattle.plain_doc.specs.TextWalk.{IsPlain, PassesItem, KeepsTextRules, AreTextsRight, HasCounts};
 
 use crate::fields::OpenFields;
 use crate::rows::{fits_row, next_cells};
 use crate::rules_counts::Counts;
-use crate::rules_items::{
-    CELL_MARK, PARAGRAPH_MARK, has_short_settings, is_placed_right, is_short_chp,
-};
+use crate::rules_items::{has_short_settings, is_placed_right, is_short_chp};
 use crate::rules_texts::{Side, ends_right, has_paragraph_style};
 use crate::{Document, Item, Texts};
 use doc_bits::Where;
 use style_sheet::StyleSheet;
+use text_codes::{CELL_MARK, PARAGRAPH_MARK};
 
 /// What a walk carries: the open fields, the cells of the open row, the notes and sections so far.
 #[derive(Drop)]
@@ -44,7 +43,7 @@ pub(crate) fn right_counts(document: &Document) -> Option<Counts>
     }
 }
 
-// Whether no text of the list breaks a rule on texts.
+/// Whether no text of the list breaks a rule on texts.
 fn are_right(sheet: &StyleSheet, side: Side, texts: &Texts) -> bool
     ensures { IsTrue result → (rule : TextRule) → Nowhere (InList side texts.now (BreaksText rule sheet.now)) }
 {
@@ -58,10 +57,10 @@ fn are_right(sheet: &StyleSheet, side: Side, texts: &Texts) -> bool
     true
 }
 
-// The counts of a text, where it breaks no rule on texts.
+/// The counts of a text, where it breaks no rule on texts.
 fn walk_text(sheet: &StyleSheet, part: Where, text: &[Item]) -> Option<Counts>
     requires { IsFormedText text.now }
-    ensures { IfSome result (λ counts. IsRightText sheet.now part text.now × HasCounts text.now counts) }
+    ensures { IfSome result (λ counts. KeepsTextRules sheet.now part text.now × HasCounts text.now counts) }
 {
     if !ends_right(part, text) {
         return None;
@@ -83,6 +82,7 @@ fn walk_text(sheet: &StyleSheet, part: Where, text: &[Item]) -> Option<Counts>
 }
 
 impl TextWalk {
+    /// What is carried before the first item.
     fn new() -> TextWalk
         ensures { result ≡ record { fields = []; cells = 0; notes = 0; sections = 0 } }
     {
@@ -94,7 +94,7 @@ impl TextWalk {
         }
     }
 
-    // Goes past an item, where it breaks no rule.
+    /// Goes past an item, where it breaks no rule.
     fn pass(
         &mut self,
         sheet: &StyleSheet,
@@ -106,7 +106,7 @@ impl TextWalk {
         requires place { place < 2 ^ 32 }
         requires few { (self.old.cells ≤ place) × ((self.old.notes ≤ place) × (self.old.sections ≤ place)) }
         requires maps { HasPropertyMaps item.now }
-        requires last { part ≡ Main → place + 1 ≡ len → item.now.unit ≡ 0x0D }
+        requires last { part ≡ Main → place + 1 ≡ len → item.now.unit ≡ PARAGRAPH_MARK }
         ensures { IsTrue result → PassesItem sheet.now part len place item.now self.old self.new }
     {
         if is_plain(item) {
@@ -115,7 +115,7 @@ impl TextWalk {
         self.pass_marked(sheet, part, len, place, item)
     }
 
-    // The same of any item. Most items don't come here, and the loop over those stays small.
+    /// The same of any item. Most items don't come here, and the loop over those stays small.
     #[inline(never)]
     fn pass_marked(
         &mut self,
@@ -144,7 +144,7 @@ impl TextWalk {
     }
 }
 
-// Whether the item ends nothing and has nothing beside its settings.
+/// Whether the item ends nothing and has nothing beside its settings.
 fn is_plain(item: &Item) -> bool
     ensures { IsTrue result ↔ IsPlain item.now }
 {

@@ -1,6 +1,7 @@
 use Rattle.doc_show.specs.Properties.{item_lines, mark_lines}
 use Rattle.doc_show.proofs.LineLemmas.{two_written}
-use Rattle.doc_show.proofs.ParagraphLemmas.{there_some, item_there, mark_there, sound_bases, mark_style, item_map, mark_map}
+use Rattle.plain_doc.proofs.MainLemmas.{item_map}
+use Rattle.doc_show.proofs.ParagraphLemmas.{there_some, item_there, mark_there, sound_bases, mark_style, mark_map}
 use Rattle.doc_show.proofs.properties.props_lines.Goals as goal
 
 pub unwrap-mark-requires : goal.unwrap-mark-requires

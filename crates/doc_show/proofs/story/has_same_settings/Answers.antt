@@ -1,6 +1,6 @@
 use Rattle.std.proofs.lemmas.Bool.Decides.{same_from_decides}
-use Rattle.doc_show.specs.Story.{same_settings}
-use Rattle.doc_show.proofs.SettingsLemmas.{same_settings-Decides}
+use Rattle.plain_doc.specs.Settings.{same_settings}
+use Rattle.plain_doc.proofs.SettingsLemmas.{same_settings-Decides}
 use Rattle.doc_show.proofs.story.has_same_settings.Goals as goal
 
 pub returns : goal.returns

@@ -1,5 +1,5 @@
 use Rattle.doc_show.specs.Story.{is_one_run, run_line}
-use Rattle.doc_show.proofs.StretchLemmas.{goes_on, stays_within, done_at}
+use Rattle.plain_doc.proofs.StretchLemmas.{goes_on, stays_within, done_at}
 use Rattle.std.proofs.Common.{arith}
 use Rattle.doc_show.proofs.story.push_runs.Goals as goal
 

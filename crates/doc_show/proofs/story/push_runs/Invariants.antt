@@ -1,6 +1,6 @@
 use Rattle.std.proofs.Common.{◌≡◌, ◌++◌, ◌≤◌, ◌-◌, drop, length}
 use Rattle.std.specs.List.{flat_map}
-use Rattle.doc_show.specs.Stretches.{stretches}
+use Rattle.plain_doc.specs.Stretches.{stretches}
 use Rattle.doc_show.specs.Story.{run_line, is_one_run}
 use Rattle.doc_show.proofs.story.push_runs.Given as goal
 

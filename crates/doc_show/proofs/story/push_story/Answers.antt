@@ -1,5 +1,6 @@
-use Rattle.doc_show.specs.Story.{is_inside, paragraph_lines}
-use Rattle.doc_show.proofs.StretchLemmas.{goes_on, stays_within, done_at}
+use Rattle.plain_doc.specs.Settings.{is_inside}
+use Rattle.doc_show.specs.Story.{paragraph_lines}
+use Rattle.plain_doc.proofs.StretchLemmas.{goes_on, stays_within, done_at}
 use Rattle.std.proofs.Common.{arith}
 use Rattle.doc_show.proofs.story.push_story.Goals as goal
 

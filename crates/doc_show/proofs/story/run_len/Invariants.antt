@@ -1,5 +1,5 @@
 use Rattle.std.proofs.Common.{◌≡◌, ℕ, ◌+◌, ◌<◌, true}
-use Rattle.doc_show.specs.Stretches.{joins_at}
+use Rattle.plain_doc.specs.Stretches.{joins_at}
 use Rattle.doc_show.specs.Story.{is_one_run}
 use Rattle.doc_show.proofs.story.run_len.Given as goal
 

@@ -11,6 +11,7 @@ returns c =
       sheet = c.slots.ensures.formed;
       carried = record {
         parts = c.args.document.now.carried.short;
+        bytes = c.carries_bytes.ensures;
         lists = c.args.document.now.carried.lists;
         clsid = search rules;
         languages = (c.is_word.ensures, c.is_word-2.ensures);
