@@ -1,6 +1,7 @@
 -- Lists of bytes: their parts, such lists joined, and the bytes of a number that was read.
 use Rattle.std.proofs.Common.{◌≡◌, inl, inr, refl, sym, ap, subst, ◌∙◌, ℕ, zero, suc, ◌+◌, ◌-◌, ◌*◌, ◌/◌, ◌%◌, ◌^◌, ◌<◌, ◌≤◌, List, [], ◌∷◌, ◌++◌, length, take, drop, get_or, arith, length-take}
 use Rattle.std.specs.Prelude.{slice_range}
+use Rattle.std.specs.List.{flat_map}
 use Rattle.std.specs.Int.{bytes_low_first, byte_at}
 use Rattle.std.proofs.Math.Nat.{pow-suc, div-div-eq-div-mul, div-one}
 use Rattle.std.proofs.lemmas.Bool.{cases_lt}
@@ -39,6 +40,10 @@ joined_bytes xs ys one other i = elim (cases_lt i (length xs)) [
       let at : i ≡ length xs + (i - length xs) = omega arith in
       subst (λ b. b < 256) (sym (ap (λ n. get_or (xs ++ ys) n 0) at ∙ get_or-append-add xs ys (i - length xs) 0)) (other (i - length xs))
 ]
+
+pub AreBytes-flat_map : {A : Type 0} (f : A → List ℕ) (xs : List A) → ((x : A) → AreBytes (f x)) → AreBytes (flat_map f xs)
+AreBytes-flat_map f [] each = no_bytes
+AreBytes-flat_map f (x ∷ xs) each = joined_bytes (f x) (flat_map f xs) (each x) (AreBytes-flat_map f xs each)
 
 pub one_byte : (byte : ℕ) → byte < 256 → AreBytes (byte ∷ [])
 one_byte byte small zero = small

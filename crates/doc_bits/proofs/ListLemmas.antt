@@ -55,11 +55,26 @@ there_is [] k h = absurd (omega arith)
 there_is (x ∷ xs) zero h = (x, refl)
 there_is (x ∷ xs) (suc k) h = there_is xs k (omega arith)
 
+-- an element more
+pub slice_get_push : {X : Type 0} (xs : List X) (x : X) → slice_get (xs ++ x ∷ []) (length xs) ≡ Some x
+slice_get_push [] x = refl
+slice_get_push (y ∷ ys) x = slice_get_push ys x
+
+-- the elements before it
+pub slice_get_before : {X : Type 0} (xs ys : List X) (k : ℕ) → k < length xs → slice_get (xs ++ ys) k ≡ slice_get xs k
+slice_get_before [] ys k h = absurd (omega arith)
+slice_get_before (x ∷ xs) ys zero h = refl
+slice_get_before (x ∷ xs) ys (suc k) h = slice_get_before xs ys k (omega arith)
+
 -- what holds of each holds of that at a place
 pub All_at : {A : Type 0} (P : A → Type 0) (xs : List A) (k : ℕ) (x : A) → All P xs → slice_get xs k ≡ Some x → P x
 All_at P [] k x all e = absurd (cc (e))
 All_at P (y ∷ ys) zero x all e = subst P (same_Some y x e) (All-head P y ys all)
 All_at P (y ∷ ys) (suc k) x all e = All_at P ys k x (All-tail P y ys all) e
+
+-- and what holds of that at each place holds of each
+pub All-from_slice_get : {A : Type 0} (P : A → Type 0) (xs : List A) → ((k : ℕ) (x : A) → slice_get xs k ≡ Some x → P x) → All P xs
+All-from_slice_get P xs each = λ k d low. each k (get_or xs k d) (slice_get-get_or xs k d low)
 
 -- what stands in a map of a list comes from what stands in the list
 pub from_map : {A B : Type 0} (f : A → B) (xs : List A) (k : ℕ) (y : B) → slice_get (map f xs) k ≡ Some y → (x : A) × ((slice_get xs k ≡ Some x) × (f x ≡ y))

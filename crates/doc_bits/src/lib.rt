@@ -8,7 +8,7 @@ mod numbers;
 mod places;
 mod plcs;
 
-pub use laws::number_is_read_back;
+pub use laws::{number_is_read_back, plc_is_read_back};
 pub use lists::{Bytes, Text, Units};
 pub use memory::Memory;
 pub use numbers::{get16, get32, put16, put32};

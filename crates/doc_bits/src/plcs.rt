@@ -1,5 +1,5 @@
 // [MS-DOC] Plc: n + 1 CPs of 32 bits, then n entries of one size.
-ghost use Rattle.std.specs.Prelude.{◌≡◌, ◌+◌, ◌*◌, ◌<◌, ◌≤◌, ℕ, List, length, MatchResult};
+ghost use Rattle.std.specs.Prelude.{◌≡◌, ◌+◌, ◌*◌, ◌<◌, ◌≤◌, ℕ, List, length, MatchOption, MatchResult};
 ghost use Rattle.doc_bits.specs.Plc.{PlcPart, IsPlcOf, plc_cp, plc_entry};
 
 use crate::get32;
@@ -34,19 +34,34 @@ impl<'a> Model for Plc<'a> {
 
 /// Sees the bytes as a CP table with entries of `size` bytes.
 pub fn plc_of(bytes: &[u8], size: usize) -> Result<Plc<'_>, PlcFault>
-    requires { size < 65536 }
     ensures { MatchResult result
-        (λ plc. (plc ≡ record { bytes = bytes.now; size = size; count = plc.count }) × IsPlcOf bytes.now size plc.count)
+        (λ plc. (plc ≡ record { bytes = bytes.now; size = size; count = plc.count })
+        × IsPlcOf bytes.now size plc.count)
         (λ _. (count : ℕ) → ¬ IsPlcOf bytes.now size count) }
 {
-    if bytes.len() < 4 || (bytes.len() - 4) % (4 + size) != 0 {
-        return Err(PlcFault::Length);
+    match entry_count(bytes, size) {
+        Some(len) => Ok(Plc { bytes, size, len }),
+        None => Err(PlcFault::Length),
     }
-    Ok(Plc {
-        bytes,
-        size,
-        len: (bytes.len() - 4) / (4 + size),
-    })
+}
+
+/// The number of entries of `size` bytes that bytes of this length have as a table.
+fn entry_count(bytes: &[u8], size: usize) -> Option<usize>
+    ensures { MatchOption result
+        ((count : ℕ) → ¬ IsPlcOf bytes.now size count)
+        (λ count. IsPlcOf bytes.now size count) }
+{
+    if bytes.len() < 4 {
+        return None;
+    }
+    let room = bytes.len() - 4;
+    if room == 0 {
+        return Some(0);
+    }
+    if room < size || room - size < 4 || room % (4 + size) != 0 {
+        return None;
+    }
+    Some(room / (4 + size))
 }
 
 impl<'a> Plc<'a> {

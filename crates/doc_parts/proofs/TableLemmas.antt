@@ -7,20 +7,10 @@ use Rattle.std.proofs.lemmas.List.{get_or-map, length-map}
 use Rattle.doc_bits.specs.Plc.{PlcPart, IsPlcOf, plc_cp, plc_entry}
 use Rattle.doc_bits.specs.Rules.{Nowhere, IsLeast}
 use Rattle.doc_bits.proofs.RuleLemmas.{first_among}
+pub use Rattle.doc_bits.proofs.ListLemmas.{slice_get_push, slice_get_before}
 use Rattle.doc_parts.specs.declared.cps.CpForm.{CpForm}
 use Rattle.doc_parts.specs.Cps.{ComesBefore, IsCpInOrder}
 use Rattle.doc_parts.specs.Table.{KeepsCp, EntryForm, table_of, IsWhole, IsEmptyOrWhole, entry_at, IsRightEntry, IsWrongEntry, HasWrongEntry, BreaksTable, AreLeading, StopsAtWrong, IsReadOf}
-
--- an element more
-pub slice_get_push : {X : Type 0} (xs : List X) (x : X) → slice_get (xs ++ x ∷ []) (length xs) ≡ Some x
-slice_get_push [] x = refl
-slice_get_push (y ∷ ys) x = slice_get_push ys x
-
--- the elements before it
-pub slice_get_before : {X : Type 0} (xs ys : List X) (k : ℕ) → k < length xs → slice_get (xs ++ ys) k ≡ slice_get xs k
-slice_get_before [] ys k h = absurd (omega arith)
-slice_get_before (x ∷ xs) ys zero h = refl
-slice_get_before (x ∷ xs) ys (suc k) h = slice_get_before xs ys k (omega arith)
 
 -- a whole table has as many entries as its length says
 pub count_of_whole : (bytes : List ℕ) (size count : ℕ) → IsPlcOf bytes size count → (length bytes - 4) / (4 + size) ≡ count

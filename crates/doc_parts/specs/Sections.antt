@@ -49,11 +49,15 @@ pub record HasSepx (wd : List ℕ) (fc : ℕ) : Type 0 where
   pub after_fib : 1024 ≤ fc
   pub within : fc + 2 + u16_at wd fc ≤ length wd
 
+-- fcSepx of each section has 32 bits
+abbrev pub HaveFileNumbers : List Sed → Type 0
+HaveFileNumbers list = All (λ sed. sed.sepx < 2 ^ 32) list
+
 -- the sections break no part of their rule in a main text of this length, and their numbers have 32 bits
 pub record ArePrintableSections (list : List Sed) (main_len : ℕ) : Type 0 where
   pub some : 0 < length list
   pub in_order : AreCpsInOrder (sed_cps main_len) (map (λ sed. sed.start) list)
-  pub numbers : All (λ sed. sed.sepx < 2 ^ 32) list
+  pub numbers : HaveFileNumbers list
 
 -- printed sections break no rule, and they alone are read back
 abbrev pub SectionsAreReadBack : Type 0

@@ -1,8 +1,7 @@
 -- [MS-DOC] Plc, as a part of the table stream: what its entries are, where it breaks a rule, and how it is printed.
 use Rattle.std.specs.Prelude.{◌≡◌, ◌⊎◌, ℕ, ◌+◌, ◌-◌, ◌*◌, ◌/◌, ◌<◌, ◌≤◌, ◌^◌, List, [], ◌∷◌, ◌++◌, length, map, Option, Some, MatchOption, IsSome, All, slice_get, slice_index}
-use Rattle.std.specs.List.{flat_map}
-use Rattle.doc_bits.specs.Number.{number_bytes}
 use Rattle.doc_bits.specs.Plc.{PlcPart, IsPlcOf, plc_cp, plc_entry}
+pub use Rattle.doc_bits.specs.Plc.{printed_plc, HasPlc}
 use Rattle.doc_bits.specs.Rules.{Rules, Among, LeastOrNone, IsFirst}
 use Rattle.doc_parts.specs.declared.cps.CpForm.{CpForm}
 use Rattle.doc_parts.specs.declared.fault.PartFault.{PartFault}
@@ -91,32 +90,9 @@ abbrev pub IsPartFault : Rules ℕ → PartFault → Type 0
 IsPartFault rules (Rule r place) = IsFirst rules r place
 IsPartFault rules Memory = Unit {0}
 
--- a table as it is printed: the CPs, the last CP, the entries; no bytes where there are none
-abbrev pub printed_plc : List ℕ → ℕ → List (List ℕ) → List ℕ
-printed_plc [] end entries = []
-printed_plc (cp ∷ cps) end entries =
-    flat_map (number_bytes 4) (cp ∷ cps) ++ (number_bytes 4 end ++ flat_map (λ entry. entry) entries)
-
 -- the same of a list of entries
 abbrev pub printed_entries : {E : Type 0} → EntryForm E → List E → ℕ → List ℕ
 printed_entries form list end = printed_plc (map form.cp_of list) end (map form.bytes_of list)
-
--- the bytes are a table of these CPs, this last CP and these entries
-pub record HasPlc (bytes : List ℕ) (size : ℕ) (starts : List ℕ) (end : ℕ) (parts : List (List ℕ)) : Type 0 where
-  pub whole : IsPlcOf bytes size (length starts)
-  pub cps : (k : ℕ) → k < length starts → plc_cp bytes k ≡ slice_index starts k
-  pub last : plc_cp bytes (length starts) ≡ end
-  pub entries :
-      (k : ℕ) → k < length starts →
-      slice_get parts k ≡ Some (plc_entry (record { bytes = bytes; size = size; count = length starts }) k)
-
--- a printed table is read back
-abbrev pub PlcIsReadBack : Type 0
-PlcIsReadBack =
-    (size : ℕ) (starts : List ℕ) (end : ℕ) (parts : List (List ℕ)) →
-    0 < length starts → length parts ≡ length starts →
-    All (λ cp. cp < 2 ^ 32) starts → end < 2 ^ 32 → All (λ part. length part ≡ size) parts →
-    HasPlc (printed_plc starts end parts) size starts end parts
 
 -- it is so of this list, and of no other one
 abbrev pub IsOnly : {E : Type 0} → (List E → Type 0) → List E → Type 0

@@ -39,7 +39,7 @@ pub struct CpForm {
 impl CpForm {
     /// Whether the CP of an entry is 0 where it has to be, comes after the one before it, and
     /// before the end of the story.
-    pub fn is_kept(self, plc: &Plc<'_>, k: usize) -> bool
+    pub(crate) fn is_kept(self, plc: &Plc<'_>, k: usize) -> bool
         requires { k < plc.now.count }
         ensures { IsTrue result ↔ IsCpInOrder self (plc_cp plc.now.bytes) k }
     {

@@ -1,13 +1,7 @@
 // Laws over the definitions alone: what a printer wrote is read back.
-ghost use Rattle.doc_parts.specs.Table.{PlcIsReadBack};
 ghost use Rattle.doc_parts.specs.Sections.{SectionsAreReadBack};
 ghost use Rattle.doc_parts.specs.Fields.{FieldsAreReadBack};
 ghost use Rattle.doc_parts.specs.Stories.{RefsAreReadBack, TextsAreReadBack};
-
-/// A printed table is one of its CPs and entries.
-pub fn plc_is_read_back()
-    ensures { PlcIsReadBack }
-{}
 
 /// Printed sections break no rule, and they alone are read back.
 pub fn sections_are_read_back()

@@ -2,7 +2,8 @@
 ghost use Rattle.std.specs.Prelude.{◌≡◌, ℕ, ◌+◌, ◌*◌, ◌<◌, ◌≤◌, ◌^◌, ◌↔◌, length, IsTrue, MatchOption, MatchResult};
 ghost use Rattle.doc_bits.specs.Number.{u16_at};
 ghost use Rattle.doc_bits.specs.Rules.{Hold, IsFirst};
-ghost use Rattle.doc_parts.specs.Levels.{level_count, level_end, AreLevelsFrom, StopsAtLevel, HasLists, level_rules, HaveLength};
+ghost use Rattle.doc_parts.specs.Levels.{level_count, level_end, AreLevelsFrom, StopsAtLevel, HasLists, level_rules};
+ghost use Rattle.doc_parts.specs.Levels.{HaveLength};
 
 use doc_bits::get16;
 use thiserror::Error;

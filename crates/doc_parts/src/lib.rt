@@ -14,8 +14,7 @@ mod tables;
 pub use fault::PartFault;
 pub use field_part::{LeadingFields, fields, leading_fields, print_fields};
 pub use laws::{
-    fields_are_read_back, plc_is_read_back, refs_are_read_back, sections_are_read_back,
-    texts_are_read_back,
+    fields_are_read_back, refs_are_read_back, sections_are_read_back, texts_are_read_back,
 };
 pub use level_part::{LevelFault, levels_len, list_levels};
 pub use lists::{Cuts, Fld, Flds, NoteRef, Refs, Sed, Seds};

@@ -1,5 +1,5 @@
 // Lists of what the parts hold. After want of memory each is what it was.
-ghost use Rattle.std.specs.Prelude.{◌≡◌, ◌<◌, List, ℕ, [], ◌∷◌, ◌++◌, length, slice_get, slice_index, OnOk, OnErr};
+ghost use Rattle.std.specs.Prelude.{◌≡◌, ◌<◌, List, ℕ, [], ◌∷◌, ◌++◌, length, slice_get, OnOk, OnErr};
 
 use doc_bits::Memory;
 use std::alloc::Global;
@@ -36,10 +36,13 @@ pub struct Seds {
 impl Model for Seds {
     ghost use Rattle.std.specs.Prelude.{List};
     ghost use Rattle.doc_parts.specs.declared.lists.Sed.{Sed};
+    ghost use Rattle.doc_parts.specs.Sections.{HaveFileNumbers};
 
     ghost Value = { List Sed };
 
     ghost view = { λ s. s.items.items };
+
+    ghost invariant = { λ s. HaveFileNumbers s.items.items };
 }
 
 impl Seds {

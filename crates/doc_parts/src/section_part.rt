@@ -3,7 +3,8 @@ ghost use Rattle.std.specs.Prelude.{◌≡◌, ◌≢◌, ◌+◌, ◌*◌, ◌<
 ghost use Rattle.doc_bits.specs.Number.{u16_at};
 ghost use Rattle.doc_bits.specs.Rules.{Hold};
 ghost use Rattle.doc_parts.specs.Table.{IsPartFault};
-ghost use Rattle.doc_parts.specs.Sections.{sed_form, section_rules, AreSections, printed_sections, place_of_fc_sepx, HasSepx};
+ghost use Rattle.doc_parts.specs.Sections.{sed_form, section_rules, AreSections, HaveFileNumbers, printed_sections};
+ghost use Rattle.doc_parts.specs.Sections.{place_of_fc_sepx, HasSepx};
 
 use crate::PartFault;
 use crate::cps::{CpForm, CpOrder};
@@ -89,7 +90,8 @@ pub fn sections(alloc: Global, plc: &[u8], at: u32, main_len: u32) -> Result<Sed
 
 /// Writes PlcfSed with the last CP `end`.
 pub fn print_sections(alloc: Global, list: &Seds, end: u32) -> Result<Bytes, Memory>
-    ensures { IfOk result (λ bytes. bytes ≡ printed_sections list.now end) }
+    ensures bytes { IfOk result (λ bytes. bytes ≡ printed_sections list.now end) }
+    ensures numbers { HaveFileNumbers list.now }
 {
     print_table(alloc, list.items.as_slice(), end)
 }

@@ -2,7 +2,8 @@
 ghost use Rattle.std.specs.Prelude.{◌≡◌, ◌+◌, ◌<◌, ◌^◌, length, IfOk, MatchResult};
 ghost use Rattle.doc_bits.specs.Rules.{Hold};
 ghost use Rattle.doc_parts.specs.Table.{IsPartFault};
-ghost use Rattle.doc_parts.specs.Stories.{ref_form, cut_form, ref_rules, text_rules, AreRefs, AreCuts, printed_refs, printed_texts};
+ghost use Rattle.doc_parts.specs.Stories.{ref_form, cut_form, ref_rules, text_rules, AreRefs, AreCuts, printed_refs};
+ghost use Rattle.doc_parts.specs.Stories.{printed_texts};
 
 use crate::PartFault;
 use crate::cps::{CpForm, CpOrder};

@@ -20,6 +20,7 @@ pub trait TableEntry: Copy {
         requires { length bytes.now ≡ form.size }
         ensures { result ≡ form.read_from cp bytes.now };
 
+    /// Its CP.
     fn cp(&self) -> u32
         ensures { result ≡ form.cp_of self.now };
 
@@ -28,7 +29,7 @@ pub trait TableEntry: Copy {
         ensures ok { OnOk result (bytes.new ≡ bytes.old ++ form.bytes_of self.now) }
         ensures err { OnErr result (bytes.new ≡ bytes.old) };
 
-    ghost sized: { (SIZE ≡ form.size) × (SIZE < 65536) };
+    ghost sized: { SIZE ≡ form.size };
 
     ghost keeps_cp: { KeepsCp form };
 }
@@ -41,7 +42,7 @@ pub struct Leading<E> {
 }
 
 /// Reads a part as a table that may be empty.
-pub fn read_table<E: TableEntry>(
+pub(crate) fn read_table<E: TableEntry>(
     alloc: Global,
     part: &[u8],
     at: u32,
@@ -98,7 +99,11 @@ fn leading_entries<E: TableEntry>(
 }
 
 /// The bytes of a table with these entries and this last CP. No entries are no bytes.
-pub fn print_table<E: TableEntry>(alloc: Global, entries: &[E], end: u32) -> Result<Bytes, Memory>
+pub(crate) fn print_table<E: TableEntry>(
+    alloc: Global,
+    entries: &[E],
+    end: u32,
+) -> Result<Bytes, Memory>
     ensures { IfOk result (λ bytes. bytes ≡ printed_entries E.form entries.now end) }
 {
     let mut bytes = Bytes::new(alloc);

@@ -3,6 +3,7 @@ use Rattle.std.proofs.Common.{◌≡◌, ℕ, ◌+◌, ◌*◌, ◌^◌, ◌<◌
 use Rattle.doc_bits.specs.Number.{number_at, number_bytes, u16_at, u32_at}
 use Rattle.doc_bits.specs.Rules.{Hold}
 use Rattle.doc_bits.proofs.NumberLemmas.{length-number_bytes}
+use Rattle.fib_form.specs.Fib.{WIdent, NFib, Lid, Flags, Csw, LidFE, Cslw, CbMac, CcpText, CcpFtn, CcpHdd, CbRgFcLcb}
 use Rattle.fib_form.specs.Fib.{fib_pair, fib_pairs, fib_flags, fib_lid, fib_lid_fe, fib_quick_saves, fib_complex, fib_which_table, fib_cb_mac, fib_ccp_text, fib_ccp_ftn, fib_ccp_hdd, kept_flags, early_form}
 use Rattle.fib_form.specs.FibFields.{FibFields, IsWidePair, fib_fields, pair_at, IsFib}
 use Rattle.fib_form.specs.FibRules.{fib_rules}
@@ -91,19 +92,19 @@ is_written fib more is =
     λ k f has fits. read_field k fields f 0 154 [] tail refl follow has fits in
     rw whole (record {
       long = omega (arith, length-append (spelled 0 fields) tail, length-append pairs (number_bytes 2 0 ++ more), length-append (number_bytes 2 0) more);
-      ident = read 0 (field 0 2 0xA5EC) refl (lit< tt);
-      nfib = read 1 (field 2 2 0x00C1) refl (lit< tt);
-      lid = read 2 (field 6 2 fib.kept.lid) refl is.languages.0;
-      flags = read 3 (field 10 2 (written_flags fib)) refl ((flags_of fib is).fit);
-      csw = read 5 (field 32 2 14) refl (lit< tt);
-      lid_fe = read 6 (field 60 2 fib.kept.lid_fe) refl is.languages.1;
-      cslw = read 7 (field 62 2 22) refl (lit< tt);
-      cb_mac = read 8 (field 64 4 fib.cb_mac) refl is.cb_mac;
-      text = read 9 (field 76 4 (slice_index fib.ccps 0)) refl (omega arith);
-      notes = read 10 (field 80 4 (slice_index fib.ccps 1)) refl (omega arith);
-      heads = read 11 (field 84 4 (slice_index fib.ccps 2)) refl (omega arith);
-      others = λ k h. read_gap 12 fields (field 152 2 93) 0 154 (92 + 4 * k) 4 [] tail refl follow refl (omega arith) (omega arith);
-      sizes = read 12 (field 152 2 93) refl (lit< tt);
+      ident = read 0 (field WIdent 0xA5EC) refl (lit< tt);
+      nfib = read 1 (field NFib 0x00C1) refl (lit< tt);
+      lid = read 2 (field Lid fib.kept.lid) refl is.languages.0;
+      flags = read 3 (field Flags (written_flags fib)) refl ((flags_of fib is).fit);
+      csw = read 5 (field Csw 14) refl (lit< tt);
+      lid_fe = read 6 (field LidFE fib.kept.lid_fe) refl is.languages.1;
+      cslw = read 7 (field Cslw 22) refl (lit< tt);
+      cb_mac = read 8 (field CbMac fib.cb_mac) refl is.cb_mac;
+      text = read 9 (field CcpText (slice_index fib.ccps 0)) refl (omega arith);
+      notes = read 10 (field CcpFtn (slice_index fib.ccps 1)) refl (omega arith);
+      heads = read 11 (field CcpHdd (slice_index fib.ccps 2)) refl (omega arith);
+      others = λ k h. read_gap 12 fields (field CbRgFcLcb 93) 0 154 (92 + 4 * k) 4 [] tail refl follow refl (omega arith) (omega arith);
+      sizes = read 12 (field CbRgFcLcb 93) refl (lit< tt);
       pairs = λ n h. pair_written fib.pairs n (spelled 0 fields) (number_bytes 2 0 ++ more) front is.pairs.count h is.wide;
       csw_new = read_here (spelled 0 fields ++ pairs) more (spelled 0 fields ++ tail) 898 2 0 (omega (arith, length-append (spelled 0 fields) pairs)) (simp append_assoc) (lit< tt);
     })

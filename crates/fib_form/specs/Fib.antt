@@ -1,8 +1,8 @@
--- [MS-DOC] FIB, the file information block that WordDocument begins with. Each field is the number at its offset, under the
--- standard's name for it. `wd` is the bytes of WordDocument.
+-- [MS-DOC] FIB, the file information block that WordDocument begins with. One table has the fields with their offsets and
+-- widths; each field's number is read by it. `wd` is the bytes of WordDocument.
 use Rattle.std.specs.Prelude.{ℕ, ◌+◌, ◌*◌, ◌/◌, ◌%◌, ◌^◌, List, map, slice_range}
 use Rattle.std.specs.List.{range_with_len}
-use Rattle.doc_bits.specs.Number.{u16_at, u32_at}
+use Rattle.doc_bits.specs.Number.{number_at, u32_at}
 
 -- what one form of the FIB fixes: its size in bytes and its number of pairs
 pub record FibForm : Type 0 where
@@ -13,19 +13,57 @@ pub record FibForm : Type 0 where
 abbrev pub early_form : FibForm
 early_form = record { size = 900; pair_count = 93 }
 
+-- the fields that are read, judged or written, by the standard's names: FibBase, csw and FibRgW97, cslw and FibRgLw97,
+-- cbRgFcLcb, cswNew
+pub data FibField : Type 0 where
+  WIdent : FibField
+  NFib : FibField
+  Lid : FibField
+  Flags : FibField
+  NFibBack : FibField
+  Csw : FibField
+  LidFE : FibField
+  Cslw : FibField
+  CbMac : FibField
+  CcpText : FibField
+  CcpFtn : FibField
+  CcpHdd : FibField
+  CcpAtn : FibField
+  CbRgFcLcb : FibField
+  CswNew : FibField
+
+-- the offset of a field, and its width in bytes
+abbrev pub field_place : FibField → ℕ × ℕ
+field_place WIdent = (0, 2)
+field_place NFib = (2, 2)
+field_place Lid = (6, 2)
+field_place Flags = (10, 2)
+field_place NFibBack = (12, 2)
+field_place Csw = (32, 2)
+field_place LidFE = (60, 2)
+field_place Cslw = (62, 2)
+field_place CbMac = (64, 4)
+field_place CcpText = (76, 4)
+field_place CcpFtn = (80, 4)
+field_place CcpHdd = (84, 4)
+field_place CcpAtn = (92, 4)
+field_place CbRgFcLcb = (152, 2)
+field_place CswNew = (898, 2)
+
+abbrev pub field_offset : FibField → ℕ
+field_offset field = (field_place field).0
+
+-- the number of a field
+abbrev pub fib_number : FibField → List ℕ → ℕ
+fib_number field wd = number_at wd (field_place field).0 (field_place field).1
+
 -- [MS-DOC] FibBase
-abbrev pub fib_ident : List ℕ → ℕ
-fib_ident wd = u16_at wd 0
-
-abbrev pub fib_nfib : List ℕ → ℕ
-fib_nfib wd = u16_at wd 2
-
 abbrev pub fib_lid : List ℕ → ℕ
-fib_lid wd = u16_at wd 6
+fib_lid wd = fib_number Lid wd
 
 -- the 16-bit number that has the flags and cQuickSaves
 abbrev pub fib_flags : List ℕ → ℕ
-fib_flags wd = u16_at wd 10
+fib_flags wd = fib_number Flags wd
 
 -- bit `place` of a number, counted from the lowest
 abbrev pub bit : ℕ → ℕ → ℕ
@@ -54,43 +92,30 @@ fib_obfuscated wd = bit 15 (fib_flags wd)
 abbrev pub kept_flags : ℕ → ℕ
 kept_flags flags = bit 0 flags + bit 10 flags * 0x0400 + bit 14 flags * 0x4000
 
--- [MS-DOC] csw and FibRgW97
-abbrev pub fib_csw : List ℕ → ℕ
-fib_csw wd = u16_at wd 32
-
+-- [MS-DOC] FibRgW97
 abbrev pub fib_lid_fe : List ℕ → ℕ
-fib_lid_fe wd = u16_at wd 60
+fib_lid_fe wd = fib_number LidFE wd
 
--- [MS-DOC] cslw and FibRgLw97
-abbrev pub fib_cslw : List ℕ → ℕ
-fib_cslw wd = u16_at wd 62
-
+-- [MS-DOC] FibRgLw97
 abbrev pub fib_cb_mac : List ℕ → ℕ
-fib_cb_mac wd = u32_at wd 64
+fib_cb_mac wd = fib_number CbMac wd
 
 abbrev pub fib_ccp_text : List ℕ → ℕ
-fib_ccp_text wd = u32_at wd 76
+fib_ccp_text wd = fib_number CcpText wd
 
 abbrev pub fib_ccp_ftn : List ℕ → ℕ
-fib_ccp_ftn wd = u32_at wd 80
+fib_ccp_ftn wd = fib_number CcpFtn wd
 
 abbrev pub fib_ccp_hdd : List ℕ → ℕ
-fib_ccp_hdd wd = u32_at wd 84
+fib_ccp_hdd wd = fib_number CcpHdd wd
 
--- [MS-DOC] cbRgFcLcb and FibRgFcLcb97
-abbrev pub fib_cb_rg_fc_lcb : List ℕ → ℕ
-fib_cb_rg_fc_lcb wd = u16_at wd 152
-
--- where pair n stands
+-- [MS-DOC] FibRgFcLcb97: where pair n stands
 abbrev pub pair_place : ℕ → ℕ
 pair_place n = 154 + 8 * n
 
 -- fc and lcb of pair n: where a part begins in the table stream, and its length in bytes
 abbrev pub fib_pair : List ℕ → ℕ → ℕ × ℕ
 fib_pair wd n = (u32_at wd (pair_place n), u32_at wd (pair_place n + 4))
-
-abbrev pub fib_csw_new : List ℕ → ℕ
-fib_csw_new wd = u16_at wd 898
 
 -- all pairs, by their numbers
 unfoldable pub fib_pairs : List ℕ → List (ℕ × ℕ)

@@ -4,7 +4,7 @@ use Rattle.std.specs.Prelude.{◌≡◌, ℕ, ◌+◌, ◌-◌, ◌*◌, List, [
 use Rattle.doc_bits.specs.Number.{number_bytes}
 unfoldable pub use Rattle.doc_bits.specs.Number.{zeros}
 use Rattle.doc_bits.specs.Rules.{Hold}
-use Rattle.fib_form.specs.Fib.{early_form}
+use Rattle.fib_form.specs.Fib.{FibField, WIdent, NFib, Lid, Flags, NFibBack, Csw, LidFE, Cslw, CbMac, CcpText, CcpFtn, CcpHdd, CbRgFcLcb, field_place, early_form}
 use Rattle.fib_form.specs.FibFields.{FibFields, fib_fields, IsFib}
 use Rattle.fib_form.specs.FibRules.{fib_rules}
 
@@ -14,8 +14,8 @@ pub record Field : Type 0 where
   pub width : ℕ
   pub number : ℕ
 
-abbrev pub field : ℕ → ℕ → ℕ → Field
-field place width number = record { place = place; width = width; number = number }
+abbrev pub field : FibField → ℕ → Field
+field name number = record { place = (field_place name).0; width = (field_place name).1; number = number }
 
 -- ascending fields from an offset on, with zero bytes before each
 abbrev pub spelled : ℕ → List Field → List ℕ
@@ -30,19 +30,19 @@ written_flags fib =
 -- the fields before the pairs: [MS-DOC] FibBase, csw, FibRgW97, cslw, FibRgLw97, cbRgFcLcb
 abbrev pub written_fields : FibFields → List Field
 written_fields fib =
-    field 0 2 0xA5EC
-    ∷ field 2 2 0x00C1
-    ∷ field 6 2 fib.kept.lid
-    ∷ field 10 2 (written_flags fib)
-    ∷ field 12 2 0x00C1
-    ∷ field 32 2 14
-    ∷ field 60 2 fib.kept.lid_fe
-    ∷ field 62 2 22
-    ∷ field 64 4 fib.cb_mac
-    ∷ field 76 4 (slice_index fib.ccps 0)
-    ∷ field 80 4 (slice_index fib.ccps 1)
-    ∷ field 84 4 (slice_index fib.ccps 2)
-    ∷ field 152 2 early_form.pair_count
+    field WIdent 0xA5EC
+    ∷ field NFib 0x00C1
+    ∷ field Lid fib.kept.lid
+    ∷ field Flags (written_flags fib)
+    ∷ field NFibBack 0x00C1
+    ∷ field Csw 14
+    ∷ field LidFE fib.kept.lid_fe
+    ∷ field Cslw 22
+    ∷ field CbMac fib.cb_mac
+    ∷ field CcpText (slice_index fib.ccps 0)
+    ∷ field CcpFtn (slice_index fib.ccps 1)
+    ∷ field CcpHdd (slice_index fib.ccps 2)
+    ∷ field CbRgFcLcb early_form.pair_count
     ∷ []
 
 -- fc and lcb of a pair

@@ -1,12 +1,13 @@
 -- The rules on the FIB, 16 to 24, in their order. A place is an offset in WordDocument.
 use Rattle.std.specs.Prelude.{◌≡◌, ◌≢◌, ◌⊎◌, ℕ, ◌+◌, ◌*◌, ◌<◌, ◌≤◌, List, length}
-use Rattle.doc_bits.specs.Number.{u16_at, u32_at}
+use Rattle.doc_bits.specs.Number.{u32_at}
 use Rattle.doc_bits.specs.Rules.{Rules, rule, ◌then◌, IsFirst, Among, Breaks, IsLeastOfAll}
+use Rattle.fib_form.specs.Fib.{FibField, WIdent, NFib, Flags, Csw, Cslw, CcpText, CcpAtn, CbRgFcLcb, CswNew, field_offset, fib_number}
 use Rattle.fib_form.specs.Fib.{early_form, fib_encrypted, fib_obfuscated, fib_glossary, fib_ccp_text, fib_ccp_ftn, fib_ccp_hdd, fib_pair, pair_place}
 
--- at this place there is another 16-bit number than the wanted one
-abbrev pub IsOther : List ℕ → ℕ → ℕ → ℕ → Type 0
-IsOther wd place wanted p = (p ≡ place) × (u16_at wd place ≢ wanted)
+-- the field has another number than the wanted one
+abbrev pub IsOther : List ℕ → FibField → ℕ → ℕ → Type 0
+IsOther wd field wanted p = (p ≡ field_offset field) × (fib_number field wd ≢ wanted)
 
 -- the stream is shorter than a FIB
 abbrev pub IsShort : List ℕ → ℕ → Type 0
@@ -14,25 +15,26 @@ IsShort wd p = (p ≡ length wd) × (length wd < early_form.size)
 
 -- the document is encrypted or obfuscated
 abbrev pub IsHidden : List ℕ → ℕ → Type 0
-IsHidden wd p = (p ≡ 10) × ((fib_encrypted wd ≡ 1) ⊎ (fib_obfuscated wd ≡ 1))
+IsHidden wd p = (p ≡ field_offset Flags) × ((fib_encrypted wd ≡ 1) ⊎ (fib_obfuscated wd ≡ 1))
 
 -- the document is a glossary
 abbrev pub IsGlossary : List ℕ → ℕ → Type 0
-IsGlossary wd p = (p ≡ 10) × (fib_glossary wd ≡ 1)
+IsGlossary wd p = (p ≡ field_offset Flags) × (fib_glossary wd ≡ 1)
 
 -- csw, cslw, cbRgFcLcb or cswNew is not that of the form
 abbrev pub IsWrongSize : List ℕ → ℕ → Type 0
 IsWrongSize wd p =
-    IsOther wd 32 14 p ⊎ (IsOther wd 62 22 p ⊎ (IsOther wd 152 early_form.pair_count p ⊎ IsOther wd 898 0 p))
+    IsOther wd Csw 14 p ⊎ (IsOther wd Cslw 22 p ⊎ (IsOther wd CbRgFcLcb early_form.pair_count p ⊎ IsOther wd CswNew 0 p))
 
--- Profile: comments, endnotes and text boxes are refused. The count of one of their four stories is not 0
+-- Profile: comments, endnotes and text boxes are refused. One of their four counts, which stand
+-- from ccpAtn on, is not 0
 abbrev pub HasOtherStory : List ℕ → ℕ → ℕ → Type 0
-HasOtherStory wd k p = (p ≡ 92 + 4 * k) × (u32_at wd (92 + 4 * k) ≢ 0)
+HasOtherStory wd k p = (p ≡ field_offset CcpAtn + 4 * k) × (u32_at wd (field_offset CcpAtn + 4 * k) ≢ 0)
 
 -- there is no main text, or the three stories have more than 500,000 characters
 abbrev pub IsWrongLength : List ℕ → ℕ → Type 0
 IsWrongLength wd p =
-    (p ≡ 76) × ((fib_ccp_text wd ≡ 0) ⊎ (500000 < fib_ccp_text wd + fib_ccp_ftn wd + fib_ccp_hdd wd))
+    (p ≡ field_offset CcpText) × ((fib_ccp_text wd ≡ 0) ⊎ (500000 < fib_ccp_text wd + fib_ccp_ftn wd + fib_ccp_hdd wd))
 
 -- the part that a pair names is longer than an empty table
 abbrev pub IsLongPart : List ℕ → ℕ → ℕ → ℕ → Type 0
@@ -46,8 +48,8 @@ HasRefusedPart wd p =
 abbrev pub fib_rules : List ℕ → Rules ℕ
 fib_rules wd =
     rule 16 (IsShort wd)
-    then rule 17 (IsOther wd 0 0xA5EC)
-    then rule 18 (IsOther wd 2 0x00C1)
+    then rule 17 (IsOther wd WIdent 0xA5EC)
+    then rule 18 (IsOther wd NFib 0x00C1)
     then rule 19 (IsHidden wd)
     then rule 20 (IsGlossary wd)
     then rule 21 (IsWrongSize wd)

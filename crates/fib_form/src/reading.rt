@@ -1,9 +1,11 @@
 // The rules on the FIB and its fields.
 ghost use Rattle.std.specs.Prelude.{◌≡◌, ℕ, ◌+◌, ◌*◌, ◌≤◌, ◌<◌, List, length, MatchResult, MatchOption, IsTrue, ◌↔◌};
 ghost use Rattle.doc_bits.specs.Rules.{Hold, IsFirst, LeastOrNone, Among, Nowhere};
+ghost use Rattle.fib_form.specs.Fib.{CcpText, field_offset};
 ghost use Rattle.fib_form.specs.Fib.{early_form, fib_pair, fib_pairs, bit, kept_flags};
 ghost use Rattle.fib_form.specs.FibFields.{fib_fields};
-ghost use Rattle.fib_form.specs.FibRules.{fib_rules, IsWrongSize, HasOtherStory, IsWrongLength, HasRefusedPart, IsLongPart};
+ghost use Rattle.fib_form.specs.FibRules.{fib_rules, IsWrongSize, HasOtherStory, IsWrongLength, HasRefusedPart};
+ghost use Rattle.fib_form.specs.FibRules.{IsLongPart};
 
 use crate::offsets::*;
 use crate::{Fib, FibFault, KeptFib, Pairs};
@@ -85,6 +87,7 @@ fn judge(wd: &[u8]) -> Result<(), FibFault>
     Ok(())
 }
 
+/// The fault of a rule at an offset.
 fn fault(rule: u8, offset: usize) -> FibFault
     requires { offset < 1000 }
     ensures { result ≡ record { rule = rule; offset = offset } }
@@ -138,7 +141,7 @@ fn other_story(wd: &[u8]) -> Option<u32>
 /// Whether there is no main text, or the three stories are too long.
 fn has_wrong_length(wd: &[u8]) -> bool
     requires { early_form.size ≤ length wd.now }
-    ensures { IsTrue result ↔ IsWrongLength wd.now 76 }
+    ensures { IsTrue result ↔ IsWrongLength wd.now (field_offset CcpText) }
 {
     let main = get32(wd, CCP_TEXT);
     let notes = get32(wd, CCP_FTN);

@@ -91,6 +91,7 @@ enum Step {
     Prl(Code, usize, usize),
 }
 
+/// What a list begins with: nothing more, an operand that is cut short, or an entry.
 fn head(list: &[u8]) -> Step
     ensures { IsStep list.now result }
 {

@@ -44,6 +44,7 @@ pub fn operand(code: Code, rest: &[u8]) -> Option<(usize, usize)>
     value_range(operand_size(code), rest)
 }
 
+/// Where the value of an operand of this size begins and ends in the bytes after its code.
 fn value_range(size: OperandSize, rest: &[u8]) -> Option<(usize, usize)>
     ensures { MatchOption result
         (HasNoOperand size rest.now)

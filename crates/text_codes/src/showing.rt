@@ -1,7 +1,9 @@
 // The text that is shown for units. A surrogate pair is one character, so a high surrogate waits for the next unit.
-ghost use Rattle.std.specs.Prelude.{◌≡◌, ◌<◌, ◌++◌, ◌⊎◌, ◌↔◌, ◌&&◌, nat_le, nat_lt, List, ℕ, [], ◌∷◌, length, Bool, true, false, IfOk, OnOk, OnErr, IfSome, MatchOption, IsTrue, encode_utf8};
+ghost use Rattle.std.specs.Prelude.{◌≡◌, ◌<◌, ◌++◌, ◌⊎◌, ◌↔◌, ◌&&◌, nat_le, nat_lt, List, ℕ, [], ◌∷◌, length, Bool};
+ghost use Rattle.std.specs.Prelude.{true, false, IfOk, OnOk, OnErr, IfSome, MatchOption, IsTrue, encode_utf8};
 ghost use Rattle.std.specs.String.{string_bytes};
-ghost use Rattle.text_codes.specs.Shown.{Showing, shown, shown_alone, completed, escape, hex_digit, is_pair, pair_code, is_escaped};
+ghost use Rattle.text_codes.specs.Shown.{Showing, shown, shown_alone, completed, escape, hex_digit, is_pair};
+ghost use Rattle.text_codes.specs.Shown.{pair_code, is_escaped};
 
 use doc_bits::{Memory, Text};
 use std::alloc::Global;

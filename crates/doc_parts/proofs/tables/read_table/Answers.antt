@@ -11,7 +11,7 @@ returns-after-len g c =
     let bytes = c.args.part.now in
     let list = c.in_ok-entries-in-Ok.entries.items in
     let keeps = g.met.E.TableEntry.keeps_cp in
-    let size : c.SIZE.result ≡ form.size = c.SIZE.ensures ∙ g.met.E.TableEntry.sized.0 in
+    let size : c.SIZE.result ≡ form.size = c.SIZE.ensures ∙ g.met.E.TableEntry.sized in
     let known : (c.in-Ok.plc ≡ record { bytes = bytes; size = form.size; count = c.in-Ok.plc.count }) × IsPlcOf bytes form.size c.in-Ok.plc.count =
     rw (← size) (c.in-Ok.ensures.0, c.in-Ok.ensures.1) in
     let same : c.in-Ok.plc ≡ table_of form.size bytes = table_of_plc c.in-Ok.plc bytes form.size known.0 known.1 in
