@@ -12,3 +12,5 @@ pub mod LoadLemmas
 pub mod SingleLemmas
 pub mod UniqueLemmas
 pub mod SameNameLemmas
+pub mod AddLemmas
+pub mod StoredLemmas

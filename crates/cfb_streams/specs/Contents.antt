@@ -1,6 +1,7 @@
 -- What a compound file holds.
-use Rattle.std.specs.Prelude.{◌≡◌, ℕ, ◌^◌, ◌<◌, ◌≤◌, List, length, Option, Some, MatchOption, slice_get}
+use Rattle.std.specs.Prelude.{◌≡◌, ℕ, ◌-◌, ◌^◌, ◌<◌, ◌≤◌, List, length, Option, Some, MatchOption, slice_get, slice_index}
 use Rattle.std.specs.List.{sum_by}
+use Rattle.doc_bits.specs.Number.{AreBytes}
 use Rattle.cfb_streams.specs.Directory.{AreSameNames, ComesBefore}
 
 -- a stream: its name, its bytes, and its sectors where it has sectors of its own
@@ -41,3 +42,15 @@ pub record AreStreams (streams : List NamedBytes) : Type 0 where
   pub short : (i : ℕ) (stream : NamedBytes) → slice_get streams i ≡ Some stream → length stream.name ≤ 31
   pub order : (i j : ℕ) (stream later : NamedBytes) → i < j → slice_get streams i ≡ Some stream → slice_get streams j ≡ Some later → ComesBefore stream.name later.name
   pub total : sum_by (λ stream. length stream.bytes) streams < 2 ^ 48
+
+-- a name and bytes that a file can hold: the units have 16 bits, and the bytes are below 256
+pub record IsStored (name bytes : List ℕ) : Type 0 where
+  pub units : (i : ℕ) → slice_index name i < 2 ^ 16
+  pub small : AreBytes bytes
+
+abbrev pub AreStored : List NamedBytes → Type 0
+AreStored streams = (i : ℕ) (stream : NamedBytes) → slice_get streams i ≡ Some stream → IsStored stream.name stream.bytes
+
+-- the name comes after that of the last stream
+abbrev pub EndsBefore : List NamedBytes → List ℕ → Type 0
+EndsBefore streams name = (stream : NamedBytes) → slice_get streams (length streams - 1) ≡ Some stream → ComesBefore stream.name name

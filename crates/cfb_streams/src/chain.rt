@@ -37,7 +37,7 @@ pub enum Chain {
 /// The path from `start` as far as it goes: to an entry that is not valid, or that names a sector
 /// of the path. The numbers below the length of `marks` are valid, and `stamp` marks the sectors
 /// of this path, so that no table is cleared between two walks.
-pub fn walk(
+pub(crate) fn walk(
     alloc: Global,
     entries: &[u32],
     marks: &mut [u32],
@@ -62,7 +62,7 @@ pub fn walk(
 }
 
 /// The last sector of a path.
-pub fn last_sector(path: &[u32]) -> u32
+pub(crate) fn last_sector(path: &[u32]) -> u32
     requires { 0 < length path.now }
     ensures { result ≡ last_of path.now }
 {

@@ -46,21 +46,21 @@ impl Model for RootStream {
 
 impl RootStream {
     /// The units of the name.
-    pub fn name(&self) -> &[u16]
+    pub(crate) fn name(&self) -> &[u16]
         ensures { result.now ≡ self.now.name }
     {
         &self.name
     }
 
     /// The bytes.
-    pub fn bytes(&self) -> &[u8]
+    pub(crate) fn bytes(&self) -> &[u8]
         ensures { result.now ≡ self.now.bytes }
     {
         &self.bytes
     }
 
     /// The sectors, where the stream has sectors of its own.
-    pub fn chain(&self) -> Option<&[u32]>
+    pub(crate) fn chain(&self) -> Option<&[u32]>
         ensures chain { self.now.chain ≡ option_map (λ c. c.now) result }
         ensures by_length { HasChainByLength self.now.bytes self.now.chain }
     {
@@ -72,7 +72,7 @@ impl RootStream {
 }
 
 /// The bytes of the stream with the name.
-pub fn find_named<'a>(streams: &'a [RootStream], name: &[u16]) -> Option<&'a [u8]>
+pub(crate) fn find_named<'a>(streams: &'a [RootStream], name: &[u16]) -> Option<&'a [u8]>
     ensures { MatchOption result (HasNoNamed streams.now name.now) (λ bytes. HasNamed streams.now name.now bytes.now) }
 {
     for stream in streams {
@@ -174,7 +174,7 @@ fn read_small(
 }
 
 /// The stream of an entry. The mini stream's bytes are `stored`.
-pub fn read_stream(
+pub(crate) fn read_stream(
     alloc: Global,
     file: &[u8],
     directory: &[u32],
@@ -233,7 +233,11 @@ pub fn read_stream(
 }
 
 /// The whole sectors of the mini stream in a row.
-pub fn read_mini_stream(alloc: Global, file: &[u8], mini_stream: &[u32]) -> Result<Vec<u8>, Memory>
+pub(crate) fn read_mini_stream(
+    alloc: Global,
+    file: &[u8],
+    mini_stream: &[u32],
+) -> Result<Vec<u8>, Memory>
     requires { AreSectorsOf file.now mini_stream.now }
     ensures { IfOk result (λ stored. stored.items ≡ flat_map (sector_bytes 512 512 file.now) mini_stream.now) }
 {

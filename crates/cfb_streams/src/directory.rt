@@ -44,7 +44,7 @@ pub const NOSTREAM: u32 = 0xFFFF_FFFF;
 const ENTRIES: usize = 4;
 
 /// Where entry `k` of a directory in these sectors stands.
-pub fn entry_place(file: &[u8], directory: &[u32], k: usize) -> usize
+pub(crate) fn entry_place(file: &[u8], directory: &[u32], k: usize) -> usize
     requires sectors { AreSectorsOf file.now directory.now }
     requires there { k < entry_count directory.now }
     ensures place { result ≡ place_of directory.now k }
@@ -55,7 +55,7 @@ pub fn entry_place(file: &[u8], directory: &[u32], k: usize) -> usize
 }
 
 /// The type byte of entry 0, where that is not the root.
-pub fn wrong_root(file: &[u8], directory: &[u32]) -> Option<u32>
+pub(crate) fn wrong_root(file: &[u8], directory: &[u32]) -> Option<u32>
     requires sectors { AreSectorsOf file.now directory.now }
     requires there { 0 < entry_count directory.now }
     ensures { LeastOrNone (BreaksRoot file.now directory.now) result }
@@ -109,7 +109,7 @@ fn reach_all(
 }
 
 /// The entries that the root reaches, each of them once.
-pub fn reached(alloc: Global, file: &[u8], directory: &[u32]) -> Result<Vec<u32>, Memory>
+pub(crate) fn reached(alloc: Global, file: &[u8], directory: &[u32]) -> Result<Vec<u32>, Memory>
     requires sectors { AreSectorsOf file.now directory.now }
     requires there { 0 < length directory.now }
     requires few { length directory.now ≤ 256 }
@@ -121,7 +121,7 @@ pub fn reached(alloc: Global, file: &[u8], directory: &[u32]) -> Result<Vec<u32>
 }
 
 /// The upper case of a unit, of ASCII letters alone.
-pub fn upper(unit: u16) -> u16
+pub(crate) fn upper(unit: u16) -> u16
     ensures { result ≡ upper_case unit }
 {
     if unit < 97 {

@@ -22,7 +22,7 @@ const MAX_FAT_SECTORS: usize = 109;
 pub const TABLE_LEN: usize = 128;
 
 /// The number below which the sectors of the file are valid.
-pub fn valid_sectors(file: &[u8]) -> usize
+pub(crate) fn valid_sectors(file: &[u8]) -> usize
     requires { 512 ≤ length file.now }
     ensures { result ≡ valid_below file.now }
 {
@@ -31,7 +31,7 @@ pub fn valid_sectors(file: &[u8]) -> usize
 }
 
 /// The least place at which the header's FAT sectors are wrong.
-pub fn wrong_fat(file: &[u8]) -> Option<u32>
+pub(crate) fn wrong_fat(file: &[u8]) -> Option<u32>
     requires { 512 ≤ length file.now }
     ensures { LeastOrNone (BreaksFat file.now) result }
 {
@@ -65,7 +65,7 @@ fn is_listed_before(file: &[u8], k: usize) -> bool
 }
 
 /// The numbers of the FAT sectors.
-pub fn read_fat_sectors(alloc: Global, file: &[u8]) -> Result<Vec<u32>, Memory>
+pub(crate) fn read_fat_sectors(alloc: Global, file: &[u8]) -> Result<Vec<u32>, Memory>
     requires header { 512 ≤ length file.now }
     requires few { fat_sector_count file.now ≤ 109 }
     ensures { IfOk result (λ sectors. sectors.items ≡ fat_sectors file.now) }
@@ -79,7 +79,7 @@ pub fn read_fat_sectors(alloc: Global, file: &[u8]) -> Result<Vec<u32>, Memory>
 }
 
 /// Where entry `s` of a table stands, in bytes from the start of the file.
-pub fn table_place(sectors: &[u32], s: usize) -> usize
+pub(crate) fn table_place(sectors: &[u32], s: usize) -> usize
     requires { s < 128 * length sectors.now }
     ensures { result ≡ place_of (λ k. slice_index sectors.now k) s }
 {
@@ -87,7 +87,7 @@ pub fn table_place(sectors: &[u32], s: usize) -> usize
 }
 
 /// The entries of the table that stands in these sectors.
-pub fn read_table(alloc: Global, file: &[u8], sectors: &[u32]) -> Result<Vec<u32>, Memory>
+pub(crate) fn read_table(alloc: Global, file: &[u8], sectors: &[u32]) -> Result<Vec<u32>, Memory>
     requires { AreSectorsOf file.now sectors.now }
     ensures { IfOk result (λ entries. IsTable file.now sectors.now entries.items) }
 {

@@ -28,7 +28,7 @@ pub const DIFAT_COUNT: usize = 72;
 pub const CUTOFF: u32 = 4_096;
 
 /// The first field that is not that of version 3.
-pub fn wrong_header(file: &[u8]) -> Option<u32>
+pub(crate) fn wrong_header(file: &[u8]) -> Option<u32>
     requires { 512 ≤ length file.now }
     ensures { LeastOrNone (BreaksHeader file.now) result }
 {
@@ -48,7 +48,7 @@ pub fn wrong_header(file: &[u8]) -> Option<u32>
 }
 
 /// The number of DIFAT sectors, where there are any.
-pub fn wrong_difat(file: &[u8]) -> Option<u32>
+pub(crate) fn wrong_difat(file: &[u8]) -> Option<u32>
     requires { 512 ≤ length file.now }
     ensures { LeastOrNone (IsOther32 file.now 72 0) result }
 {

@@ -16,7 +16,7 @@ pub struct Table<'a> {
 }
 
 /// Judges the chain of a claim by a table of entries.
-pub fn judge_chain(
+pub(crate) fn judge_chain(
     alloc: Global,
     entries: &[u32],
     marks: &mut [u32],
@@ -44,7 +44,7 @@ pub fn judge_chain(
 }
 
 /// The chain of a claim whose start stands at `field`, or the place at which it is broken.
-pub fn find_chain(
+pub(crate) fn find_chain(
     alloc: Global,
     file: &[u8],
     table: Table,

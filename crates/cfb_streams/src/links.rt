@@ -160,7 +160,7 @@ fn wrong_storage(file: &[u8], directory: &[u32], entry: u32) -> Option<u32>
 }
 
 /// The least place at which a storage has a child.
-pub fn wrong_storages(file: &[u8], directory: &[u32], order: &[u32]) -> Option<u32>
+pub(crate) fn wrong_storages(file: &[u8], directory: &[u32], order: &[u32]) -> Option<u32>
     requires sectors { AreSectorsOf file.now directory.now }
     requires lists { ListsReached file.now directory.now order.now }
     ensures { LeastOrNone (BreaksStorage file.now directory.now) result }
@@ -173,7 +173,7 @@ pub fn wrong_storages(file: &[u8], directory: &[u32], order: &[u32]) -> Option<u
 }
 
 /// The least place at which a link or a type is wrong.
-pub fn wrong_tree(
+pub(crate) fn wrong_tree(
     alloc: Global,
     file: &[u8],
     directory: &[u32],

@@ -68,7 +68,7 @@ fn wrong_name(file: &[u8], directory: &[u32], order: &[u32], entry: u32) -> Opti
 }
 
 /// The least length field of a wrong name.
-pub fn wrong_names(file: &[u8], directory: &[u32], order: &[u32]) -> Option<u32>
+pub(crate) fn wrong_names(file: &[u8], directory: &[u32], order: &[u32]) -> Option<u32>
     requires sectors { AreSectorsOf file.now directory.now }
     requires lists { ListsReached file.now directory.now order.now }
     ensures { LeastOrNone (BreaksName file.now directory.now) result }
@@ -81,7 +81,7 @@ pub fn wrong_names(file: &[u8], directory: &[u32], order: &[u32]) -> Option<u32>
 }
 
 /// Whether two names are equal. ASCII letters are compared by their upper case.
-pub fn same_name(name: &[u16], other: &[u16]) -> bool
+pub(crate) fn same_name(name: &[u16], other: &[u16]) -> bool
     ensures { IsTrue result ↔ AreSameNames name.now other.now }
 {
     if name.len() != other.len() {

@@ -73,7 +73,7 @@ fn put_stream(
 }
 
 /// The entries of the streams, in the order of their names.
-pub fn list_streams(
+pub(crate) fn list_streams(
     alloc: Global,
     file: &[u8],
     directory: &[u32],

@@ -223,7 +223,7 @@ fn claim_minis(
 
 /// The least place at which two parts of the file have one sector. The stamps are `stamp` and one
 /// more for each further entry.
-pub fn wrong_sharing(
+pub(crate) fn wrong_sharing(
     alloc: Global,
     file: &[u8],
     fat: Table,

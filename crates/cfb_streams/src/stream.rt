@@ -8,7 +8,7 @@ use std::alloc::Global;
 
 /// The sectors of a chain joined and cut to `size`. A sector has `unit` bytes, and sector 0 stands
 /// at `base`.
-pub fn join(
+pub(crate) fn join(
     alloc: Global,
     bytes: &[u8],
     base: usize,

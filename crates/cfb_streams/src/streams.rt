@@ -26,7 +26,7 @@ const SECTOR: u32 = 512;
 const MINI_SECTOR: u32 = 64;
 
 /// A chain by the FAT.
-pub fn find_fat_chain(
+pub(crate) fn find_fat_chain(
     alloc: Global,
     file: &[u8],
     fat: Table,
@@ -67,7 +67,7 @@ fn is_long_directory(
 
 /// The directory's sectors, or the place at which rule 6 is broken. The stamps are `stamp` and the
 /// next one.
-pub fn find_directory(
+pub(crate) fn find_directory(
     alloc: Global,
     file: &[u8],
     fat: Table,
@@ -96,7 +96,7 @@ pub fn find_directory(
 }
 
 /// The sectors of the mini FAT, none where it has none, or the place at which rule 11 is broken.
-pub fn find_mini_fat(
+pub(crate) fn find_mini_fat(
     alloc: Global,
     file: &[u8],
     fat: Table,
@@ -136,7 +136,7 @@ fn claim_at(file: &[u8], at: usize, unit: u32) -> Claim
 }
 
 /// The sectors of the mini stream, none where it is empty, or the place at which rule 12 is broken.
-pub fn find_mini_stream(
+pub(crate) fn find_mini_stream(
     alloc: Global,
     file: &[u8],
     directory: &[u32],
@@ -179,7 +179,7 @@ fn broken_at(found: Chain) -> Option<u32>
 }
 
 /// The chain of the stream of an entry, where it has sectors of its own.
-pub fn find_large(
+pub(crate) fn find_large(
     alloc: Global,
     file: &[u8],
     directory: &[u32],
@@ -214,7 +214,7 @@ pub fn find_large(
 }
 
 /// The chain of the stream of an entry, where it stands in the mini stream.
-pub fn find_small(
+pub(crate) fn find_small(
     alloc: Global,
     file: &[u8],
     directory: &[u32],
@@ -300,7 +300,7 @@ fn wrong_small(
 
 /// The least place at which the chain of a stream is broken. The stamps are `stamp` and one more for
 /// each further entry.
-pub fn wrong_streams(
+pub(crate) fn wrong_streams(
     alloc: Global,
     file: &[u8],
     directory: &[u32],
@@ -334,7 +334,7 @@ pub fn wrong_streams(
 
 /// The number below which the mini sectors are valid: they have an entry in the mini FAT, and begin
 /// before the end of the root's size.
-pub fn mini_sectors(file: &[u8], directory: &[u32], mini_fat: &[u32]) -> usize
+pub(crate) fn mini_sectors(file: &[u8], directory: &[u32], mini_fat: &[u32]) -> usize
     requires sectors { AreSectorsOf file.now directory.now }
     requires there { 0 < length directory.now }
     requires few { length mini_fat.now < 2 ^ 32 }
