@@ -1,0 +1,165 @@
+use crate::edits::{Edit, Number};
+use crate::places::Places;
+use crate::row_fault::RowFault;
+use crate::words::Words;
+use std::alloc::Global;
+
+/// How a line writes the empty word of a run.
+pub(crate) const EMPTY_WORD: &str = "\"\"";
+
+/// What a line says.
+#[derive(Drop)]
+pub(crate) enum Command<'a> {
+    /// Nothing: an empty line, and one that begins with `#`.
+    Nothing,
+    /// A row begins, with no file.
+    Row(&'a str),
+    /// Where what the row prints comes from.
+    From,
+    /// A number has a name from here on, in all rows.
+    Place { name: &'a str, at: u64 },
+    /// A name holds the bytes of a file of data.
+    File { name: &'a str, data: &'a str },
+    /// A name holds zeros.
+    Zeros { name: &'a str, len: usize },
+    /// The bytes of a name are changed.
+    Change { name: &'a str, edit: Edit },
+    /// A call of the shelf fails in the next run. Calls are numbered from 1 on.
+    FailShelf(u32),
+    /// A call of the sink fails in the next run.
+    FailSink(u32),
+    /// How many bytes the sink has room for in the next run.
+    Room(u32),
+    /// The sink takes nothing in the next run.
+    Stopped,
+    /// The program runs with these words.
+    Run(Vec<String>),
+}
+
+impl<'a> Command<'a> {
+    /// The command that a line says.
+    pub(crate) fn read(
+        alloc: Global,
+        line: &'a str,
+        places: &Places,
+    ) -> Result<Command<'a>, RowFault> {
+        let mut words = Words::new(line, places);
+        let Some(first) = words.next() else {
+            return Ok(Command::Nothing);
+        };
+        if first.starts_with('#') {
+            return Ok(Command::Nothing);
+        }
+        match first {
+            "from" => source(words),
+            "put" => put(alloc, words, places),
+            "run" => run(alloc, words),
+            _ => {
+                let command = plain(first, &mut words)?;
+                words.end()?;
+                Ok(command)
+            }
+        }
+    }
+}
+
+/// A command whose words have a fixed number.
+fn plain<'a>(first: &str, words: &mut Words<'a, '_>) -> Result<Command<'a>, RowFault> {
+    match first {
+        "row" => Ok(Command::Row(words.word()?)),
+        "place" => Ok(Command::Place {
+            name: words.word()?,
+            at: words.number()?,
+        }),
+        "file" => Ok(Command::File {
+            name: words.word()?,
+            data: words.word()?,
+        }),
+        "zeros" => Ok(Command::Zeros {
+            name: words.word()?,
+            len: words.number()? as usize,
+        }),
+        "length" => Ok(Command::Change {
+            name: words.word()?,
+            edit: Edit::Length(words.number()? as usize),
+        }),
+        "numbers" => numbers(words),
+        "copy" => copy(words),
+        "fail" => fail(words),
+        "room" => Ok(Command::Room(small(words)?)),
+        "stopped" => Ok(Command::Stopped),
+        _ => Err(RowFault::NoCommand),
+    }
+}
+
+fn source<'a>(mut words: Words<'a, '_>) -> Result<Command<'a>, RowFault> {
+    words.word()?;
+    Ok(Command::From)
+}
+
+fn put<'a>(
+    alloc: Global,
+    mut words: Words<'a, '_>,
+    places: &Places,
+) -> Result<Command<'a>, RowFault> {
+    let name = words.word()?;
+    let at = words.number()? as usize;
+    let width = words.number()?;
+    let mut numbers = Vec::new(alloc);
+    numbers.push(Number::new(words.number()?, width)?)?;
+    for word in words.rest() {
+        numbers.push(Number::new(places.number(word)?, width)?)?;
+    }
+    Ok(Command::Change {
+        name,
+        edit: Edit::Put { at, numbers },
+    })
+}
+
+fn numbers<'a>(words: &mut Words<'a, '_>) -> Result<Command<'a>, RowFault> {
+    Ok(Command::Change {
+        name: words.word()?,
+        edit: Edit::Numbers {
+            at: words.number()? as usize,
+            count: words.number()?,
+            width: words.number()?,
+            first: words.number()?,
+            step: words.number()?,
+        },
+    })
+}
+
+fn copy<'a>(words: &mut Words<'a, '_>) -> Result<Command<'a>, RowFault> {
+    Ok(Command::Change {
+        name: words.word()?,
+        edit: Edit::Copy {
+            from: words.number()? as usize,
+            len: words.number()? as usize,
+            to: words.number()? as usize,
+        },
+    })
+}
+
+fn fail<'a>(words: &mut Words<'a, '_>) -> Result<Command<'a>, RowFault> {
+    match words.word()? {
+        "shelf" => Ok(Command::FailShelf(small(words)?)),
+        "sink" => Ok(Command::FailSink(small(words)?)),
+        _ => Err(RowFault::NoCommand),
+    }
+}
+
+fn small(words: &mut Words<'_, '_>) -> Result<u32, RowFault> {
+    match u32::try_from(words.number()?) {
+        Ok(number) => Ok(number),
+        Err(_) => Err(RowFault::NoNumber),
+    }
+}
+
+fn run<'a>(alloc: Global, words: Words<'a, '_>) -> Result<Command<'a>, RowFault> {
+    let mut all = Vec::new(alloc);
+    for word in words.rest() {
+        let word = if word == EMPTY_WORD { "" } else { word };
+        all.push(String::from_str(alloc, word)?)?;
+    }
+    Ok(Command::Run(all))
+}
