@@ -1,0 +1,15 @@
+pub mod SectorLemmas
+pub mod BytesLemmas
+pub mod CountLemmas
+pub mod TreeLemmas
+pub mod Image
+pub mod ImageChains
+pub mod ImageTree
+pub mod ImageStreams
+pub mod ImageRules
+pub mod EntryLemmas
+pub mod FileLemmas
+pub mod MadeLemmas
+pub mod WritingLemmas
+pub mod ShorterLemmas
+pub mod JoinLemmas

@@ -1,0 +1,8 @@
+use Rattle.std.proofs.Common.{◌≡◌, ◌≢◌, ℕ, zero, suc, ◌+◌, ◌-◌, ◌*◌, ◌/◌, ◌^◌, ◌<◌, ◌≤◌, Some, None, List, [], ◌∷◌, ◌++◌, length, map, take, get_or, slice_index, slice_index_or, slice_get, replicate, sum, refl, sym, ap, ◌∙◌, subst, arith, rules}
+use Rattle.cfb_layout.proofs.JoinLemmas.{byte_bytes}
+use Rattle.cfb_layout.proofs.fields.push_byte.Goals as goal
+
+pub returns : goal.returns
+returns c =
+    let low : c.args.value < 256 = omega arith in
+    c.in_ok-push_all.ensures.ok ∙ ap (λ xs. c.args.out.now ++ xs) (sym (byte_bytes c.args.value low))

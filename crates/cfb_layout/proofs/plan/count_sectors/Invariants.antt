@@ -1,0 +1,7 @@
+use Rattle.std.proofs.Common.{◌≡◌, take, map}
+use Rattle.cfb_layout.specs.Sectors.{units_for}
+use Rattle.cfb_layout.specs.Counts.{large_len}
+use Rattle.cfb_layout.proofs.plan.count_sectors.Given as goal
+
+abbrev pub invariant-loop-len : goal.invariant-loop-len
+invariant-loop-len l = l.counts.items ≡ map (λ len. units_for 512 (large_len len)) (take l.len-index l.lengths)

@@ -1,0 +1,10 @@
+pub mod Sectors
+pub mod Fields
+pub mod Tree
+pub mod Counts
+pub mod Chains
+pub mod Plan
+pub mod Entries
+pub mod Layout
+pub mod Faults
+pub mod Laws

@@ -1,0 +1,83 @@
+// Chains of sectors that stand in a row, one chain after another.
+ghost use Rattle.std.specs.Prelude.{◌≡◌, ◌^◌, ◌<◌, ◌≤◌, IfOk, length, sum, slice_index, take};
+ghost use Rattle.cfb_layout.specs.Sectors.{start_of};
+ghost use Rattle.cfb_layout.specs.Counts.{first_sector};
+
+use crate::sectors::END_OF_CHAIN;
+use doc_bits::Memory;
+use std::alloc::Global;
+use std::marker::Model;
+
+/// Chains by their counts of sectors, the first from sector 0 on.
+#[derive(Drop)]
+pub struct Chains {
+    counts: Vec<u32>,
+    starts: Vec<u32>,
+    total: u32,
+}
+
+impl Model for Chains {
+    ghost use Rattle.std.specs.Prelude.{List, ℕ};
+    ghost use Rattle.cfb_layout.specs.Chains.{AreChains};
+
+    ghost Value = { List ℕ };
+
+    ghost view = { λ c. c.counts.items };
+
+    ghost invariant = { λ c. AreChains c.counts.items c.starts.items c.total };
+}
+
+impl Chains {
+    /// Chains of these counts.
+    pub fn new(alloc: Global, counts: Vec<u32>) -> Result<Chains, Memory>
+        requires { sum counts.items < 2 ^ 32 }
+        ensures { IfOk result (λ chains. chains ≡ counts.items) }
+    {
+        let mut starts = Vec::new(alloc);
+        let mut total = 0;
+        for count in &counts {
+            starts.push(total)?;
+            total += *count;
+        }
+        Ok(Chains {
+            counts,
+            starts,
+            total,
+        })
+    }
+
+    /// The counts of sectors.
+    pub fn counts(&self) -> &[u32]
+        ensures is { result.now ≡ self.now }
+        ensures few { sum self.now < 2 ^ 32 }
+    {
+        &self.counts
+    }
+
+    /// All sectors.
+    pub fn total(&self) -> u32
+        ensures { result ≡ sum self.now }
+    {
+        self.total
+    }
+
+    /// The count of the i-th chain.
+    pub fn count(&self, i: usize) -> u32
+        requires { i < length self.now }
+        ensures { result ≡ slice_index self.now i }
+    {
+        self.counts[i]
+    }
+
+    /// The start of the i-th chain, where it has a sector.
+    pub fn first_sector(&self, i: usize) -> u32
+        requires { i < length self.now }
+        ensures { result ≡ first_sector self.now i }
+    {
+        if 0 < self.counts[i] {
+            self.starts[i]
+        } else {
+            END_OF_CHAIN
+        }
+    }
+}
