@@ -1,10 +1,9 @@
 -- The counts of sectors, part by part.
-use Rattle.std.proofs.Common.{◌≡◌, ℕ, ◌+◌, ◌-◌, ◌*◌, ◌/◌, ◌<◌, ◌≤◌, List, [], ◌∷◌, ◌++◌, length, map, get_or, slice_index, slice_index_or, sum, refl, sym, ap, ◌∙◌, arith, length-append}
+use Rattle.std.proofs.Common.{◌≡◌, ℕ, ◌+◌, ◌-◌, ◌*◌, ◌<◌, List, [], ◌∷◌, length, map, slice_index, slice_index_or, sum, refl, ap, ◌∙◌, arith, length-append}
 use Rattle.std.proofs.lemmas.List.{get_or_append_left, get_or-append_right, get_or-map, length-map}
-use Rattle.std.proofs.lemmas.List.Sums.{sum_by-append}
 use Rattle.cfb_streams.specs.Contents.{NamedBytes}
 use Rattle.cfb_layout.specs.Sectors.{units_for}
-use Rattle.cfb_layout.specs.Counts.{large_len, small_len, mini_counts, large_counts, sector_counts, fat_count, sectors_needed, Fits}
+use Rattle.cfb_layout.specs.Counts.{large_len, small_len, mini_counts, large_counts, sector_counts, fat_count, sectors_needed}
 use Rattle.cfb_layout.specs.Layout.{lengths_of, no_stream}
 
 pub length-mini_counts : (lengths : List ℕ) → length (mini_counts lengths) ≡ length lengths

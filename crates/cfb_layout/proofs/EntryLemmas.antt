@@ -1,16 +1,13 @@
 -- An entry that is written is read as it is.
-use Rattle.std.proofs.Common.{◌≡◌, inl, inr, ℕ, zero, suc, ◌+◌, ◌-◌, ◌*◌, ◌/◌, ◌^◌, ◌<◌, ◌≤◌, ltb, List, [], ◌∷◌, ◌++◌, length, take, drop, replicate, get_or, slice_index, slice_index_or, slice_get, sum, refl, sym, ap, ◌∙◌, subst, arith, length-append}
+use Rattle.std.proofs.Common.{◌≡◌, ℕ, ◌+◌, ◌-◌, ◌*◌, ◌^◌, ◌<◌, ◌≤◌, List, ◌++◌, length, take, drop, replicate, slice_index, refl, sym, ap, ◌∙◌, arith, length-append}
 use Rattle.std.specs.List.{flat_map}
-use Rattle.std.proofs.lemmas.Bool.{cases_lt, ltb-true, cond_both}
-use Rattle.std.proofs.lemmas.List.{get_or_append_left, get_or-append_right, length-replicate, length_push}
-use Rattle.std.proofs.lemmas.Option.{slice_get-get_or}
+use Rattle.std.proofs.lemmas.List.{get_or_append_left, get_or-append_right}
 use Rattle.doc_bits.specs.Number.{number_at, number_bytes}
 use Rattle.doc_bits.proofs.NumberLemmas.{number_at-after, number_at-before, number_at-same}
-use Rattle.cfb_streams.specs.Contents.{NamedBytes, AreStreams}
 use Rattle.cfb_layout.specs.Sectors.{filled}
 use Rattle.cfb_layout.specs.Fields.{fields_bytes}
-use Rattle.cfb_layout.specs.Entries.{Entry, link_fields, place_fields, name_bytes, entry_bytes, unused_entry, no_clsid, root_name}
-use Rattle.cfb_layout.proofs.BytesLemmas.{length-table, length-fields_bytes, length-filled, entry_at, field_at, no_field, range_is}
+use Rattle.cfb_layout.specs.Entries.{Entry, link_fields, place_fields, name_bytes, entry_bytes}
+use Rattle.cfb_layout.proofs.BytesLemmas.{length-table, length-fields_bytes, length-filled, entry_at, field_at, range_is}
 use Rattle.cfb_layout.proofs.Image.{IsEntryAt}
 
 -- an entry of 128 bytes

@@ -1,24 +1,24 @@
 -- The canonical container by its parts.
-use Rattle.std.proofs.Common.{◌≡◌, inl, inr, ℕ, zero, suc, ◌+◌, ◌-◌, ◌*◌, ◌/◌, ◌^◌, ◌<◌, ◌≤◌, ltb, List, [], ◌∷◌, ◌++◌, length, map, take, replicate, get_or, slice_index, slice_index_or, sum, refl, sym, ap, ◌∙◌, subst, arith, length-append}
+use Rattle.std.proofs.Common.{◌≡◌, inl, inr, ℕ, zero, suc, ◌+◌, ◌-◌, ◌*◌, ◌<◌, ◌≤◌, ltb, List, [], ◌∷◌, ◌++◌, length, map, replicate, get_or, slice_index, slice_index_or, sum, refl, ap, ◌∙◌, arith, length-append}
 use Rattle.std.specs.List.{flat_map, range_with_len}
 use Rattle.std.proofs.lemmas.Bool.{cases_lt, cases_eq, ltb-true, cond_both}
-use Rattle.std.proofs.lemmas.List.{get_or_append_left, get_or-append_right, get_or-map, length-map, length-replicate, length_push, take-append-le, take_all}
+use Rattle.std.proofs.lemmas.List.{get_or_append_left, get_or-append_right, get_or-map, length-map, length-replicate, take-append-le, take_all}
 use Rattle.std.proofs.lemmas.List.Sums.{sum_by_push}
-use Rattle.std.proofs.lemmas.List.FromFn.{length-range_with_len, get_or-range_with_len}
+use Rattle.std.proofs.lemmas.List.FromFn.{length-range_with_len}
 use Rattle.std.proofs.lemmas.Option.{slice_get-get_or}
-use Rattle.doc_bits.specs.Number.{number_at, number_bytes, u16_at, u32_at}
-use Rattle.doc_bits.proofs.NumberLemmas.{number_at-after, number_at-before, number_at-same}
+use Rattle.doc_bits.specs.Number.{number_at, number_bytes}
+use Rattle.doc_bits.proofs.NumberLemmas.{number_at-same}
 use Rattle.cfb_streams.specs.Contents.{NamedBytes, AreStreams}
 use Rattle.cfb_streams.specs.Opening.{signature}
-use Rattle.cfb_layout.specs.Sectors.{units_for, filled, padded, chains_from, start_of, table_bytes, free_sector, fat_sector_mark}
+use Rattle.cfb_layout.specs.Sectors.{units_for, padded, chains_from, start_of, table_bytes, free_sector, fat_sector_mark}
 use Rattle.cfb_layout.specs.Fields.{fields_bytes}
 use Rattle.cfb_layout.specs.Counts.{mini_counts, sector_counts, fat_count, Fits, large_len}
-use Rattle.cfb_layout.specs.Entries.{Entry, entry_bytes, unused_entry, no_clsid, root_name}
-use Rattle.cfb_layout.specs.Layout.{lengths_of, no_stream, large_part, small_part, mini_stream, fat, directory_entry, directory_bytes, stream_entry, parts, header_fields, fat_numbers, header_bytes, compound_file}
+use Rattle.cfb_layout.specs.Entries.{entry_bytes, unused_entry, no_clsid, root_name}
+use Rattle.cfb_layout.specs.Layout.{lengths_of, no_stream, large_part, mini_stream, fat, directory_entry, directory_bytes, stream_entry, parts, header_fields, fat_numbers, header_bytes, compound_file}
 use Rattle.cfb_layout.specs.Laws.{IsLayout}
-use Rattle.cfb_layout.proofs.BytesLemmas.{HaveCounts, length-parts, parts_at, length-blocks, length-table, length-padded, length-filled, filled_at, length-fields_bytes, entry_at}
-use Rattle.cfb_layout.proofs.SectorLemmas.{length-chains_from, chains_below, start_below}
-use Rattle.cfb_layout.proofs.CountLemmas.{length-sector_counts, length-mini_counts, counts_stream, counts_mini_stream, counts_mini_fat, counts_directory, sectors-needed, length-lengths_of, lengths_at}
+use Rattle.cfb_layout.proofs.BytesLemmas.{HaveCounts, length-parts, parts_at, length-blocks, length-table, length-padded, length-filled, length-fields_bytes}
+use Rattle.cfb_layout.proofs.SectorLemmas.{length-chains_from}
+use Rattle.cfb_layout.proofs.CountLemmas.{length-sector_counts, counts_stream, counts_mini_stream, counts_mini_fat, counts_directory, sectors-needed, length-lengths_of, lengths_at}
 use Rattle.cfb_layout.proofs.EntryLemmas.{IsWhole, length-entry_bytes}
 use Rattle.cfb_layout.proofs.Image.{part_place}
 use Rattle.cfb_layout.proofs.ImageStreams.{length-large_part, length-mini_stream}

@@ -1,6 +1,6 @@
 -- All that is needed of the canonical container to read it, at offsets of the file. What is read of it is shown from
 -- this record, and the canonical container is shown to be such a file.
-use Rattle.std.proofs.Common.{◌≡◌, ℕ, ◌+◌, ◌*◌, ◌<◌, ◌≤◌, List, length, take, slice_index, slice_index_or, sum}
+use Rattle.std.proofs.Common.{◌≡◌, ℕ, ◌+◌, ◌*◌, ◌<◌, List, length, take, slice_index, slice_index_or, sum}
 use Rattle.doc_bits.specs.Number.{u16_at, u32_at}
 use Rattle.cfb_streams.specs.Opening.{signature}
 use Rattle.cfb_streams.specs.Contents.{NamedBytes}

@@ -1,18 +1,18 @@
 -- The chains of an image: the parts that have a sector, by the FAT, and the streams in the mini stream.
-use Rattle.std.proofs.Common.{◌≡◌, ◌≢◌, inl, inr, ℕ, zero, suc, ◌+◌, ◌-◌, ◌*◌, ◌/◌, ◌%◌, ◌<◌, ◌≤◌, min, ltb, List, [], length, slice_index, sum, refl, sym, ap, ◌∙◌, subst, arith}
+use Rattle.std.proofs.Common.{◌≡◌, ℕ, ◌+◌, ◌*◌, ◌/◌, ◌<◌, ◌≤◌, ltb, List, length, slice_index, sum, sym, ap, ◌∙◌, subst, arith}
 use Rattle.std.specs.List.{range_with_len}
-use Rattle.std.proofs.lemmas.Bool.{cases_lt, lt-ltb, le-ltb, cond-true, cond-false}
+use Rattle.std.proofs.lemmas.Bool.{lt-ltb, le-ltb, cond-true, cond-false}
 use Rattle.std.proofs.lemmas.List.FromFn.{length-range_with_len, get_or-range_with_len}
 use Rattle.doc_bits.specs.Number.{u32_at}
 use Rattle.cfb_streams.specs.SectorChain.{end_of_chain, HasSector, IsSectorChain}
-use Rattle.cfb_streams.specs.Header.{sector_count, fat_sector_count, fat_sector, fat_sectors, table_place, valid_below}
-use Rattle.cfb_streams.specs.Chain.{Table, Head, table_of, fat_table, mini_table, HoldsChain}
+use Rattle.cfb_streams.specs.Header.{sector_count, fat_sectors, table_place, valid_below}
+use Rattle.cfb_streams.specs.Chain.{Table, Head, fat_table, mini_table, HoldsChain}
 use Rattle.cfb_streams.specs.Reach.{entry_place}
-use Rattle.cfb_streams.proofs.FatLemmas.{length-fat_sectors, fat_sectors-at}
-use Rattle.cfb_layout.specs.Sectors.{units_for, chains_from, start_of}
+use Rattle.cfb_streams.proofs.FatLemmas.{fat_sectors-at}
+use Rattle.cfb_layout.specs.Sectors.{chains_from, start_of}
 use Rattle.cfb_layout.specs.Counts.{mini_counts, sector_counts, fat_count, sectors_needed, Fits, first_sector}
 use Rattle.cfb_layout.proofs.SectorLemmas.{start_room, chains_chain, IsIn}
-use Rattle.cfb_layout.proofs.CountLemmas.{length-sector_counts, length-mini_counts, counts_mini_stream, counts_mini_fat, counts_directory, sectors-needed}
+use Rattle.cfb_layout.proofs.CountLemmas.{length-sector_counts, length-mini_counts, counts_mini_stream, counts_mini_fat, sectors-needed}
 use Rattle.cfb_layout.proofs.Image.{IsHeaderOf, HasTables, part_place}
 
 -- the sectors of the i-th part

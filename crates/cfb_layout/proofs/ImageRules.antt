@@ -1,33 +1,28 @@
 -- An image breaks none of the rules 1 to 14.
-use Rattle.std.proofs.Common.{◌≡◌, ◌≢◌, inl, inr, ◌⊎◌, ℕ, zero, suc, ◌+◌, ◌-◌, ◌*◌, ◌/◌, ◌<◌, ◌≤◌, ltb, List, [], ◌∷◌, ◌++◌, length, take, slice_index, slice_index_or, sum, refl, sym, ap, ◌∙◌, subst, arith, length-append, nat_lt, if◌then◌else◌}
-use Rattle.std.specs.List.{range_with_len}
-use Rattle.std.proofs.lemmas.Bool.{cases_lt, lt-ltb, le-ltb, cond-true, cond-false}
+use Rattle.std.proofs.Common.{◌≡◌, inl, inr, ℕ, zero, suc, ◌+◌, ◌-◌, ◌<◌, ◌≤◌, ltb, List, [], ◌∷◌, ◌++◌, length, sum, refl, sym, ap, ◌∙◌, subst, arith, length-append, nat_lt, if◌then◌else◌}
+use Rattle.std.proofs.lemmas.Bool.{lt-ltb, le-ltb, cond-true, cond-false}
 use Rattle.std.proofs.lemmas.List.{take-append-le, get_or_append_left, get_or_push, take_all}
-use Rattle.std.proofs.lemmas.List.FromFn.{length-range_with_len}
 use Rattle.doc_bits.specs.Number.{u32_at}
 use Rattle.doc_bits.specs.Rules.{Nowhere, Hold}
 use Rattle.cfb_streams.specs.SectorChain.{HasSector}
-use Rattle.cfb_streams.specs.Header.{sector_count, fat_sector_count, fat_sector, fat_sectors, valid_below}
-use Rattle.cfb_streams.specs.Opening.{BreaksLength, BreaksSignature, opening_rules}
-use Rattle.cfb_streams.specs.HeaderRules.{BreaksHeader, IsOther32, BreaksFat, header_rules}
-use Rattle.cfb_streams.specs.Chain.{fat_table, HoldsChain}
+use Rattle.cfb_streams.specs.Opening.{BreaksLength}
+use Rattle.cfb_streams.specs.HeaderRules.{BreaksHeader, BreaksFat}
+use Rattle.cfb_streams.specs.Chain.{fat_table}
 use Rattle.cfb_streams.specs.Contents.{NamedBytes, AreStreams}
-use Rattle.cfb_streams.specs.Directory.{entry_size}
-use Rattle.cfb_streams.specs.Reach.{entry_place, BreaksDirectory, directory_head}
-use Rattle.cfb_streams.specs.StreamRules.{Parts, BreaksMiniFat, BreaksMiniStream, BreaksStream, BreaksSharing, IsShared, Owner, of_fat, of_directory, of_mini_fat, of_mini_stream, of_stream, Owns, HasLargeSector, HasSmallSector, IsMiniFat, IsMiniStream, mini_fat_head, stream_head, mini_table_of}
+use Rattle.cfb_streams.specs.Reach.{BreaksDirectory, directory_head}
+use Rattle.cfb_streams.specs.StreamRules.{BreaksMiniFat, BreaksMiniStream, BreaksStream, BreaksSharing, IsShared, Owner, of_fat, of_directory, of_mini_fat, of_mini_stream, of_stream, Owns, HasSmallSector, mini_fat_head, stream_head, mini_table_of}
 use Rattle.cfb_streams.specs.Container.{container_rules}
 use Rattle.cfb_streams.proofs.FatLemmas.{length-fat_sectors, fat_sectors-at}
 use Rattle.cfb_streams.proofs.JudgeLemmas.{holds_none, holds_unique}
 use Rattle.cfb_streams.proofs.ChainLemmas.{full_unique, chain_full}
-use Rattle.cfb_layout.specs.Sectors.{units_for, start_of}
 use Rattle.cfb_layout.specs.Counts.{mini_counts, sector_counts, fat_count, Fits}
-use Rattle.cfb_layout.specs.Layout.{lengths_of, no_stream}
+use Rattle.cfb_layout.specs.Layout.{lengths_of}
 use Rattle.cfb_layout.specs.Laws.{IsLayout}
 use Rattle.cfb_layout.proofs.SectorLemmas.{start_room, IsIn, one_chain}
 use Rattle.cfb_layout.proofs.CountLemmas.{length-sector_counts, length-mini_counts, counts_directory, sectors-needed, length-lengths_of}
 use Rattle.cfb_layout.proofs.Image.{IsHeaderOf, IsImage}
-use Rattle.cfb_layout.proofs.ImageChains.{sectors_of, part_sector, image_sectors, image_valid, mini_sectors}
-use Rattle.cfb_layout.proofs.ImageTree.{directory_of, place_in, length-directory_of, image_entry, reached_only, root_holds, tree_holds, names_hold, storage_holds}
+use Rattle.cfb_layout.proofs.ImageChains.{sectors_of, part_sector, image_valid, mini_sectors}
+use Rattle.cfb_layout.proofs.ImageTree.{directory_of, place_in, reached_only, root_holds, tree_holds, names_hold, storage_holds}
 use Rattle.cfb_layout.proofs.ImageStreams.{parts_of, image_directory, image_mini_fat, image_mini_stream, large_holds, small_holds}
 
 -- there are two sectors at least
@@ -257,8 +252,7 @@ sharing_holds file streams clsid im lay = λ p b. elim b [
 -- all rules
 pub image_holds : (file : List ℕ) (streams : List NamedBytes) (clsid : List ℕ) → IsImage file streams clsid → AreStreams streams → IsLayout streams clsid → Hold (container_rules file)
 image_holds file streams clsid im are lay =
-    let lengths = lengths_of streams in
-    (
+    let lengths = lengths_of streams in (
       (length_holds file lengths im.header lay.fits, λ p b. b.wrong im.header.signed),
       (
         (header_holds file lengths im.header, (λ p b. b.1 im.header.difats, fat_holds file lengths im.header lay.fits)),

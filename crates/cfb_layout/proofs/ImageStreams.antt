@@ -1,30 +1,29 @@
 -- The streams of an image: their chains, their bytes, and what is read.
-use Rattle.std.proofs.Common.{◌≡◌, ◌≢◌, inl, inr, ◌⊎◌, ℕ, zero, suc, ◌+◌, ◌-◌, ◌*◌, ◌/◌, ◌<◌, ◌≤◌, ltb, List, [], ◌∷◌, ◌++◌, Some, None, length, map, take, drop, get_or, slice_index, slice_index_or, slice_get, sum, refl, sym, ap, ◌∙◌, subst, arith, length-take, length-drop}
+use Rattle.std.proofs.Common.{◌≡◌, inl, inr, ℕ, ◌+◌, ◌-◌, ◌*◌, ◌<◌, ◌≤◌, ltb, List, [], Some, None, length, map, take, drop, slice_index, slice_index_or, sum, sym, ap, ◌∙◌, subst, arith, length-take, length-drop}
 use Rattle.std.specs.List.{flat_map, range_with_len}
 use Rattle.std.proofs.lemmas.Bool.{cases_lt, cases_eq, lt-ltb, le-ltb, cond-true, cond-false}
 use Rattle.std.proofs.lemmas.List.{take-take, get_or-take, get_or-drop, nil_from_length}
-use Rattle.std.proofs.lemmas.Option.{slice_get-get_or, get_or_from_slice_get, slice_get_within}
+use Rattle.std.proofs.lemmas.Option.{get_or_from_slice_get, slice_get_within}
 use Rattle.std.proofs.lemmas.List.FromFn.{length-range_with_len, get_or-range_with_len, length-map-range_with_len, get_or-map-range_with_len}
-use Rattle.cfb_streams.specs.SectorChain.{HasSector}
 use Rattle.cfb_streams.specs.Header.{sector_bytes}
 use Rattle.cfb_streams.specs.Chain.{fat_table, mini_table, HoldsChain}
-use Rattle.cfb_streams.specs.Contents.{NamedBytes, Stream, AreStreams}
-use Rattle.cfb_streams.specs.Directory.{entry_size, entry_type}
-use Rattle.cfb_streams.specs.Reach.{entry_place, directory_head, IsDirectory}
+use Rattle.cfb_streams.specs.Contents.{NamedBytes, AreStreams}
+use Rattle.cfb_streams.specs.Directory.{entry_size}
+use Rattle.cfb_streams.specs.Reach.{directory_head, IsDirectory}
 use Rattle.cfb_streams.specs.Order.{ListsStreams}
 use Rattle.cfb_streams.specs.StreamRules.{Parts, IsMiniFat, IsMiniStream, mini_fat_head, stream_head, mini_table_of, IsStreamEntry}
-use Rattle.cfb_streams.specs.Container.{mini_bytes, IsStreamOf, IsLongStream, IsShortStream, AreStreamsOf, HasContents}
+use Rattle.cfb_streams.specs.Container.{mini_bytes, IsStreamOf, HasContents}
 use Rattle.cfb_layout.specs.Sectors.{units_for, padded, start_of}
 use Rattle.cfb_layout.specs.Tree.{all_entries}
-use Rattle.cfb_layout.specs.Counts.{large_len, small_len, mini_counts, sector_counts, first_sector, stream_start}
-use Rattle.cfb_layout.specs.Layout.{lengths_of, no_stream, large_part, small_part, mini_stream, chain_of, stream_at, contents_of}
+use Rattle.cfb_layout.specs.Counts.{large_len, small_len, mini_counts, sector_counts, first_sector}
+use Rattle.cfb_layout.specs.Layout.{lengths_of, no_stream, large_part, small_part, mini_stream, stream_at, contents_of}
 use Rattle.cfb_layout.specs.Laws.{IsLayout}
 use Rattle.cfb_layout.proofs.SectorLemmas.{start_room}
 use Rattle.cfb_layout.proofs.BytesLemmas.{HaveCounts, run_bytes, range_is, parts_at, length-parts, length-padded, padded_at}
-use Rattle.cfb_layout.proofs.CountLemmas.{length-sector_counts, length-mini_counts, minis_at, counts_stream, counts_mini_stream, counts_mini_fat, counts_directory, sectors-needed, length-lengths_of, lengths_at}
+use Rattle.cfb_layout.proofs.CountLemmas.{length-sector_counts, length-mini_counts, minis_at, counts_stream, counts_mini_stream, counts_directory, sectors-needed, length-lengths_of, lengths_at}
 use Rattle.cfb_layout.proofs.TreeLemmas.{IsWithin}
 use Rattle.cfb_layout.proofs.Image.{IsImage, part_place}
-use Rattle.cfb_layout.proofs.ImageChains.{sectors_of, part_holds, mini_sectors, mini_table_at, mini_holds}
+use Rattle.cfb_layout.proofs.ImageChains.{sectors_of, part_holds, mini_sectors, mini_holds}
 use Rattle.cfb_layout.proofs.ImageTree.{directory_of, place_in, length-directory_of, image_entry, image_stream, image_node, image_name, image_order, reached_only, reached_each}
 
 -- a stream has one part

@@ -1,24 +1,22 @@
 -- The directory of an image: its entries, its tree and its names.
-use Rattle.std.proofs.Common.{◌≡◌, ◌≢◌, inl, inr, ◌⊎◌, ℕ, zero, suc, ◌+◌, ◌-◌, ◌*◌, ◌/◌, ◌%◌, ◌^◌, ◌<◌, ◌≤◌, ltb, List, [], ◌∷◌, ◌++◌, Some, length, slice_index, slice_index_or, slice_get, sum, refl, sym, ap, ◌∙◌, subst, arith, length-append}
-use Rattle.std.proofs.lemmas.Bool.{cases_lt, cases_eq, cases_order, lt-ltb, le-ltb, cond-true, cond-false}
-use Rattle.std.proofs.lemmas.List.{get_or_append_left}
+use Rattle.std.proofs.Common.{◌≡◌, ◌≢◌, inl, inr, ℕ, suc, ◌+◌, ◌-◌, ◌*◌, ◌/◌, ◌%◌, ◌<◌, ◌≤◌, ltb, List, length, slice_index, slice_index_or, refl, sym, ap, ◌∙◌, subst, arith}
+use Rattle.std.proofs.lemmas.Bool.{cases_lt, cases_order, lt-ltb, cond-true}
 use Rattle.std.proofs.lemmas.Option.{slice_get-get_or}
 use Rattle.std.proofs.lemmas.List.FromFn.{length-range_with_len}
 use Rattle.doc_bits.specs.Number.{u32_at}
 use Rattle.doc_bits.specs.Rules.{Nowhere}
 use Rattle.cfb_streams.specs.Contents.{NamedBytes, AreStreams}
-use Rattle.cfb_streams.specs.Directory.{no_entry, entry_left, entry_right, entry_child, entry_type, entry_unit, entry_name_length, entry_name_units, upper_case, IsNameOf, HaveOneName, EntryBefore, IsLessAt, ComesBefore}
-use Rattle.cfb_streams.specs.Reach.{entry_place, entry_count, IsEntry, IsReached, child, left, right, IsLink, IsSideLink, BreaksLink, BreaksRoot, BreaksTree, BreaksName, BreaksStorage, IsWrongType, IsWrongName, IsWrongStorage, AmongReached}
+use Rattle.cfb_streams.specs.Directory.{no_entry, entry_left, entry_right, entry_child, entry_type, entry_unit, upper_case, IsNameOf, HaveOneName, EntryBefore, ComesBefore}
+use Rattle.cfb_streams.specs.Reach.{entry_place, IsEntry, IsReached, child, left, right, IsLink, BreaksRoot, BreaksTree, BreaksName, BreaksStorage}
 use Rattle.cfb_layout.specs.declared.tree.Span.{Span}
 use Rattle.cfb_layout.specs.Sectors.{units_for, start_of}
 use Rattle.cfb_layout.specs.Tree.{middle, lower, upper, top, all_entries, part_of, left_of, right_of}
-use Rattle.cfb_layout.specs.Counts.{sector_counts, Fits}
-use Rattle.cfb_layout.specs.Entries.{Entry, unused_entry}
-use Rattle.cfb_layout.specs.Layout.{lengths_of, no_stream, root_entry, stream_entry, directory_entry}
-use Rattle.cfb_layout.specs.Laws.{IsLayout}
+use Rattle.cfb_layout.specs.Counts.{sector_counts}
+use Rattle.cfb_layout.specs.Entries.{unused_entry}
+use Rattle.cfb_layout.specs.Layout.{lengths_of, no_stream, stream_entry, directory_entry}
 use Rattle.cfb_layout.proofs.CountLemmas.{counts_directory, length-lengths_of}
-use Rattle.cfb_layout.proofs.TreeLemmas.{IsWithin, IsPart, part_is, middle_within, top_none, top_some, GoesOn, all_reached, link_of, link_mid, link_left, link_right}
-use Rattle.cfb_layout.proofs.Image.{IsEntryAt, IsImage, part_place}
+use Rattle.cfb_layout.proofs.TreeLemmas.{IsWithin, part_is, middle_within, top_none, top_some, all_reached, link_of, link_mid, link_left, link_right}
+use Rattle.cfb_layout.proofs.Image.{IsEntryAt, IsImage}
 use Rattle.cfb_layout.proofs.ImageChains.{sectors_of, entry_here}
 
 -- the directory's sectors
@@ -225,11 +223,17 @@ entry_before file at other name later a b h =
           let inside = less.inside in
           let first : (i : ℕ) → i < length name → upper_case (entry_unit file at i) ≡ upper_case (slice_index name i) = λ i low. ap upper_case (sym (a.units i low)) in
           let second : (i : ℕ) → i < length name → upper_case (entry_unit file other i) ≡ upper_case (slice_index later i) = λ i low. ap upper_case (sym (b.units i (omega arith))) in
-          inr (omega arith, (place, record {
-            inside = omega arith;
-            front = λ i low. first i (omega arith) ∙ (less.front i low ∙ sym (second i (omega arith)));
-            less = let p = first place inside in let q = second place inside in let lower = less.less in omega arith;
-          }))
+          inr (
+            omega arith,
+            (
+              place,
+              record {
+                inside = omega arith;
+                front = λ i low. first i (omega arith) ∙ (less.front i low ∙ sym (second i (omega arith)));
+                less = let p = first place inside in let q = second place inside in let lower = less.less in omega arith;
+              },
+            ),
+          )
     ]
 
 -- entries in the order of names have two names

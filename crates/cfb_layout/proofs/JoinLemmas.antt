@@ -1,8 +1,8 @@
 -- The parts of the canonical container, joined from the pieces that are written.
-use Rattle.std.proofs.Common.{◌≡◌, ◌≢◌, inl, inr, ℕ, zero, suc, ◌+◌, ◌-◌, ◌*◌, ◌/◌, ◌^◌, ◌<◌, ◌≤◌, ltb, List, [], ◌∷◌, ◌++◌, length, map, take, get_or, slice_index, replicate, sum, nat_lt, if◌then◌else◌, refl, sym, ap, ◌∙◌, subst, arith}
-use Rattle.std.specs.List.{flat_map, range_with_len, sum_by}
+use Rattle.std.proofs.Common.{◌≡◌, ◌≢◌, inl, inr, ℕ, suc, ◌+◌, ◌-◌, ◌*◌, ◌<◌, ◌≤◌, ltb, List, [], ◌∷◌, ◌++◌, length, map, take, slice_index, replicate, sum, nat_lt, if◌then◌else◌, refl, sym, ap, ◌∙◌, subst, arith}
+use Rattle.std.specs.List.{flat_map, range_with_len}
 use Rattle.std.proofs.lemmas.Bool.{cases_lt, lt-ltb, le-ltb, cond-true, cond-false}
-use Rattle.std.proofs.lemmas.List.{append-nil, append_assoc, take_all}
+use Rattle.std.proofs.lemmas.List.{append-nil, append_assoc}
 use Rattle.std.proofs.lemmas.List.Concat.{flat_map-append}
 use Rattle.std.proofs.lemmas.List.Folds.{flat_map-map}
 use Rattle.std.proofs.lemmas.List.Sums.{sum-map, sum_by_more}
@@ -20,9 +20,8 @@ use Rattle.cfb_layout.specs.Fields.{fields_bytes}
 use Rattle.cfb_layout.specs.Tree.{middle, lower, upper, part_of}
 use Rattle.cfb_layout.specs.Counts.{large_len, small_len, mini_counts, large_counts, sector_counts, fat_count, first_sector}
 use Rattle.cfb_layout.specs.Entries.{link_fields, place_fields, name_bytes, entry_bytes}
-use Rattle.cfb_layout.specs.Layout.{lengths_of, large_part, small_part, mini_stream, fat, directory_bytes, directory_entry, parts, header_fields, fat_numbers, header_bytes, compound_file}
+use Rattle.cfb_layout.specs.Layout.{lengths_of, large_part, small_part, mini_stream, fat, directory_bytes, parts, header_fields, fat_numbers, header_bytes, compound_file}
 use Rattle.cfb_layout.proofs.BytesLemmas.{length-table}
-use Rattle.cfb_layout.proofs.SectorLemmas.{length-chains_from}
 use Rattle.cfb_layout.proofs.TreeLemmas.{IsWithin, part_low, part_up, part_same, within_low, within_up}
 use Rattle.cfb_layout.proofs.ImageStreams.{length-mini_stream}
 use Rattle.cfb_layout.proofs.FileLemmas.{length-fat, parts_behind}

@@ -1,38 +1,37 @@
 -- The canonical container is an image.
-use Rattle.std.proofs.Common.{◌≡◌, inl, inr, ℕ, zero, suc, ◌+◌, ◌-◌, ◌*◌, ◌/◌, ◌^◌, ◌<◌, ◌≤◌, ltb, true, nat_eq, List, [], ◌∷◌, ◌++◌, length, map, take, replicate, get_or, slice_index, slice_index_or, sum, refl, sym, ap, ◌∙◌, subst, arith, length-append}
+use Rattle.std.proofs.Common.{◌≡◌, inl, inr, ℕ, zero, suc, ◌+◌, ◌*◌, ◌^◌, ◌<◌, ◌≤◌, ltb, true, List, ◌++◌, length, take, replicate, slice_index, slice_index_or, sum, refl, ap, ◌∙◌, arith}
 use Rattle.std.specs.List.{flat_map, range_with_len}
-use Rattle.std.proofs.lemmas.Bool.{cases_lt, cases_eq, ltb-true, cond_both}
-use Rattle.std.proofs.lemmas.List.{get_or_append_left, get_or-append_right, get_or_past, take_at, length_push}
+use Rattle.std.proofs.lemmas.Bool.{cases_lt, ltb-true, cond_both}
+use Rattle.std.proofs.lemmas.List.{get_or_append_left, get_or_past}
 use Rattle.std.specs.List.{list_all}
 use Rattle.std.proofs.lemmas.List.Elements.{All-get_or}
 use Rattle.std.proofs.lemmas.List.Sums.{AllPass-from_list_all}
 use Rattle.std.proofs.lemmas.List.FromFn.{length-range_with_len, get_or-range_with_len}
 use Rattle.std.proofs.lemmas.Option.{slice_get-get_or}
-use Rattle.doc_bits.specs.Number.{number_at, number_bytes, u16_at, u32_at}
+use Rattle.doc_bits.specs.Number.{number_at, number_bytes, u32_at}
 use Rattle.doc_bits.specs.Rules.{Hold}
 use Rattle.doc_bits.proofs.NumberLemmas.{number_at-after, number_at-before}
 use Rattle.cfb_streams.specs.Contents.{NamedBytes, AreStreams}
-use Rattle.cfb_streams.specs.Directory.{no_entry}
 use Rattle.cfb_streams.specs.SectorChain.{end_of_chain}
 use Rattle.cfb_streams.specs.Opening.{signature}
 use Rattle.cfb_streams.specs.Container.{container_rules, HasContents}
 use Rattle.cfb_layout.specs.declared.tree.Span.{Span}
-use Rattle.cfb_layout.specs.Sectors.{units_for, filled, padded, chains_from, start_of, table_bytes, free_sector, fat_sector_mark}
+use Rattle.cfb_layout.specs.Sectors.{units_for, padded, chains_from, start_of, table_bytes, free_sector, fat_sector_mark}
 use Rattle.cfb_layout.specs.Fields.{fields_bytes}
-use Rattle.cfb_layout.specs.Tree.{middle, lower, upper, top, all_entries, part_of, left_of, right_of}
-use Rattle.cfb_layout.specs.Counts.{mini_counts, sector_counts, fat_count, Fits, large_len, first_sector, stream_start}
-use Rattle.cfb_layout.specs.Entries.{Entry, entry_bytes, unused_entry, no_clsid, root_name}
+use Rattle.cfb_layout.specs.Tree.{lower, upper, top, all_entries, part_of}
+use Rattle.cfb_layout.specs.Counts.{mini_counts, sector_counts, fat_count, Fits, first_sector}
+use Rattle.cfb_layout.specs.Entries.{entry_bytes, unused_entry, root_name}
 use Rattle.cfb_layout.specs.Layout.{lengths_of, no_stream, large_part, mini_stream, fat, root_entry, stream_entry, directory_entry, directory_bytes, parts, header_fields, fat_numbers, header_bytes, compound_file, contents_of}
 use Rattle.cfb_layout.specs.Laws.{IsLayout}
-use Rattle.cfb_layout.proofs.BytesLemmas.{blocks_at, entry_at, field_at, no_field, padded_at, filled_at, length-table, length-padded}
+use Rattle.cfb_layout.proofs.BytesLemmas.{blocks_at, entry_at, field_at, padded_at, filled_at, length-padded}
 use Rattle.cfb_layout.proofs.SectorLemmas.{length-chains_from, chains_below, start_below}
-use Rattle.cfb_layout.proofs.CountLemmas.{length-sector_counts, length-mini_counts, counts_stream, counts_mini_stream, counts_mini_fat, counts_directory, sectors-needed, length-lengths_of, lengths_at}
+use Rattle.cfb_layout.proofs.CountLemmas.{length-sector_counts, counts_stream, counts_mini_stream, counts_mini_fat, counts_directory, sectors-needed, length-lengths_of, lengths_at}
 use Rattle.cfb_layout.proofs.SectorLemmas.{start_room}
-use Rattle.cfb_layout.proofs.TreeLemmas.{IsWithin, part_is, top_none, top_some}
-use Rattle.cfb_layout.proofs.EntryLemmas.{IsWhole, IsWritable, length-entry_bytes, HasEntry, entry_reads}
+use Rattle.cfb_layout.proofs.TreeLemmas.{part_is, top_none, top_some}
+use Rattle.cfb_layout.proofs.EntryLemmas.{IsWritable, length-entry_bytes, entry_reads}
 use Rattle.cfb_layout.proofs.FileLemmas.{entries_whole, fats_few, length-no_clsid, length-fields, length-header_bytes, length-compound_file, length-fat_numbers, part_stream, part_behind, length-table_bytes, length-directory_bytes, length-fat, file_at, file_number, start_all}
 use Rattle.cfb_layout.proofs.Image.{IsEntryAt, IsHeaderOf, HasTables, IsImage, part_place}
-use Rattle.cfb_layout.proofs.ImageStreams.{large_is, large_whole, large_empty, length-mini_stream, image_contents}
+use Rattle.cfb_layout.proofs.ImageStreams.{large_is, large_whole, large_empty, image_contents}
 use Rattle.cfb_layout.proofs.ImageRules.{image_holds}
 
 -- starts and links are 32-bit numbers
@@ -122,7 +121,7 @@ stream_writable streams clsid i are lay low =
     let short = are.short i stream there in
     record {
       whole = record { few = omega arith; clsid = length-no_clsid };
-      units = λ k. lay.units i stream there k;
+      units = λ k. (lay.stored i stream there).units k;
       long = omega arith;
       kind = omega arith;
       left = top_below (lower (part_of (length lengths) (i + 1) all)) (omega arith);

@@ -1,11 +1,11 @@
 -- Chains of sectors that stand in a row.
-use Rattle.std.proofs.Common.{◌≡◌, ◌≢◌, inl, inr, ℕ, zero, suc, ◌+◌, ◌-◌, ◌*◌, ◌^◌, ◌<◌, ◌≤◌, List, [], ◌∷◌, ◌++◌, length, get_or, slice_index, take, sum, refl, sym, ap, ◌∙◌, subst, arith, length-append, length-take}
+use Rattle.std.proofs.Common.{◌≡◌, inl, inr, ℕ, zero, suc, ◌+◌, ◌-◌, ◌^◌, ◌<◌, ◌≤◌, List, [], ◌∷◌, length, slice_index, take, sum, refl, ap, ◌∙◌, arith, length-append, length-take}
 use Rattle.std.specs.List.{range_with_len}
-use Rattle.std.proofs.lemmas.Bool.{cases_lt, cases_eq, cases_order}
+use Rattle.std.proofs.lemmas.Bool.{cases_lt, cases_order}
 use Rattle.std.proofs.lemmas.List.{get_or_append_left, get_or-append_right, get_or_push, get_or_past, length_push, take-take, get_or-take}
 use Rattle.std.proofs.lemmas.List.FromFn.{length-range_with_len, get_or-range_with_len}
 use Rattle.std.proofs.lemmas.List.Sums.{sum_by-cons, sum_by_more, sum_by_more_le, sum_by-take-le}
-use Rattle.cfb_streams.specs.SectorChain.{IsSectorChain, HasSector, end_of_chain, last_of}
+use Rattle.cfb_streams.specs.SectorChain.{IsSectorChain, end_of_chain, last_of}
 use Rattle.cfb_layout.specs.Sectors.{chain_entries, chains_from, start_of}
 
 pub length-chain_entries : (start count : ℕ) → length (chain_entries start count) ≡ count

@@ -1,13 +1,12 @@
 -- No accepted file has fewer sectors than the canonical container of its streams: its parts have no sector in common.
-use Rattle.std.proofs.Common.{◌≡◌, ◌≢◌, inl, inr, ◌⊎◌, ℕ, zero, suc, ◌+◌, ◌-◌, ◌*◌, ◌/◌, ◌%◌, ◌<◌, ◌≤◌, min, List, [], ◌∷◌, ◌++◌, Some, None, length, map, take, get_or, slice_index, slice_get, sum, refl, sym, ap, ◌∙◌, subst, arith, length-append, length-take}
+use Rattle.std.proofs.Common.{◌≡◌, ◌≢◌, inl, inr, ◌⊎◌, ℕ, zero, suc, ◌+◌, ◌-◌, ◌*◌, ◌%◌, ◌<◌, ◌≤◌, min, List, [], ◌∷◌, ◌++◌, None, length, map, get_or, slice_index, sum, refl, sym, ap, ◌∙◌, subst, arith, length-append, length-take}
 use Rattle.std.specs.List.{flat_map}
 use Rattle.std.proofs.lemmas.Bool.{cases_lt, cases_eq}
 use Rattle.std.proofs.lemmas.List.{get_or_append_left, get_or-append_right, get_or-map, length-map, take_all}
 use Rattle.std.proofs.lemmas.List.Sums.{sum_by-append}
 use Rattle.std.proofs.lemmas.Option.{slice_get-get_or}
-use Rattle.doc_bits.specs.Number.{u32_at}
 use Rattle.doc_bits.specs.Rules.{Nowhere, Hold}
-use Rattle.cfb_streams.specs.SectorChain.{HasSector, IsSectorChain}
+use Rattle.cfb_streams.specs.SectorChain.{HasSector}
 use Rattle.cfb_streams.specs.Header.{sector_count, fat_sector_count, fat_sectors, valid_below, sector_bytes}
 use Rattle.cfb_streams.specs.Opening.{IsWhole, BreaksLength}
 use Rattle.cfb_streams.specs.HeaderRules.{BreaksFat}
@@ -24,7 +23,7 @@ use Rattle.cfb_streams.proofs.ContentLemmas.{chain_inside}
 use Rattle.cfb_streams.proofs.StreamLemmas.{length-cut}
 use Rattle.cfb_streams.proofs.SingleLemmas.{directory_unique, mini_fat_unique, mini_stream_unique}
 use Rattle.cfb_layout.specs.Sectors.{units_for, start_of}
-use Rattle.cfb_layout.specs.Counts.{large_len, small_len, mini_counts, large_counts, sector_counts, fat_count, sectors_needed}
+use Rattle.cfb_layout.specs.Counts.{large_len, small_len, mini_counts, large_counts, sector_counts}
 use Rattle.cfb_layout.specs.Laws.{NoFileIsShorter}
 use Rattle.cfb_layout.proofs.SectorLemmas.{start_next}
 use Rattle.cfb_layout.proofs.CountLemmas.{minis_at, length-mini_counts, sectors-needed}
@@ -123,9 +122,9 @@ gather valid P counts one held (suc m) low =
     record {
       sectors = g.sectors ++ h.sectors;
       run = run_join valid g.sectors h.sectors g.run h.run (λ s a b.
-      let w = g.owned s a in
-      let e = one w.0 m s w.1.1 (h.owned s b) in
-      let less = w.1.0 in omega arith);
+          let w = g.owned s a in
+          let e = one w.0 m s w.1.1 (h.owned s b) in
+          let less = w.1.0 in omega arith);
       enough = omega arith;
       owned = λ s has. elim (has_either g.sectors h.sectors s has) [
         | inl a ↦ let w = g.owned s a in let less = w.1.0 in (w.0, (omega arith, w.1.1))

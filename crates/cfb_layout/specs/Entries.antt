@@ -1,5 +1,5 @@
 -- [MS-CFB] Directory Entry, as it is written.
-use Rattle.std.specs.Prelude.{ℕ, ◌+◌, ◌*◌, List, [], ◌∷◌, ◌++◌, length, replicate}
+use Rattle.std.specs.Prelude.{ℕ, ◌+◌, ◌*◌, List, [], ◌∷◌, ◌++◌, replicate}
 use Rattle.std.specs.List.{flat_map}
 use Rattle.doc_bits.specs.Number.{number_bytes}
 use Rattle.cfb_streams.specs.Directory.{no_entry}

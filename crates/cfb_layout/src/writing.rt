@@ -174,7 +174,11 @@ fn push_mini_fat(out: &mut Bytes, plan: &Plan) -> Result<(), Memory>
 {
     let minis = plan.minis();
     push_chains(out, minis.counts())?;
-    push_repeated(out, FREE_SECTOR, rest_of(TABLE_ENTRIES, minis.total() as usize))?;
+    push_repeated(
+        out,
+        FREE_SECTOR,
+        rest_of(TABLE_ENTRIES, minis.total() as usize),
+    )?;
     Ok(())
 }
 
@@ -186,12 +190,21 @@ fn push_fat(out: &mut Bytes, plan: &Plan) -> Result<(), Memory>
     let fats = plan.fats() as usize;
     push_chains(out, sectors.counts())?;
     push_repeated(out, FAT_SECTOR, fats)?;
-    push_repeated(out, FREE_SECTOR, rest_of(TABLE_ENTRIES, sectors.total() as usize + fats))?;
+    push_repeated(
+        out,
+        FREE_SECTOR,
+        rest_of(TABLE_ENTRIES, sectors.total() as usize + fats),
+    )?;
     Ok(())
 }
 
 /// Appends the directory.
-fn push_directory(out: &mut Bytes, streams: &Streams, plan: &Plan, clsid: &[u8; 16]) -> Result<(), Memory>
+fn push_directory(
+    out: &mut Bytes,
+    streams: &Streams,
+    plan: &Plan,
+    clsid: &[u8; 16],
+) -> Result<(), Memory>
     requires { plan.now ≡ lengths_of streams.now }
     ensures { OnOk result (out.new ≡ out.old ++ directory_bytes streams.now clsid.now) }
 {

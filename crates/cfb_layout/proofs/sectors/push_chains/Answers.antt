@@ -1,4 +1,4 @@
-use Rattle.std.proofs.Common.{◌≡◌, ◌≢◌, ℕ, zero, suc, ◌+◌, ◌-◌, ◌*◌, ◌/◌, ◌^◌, ◌<◌, ◌≤◌, Some, None, List, [], ◌∷◌, ◌++◌, length, map, take, get_or, slice_index, slice_index_or, slice_get, replicate, sum, refl, sym, ap, ◌∙◌, subst, arith, rules}
+use Rattle.std.proofs.Common.{slice_index, refl, sym, arith}
 use Rattle.std.proofs.lemmas.List.{append-nil}
 use Rattle.cfb_layout.specs.Sectors.{chains_from}
 use Rattle.cfb_layout.proofs.SectorLemmas.{start_next}
@@ -15,6 +15,6 @@ loop-count-preserved c =
     let here = c.loop-count.invariant.here in
     record {
       bytes = chains_step c.args.out.now c.loop-count.out c.push_chain.new.out c.args.counts.now c.loop-count.count-index c.loop-count.start (slice_index c.args.counts.now c.loop-count.count-index)
-      c.loop-count.invariant.bytes c.in_ok-push_chain.ensures low refl here;
+          c.loop-count.invariant.bytes c.in_ok-push_chain.ensures low refl here;
       here = let next = start_next c.args.counts.now c.loop-count.count-index low in omega arith;
     }

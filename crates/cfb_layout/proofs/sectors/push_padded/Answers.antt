@@ -1,4 +1,3 @@
-use Rattle.std.proofs.Common.{◌≡◌, ◌≢◌, ℕ, zero, suc, ◌+◌, ◌-◌, ◌*◌, ◌/◌, ◌^◌, ◌<◌, ◌≤◌, Some, None, List, [], ◌∷◌, ◌++◌, length, map, take, get_or, slice_index, slice_index_or, slice_get, replicate, sum, refl, sym, ap, ◌∙◌, subst, arith, rules}
 use Rattle.cfb_layout.proofs.JoinLemmas.{padded_join}
 use Rattle.cfb_layout.proofs.sectors.push_padded.Goals as goal
 

@@ -1,4 +1,4 @@
-use Rattle.std.proofs.Common.{◌≡◌, ◌≢◌, ℕ, zero, suc, ◌+◌, ◌-◌, ◌*◌, ◌/◌, ◌^◌, ◌<◌, ◌≤◌, Some, None, List, [], ◌∷◌, ◌++◌, length, map, take, get_or, slice_index, slice_index_or, slice_get, replicate, sum, refl, sym, ap, ◌∙◌, subst, arith, rules}
+use Rattle.std.proofs.Common.{◌+◌, ◌-◌, arith}
 use Rattle.doc_bits.specs.Number.{number_bytes}
 use Rattle.cfb_layout.proofs.WritingLemmas.{row_step}
 use Rattle.cfb_layout.proofs.sectors.push_row.Goals as goal

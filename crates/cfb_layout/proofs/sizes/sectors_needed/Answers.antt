@@ -1,8 +1,8 @@
-use Rattle.std.proofs.Common.{◌≡◌, ◌≢◌, ℕ, zero, suc, ◌+◌, ◌-◌, ◌*◌, ◌/◌, ◌^◌, ◌<◌, ◌≤◌, Some, None, List, [], ◌∷◌, ◌++◌, length, map, take, get_or, slice_index, slice_index_or, slice_get, replicate, sum, refl, sym, ap, ◌∙◌, subst, arith, rules}
+use Rattle.std.proofs.Common.{◌≡◌, ℕ, ◌+◌, ◌*◌, sum, sym, ap, ◌∙◌, arith}
 use Rattle.std.proofs.lemmas.List.{take_all}
 use Rattle.std.proofs.lemmas.List.Sums.{sum_by_more}
 use Rattle.cfb_layout.specs.Sectors.{units_for}
-use Rattle.cfb_layout.specs.Counts.{large_counts, mini_counts, sector_counts, sectors_needed}
+use Rattle.cfb_layout.specs.Counts.{large_counts, mini_counts, sector_counts}
 use Rattle.cfb_layout.proofs.CountLemmas.{sectors-needed}
 use Rattle.cfb_layout.proofs.ShorterLemmas.{sum_counts}
 use Rattle.cfb_layout.proofs.JoinLemmas.{large_first, mini_first, large_more, mini_more}

@@ -1,8 +1,7 @@
-use Rattle.std.proofs.Common.{◌≡◌, ◌≢◌, ℕ, zero, suc, ◌+◌, ◌-◌, ◌*◌, ◌/◌, ◌^◌, ◌<◌, ◌≤◌, Some, None, List, [], ◌∷◌, ◌++◌, length, map, take, get_or, slice_index, slice_index_or, slice_get, replicate, sum, refl, sym, ap, ◌∙◌, subst, arith, rules}
+use Rattle.std.proofs.Common.{◌≡◌, ◌-◌, ◌<◌, [], ◌++◌, length, get_or, sym, ap, ◌∙◌, subst, arith}
 use Rattle.std.specs.Result.{OnOk}
-use Rattle.cfb_layout.specs.declared.entries.EntryFields.{EntryFields}
-use Rattle.cfb_layout.specs.Entries.{Entry, entry_bytes, root_name, no_clsid, unused_entry}
-use Rattle.cfb_layout.specs.Layout.{lengths_of, no_stream, root_fields, root_entry, stream_fields, stream_entry, directory_entry}
+use Rattle.cfb_layout.specs.Entries.{entry_bytes, root_name, no_clsid}
+use Rattle.cfb_layout.specs.Layout.{lengths_of, no_stream, root_fields, stream_fields, directory_entry}
 use Rattle.cfb_layout.proofs.WritingLemmas.{name_is, stream_is, unused_is}
 use Rattle.cfb_layout.proofs.writing.push_directory_entry.Goals as goal
 

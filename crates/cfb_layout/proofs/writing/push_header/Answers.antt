@@ -1,8 +1,8 @@
-use Rattle.std.proofs.Common.{◌≡◌, ℕ, ◌+◌, ◌-◌, List, ◌++◌, length, slice_index, replicate, sum, ap, ◌∙◌}
+use Rattle.std.proofs.Common.{◌≡◌, ◌+◌, ◌-◌, ◌++◌, length, slice_index, sum, ap, ◌∙◌}
 use Rattle.std.specs.List.{flat_map, range_with_len}
 use Rattle.doc_bits.specs.Number.{number_bytes}
 use Rattle.cfb_layout.specs.Fields.{fields_bytes}
-use Rattle.cfb_layout.specs.Counts.{sector_counts, fat_count, first_sector}
+use Rattle.cfb_layout.specs.Counts.{sector_counts, first_sector}
 use Rattle.cfb_layout.proofs.JoinLemmas.{header_same, header_join}
 use Rattle.cfb_layout.proofs.writing.push_header.Goals as goal
 

@@ -1,4 +1,4 @@
-use Rattle.std.proofs.Common.{◌≡◌, ◌≢◌, ℕ, zero, suc, ◌+◌, ◌-◌, ◌*◌, ◌/◌, ◌^◌, ◌<◌, ◌≤◌, Some, None, List, [], ◌∷◌, ◌++◌, length, map, take, get_or, slice_index, slice_index_or, slice_get, replicate, sum, refl, sym, ap, ◌∙◌, subst, arith, rules}
+use Rattle.std.proofs.Common.{◌<◌, ◌++◌, length, get_or, refl, sym, ap, ◌∙◌, arith}
 use Rattle.cfb_layout.specs.Sectors.{padded}
 use Rattle.cfb_layout.specs.Layout.{no_stream, large_part}
 use Rattle.cfb_layout.proofs.WritingLemmas.{flat_step, bytes_are}

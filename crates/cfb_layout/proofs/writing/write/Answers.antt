@@ -1,6 +1,5 @@
-use Rattle.std.proofs.Common.{◌≡◌, ◌≢◌, ℕ, zero, suc, ◌+◌, ◌-◌, ◌*◌, ◌/◌, ◌^◌, ◌<◌, ◌≤◌, Some, None, List, [], ◌∷◌, ◌++◌, length, map, take, get_or, slice_index, slice_index_or, slice_get, replicate, sum, refl, sym, ap, ◌∙◌, subst, arith, rules}
-use Rattle.std.specs.List.{flat_map}
-use Rattle.cfb_layout.specs.Sectors.{padded, chains_from, table_bytes}
+use Rattle.std.proofs.Common.{[], ◌++◌, ap, ◌∙◌}
+use Rattle.cfb_layout.specs.Sectors.{chains_from, table_bytes}
 use Rattle.cfb_layout.specs.Counts.{mini_counts}
 use Rattle.cfb_layout.specs.Layout.{header_bytes, fat}
 use Rattle.cfb_layout.proofs.JoinLemmas.{file_join}

@@ -1,4 +1,4 @@
-use Rattle.std.proofs.Common.{◌≡◌, ◌≢◌, ℕ, zero, suc, ◌+◌, ◌-◌, ◌*◌, ◌/◌, ◌^◌, ◌<◌, ◌≤◌, Some, None, List, [], ◌∷◌, ◌++◌, length, map, take, get_or, slice_index, slice_index_or, slice_get, replicate, sum, refl, sym, ap, ◌∙◌, subst, arith, rules}
+use Rattle.std.proofs.Common.{◌*◌, ◌^◌, ◌<◌, length, sum, ap, arith, rules}
 use Rattle.cfb_layout.proofs.CountLemmas.{length-sector_counts}
 use Rattle.cfb_layout.proofs.MadeLemmas.{bounded}
 use Rattle.cfb_layout.proofs.plan.Plan.root.Goals as goal
