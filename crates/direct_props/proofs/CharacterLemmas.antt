@@ -2,6 +2,7 @@
 use Rattle.std.proofs.Common.{inl, inr, ◌≡◌, ◌<◌, ◌≤◌, ◌+◌, ◌-◌, ◌∙◌, ap, sym, subst, ℕ, List, [], ◌∷◌, ◌++◌, length, take, drop, min, Some, slice_get, slice_index_or, get_or, arith, append_assoc, length-append, length-take, get_or-take}
 use Rattle.std.proofs.lemmas.Bool.{cases_lt}
 use Rattle.std.proofs.lemmas.List.{drop_all, get_or_append_left, get_or-append-add}
+use Rattle.std.proofs.lemmas.List.Elements.{All-push}
 use Rattle.std.proofs.lemmas.Option.{none-some, slice_get_within, slice_get-get_or, get_or_from_slice_get}
 use Rattle.std.specs.FinMap.{empty, get-empty}
 use Rattle.std.specs.Ordering.{nat_cmp}
@@ -10,7 +11,8 @@ use Rattle.prop_map.specs.Settings.{Settings}
 use Rattle.prop_map.specs.declared.acting.Acted.{Acted}
 use Rattle.prop_map.specs.declared.modifiers.Modifier.{Modifier}
 use Rattle.prop_map.specs.Acting.{IsActedBy}
-use Rattle.prop_map.specs.Formed.{IsPropertyMap, StaysFormed}
+use Rattle.prop_map.specs.Formed.{IsPropertyMap, StaysFormed, character_groups}
+use Rattle.prop_map.specs.Modifiers.{IsFormedModifier}
 use Rattle.direct_props.specs.Direct.{MakesSettings, IsDirectCharacter}
 use Rattle.direct_props.specs.Stretches.{AddsCharacters}
 use Rattle.direct_props.proofs.StretchLemmas.{rest_of}
@@ -44,8 +46,8 @@ stays_formed g groups none made h n stays = subst (λ k. IsPropertyMap k made) h
 -- one character more
 pub adds_one : (wd bin places : List ℕ) (modifier : Modifier) (start old new : List Settings) (i : ℕ) (settings : Settings) → i < length places →
     AddsCharacters wd bin (take i places) modifier start old → IsDirectCharacter wd bin (slice_index_or places i 0) modifier settings →
-    new ≡ old ++ settings ∷ [] → AddsCharacters wd bin (take (i + 1) places) modifier start new
-adds_one wd bin places modifier start old new i settings h a d e =
+    (IsFormedModifier modifier → IsPropertyMap character_groups settings) → new ≡ old ++ settings ∷ [] → AddsCharacters wd bin (take (i + 1) places) modifier start new
+adds_one wd bin places modifier start old new i settings h a d formed e =
     let long : length a.added ≡ i = a.len ∙ simp length-take (omega arith) in
     record {
       added = a.added ++ settings ∷ [];
@@ -70,4 +72,5 @@ adds_one wd bin places modifier start old new i settings h a d e =
                 subst (λ s. IsDirectCharacter wd bin (slice_index_or (take (i + 1) places) k 0) modifier s) same
                 (subst (λ p. IsDirectCharacter wd bin p modifier settings) place d)
           ];
+      formed = λ by. All-push (IsPropertyMap character_groups) a.added settings (a.formed by) (formed by);
     }

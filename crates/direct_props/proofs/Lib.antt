@@ -3,3 +3,6 @@ pub mod StretchLemmas
 pub mod CharacterLemmas
 pub mod LawLemmas
 pub mod RightLemmas
+pub mod FirstOf
+pub mod ExistLists
+pub mod ExistDirect

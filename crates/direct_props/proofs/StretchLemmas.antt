@@ -38,7 +38,7 @@ bin_page_of bin fc other range h low high =
     record { entry = h.entry; range = record { below = h.holds.below; from = omega arith; to = omega arith }; page = h.page }
 
 -- a place with a right list breaks no rule
-right_here : (kind : PageKind) (wd bin : List ℕ) (fc number : ℕ) (answer : RunAnswer) → RunAnswerIsOne → IsBinTable bin →
+pub right_here : (kind : PageKind) (wd bin : List ℕ) (fc number : ℕ) (answer : RunAnswer) → RunAnswerIsOne → IsBinTable bin →
     HasPageAnswer kind wd bin fc number answer → 2 ≤ number → 512 * number + 512 ≤ length wd →
     HasRightList kind (page_at wd number) answer → IsRightPlace kind wd bin fc
 right_here kind wd bin fc number (Found from to) law table has low there list breaks.Bin = λ p w. w.none has.page.entry has.page.range

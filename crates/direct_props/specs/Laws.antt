@@ -1,12 +1,17 @@
 -- What the definitions imply.
-use Rattle.std.specs.Prelude.{◌≡◌, ℕ, ◌≤◌, List}
+use Rattle.std.specs.Prelude.{◌≡◌, ℕ, ◌<◌, ◌≤◌, List}
+use Rattle.std.specs.Option.{ForSome}
+use Rattle.doc_bits.specs.Number.{AreBytes}
 use Rattle.doc_bits.specs.Rules.{IsFirst, Breaks, IsLeastOfAll}
 use Rattle.prop_map.specs.Settings.{Settings}
 use Rattle.prop_map.specs.declared.modifiers.Modifier.{Modifier}
+use Rattle.prop_map.specs.Formed.{IsPropertyMap, character_groups, paragraph_groups}
+use Rattle.prop_map.specs.Modifiers.{IsFormedModifier}
 use Rattle.fkp_pages.specs.declared.kind.PageKind.{PageKind}
+use Rattle.fkp_pages.specs.declared.kind.PageKind.TheVariants.{Chpx, Papx}
 use Rattle.fkp_pages.specs.Bin.{IsBinTable}
 use Rattle.direct_props.specs.Direct.{IsDirectCharacter, IsDirectMark}
-use Rattle.direct_props.specs.PageRules.{page_rules}
+use Rattle.direct_props.specs.PageRules.{page_rules, IsRightPlace}
 
 -- a character has one map of direct settings
 abbrev pub DirectCharacterIsOne : Type 0
@@ -26,3 +31,31 @@ abbrev pub FirstPageFaultIsLeast : Type 0
 FirstPageFaultIsLeast =
     (kind : PageKind) (wd bin places : List ℕ) (r p : ℕ) →
     IsFirst (page_rules kind wd bin places) r p → IsLeastOfAll (λ a b. a ≤ b) (Breaks (page_rules kind wd bin places)) r p
+
+-- a modifier that may stand at a place: its maps are well formed, and its style number has 16 bits
+pub record IsRightModifier (modifier : Modifier) : Type 0 where
+  pub formed : IsFormedModifier modifier
+  pub small : ForSome modifier.istd (λ n. n < 65536)
+
+-- a character has direct settings, which are well formed
+pub record HasDirectCharacter (wd bin : List ℕ) (fc : ℕ) (modifier : Modifier) : Type 0 where
+  pub settings : Settings
+  pub is : IsDirectCharacter wd bin fc modifier settings
+  pub formed : IsPropertyMap character_groups settings
+
+-- a mark has a style number of 16 bits and direct settings, which are well formed
+pub record HasDirectMark (wd bin : List ℕ) (fc : ℕ) (modifier : Modifier) : Type 0 where
+  pub istd : ℕ
+  pub settings : Settings
+  pub is : IsDirectMark wd bin fc modifier istd settings
+  pub small : istd < 65536
+  pub formed : IsPropertyMap paragraph_groups settings
+
+-- in a stream of bytes, a place that breaks no rule has them
+pub record HasPlaceSettings (wd bin : List ℕ) (fc : ℕ) (modifier : Modifier) : Type 0 where
+  pub character : IsRightPlace Chpx wd bin fc → HasDirectCharacter wd bin fc modifier
+  pub mark : IsRightPlace Papx wd bin fc → HasDirectMark wd bin fc modifier
+
+abbrev pub RightPlacesHaveSettings : Type 0
+RightPlacesHaveSettings =
+    (wd bin : List ℕ) (fc : ℕ) (modifier : Modifier) → AreBytes wd → IsRightModifier modifier → HasPlaceSettings wd bin fc modifier

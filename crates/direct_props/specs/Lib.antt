@@ -1,4 +1,5 @@
 pub mod Direct
 pub mod PageRules
 pub mod Stretches
+pub mod RightLists
 pub mod Laws

@@ -1,5 +1,6 @@
 -- How far around a place its list is the same.
 use Rattle.std.specs.Prelude.{◌≡◌, ℕ, ◌+◌, ◌≤◌, List, length, drop, slice_range, slice_get, slice_index, Some, ◌++◌, ⊤}
+use Rattle.std.specs.List.{All}
 use Rattle.doc_bits.specs.Rules.{Nowhere}
 use Rattle.sprm_table.specs.Sprm.{HasSprmFaultAt, IsAcceptedList}
 use Rattle.fkp_pages.specs.declared.kind.PageKind.{PageKind}
@@ -9,6 +10,8 @@ use Rattle.fkp_pages.specs.Fkp.{least_list}
 use Rattle.fkp_pages.specs.Runs.{run_groups}
 use Rattle.prop_map.specs.Settings.{Settings}
 use Rattle.prop_map.specs.declared.modifiers.Modifier.{Modifier}
+use Rattle.prop_map.specs.Formed.{IsPropertyMap, character_groups}
+use Rattle.prop_map.specs.Modifiers.{IsFormedModifier}
 use Rattle.fkp_pages.specs.Properties.{HasListAt}
 use Rattle.direct_props.specs.Direct.{IsDirectCharacter}
 use Rattle.direct_props.specs.PageRules.{IsRightBetween}
@@ -36,13 +39,20 @@ pub record HasListAround (kind : PageKind) (wd bin : List ℕ) (fc first last : 
   pub long : least_list kind ≤ length list
   pub accepted : IsAcceptedList (drop (least_list kind) list) (run_groups kind)
 
--- each place from the first to the last has these direct settings, and the place is among them
+-- each place from the first to the last has these direct settings, and the place is among them; they are well formed where
+-- the modifier is
 pub record HasSettingsAround (wd bin : List ℕ) (modifier : Modifier) (fc first last : ℕ) (settings : Settings) : Type 0 where
   pub from : first ≤ fc
   pub to : fc ≤ last
   pub each : (other : ℕ) → first ≤ other → other ≤ last → IsDirectCharacter wd bin other modifier settings
+  pub formed : IsFormedModifier modifier → IsPropertyMap character_groups settings
 
--- the new list is the old one with the direct settings of each place
+-- the new list is the old one with others behind
+pub record BeginsWith (old new : List Settings) : Type 0 where
+  pub more : List Settings
+  pub joined : new ≡ old ++ more
+
+-- the new list is the old one with the direct settings of each place, which are well formed where the modifier is
 pub record AddsCharacters (wd bin places : List ℕ) (modifier : Modifier) (old new : List Settings) : Type 0 where
   pub added : List Settings
   pub joined : new ≡ old ++ added
@@ -50,3 +60,4 @@ pub record AddsCharacters (wd bin places : List ℕ) (modifier : Modifier) (old 
   pub each :
       (k : ℕ) (settings : Settings) → slice_get added k ≡ Some settings →
       IsDirectCharacter wd bin (slice_index places k) modifier settings
+  pub formed : IsFormedModifier modifier → All (IsPropertyMap character_groups) added

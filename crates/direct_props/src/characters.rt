@@ -1,5 +1,5 @@
 // The direct settings of characters.
-ghost use Rattle.std.specs.Prelude.{◌≡◌, ◌<◌, ◌≤◌, ◌^◌, ℕ, [], drop, length, IfOk, OnOk};
+ghost use Rattle.std.specs.Prelude.{◌≡◌, ◌<◌, ◌≤◌, ◌^◌, ℕ, [], drop, length, IfOk, OnOk, OnErr};
 ghost use Rattle.sprm_table.specs.Sprm.{IsAcceptedList};
 ghost use Rattle.prop_map.specs.Formed.{IsPropertyMap};
 ghost use Rattle.fkp_pages.specs.declared.kind.PageKind.TheVariants.{Chpx};
@@ -8,7 +8,7 @@ ghost use Rattle.fkp_pages.specs.Bin.{IsBinTable};
 ghost use Rattle.fkp_pages.specs.Runs.{run_groups};
 ghost use Rattle.direct_props.specs.Direct.{MakesSettings};
 ghost use Rattle.direct_props.specs.PageRules.{AreRightPlaces, IsRightPlace};
-ghost use Rattle.direct_props.specs.Stretches.{AddsCharacters, HasSettingsAround};
+ghost use Rattle.direct_props.specs.Stretches.{AddsCharacters, BeginsWith, HasSettingsAround};
 
 use crate::lists::list_stretch;
 use crate::rules::{groups_of, style_len};
@@ -74,7 +74,33 @@ pub fn push_characters(
     requires table { IsBinTable bin.now }
     requires small { length wd.now < 2 ^ 32 }
     requires right { AreRightPlaces Chpx wd.now bin.now places.now }
-    ensures { OnOk result (AddsCharacters wd.now bin.now places.now modifier.now list.old list.new) }
+    ensures ok { OnOk result (AddsCharacters wd.now bin.now places.now modifier.now list.old list.new) }
+    ensures err { OnErr result (list.new ≡ list.old) }
+{
+    let before = list.items.len();
+    match add_characters(alloc, wd, bin, places, modifier, list) {
+        Ok(()) => Ok(()),
+        Err(memory) => {
+            list.items.truncate(before);
+            Err(memory)
+        }
+    }
+}
+
+/// The same, but after want of memory some of the settings may stand in the list.
+fn add_characters(
+    alloc: Global,
+    wd: &[u8],
+    bin: &[u8],
+    places: &[u32],
+    modifier: &Modifier,
+    list: &mut CharacterSettings,
+) -> Result<(), Memory>
+    requires table { IsBinTable bin.now }
+    requires small { length wd.now < 2 ^ 32 }
+    requires right { AreRightPlaces Chpx wd.now bin.now places.now }
+    ensures ok { OnOk result (AddsCharacters wd.now bin.now places.now modifier.now list.old list.new) }
+    ensures err { OnErr result (BeginsWith list.old list.new) }
 {
     let mut current = CharacterStretch {
         first: 1,
@@ -100,7 +126,8 @@ fn stretch_with(
     requires table { IsBinTable bin.now }
     requires small { length wd.now < 2 ^ 32 }
     requires right { IsRightPlace Chpx wd.now bin.now fc }
-    requires known { (other : ℕ) → current.first ≤ other → other ≤ current.last → HasSettingsAround wd.now bin.now modifier.now other current.first current.last current.map }
+    requires known { (other : ℕ) → current.first ≤ other → other ≤ current.last →
+        HasSettingsAround wd.now bin.now modifier.now other current.first current.last current.map }
     ensures { IfOk result (λ s. HasSettingsAround wd.now bin.now modifier.now fc s.first s.last s.map) }
 {
     if current.first <= fc && fc <= current.last {
@@ -139,7 +166,8 @@ fn stretch_around(
 /// What the list of a run makes of no settings, and the style that its sprms name.
 pub(crate) fn settings_of(alloc: Global, kind: PageKind, list: &[u8]) -> Result<Acted, Memory>
     requires { IsAcceptedList (drop (least_list kind) list.now) (run_groups kind) }
-    ensures made { IfOk result (λ acted. MakesSettings (drop (least_list kind) list.now) (run_groups kind) acted.map acted.istd) }
+    ensures made { IfOk result
+        (λ acted. MakesSettings (drop (least_list kind) list.now) (run_groups kind) acted.map acted.istd) }
     ensures formed { IfOk result (λ acted. IsPropertyMap (run_groups kind) acted.map) }
 {
     let start = style_len(kind).min(list.len());

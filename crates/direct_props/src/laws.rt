@@ -1,5 +1,7 @@
 // Laws over the definitions alone.
 ghost use Rattle.direct_props.specs.Laws.{DirectCharacterIsOne, DirectMarkIsOne, FirstPageFaultIsLeast};
+ghost use Rattle.direct_props.specs.RightLists.{RightListsAreRight, RightPlacesHaveLists, RightPlacesHold};
+ghost use Rattle.direct_props.specs.Laws.{RightPlacesHaveSettings};
 
 /// A character has one map of direct settings.
 pub fn direct_character_is_one()
@@ -14,4 +16,24 @@ pub fn direct_mark_is_one()
 /// The first broken rule on pages is the least of all broken ones, at its least place.
 pub fn first_page_fault_is_least()
     ensures { FirstPageFaultIsLeast }
+{}
+
+/// A bin table and a right list make a right place.
+pub fn right_lists_are_right()
+    ensures { RightListsAreRight }
+{}
+
+/// A right place that has a list has a right list.
+pub fn right_places_have_lists()
+    ensures { RightPlacesHaveLists }
+{}
+
+/// Where each place is right the rules on pages hold.
+pub fn right_places_hold()
+    ensures { RightPlacesHold }
+{}
+
+/// A right place has direct settings.
+pub fn right_places_have_settings()
+    ensures { RightPlacesHaveSettings }
 {}

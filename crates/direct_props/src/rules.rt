@@ -1,5 +1,6 @@
 // The rules on the pages, each at its least offset in `WordDocument`.
-ghost use Rattle.std.specs.Prelude.{◌≡◌, ℕ, List, ◌↔◌, ◌+◌, ◌*◌, ◌<◌, ◌≤◌, ◌^◌, length, slice_range, IsTrue, IfOk, IfSome, MatchOption, MatchResult};
+ghost use Rattle.std.specs.Prelude.{◌≡◌, ℕ, List, ◌↔◌, ◌+◌, ◌*◌, ◌<◌, ◌≤◌, ◌^◌, length, slice_range, IsTrue, IfOk};
+ghost use Rattle.std.specs.Prelude.{IfSome, MatchOption, MatchResult};
 ghost use Rattle.doc_bits.specs.Rules.{From, Hold, IsFirst, LeastOrNone};
 ghost use Rattle.sprm_table.specs.Sprm.{HasSprmFaultAt, fault_place};
 ghost use Rattle.fkp_pages.specs.declared.kind.PageKind.{PageKind as PageType};
@@ -7,16 +8,21 @@ ghost use Rattle.fkp_pages.specs.declared.kind.RunAnswer.TheVariants.{Leaves};
 ghost use Rattle.fkp_pages.specs.Fkp.{HasRunAnswer, least_list};
 ghost use Rattle.fkp_pages.specs.Bin.{IsBinTable, page_at};
 ghost use Rattle.fkp_pages.specs.Runs.{run_groups};
-ghost use Rattle.direct_props.specs.PageRules.{AreRightPlaces, BreaksAtPlaces, BreaksPageRule, HasBadPage, HasListFault, HasListOutside, HasPageAnswer, HasRoom, IsInNoRun, IsRightBetween, IsRightPlace, LooksBad, first_rule as first_number, page_rules};
+ghost use Rattle.direct_props.specs.PageRules.{AreRightPlaces, BreaksAtPlaces, BreaksPageRule, HasBadPage};
+ghost use Rattle.direct_props.specs.PageRules.{HasListFault, HasListOutside, HasPageAnswer, HasRoom, IsInNoRun};
+ghost use Rattle.direct_props.specs.PageRules.{IsRightBetween, IsRightPlace, LooksBad, first_rule as first_number};
+ghost use Rattle.direct_props.specs.PageRules.{page_rules};
 
 use crate::lists::list_stretch;
 use doc_bits::lesser;
 use fkp_pages::{PAGE_LEN, PageKind, RunAnswer, bin_at, chpx_at, papx_at, run_answer_is_one};
 use prop_map::{CHARACTER_GROUPS, PARAGRAPH_GROUPS};
 use sprm_table::{SprmFault, list_fault};
+use thiserror::Error;
 
 /// The first broken rule on the pages, and its least offset in `WordDocument`.
-#[derive(Clone, Copy, Debug, PartialEq, Eq)]
+#[derive(Clone, Copy, Debug, PartialEq, Eq, Error)]
+#[error("rule {rule} is broken at {offset} in WordDocument")]
 pub struct PageFault {
     pub rule: u8,
     pub offset: u32,
@@ -240,7 +246,8 @@ pub(crate) fn page_of(wd: &[u8], number: u32) -> Option<&[u8]>
 /// Where the page of a place is bad.
 fn bad_page(wd: &[u8], found: PageAnswer) -> Option<u32>
     requires { found.number < 2 ^ 22 }
-    ensures { (kind : PageType) (bin : List ℕ) (fc : ℕ) → IsBinTable bin → HasPageAnswer kind wd.now bin fc found.number found.answer
+    ensures { (kind : PageType) (bin : List ℕ) (fc : ℕ) → IsBinTable bin →
+        HasPageAnswer kind wd.now bin fc found.number found.answer
         → LeastOrNone (HasBadPage kind wd.now bin fc) result }
 {
     run_answer_is_one();
@@ -263,7 +270,8 @@ pub(crate) fn is_bad(wd: &[u8], found: PageAnswer) -> bool
 
 /// Where no run holds a place.
 fn no_run(fc: u32, found: PageAnswer) -> Option<u32>
-    ensures { (kind : PageType) (wd bin : List ℕ) → IsBinTable bin → HasPageAnswer kind wd bin fc found.number found.answer
+    ensures { (kind : PageType) (wd bin : List ℕ) → IsBinTable bin →
+        HasPageAnswer kind wd bin fc found.number found.answer
         → LeastOrNone (IsInNoRun kind wd bin fc) result }
 {
     run_answer_is_one();
@@ -280,7 +288,8 @@ fn no_run(fc: u32, found: PageAnswer) -> Option<u32>
 fn list_outside(found: PageAnswer) -> Option<u32>
     requires number { found.number < 2 ^ 22 }
     requires entry { (entry : ℕ) → found.answer ≡ Leaves entry → entry < 512 }
-    ensures { (kind : PageType) (wd bin : List ℕ) (fc : ℕ) → IsBinTable bin → HasPageAnswer kind wd bin fc found.number found.answer
+    ensures { (kind : PageType) (wd bin : List ℕ) (fc : ℕ) → IsBinTable bin →
+        HasPageAnswer kind wd bin fc found.number found.answer
         → LeastOrNone (HasListOutside kind wd bin fc) result }
 {
     run_answer_is_one();

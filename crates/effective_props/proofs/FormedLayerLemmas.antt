@@ -13,7 +13,8 @@ use Rattle.style_sheet.specs.declared.styles.Kind.TheVariants.{Para, Char, Other
 use Rattle.style_sheet.specs.Sheet.{Sheet, style_at}
 use Rattle.style_sheet.specs.Chain.{kind_at}
 use Rattle.style_sheet.specs.Formed.{IsFormedKind, IsFormedSlot, IsFormedSheet}
-use Rattle.effective_props.specs.Layers.{kind_pap, kind_chp, paragraph_settings, character_settings, AreChainLayers, AreNamedLayers, named_style, AreCharacterLayers, AreParagraphLayers}
+use Rattle.style_sheet.specs.Changes.{characters_of, paragraphs_of}
+use Rattle.effective_props.specs.Layers.{paragraph_settings, character_settings, AreChainLayers, AreNamedLayers, named_style, AreCharacterLayers, AreParagraphLayers}
 
 past_end : {X : Type 0} → (xs : List X) (i : ℕ) (d : X) → length xs ≤ i → get_or xs i d ≡ d
 past_end [] i d l = refl
@@ -34,7 +35,7 @@ pub chp_formed : (style : Option Style) → IsFormedSlot style → IsPropertyMap
 chp_formed None h = formed_empty character_groups
 chp_formed (Some style) h = of_kind style.kind h.kind
   where
-    of_kind : (kind : Kind) → IsFormedKind kind → IsPropertyMap character_groups (kind_chp kind)
+    of_kind : (kind : Kind) → IsFormedKind kind → IsPropertyMap character_groups (characters_of kind)
     of_kind (Para pap chp) h = h.1
     of_kind (Char chp) h = h
     of_kind (Other stk upxes) h = formed_empty character_groups
@@ -43,7 +44,7 @@ pub pap_formed : (style : Option Style) → IsFormedSlot style → IsPropertyMap
 pap_formed None h = formed_empty paragraph_groups
 pap_formed (Some style) h = of_kind style.kind h.kind
   where
-    of_kind : (kind : Kind) → IsFormedKind kind → IsPropertyMap paragraph_groups (kind_pap kind)
+    of_kind : (kind : Kind) → IsFormedKind kind → IsPropertyMap paragraph_groups (paragraphs_of kind)
     of_kind (Para pap chp) h = h.0
     of_kind (Char chp) h = formed_empty paragraph_groups
     of_kind (Other stk upxes) h = formed_empty paragraph_groups

@@ -35,7 +35,7 @@ styles_more settings sheet chain i number old now new layer pushed there is so_f
 
 -- a style number that direct settings name has two bytes
 pub named_bytes : (direct : Settings) (value : List ℕ) → IsPropertyMap character_groups direct → get direct character_style_code ≡ Some value → length value ≡ 2
-named_bytes direct value formed e = (formed character_style_code value e).entry.size
+named_bytes direct value formed e = (formed character_style_code value e).setting.entry.size
 
 nothing_added : (sheet : Sheet) (named : Option ℕ) (old : List Settings) → AreNamedLayers sheet named [] → AddsNamed sheet named old old
 nothing_added sheet named old h = record { added = []; layers = h; joined = sym (append-nil old) }

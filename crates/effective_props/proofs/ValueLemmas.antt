@@ -20,11 +20,6 @@ use Rattle.effective_props.specs.Toggles.{toggled}
 use Rattle.effective_props.specs.Values.{tabs_code, is_toggle, values_at, value_of, effective_value}
 use Rattle.effective_props.specs.ValueSteps.{value_over, layer_over, IsValueOver}
 
--- a tree finds a value where a map does
-pub find-lookup : (code : ℕ) (es : Entries) → find nat_cmp code es ≡ lookup (is_at (nat_cmp code)) es
-find-lookup code [] = refl
-find-lookup code (e ∷ es) = ap (cond (eq_by_cmp nat_cmp code e.0) (Some e.1)) (find-lookup code es)
-
 -- ---- one value
 
 pub put_over : (code other : ℕ) (old : Settings) (value made : List ℕ) → (code == tabs_code) ≡ false → Some made ≡ value_over code (get old code) value → get (insert old code made) other ≡ cond (other == code) (layer_over code (get old code) (Some value)) (get old other)
@@ -64,24 +59,6 @@ lay_more es i d old now new h within upto step code =
           ap (λ o. layer_over e.0 o (Some e.1)) here ∙ ap (λ k. layer_over k (get old k) (Some e.1)) (sym key)
       | false ↦ λ is. upto code
     ] refl ∙ ap (layer_over code (get old code)) (sym (find-more es i d code h within)))
-
--- ---- the values as a map again, in the order of their codes
-
-pub put_next : (es done rest : Entries) (entry : ℕ × List ℕ) (made : Settings) → done ++ entry ∷ rest ≡ es → IsTrue (is_sorted nat_cmp es) → ((code : ℕ) → get made code ≡ find nat_cmp code done) → (code : ℕ) → get (insert made entry.0 entry.1) code ≡ find nat_cmp code (done ++ entry ∷ [])
-put_next es done rest entry made joined h has code =
-    let sorted = subst (λ l. IsTrue (is_sorted nat_cmp l)) (sym joined) h in
-    let within : length done < length (done ++ entry ∷ rest) = omega (arith, length-append done (entry ∷ rest)) in
-    let before = find-before (done ++ entry ∷ rest) (length done) entry sorted within in
-    let none : find nat_cmp entry.0 done ≡ None = rw (get_or-append_seam done entry rest entry, take-append_seam done (entry ∷ rest)) at before in
-    get-insert nat_cmp_total made entry.0 entry.1 code
-    ∙ (ap (cond (eq_by_cmp nat_cmp code entry.0) (Some entry.1)) (has code)
-    ∙ sym (find-append nat_cmp nat_cmp_total done entry.0 entry.1 code none))
-
-pub all_put : (es done rest : Entries) (made self : Settings) → done ++ rest ≡ es → rest ≡ [] → IsTrue (is_sorted nat_cmp es) → ((code : ℕ) → get made code ≡ find nat_cmp code done) → from_sorted es ≡ self → made ≡ self
-all_put es done rest made self joined none h has is =
-    let all : done ≡ es = sym (append-nil done) ∙ (ap (λ r. done ++ r) (sym none) ∙ joined) in
-    same_map nat_cmp_total nat_cmp-IsAntisymmetric made self (λ code.
-    has code ∙ (ap (find nat_cmp code) all ∙ (sym (get-from_sorted nat_cmp es code (of_true _ h)) ∙ ap (λ m. get m code) is)))
 
 -- ---- one more layer
 

@@ -4,30 +4,19 @@ use Rattle.std.specs.FinMap.{get, empty}
 use Rattle.doc_bits.specs.Number.{u16_at}
 use Rattle.prop_map.specs.Settings.{Settings}
 use Rattle.style_sheet.specs.declared.styles.Style.{Style}
-use Rattle.style_sheet.specs.declared.styles.Kind.{Kind}
-use Rattle.style_sheet.specs.declared.styles.Kind.TheVariants.{Para, Char, Other}
 use Rattle.style_sheet.specs.Sheet.{Sheet, style_at}
 use Rattle.style_sheet.specs.Chain.{kind_at, IsBaseChain}
-
-abbrev pub kind_pap : Kind → Settings
-kind_pap (Para pap chp) = pap
-kind_pap (Char chp) = empty
-kind_pap (Other stk upxes) = empty
-
-abbrev pub kind_chp : Kind → Settings
-kind_chp (Para pap chp) = chp
-kind_chp (Char chp) = chp
-kind_chp (Other stk upxes) = empty
+use Rattle.style_sheet.specs.Changes.{characters_of, paragraphs_of}
 
 -- the paragraph settings of a style, where it is there and has some
 abbrev pub paragraph_settings : Option Style → Settings
 paragraph_settings None = empty
-paragraph_settings (Some style) = kind_pap style.kind
+paragraph_settings (Some style) = paragraphs_of style.kind
 
 -- and its character settings
 abbrev pub character_settings : Option Style → Settings
 character_settings None = empty
-character_settings (Some style) = kind_chp style.kind
+character_settings (Some style) = characters_of style.kind
 
 -- such settings of each of these styles
 abbrev pub settings_of_styles : (Option Style → Settings) → Sheet → List ℕ → List Settings

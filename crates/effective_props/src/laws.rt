@@ -1,5 +1,6 @@
 // Laws over the definitions alone.
-ghost use Rattle.effective_props.specs.Laws.{ToggleIsSaidByLastValue, LastLayerDecides, EffectiveMapIsOne, StopsAreOne, EffectiveCharacterIsOne, EffectiveParagraphIsOne};
+ghost use Rattle.effective_props.specs.Laws.{ToggleIsSaidByLastValue, LastLayerDecides, EffectiveMapIsOne, StopsAreOne};
+ghost use Rattle.effective_props.specs.Laws.{EffectiveCharacterIsOne, EffectiveParagraphIsOne};
 
 /// A toggle is said by its last value that goes by nothing, and by how often later values turn it
 /// round.

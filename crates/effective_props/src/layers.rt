@@ -58,6 +58,7 @@ pub(crate) fn paragraph_layers(
     Ok(layers)
 }
 
+/// Adds the direct settings as the last layer.
 fn add_direct(alloc: Global, direct: &PropMap, layers: &mut Vec<PropMap>) -> Result<(), Memory>
     ensures { OnOk result (layers.new.items ≡ layers.old.items ++ direct.now ∷ []) }
 {
@@ -65,7 +66,7 @@ fn add_direct(alloc: Global, direct: &PropMap, layers: &mut Vec<PropMap>) -> Res
     Ok(())
 }
 
-// Adds the layers of the character style that the direct settings name, where there is one.
+/// Adds the layers of the character style that the direct settings name, where there is one.
 fn add_named(
     alloc: Global,
     sheet: &StyleSheet,
@@ -86,6 +87,7 @@ fn add_named(
     Ok(())
 }
 
+/// Whether the slot has a style of characters.
 fn is_character_style(sheet: &StyleSheet, istd: u16) -> bool
     ensures { IsTrue result ↔ kind_at sheet.now istd ≡ 2 }
 {
@@ -99,7 +101,7 @@ fn is_character_style(sheet: &StyleSheet, istd: u16) -> bool
     }
 }
 
-// Adds the settings of each style of a chain, from its root.
+/// Adds the settings of each style of a chain, from its root.
 fn add_chain(
     alloc: Global,
     sheet: &StyleSheet,
@@ -116,7 +118,7 @@ fn add_chain(
     Ok(())
 }
 
-// Adds the settings of each of these styles. A copy of a map shares its entries.
+/// Adds the settings of each of these styles. A copy of a map shares its entries.
 fn add_styles(
     alloc: Global,
     sheet: &StyleSheet,
@@ -124,7 +126,8 @@ fn add_styles(
     part: Part,
     layers: &mut Vec<PropMap>,
 ) -> Result<(), Memory>
-    ensures { OnOk result (layers.new.items ≡ layers.old.items ++ settings_of_styles (settings_in part) sheet.now chain.now) }
+    ensures { OnOk result
+        (layers.new.items ≡ layers.old.items ++ settings_of_styles (settings_in part) sheet.now chain.now) }
 {
     for i in 0..chain.len() {
         layers.push(settings_of(alloc, sheet.get(chain.get(i)), part)?)?;
@@ -132,6 +135,7 @@ fn add_styles(
     Ok(())
 }
 
+/// The settings of a style, where it is there and has some.
 fn settings_of(alloc: Global, style: Option<&Style>, part: Part) -> Result<PropMap, Memory>
     ensures { IfOk result (λ map. map ≡ settings_in part (option_map (λ s. s.now) style.entry)) }
 {

@@ -17,6 +17,3 @@ pub use laws::{
     last_layer_decides, stops_are_one, toggle_is_said_by_last_value,
 };
 pub use tabs::{Tab, Tabs};
-
-#[cfg(test)]
-mod tests;

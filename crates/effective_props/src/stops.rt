@@ -26,7 +26,7 @@ pub(crate) fn stops_of(alloc: Global, layers: &[PropMap]) -> Result<Tabs, Memory
     Ok(tabs)
 }
 
-// The stops as a list.
+/// The stops as a list.
 fn tabs_of(alloc: Global, stops: BTreeMap<i16, u8>) -> Result<Tabs, Memory>
     ensures tabs { IfOk result (λ tabs. tabs ≡ map tab_of stops.entries) }
     ensures ordered { IsOrdered int_cmp stops }
@@ -38,6 +38,7 @@ fn tabs_of(alloc: Global, stops: BTreeMap<i16, u8>) -> Result<Tabs, Memory>
     Ok(tabs)
 }
 
+/// Deletes and adds the stops that a layer names.
 fn change_by_layer(stops: &mut BTreeMap<i16, u8>, layer: &PropMap) -> Result<(), Memory>
     ensures { OnOk result (ChangesByLayer layer.now stops.old stops.new) }
 {
@@ -50,6 +51,7 @@ fn change_by_layer(stops: &mut BTreeMap<i16, u8>, layer: &PropMap) -> Result<(),
     Ok(())
 }
 
+/// Deletes the stops of a change.
 fn delete(stops: &mut BTreeMap<i16, u8>, change: &TabChange<'_>)
     ensures { DeletesUpTo change.now (deleted_count change.now) stops.old stops.new }
 {
@@ -58,6 +60,7 @@ fn delete(stops: &mut BTreeMap<i16, u8>, change: &TabChange<'_>)
     }
 }
 
+/// Adds the stops of a change.
 fn add(stops: &mut BTreeMap<i16, u8>, change: &TabChange<'_>) -> Result<(), Memory>
     ensures { OnOk result (AddsUpTo change.now (added_count change.now) stops.old stops.new) }
 {

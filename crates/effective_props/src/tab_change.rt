@@ -1,6 +1,7 @@
 // [MS-DOC] PChgTabsPapxOperand.
 ghost use Rattle.std.specs.Prelude.{◌≡◌, ◌<◌, MatchOption};
-ghost use Rattle.effective_props.specs.TabChange.{IsTabChange, deleted_count, deleted_position, added_count, added_position, added_kind};
+ghost use Rattle.effective_props.specs.TabChange.{IsTabChange, deleted_count, deleted_position, added_count};
+ghost use Rattle.effective_props.specs.TabChange.{added_position, added_kind};
 
 use crate::Tab;
 use doc_bits::get16;
@@ -28,7 +29,8 @@ impl<'a> Model for TabChange<'a> {
 impl<'a> TabChange<'a> {
     /// Sees the value as a change of tab stops, where it has the form of one.
     pub(crate) fn of(value: &'a [u8]) -> Option<TabChange<'a>>
-        ensures { MatchOption result (¬ (IsTabChange value.now)) (λ change. (change ≡ value.now) × IsTabChange value.now) }
+        ensures { MatchOption result (¬ (IsTabChange value.now))
+            (λ change. (change ≡ value.now) × IsTabChange value.now) }
     {
         let deleted = *value.first()? as usize;
         let place = 1 + 2 * deleted;

@@ -22,6 +22,7 @@ pub(crate) fn toggle<'a>(before: Option<&'a [u8]>, value: &'a [u8]) -> Option<&'
     Some(value)
 }
 
+/// The opposite of the value so far, where there may be none.
 fn opposite<'a>(before: Option<&'a [u8]>) -> &'a [u8]
     ensures { result.now ≡ opposite (option_map (λ v. v.now) before.entry) }
 {
@@ -31,6 +32,7 @@ fn opposite<'a>(before: Option<&'a [u8]>) -> &'a [u8]
     }
 }
 
+/// Whether the value is this one byte.
 fn is_byte(value: &[u8], byte: u8) -> bool
     ensures { result ≡ is_byte value.now byte }
 {

@@ -17,6 +17,7 @@ use Rattle.fkp_pages.specs.declared.kind.PageKind.TheVariants.{Chpx, Papx}
 use Rattle.fkp_pages.specs.declared.kind.RunAnswer.TheVariants.{Found, Empty}
 use Rattle.fkp_pages.specs.declared.lists.Run.{Run}
 use Rattle.fkp_pages.specs.Fkp.{entry_size, HasRunCount, IsFirstRun, entry_byte, list_from, list_to, spelled_list}
+use Rattle.doc_bits.proofs.TestLemmas.{both_true}
 use Rattle.fkp_pages.specs.Properties.{bare_list}
 use Rattle.fkp_pages.specs.Runs.{run_groups, run_list, IsBareRun, IsWritableRun}
 use Rattle.fkp_pages.specs.Written.{is_bare, written}
@@ -29,10 +30,6 @@ use Rattle.fkp_pages.proofs.ListShape.{IsListAt, list_at}
 use Rattle.fkp_pages.proofs.OrderLemmas.{AreInOrder, says_fcs, first_run_is}
 
 -- ---- runs for which nothing is written
-
-both_true : (a b : Bool) → (a && b) ≡ true → (a ≡ true) × (b ≡ true)
-both_true true b h = (refl, h)
-both_true false b h = absurd (cc)
 
 pub bare_is : (kind : PageKind) (run : Run) → IsTrue (is_bare kind run) ↔ IsBareRun kind run
 bare_is Chpx run = empty_map run.map

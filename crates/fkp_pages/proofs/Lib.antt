@@ -16,3 +16,4 @@ pub mod FoundPages
 pub mod RunsTested
 pub mod WholePages
 pub mod RowLemmas
+pub mod PackedLemmas

@@ -14,7 +14,8 @@ use Rattle.fkp_pages.specs.Fkp.{page_count, page_fc, IsFirstRun}
 use Rattle.fkp_pages.specs.Runs.{AreRuns}
 use Rattle.fkp_pages.specs.PageBytes.{FitsPage, first_limit, last_fc, page_fcs, page_entries, page_lists, page_bytes, zeros}
 use Rattle.fkp_pages.specs.Found.{HasFileNumbers}
-use Rattle.fkp_pages.proofs.PrintedBinLemmas.{numbers, number_at-numbers}
+use Rattle.doc_bits.specs.Number.{numbers}
+use Rattle.doc_bits.proofs.NumberLemmas.{number_at-numbers}
 use Rattle.fkp_pages.proofs.PageShape.{free_bytes, page_count-page}
 
 -- each run ends after it begins, and where the next one begins

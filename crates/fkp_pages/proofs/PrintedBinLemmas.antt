@@ -1,39 +1,16 @@
 -- The bin table that is printed.
-use Rattle.std.proofs.Common.{◌≡◌, ℕ, zero, suc, ◌+◌, ◌-◌, ◌*◌, ◌^◌, ◌<◌, ◌≤◌, List, [], ◌∷◌, ◌++◌, length, map, take, slice_index, refl, sym, ap, ◌∙◌, subst, arith, length-append, append_assoc, lit<}
+use Rattle.std.proofs.Common.{◌≡◌, ℕ, zero, suc, ◌+◌, ◌-◌, ◌*◌, ◌^◌, ◌<◌, ◌≤◌, List, [], ◌∷◌, ◌++◌, length, map, take, slice_index, refl, sym, ap, ◌∙◌, subst, arith, length-append, lit<}
 use Rattle.std.proofs.lemmas.List.{append-nil, take_all}
 use Rattle.std.proofs.lemmas.List.Elements.{All-head, All-tail}
 use Rattle.std.specs.Prelude.{All}
-use Rattle.std.specs.List.{flat_map}
-use Rattle.doc_bits.specs.Number.{number_at, number_bytes}
+use Rattle.doc_bits.specs.Number.{number_at, numbers}
 use Rattle.doc_bits.specs.Plc.{plc_cp}
-use Rattle.doc_bits.proofs.NumberLemmas.{number_at-after, number_at-number_bytes, length-number_bytes}
+use Rattle.doc_bits.proofs.NumberLemmas.{number_at-after, length-numbers, number_at-numbers}
 use Rattle.fkp_pages.specs.declared.lists.Bin.{Bin}
 use Rattle.fkp_pages.specs.Bin.{bin_count, page_number, bin_fcs, printed_bin, ArePrintableBins, IsBinTableOf}
 
--- the bytes of 32-bit numbers
-abbrev pub numbers : List ℕ → List ℕ
-numbers xs = flat_map (number_bytes 4) xs
-
 abbrev pub pages : List Bin → List ℕ
 pages bins = map (λ bin. bin.page) bins
-
-pub length-numbers : (xs : List ℕ) → length (numbers xs) ≡ 4 * length xs
-length-numbers [] = refl
-length-numbers (x ∷ xs) =
-    let ih = length-numbers xs in
-    let four = length-number_bytes 4 x in
-    omega (arith, length-append (number_bytes 4 x) (numbers xs))
-
--- a number stands at four times its place
-pub number_at-numbers : (xs more : List ℕ) (k : ℕ) → k < length xs → slice_index xs k < 2 ^ 32 → number_at (numbers xs ++ more) (4 * k) 4 ≡ slice_index xs k
-number_at-numbers [] more k h small = absurd (omega arith)
-number_at-numbers (x ∷ xs) more zero h small =
-    rw (append_assoc (number_bytes 4 x) (numbers xs) more) (number_at-number_bytes 4 x (numbers xs ++ more) small)
-number_at-numbers (x ∷ xs) more (suc k) h small =
-    let ih = number_at-numbers xs more k (omega arith) small in
-    let place : 4 * suc k ≡ length (number_bytes 4 x) + 4 * k = omega (arith, length-number_bytes 4 x) in
-    rw (append_assoc (number_bytes 4 x) (numbers xs) more, place)
-    (number_at-after (number_bytes 4 x) (numbers xs ++ more) (4 * k) 4 ∙ ih)
 
 pub length-fcs : (bins : List Bin) (end : ℕ) → length (bin_fcs bins end) ≡ length bins + 1
 length-fcs [] end = refl

@@ -13,14 +13,9 @@ use Rattle.fkp_pages.specs.Fkp.{HasRunAnswer}
 use Rattle.fkp_pages.specs.Bin.{bin_fcs, page_at, IsBinTableOf}
 use Rattle.fkp_pages.specs.Properties.{IsListAnswered, HasListAt}
 use Rattle.fkp_pages.specs.Runs.{run_list, IsBareRun, IsWritableRun, AreRuns}
+pub use Rattle.fkp_pages.specs.Runs.{HasFileNumbers}
 use Rattle.fkp_pages.specs.PageBytes.{last_fc}
 use Rattle.fkp_pages.specs.Pages.{ArePagesOf}
-
--- the numbers of a run have the bits that a file has for them
-pub record HasFileNumbers (run : Run) : Type 0 where
-  pub from : run.from < 2 ^ 32
-  pub to : run.to < 2 ^ 32
-  pub istd : run.istd < 2 ^ 16
 
 -- the sprms of a list: those of a paragraph stand behind its style number
 abbrev pub sprms_of : PageKind → List ℕ → List ℕ

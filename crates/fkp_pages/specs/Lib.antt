@@ -8,5 +8,6 @@ pub mod Packing
 pub mod Written
 pub mod PageBytes
 pub mod Pages
+pub mod Packed
 pub mod Found
 pub mod InARow

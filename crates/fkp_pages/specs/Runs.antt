@@ -1,5 +1,5 @@
 -- Runs that pages can be written of, and the bytes of their properties.
-use Rattle.std.specs.Prelude.{◌≡◌, ℕ, ◌+◌, ◌<◌, ◌≤◌, List, ◌++◌, length, Some, slice_get}
+use Rattle.std.specs.Prelude.{◌≡◌, ℕ, ◌+◌, ◌<◌, ◌≤◌, ◌^◌, List, ◌++◌, length, Some, slice_get}
 use Rattle.std.specs.List.{All}
 use Rattle.std.specs.FinMap.{empty}
 use Rattle.doc_bits.specs.Number.{number_bytes}
@@ -39,3 +39,9 @@ pub record IsWritableRun (kind : PageKind) (run : Run) : Type 0 where
 pub record AreRuns (kind : PageKind) (runs : List Run) : Type 0 where
   pub writable : All (IsWritableRun kind) runs
   pub touch : (k : ℕ) (run next : Run) → slice_get runs k ≡ Some run → slice_get runs (k + 1) ≡ Some next → run.to ≡ next.from
+
+-- the numbers of a run have the bits that a file has for them
+pub record HasFileNumbers (run : Run) : Type 0 where
+  pub from : run.from < 2 ^ 32
+  pub to : run.to < 2 ^ 32
+  pub istd : run.istd < 2 ^ 16

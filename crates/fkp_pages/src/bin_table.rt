@@ -1,6 +1,7 @@
 // [MS-DOC] PlcBteChpx, PlcBtePapx: the page that has the runs of a byte place.
 ghost use Rattle.std.specs.Prelude.{◌≡◌, ◌<◌, ◌↔◌, IfOk, IsTrue, MatchOption};
-ghost use Rattle.fkp_pages.specs.Bin.{bin_count, IsBinTable, IsBinRange, IsBinPage, HasNoBin, HasBinRange, printed_bin, ArePrintableBins, IsBinTableOf};
+ghost use Rattle.fkp_pages.specs.Bin.{bin_count, IsBinTable, IsBinRange, IsBinPage, HasNoBin, HasBinRange, printed_bin};
+ghost use Rattle.fkp_pages.specs.Bin.{ArePrintableBins, IsBinTableOf};
 
 use crate::lists::Bins;
 use doc_bits::{Bytes, Memory, get32};
@@ -65,7 +66,7 @@ pub fn is_bin_table(bin: &[u8]) -> bool
     true
 }
 
-// The number of ranges.
+/// The number of ranges.
 fn range_count(bin: &[u8]) -> usize
     requires { IsBinTable bin.now }
     ensures { result ≡ bin_count bin.now }
@@ -73,7 +74,7 @@ fn range_count(bin: &[u8]) -> usize
     (bin.len() - 4) / (4 + NUMBER_LEN)
 }
 
-// Which range holds the place: the fcs ascend, so half of those that are left go at each turn.
+/// Which range holds the place: the fcs ascend, so half of those that are left go at each turn.
 fn range_place(bin: &[u8], fc: u32) -> Option<usize>
     requires { IsBinTable bin.now }
     ensures { MatchOption result (HasNoBin bin.now fc) (IsBinRange bin.now fc) }

@@ -23,13 +23,8 @@ pub use lists::{Bin, Bins, ChpRuns, PapRuns, Run, Starts};
 pub use packing::Pages;
 pub use page_laws::{
     lists_have_settings, packing_is_one, pages_are_one, pages_are_whole, pages_stand_in_a_row,
-    places_have_lists, row_is_printable, run_fits_alone, runs_are_found,
+    places_have_lists, row_is_printable, run_fits_alone, runs_are_found, runs_have_pages,
 };
 pub use page_writers::{write_chpx_pages, write_papx_pages};
 pub use reading::{Stretch, chpx_at, chpx_stretch, papx_at, papx_stretch};
 pub use writable::{are_chp_runs, are_pap_runs};
-
-#[cfg(test)]
-mod page_tests;
-#[cfg(test)]
-mod tests;

@@ -1,7 +1,10 @@
 // Lists of runs, of the first fcs of pages, and of what a bin table names. After want of memory each
 // is what it was.
-ghost use Rattle.std.specs.Prelude.{◌≡◌, ◌<◌, ℕ, List, [], ◌∷◌, ◌++◌, length, Some, slice_get, slice_index_or, OnOk, OnErr};
+ghost use Rattle.std.specs.Prelude.{◌≡◌, ◌<◌, ℕ, List, [], ◌∷◌, ◌++◌, length, Some, slice_get, slice_index_or, OnOk};
+ghost use Rattle.std.specs.Prelude.{OnErr};
+ghost use Rattle.std.specs.List.{All};
 ghost use Rattle.fkp_pages.specs.declared.lists.Run.{Run};
+ghost use Rattle.fkp_pages.specs.Runs.{HasFileNumbers};
 
 use doc_bits::Memory;
 use prop_map::PropMap;
@@ -33,15 +36,19 @@ pub struct ChpRuns {
 
 impl Model for ChpRuns {
     ghost use Rattle.std.specs.Prelude.{List};
+    ghost use Rattle.std.specs.List.{All};
     ghost use Rattle.std.specs.Coded.{coded_list};
     ghost use Rattle.fkp_pages.specs.declared.lists.Run.{Run};
     ghost use Rattle.fkp_pages.specs.contracts.lists.Run as row;
+    ghost use Rattle.fkp_pages.specs.Runs.{HasFileNumbers};
 
     ghost Value = { List Run };
 
     ghost coded = { coded_list row.the_row.coded };
 
     ghost view = { λ r. r.items.items };
+
+    ghost invariant = { λ r. All HasFileNumbers r.items.items };
 }
 
 impl ChpRuns {
@@ -53,8 +60,10 @@ impl ChpRuns {
         }
     }
 
+    /// How many runs there are.
     pub fn len(&self) -> usize
-        ensures { result ≡ length self.now }
+        ensures count { result ≡ length self.now }
+        ensures numbers { All HasFileNumbers self.now }
     {
         self.items.len()
     }
@@ -70,9 +79,11 @@ impl ChpRuns {
         (run.from, run.to, &run.map)
     }
 
+    /// Puts a run last.
     pub fn add(&mut self, from: u32, to: u32, map: PropMap) -> Result<(), Memory>
         ensures ok { OnOk result (self.new ≡ self.old ++ (record { from = from; to = to; istd = 0; map = map }) ∷ []) }
         ensures err { OnErr result (self.new ≡ self.old) }
+        ensures numbers { HasFileNumbers (record { from = from; to = to; istd = 0; map = map }) }
     {
         self.items.push(Run {
             from,
@@ -92,15 +103,19 @@ pub struct PapRuns {
 
 impl Model for PapRuns {
     ghost use Rattle.std.specs.Prelude.{List};
+    ghost use Rattle.std.specs.List.{All};
     ghost use Rattle.std.specs.Coded.{coded_list};
     ghost use Rattle.fkp_pages.specs.declared.lists.Run.{Run};
     ghost use Rattle.fkp_pages.specs.contracts.lists.Run as row;
+    ghost use Rattle.fkp_pages.specs.Runs.{HasFileNumbers};
 
     ghost Value = { List Run };
 
     ghost coded = { coded_list row.the_row.coded };
 
     ghost view = { λ r. r.items.items };
+
+    ghost invariant = { λ r. All HasFileNumbers r.items.items };
 }
 
 impl PapRuns {
@@ -112,8 +127,10 @@ impl PapRuns {
         }
     }
 
+    /// How many runs there are.
     pub fn len(&self) -> usize
-        ensures { result ≡ length self.now }
+        ensures count { result ≡ length self.now }
+        ensures numbers { All HasFileNumbers self.now }
     {
         self.items.len()
     }
@@ -129,9 +146,12 @@ impl PapRuns {
         (run.from, run.to, run.istd, &run.map)
     }
 
+    /// Puts a run last.
     pub fn add(&mut self, from: u32, to: u32, istd: u16, map: PropMap) -> Result<(), Memory>
-        ensures ok { OnOk result (self.new ≡ self.old ++ (record { from = from; to = to; istd = istd; map = map }) ∷ []) }
+        ensures ok { OnOk result
+            (self.new ≡ self.old ++ (record { from = from; to = to; istd = istd; map = map }) ∷ []) }
         ensures err { OnErr result (self.new ≡ self.old) }
+        ensures numbers { HasFileNumbers (record { from = from; to = to; istd = istd; map = map }) }
     {
         self.items.push(Run {
             from,

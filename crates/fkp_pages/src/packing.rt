@@ -1,5 +1,5 @@
 // Runs on pages: as many on each as fit.
-ghost use Rattle.std.specs.Prelude.{◌≡◌, ◌<◌, ◌≤◌, ◌+◌, ◌^◌, ◌++◌, length, take, All, IfOk, OnOk};
+ghost use Rattle.std.specs.Prelude.{◌≡◌, ◌<◌, ◌≤◌, ◌+◌, ◌^◌, ◌++◌, length, take, All, IfOk, OnOk, OnErr};
 ghost use Rattle.fkp_pages.specs.Runs.{IsWritableRun};
 ghost use Rattle.fkp_pages.specs.PageBytes.{FitsPage};
 ghost use Rattle.fkp_pages.specs.Pages.{ArePagesOf};
@@ -23,12 +23,25 @@ impl Pages {
     /// other in `WordDocument`, the first one at 512 times `number`.
     pub fn add_to(&self, bins: &mut Bins, number: u32) -> Result<(), Memory>
         requires { number + length self.now.starts ≤ 2 ^ 22 }
-        ensures { OnOk result (bins.new ≡ bins.old ++ numbered_bins number self.now.starts) }
+        ensures ok { OnOk result (bins.new ≡ bins.old ++ numbered_bins number self.now.starts) }
+        ensures err { OnErr result (bins.new ≡ bins.old) }
     {
-        for i in 0..self.starts.len() {
-            bins.add(self.starts.get(i), number + i as u32)?;
-        }
+        // They are made apart, so that want of memory leaves the table's ranges as they were.
+        let ranges = self.ranges(*bins.items.allocator(), number)?;
+        bins.items.extend_from_slice(&ranges.items)?;
         Ok(())
+    }
+
+    /// The ranges that name the pages, the first one with this number.
+    fn ranges(&self, alloc: Global, number: u32) -> Result<Bins, Memory>
+        requires { number + length self.now.starts ≤ 2 ^ 22 }
+        ensures { IfOk result (λ ranges. ranges ≡ numbered_bins number self.now.starts) }
+    {
+        let mut ranges = Bins::new(alloc);
+        for i in 0..self.starts.len() {
+            ranges.add(self.starts.get(i), number + i as u32)?;
+        }
+        Ok(ranges)
     }
 }
 
@@ -49,7 +62,7 @@ pub(crate) fn write_pages(alloc: Global, runs: &[Run], kind: PageKind) -> Result
     Ok(Pages { bytes, starts })
 }
 
-// How many runs the next page takes: as many as fit.
+/// How many runs the next page takes: as many as fit.
 fn page_len(runs: &[Run], kind: PageKind) -> usize
     requires some { 0 < length runs.now }
     requires writable { All (IsWritableRun kind) runs.now }

@@ -1,5 +1,6 @@
 // Laws over pages that are written.
 ghost use Rattle.fkp_pages.specs.Pages.{PackingIsOne, PagesAreOne, RunFitsAlone, PagesAreWhole};
+ghost use Rattle.fkp_pages.specs.Packed.{RunsHavePages};
 ghost use Rattle.fkp_pages.specs.InARow.{PagesStandInARow, RowIsPrintable};
 ghost use Rattle.fkp_pages.specs.Found.{RunsAreFound, PlacesHaveLists, ListsHaveSettings};
 
@@ -11,6 +12,11 @@ pub fn packing_is_one()
 /// Runs have one list of pages, so their bytes are a function of the runs.
 pub fn pages_are_one()
     ensures { PagesAreOne }
+{}
+
+/// The pages that are made run by run are right for the runs.
+pub fn runs_have_pages()
+    ensures { RunsHavePages }
 {}
 
 /// A run alone fits into a page, so no run is left out.

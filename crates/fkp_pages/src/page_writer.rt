@@ -1,5 +1,6 @@
 // [MS-DOC] ChpxFkp, PapxFkp: the bytes of a page.
-ghost use Rattle.std.specs.Prelude.{◌≡◌, ◌<◌, ◌≤◌, ◌+◌, ◌-◌, ◌++◌, ◌∷◌, ◌/◌, ◌↔◌, List, ℕ, length, take, drop, All, IsTrue, OnOk, if◌then◌else◌};
+ghost use Rattle.std.specs.Prelude.{◌≡◌, ◌<◌, ◌≤◌, ◌+◌, ◌-◌, ◌++◌, ◌∷◌, ◌/◌, ◌↔◌, List, ℕ, length, take, drop, All};
+ghost use Rattle.std.specs.Prelude.{IsTrue, OnOk, if◌then◌else◌};
 ghost use Rattle.fkp_pages.specs.Fkp.{entry_size, most_runs};
 ghost use Rattle.fkp_pages.specs.Runs.{IsWritableRun};
 ghost use Rattle.fkp_pages.specs.Written.{written};
@@ -56,7 +57,7 @@ pub(crate) fn push_page(
     bytes.push_all(&[runs.len() as u8])
 }
 
-// The greatest even offset that leaves room for so many bytes below the limit.
+/// The greatest even offset that leaves room for so many bytes below the limit.
 fn offset_below(limit: usize, len: usize) -> usize
     ensures { (bytes : List ℕ) → length bytes ≡ len → result ≡ lowered limit bytes }
 {
@@ -66,7 +67,7 @@ fn offset_below(limit: usize, len: usize) -> usize
     limit.saturating_sub(len) / 2 * 2
 }
 
-// Where the fcs and the entries of so many runs end.
+/// Where the fcs and the entries of so many runs end.
 fn entries_end(kind: PageKind, count: usize) -> usize
     requires { count ≤ most_runs kind }
     ensures { result ≡ entries_end kind count }
@@ -74,7 +75,7 @@ fn entries_end(kind: PageKind, count: usize) -> usize
     4 * (count + 1) + kind.entry_size() * count
 }
 
-// Appends where each run begins, and where the last one ends.
+/// Appends where each run begins, and where the last one ends.
 fn push_fcs(bytes: &mut Bytes, runs: &[Run]) -> Result<(), Memory>
     requires { 0 < length runs.now }
     ensures { OnOk result (bytes.new ≡ bytes.old ++ page_fcs runs.now) }
@@ -85,10 +86,11 @@ fn push_fcs(bytes: &mut Bytes, runs: &[Run]) -> Result<(), Memory>
     bytes.push32(runs[runs.len() - 1].to)
 }
 
-// Appends the entry of a run: half the offset of what is written for it, and zeros.
+/// Appends the entry of a run: half the offset of what is written for it, and zeros.
 fn push_entry(bytes: &mut Bytes, is_bare: bool, offset: usize, kind: PageKind) -> Result<(), Memory>
     requires { offset ≤ 511 }
-    ensures { OnOk result (bytes.new ≡ bytes.old ++ ((if is_bare then 0 else offset / 2) ∷ zeros (entry_size kind - 1))) }
+    ensures { OnOk result
+        (bytes.new ≡ bytes.old ++ ((if is_bare then 0 else offset / 2) ∷ zeros (entry_size kind - 1))) }
 {
     let half = if is_bare { 0 } else { (offset / 2) as u8 };
     bytes.push_all(&[half])?;
@@ -96,7 +98,7 @@ fn push_entry(bytes: &mut Bytes, is_bare: bool, offset: usize, kind: PageKind) -
     bytes.push_all(&zeros[..kind.entry_size() - 1])
 }
 
-// Writes bytes at a place. All others stay.
+/// Writes bytes at a place. All others stay.
 fn write_at(area: &mut [u8], at: usize, bytes: &[u8])
     requires { at + length bytes.now ≤ length area.old }
     ensures { area.new ≡ take at area.old ++ (bytes.now ++ drop (at + length bytes.now) area.old) }

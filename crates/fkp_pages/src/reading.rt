@@ -1,7 +1,8 @@
 // [MS-DOC] ChpxFkp, PapxFkp: what a page answers at a byte place.
 ghost use Rattle.std.specs.Prelude.{◌≡◌, ◌+◌, ◌*◌, ◌<◌, ◌≤◌, ◌↔◌, length, IsTrue, MatchOption};
 ghost use Rattle.fkp_pages.specs.declared.kind.PageKind.TheVariants.{Chpx, Papx};
-ghost use Rattle.fkp_pages.specs.Fkp.{page_count, HasRunCount, HoldsFc, IsFirstRun, HasNoRun, list_from, list_to, IsListWithin, IsAnswerOf, HasRunAnswer};
+ghost use Rattle.fkp_pages.specs.Fkp.{page_count, HasRunCount, HoldsFc, IsFirstRun, HasNoRun, list_from, list_to};
+ghost use Rattle.fkp_pages.specs.Fkp.{IsListWithin, IsAnswerOf, HasRunAnswer};
 ghost use Rattle.fkp_pages.specs.Stretch.{IsStretch, HasStretch};
 
 use crate::kind::{COUNT_AT, PageKind, RunAnswer};
@@ -48,6 +49,7 @@ pub fn papx_stretch(page: &[u8], fc: u32) -> Stretch
     stretch_around(PageKind::Papx, page, fc)
 }
 
+/// What a page answers at a place.
 fn run_answer(kind: PageKind, page: &[u8], fc: u32) -> RunAnswer
     requires { length page.now ≡ 512 }
     ensures { HasRunAnswer kind page.now fc result }
@@ -61,6 +63,7 @@ fn run_answer(kind: PageKind, page: &[u8], fc: u32) -> RunAnswer
     }
 }
 
+/// The same, and how far around the place.
 fn stretch_around(kind: PageKind, page: &[u8], fc: u32) -> Stretch
     requires { length page.now ≡ 512 }
     ensures { HasStretch kind page.now fc result }
@@ -74,7 +77,7 @@ fn stretch_around(kind: PageKind, page: &[u8], fc: u32) -> Stretch
     }
 }
 
-// Whether the last byte is a number of runs.
+/// Whether the last byte is a number of runs.
 fn has_run_count(kind: PageKind, page: &[u8]) -> bool
     requires { length page.now ≡ 512 }
     ensures { IsTrue result ↔ HasRunCount kind page.now }
@@ -83,7 +86,7 @@ fn has_run_count(kind: PageKind, page: &[u8]) -> bool
     1 <= count && count <= kind.most_runs()
 }
 
-// The first run that holds the place.
+/// The first run that holds the place.
 fn first_run(page: &[u8], fc: u32) -> Option<usize>
     requires page { length page.now ≡ 512 }
     requires fcs { page_count page.now ≤ 101 }
@@ -98,7 +101,7 @@ fn first_run(page: &[u8], fc: u32) -> Option<usize>
     None
 }
 
-// Whether a run holds the place.
+/// Whether a run holds the place.
 fn holds_fc(page: &[u8], run: usize, fc: u32) -> bool
     requires { 4 * run + 8 ≤ length page.now }
     ensures { IsTrue result ↔ HoldsFc page.now run fc }
@@ -106,7 +109,7 @@ fn holds_fc(page: &[u8], run: usize, fc: u32) -> bool
     get32(page, 4 * run) <= fc && fc < get32(page, 4 * (run + 1))
 }
 
-// What a run answers.
+/// What a run answers.
 fn answer_of(kind: PageKind, page: &[u8], run: usize) -> RunAnswer
     requires page { length page.now ≡ 512 }
     requires counted { HasRunCount kind page.now }
@@ -125,12 +128,13 @@ fn answer_of(kind: PageKind, page: &[u8], run: usize) -> RunAnswer
     }
 }
 
-// The range of the list whose properties stand at the place, if it is in the page.
+/// The range of the list whose properties stand at the place, if it is in the page.
 fn list_range(kind: PageKind, page: &[u8], at: usize) -> Option<(usize, usize)>
     requires page { length page.now ≡ 512 }
     requires place { at < 511 }
     ensures { MatchOption result (¬ (IsListWithin kind page.now at))
-        (λ range. IsListWithin kind page.now at × ((range.0 ≡ list_from kind page.now at) × (range.1 ≡ list_to kind page.now at))) }
+        (λ range. IsListWithin kind page.now at ×
+            ((range.0 ≡ list_from kind page.now at) × (range.1 ≡ list_to kind page.now at))) }
 {
     let (from, to) = list_bounds(kind, page, at);
     if from + kind.least_list() <= to && to <= COUNT_AT {
@@ -140,7 +144,7 @@ fn list_range(kind: PageKind, page: &[u8], at: usize) -> Option<(usize, usize)>
     }
 }
 
-// Where the list begins whose properties stand at the place, and where it ends.
+/// Where the list begins whose properties stand at the place, and where it ends.
 fn list_bounds(kind: PageKind, page: &[u8], at: usize) -> (usize, usize)
     requires page { length page.now ≡ 512 }
     requires place { at < 511 }
@@ -162,7 +166,7 @@ fn list_bounds(kind: PageKind, page: &[u8], at: usize) -> (usize, usize)
     }
 }
 
-// The places around a place that lie between the same fcs of the page.
+/// The places around a place that lie between the same fcs of the page.
 fn bounds(kind: PageKind, page: &[u8], fc: u32) -> (u32, u32)
     requires { length page.now ≡ 512 }
     ensures { IsStretch kind page.now fc result.0 result.1 }

@@ -21,7 +21,7 @@ pub fn are_pap_runs(runs: &PapRuns) -> bool
     are_runs(&runs.items, PageKind::Papx)
 }
 
-// Whether the runs touch, and a page can hold each of them.
+/// Whether the runs touch, and a page can hold each of them.
 fn are_runs(runs: &[Run], kind: PageKind) -> bool
     ensures { IsTrue result ↔ AreRuns kind runs.now }
 {
@@ -36,10 +36,11 @@ fn are_runs(runs: &[Run], kind: PageKind) -> bool
     true
 }
 
-// Whether the run before it, where there is one, ends where it begins.
+/// Whether the run before it, where there is one, ends where it begins.
 fn touches_last(runs: &[Run], i: usize) -> bool
     requires { i < length runs.now }
-    ensures { IsTrue result ↔ ((d : Run) → 0 < i → (slice_index_or runs.now (i - 1) d).to ≡ (slice_index_or runs.now i d).from) }
+    ensures { IsTrue result ↔
+        ((d : Run) → 0 < i → (slice_index_or runs.now (i - 1) d).to ≡ (slice_index_or runs.now i d).from) }
 {
     if i == 0 {
         return true;
@@ -47,7 +48,7 @@ fn touches_last(runs: &[Run], i: usize) -> bool
     runs[i - 1].to == runs[i].from
 }
 
-// Whether a page can hold the run.
+/// Whether a page can hold the run.
 fn is_writable(run: &Run, kind: PageKind) -> bool
     ensures { IsTrue result ↔ IsWritableRun kind run.now }
 {
@@ -60,7 +61,7 @@ fn is_writable(run: &Run, kind: PageKind) -> bool
     run.map.printed_len() <= most_printed(kind)
 }
 
-// The groups of sprms that runs of a kind hold.
+/// The groups of sprms that runs of a kind hold.
 fn groups_of(kind: PageKind) -> u8
     ensures { result ≡ run_groups kind }
 {
@@ -70,7 +71,7 @@ fn groups_of(kind: PageKind) -> u8
     }
 }
 
-// The most bytes of a map's printed list.
+/// The most bytes of a map's printed list.
 fn most_printed(kind: PageKind) -> u64
     ensures { result ≡ most_printed kind }
 {

@@ -45,7 +45,7 @@ pub(crate) fn written_len(run: &Run, kind: PageKind) -> usize
     }
 }
 
-// Whether nothing is written for a run.
+/// Whether nothing is written for a run.
 fn is_bare(run: &Run, kind: PageKind) -> bool
     ensures { result ≡ is_bare kind run.now }
 {
@@ -55,7 +55,7 @@ fn is_bare(run: &Run, kind: PageKind) -> bool
     }
 }
 
-// The list of a run; a paragraph's begins with the style number.
+/// The list of a run; a paragraph's begins with the style number.
 fn list_of(alloc: Global, run: &Run, kind: PageKind) -> Result<Bytes, Memory>
     requires { IsWritableRun kind run.now }
     ensures { IfOk result (λ list. list ≡ run_list kind run.now) }
@@ -72,7 +72,7 @@ fn list_of(alloc: Global, run: &Run, kind: PageKind) -> Result<Bytes, Memory>
     }
 }
 
-// Appends a list as a page has it, with the number of its bytes before it.
+/// Appends a list as a page has it, with the number of its bytes before it.
 fn push_list(bytes: &mut Bytes, list: &[u8], kind: PageKind) -> Result<(), Memory>
     requires { length list.now ≤ least_list kind + most_printed kind }
     ensures { OnOk result (bytes.new ≡ bytes.old ++ spelled_list kind list.now) }

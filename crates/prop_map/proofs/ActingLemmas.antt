@@ -10,9 +10,10 @@ use Rattle.std.proofs.lemmas.Bool.{eqb-true}
 use Rattle.sprm_table.specs.declared.Class.{Class}
 use Rattle.sprm_table.specs.declared.Class.TheVariants.{Plain, Toggle, Clear, Style, Refused}
 use Rattle.sprm_table.specs.Codes.{is_held, class_of, is_setting, is_clear}
-use Rattle.sprm_table.specs.Sprm.{Prl, IsPrl, IsSetting}
+use Rattle.sprm_table.specs.Sprm.{Prl, IsPrl}
 use Rattle.prop_map.specs.Settings.{Settings}
-use Rattle.prop_map.specs.Formed.{IsPropertyMap}
+use Rattle.doc_bits.specs.Number.{AreBytes}
+use Rattle.prop_map.specs.Formed.{IsMapEntry, IsPropertyMap}
 use Rattle.prop_map.specs.Acting.{is_kept, concerns_code, left_by, value_after, names_style, style_of, ArePropertiesAfter}
 
 -- ---- the last of two lists
@@ -92,21 +93,26 @@ set_value : (b : Bool) (v w : List ℕ) → cond b (Some v) None ≡ Some w → 
 set_value true v w e = (refl, cc)
 set_value false v w e = absurd (cc)
 
-formed_from : (groups code : ℕ) (value : List ℕ) (list : List Prl) (before : Option (List ℕ)) (last : Option Prl) → last_or None (filter (concerns_code groups code) list) ≡ last → All IsPrl list → (before ≡ Some value → IsSetting groups (code, value)) → left_by last before ≡ Some value → IsSetting groups (code, value)
-formed_from groups code value list before None was entries old e = old e
-formed_from groups code value list before (Some prl) was entries old e =
+-- the value of an entry is bytes
+abbrev pub HasByteValue : Prl → Type 0
+HasByteValue prl = AreBytes prl.1
+
+formed_from : (groups code : ℕ) (value : List ℕ) (list : List Prl) (before : Option (List ℕ)) (last : Option Prl) → last_or None (filter (concerns_code groups code) list) ≡ last → All IsPrl list → All HasByteValue list → (before ≡ Some value → IsMapEntry groups (code, value)) → left_by last before ≡ Some value → IsMapEntry groups (code, value)
+formed_from groups code value list before None was entries values old e = old e
+formed_from groups code value list before (Some prl) was entries values old e =
     let sets = set_value (is_setting (class_of prl.0)) prl.1 value e in
     let entry = last_has IsPrl (filter (concerns_code groups code) list) prl None tt (All-filter (concerns_code groups code) IsPrl list entries) was in
+    let bytes = last_has HasByteValue (filter (concerns_code groups code) list) prl None tt (All-filter (concerns_code groups code) HasByteValue list values) was in
     let concerns = last_has (λ x. concerns_code groups code x ≡ true) (filter (concerns_code groups code) list) prl None tt (filter_passes (concerns_code groups code) list) was in
     let facts = concern_case (is_held groups prl.0) (code == prl.0) (is_setting (class_of prl.0)) (is_clear (class_of prl.0)) (not (is_kept code)) sets.0 (sets_not_clears (class_of prl.0) sets.0) concerns in
     let key = eqb-true code prl.0 facts.1 in
     let same : prl ≡ (code, value) = λ i. (sym key i, sets.1 i) in
-    subst (IsSetting groups) same (record { entry = entry; held = facts.0; sets = sets.0 })
+    subst (IsMapEntry groups) same (record { setting = record { entry = entry; held = facts.0; sets = sets.0 }; bytes = bytes })
 
--- a list puts into a map only what a map may hold
-pub IsPropertyMap-after : (list : List Prl) (groups : ℕ) (old new : Settings) → All IsPrl list → ArePropertiesAfter list groups old new → IsPropertyMap groups old → IsPropertyMap groups new
-IsPropertyMap-after list groups old new entries after formed code value e =
-    formed_from groups code value list (get old code) (last_or None (filter (concerns_code groups code) list)) refl entries (formed code value) (sym (after code) ∙ e)
+-- a list whose values are bytes puts into a map only what a map may hold
+pub IsPropertyMap-after : (list : List Prl) (groups : ℕ) (old new : Settings) → All IsPrl list → All HasByteValue list → ArePropertiesAfter list groups old new → IsPropertyMap groups old → IsPropertyMap groups new
+IsPropertyMap-after list groups old new entries values after formed code value e =
+    formed_from groups code value list (get old code) (last_or None (filter (concerns_code groups code) list)) refl entries values (formed code value) (sym (after code) ∙ e)
 
 -- the empty map holds nothing
 pub IsPropertyMap-empty : (groups : ℕ) → IsPropertyMap groups empty

@@ -1,13 +1,15 @@
 -- Changes of a map that stands in a tree: an entry put, entries removed, a whole map put over it.
-use Rattle.std.proofs.Common.{◌≡◌, ℕ, ◌+◌, ◌<◌, Bool, true, false, cond, List, [], ◌∷◌, length, take, get_or, Option, Some, None, IsTrue, refl, sym, ap, ◌∙◌, arith, length-take}
+use Rattle.std.proofs.Common.{◌≡◌, ℕ, ◌+◌, ◌<◌, Bool, cond, List, [], ◌∷◌, length, take, get_or, Option, Some, None, IsTrue, refl, sym, ap, ◌∙◌, arith, length-take}
 use Rattle.std.proofs.lemmas.List.{take_more, get_or-take, get_or_default}
 use Rattle.std.specs.declared.cmp.Ordering.TheVariants.{Less, Equal, Greater}
 use Rattle.std.specs.Ordering.{nat_cmp, match_ordering, eq_by_cmp}
 use Rattle.std.specs.Option.{option_or}
 use Rattle.std.specs.Cmp.{nat_cmp_total}
-use Rattle.std.specs.BTreeMap.{insert_entry}
+use Rattle.std.specs.Map.{lookup}
+use Rattle.std.specs.BTreeMap.{insert_entry, is_at}
 use Rattle.std.specs.FinMap.{find, put, is_sorted, from_sorted, retain_keys, get, get-retain_keys, get-from_sorted, same_map, nat_cmp-IsAntisymmetric}
 use Rattle.std.specs.FinMap.Entries.{by_order, where_key, is_sorted-where_key, find-where_key, find-append}
+use Rattle.doc_bits.proofs.TestLemmas.{either}
 use Rattle.prop_map.specs.Settings.{Settings}
 use Rattle.prop_map.specs.Entries.{Entries}
 use Rattle.prop_map.proofs.EntriesLemmas.{true_of, of_true, rises, find_gap}
@@ -21,6 +23,11 @@ insert_entry-put (e ∷ es) code v =
       | Equal ↦ refl
       | Greater ↦ ap (λ rest. e ∷ rest) (insert_entry-put es code v)
     ]
+
+-- a tree finds a value where a map does
+pub find-lookup : (code : ℕ) (es : Entries) → find nat_cmp code es ≡ lookup (is_at (nat_cmp code)) es
+find-lookup code [] = refl
+find-lookup code (e ∷ es) = ap (cond (eq_by_cmp nat_cmp code e.0) (Some e.1)) (find-lookup code es)
 
 -- equal codes pass a test alike
 alike : (p : ℕ → Bool) (q x : ℕ) → nat_cmp q x ≡ Equal → p x ≡ p q
@@ -47,10 +54,6 @@ find-earlier es i d h within =
     find_gap i (get_or es i d).0 (take i es) (omega arith)
     (λ j e l. rw (get_or-take i es j e l, get_or_default es i d e within) (rises es j i e (of_true _ h) l within))
     (λ j e low l. absurd (omega arith))
-
-either : (b : Bool) (v : List ℕ) (o before : Option (List ℕ)) → cond b (Some v) (option_or o before) ≡ option_or (cond b (Some v) o) before
-either true v o before = refl
-either false v o before = refl
 
 pub put_more : (es : Entries) (i : ℕ) (d : ℕ × List ℕ) (q : ℕ) (now before : Option (List ℕ)) → IsTrue (is_sorted nat_cmp es) → i < length es → now ≡ option_or (find nat_cmp q (take i es)) before → cond (eq_by_cmp nat_cmp q (get_or es i d).0) (Some (get_or es i d).1) now ≡ option_or (find nat_cmp q (take (i + 1) es)) before
 put_more es i d q now before h within was =

@@ -9,8 +9,8 @@ use Rattle.std.specs.FinMap.{get, get-insert, same_map, nat_cmp-IsAntisymmetric}
 use Rattle.sprm_table.specs.declared.Class.{Class}
 use Rattle.sprm_table.specs.declared.Class.TheVariants.{Plain, Toggle, Clear, Style, Refused}
 use Rattle.sprm_table.specs.Codes.{is_held, class_of, is_setting, is_clear}
-use Rattle.sprm_table.specs.Sprm.{Prl, IsSetting}
-use Rattle.prop_map.specs.Formed.{character_groups, paragraph_groups}
+use Rattle.sprm_table.specs.Sprm.{Prl}
+use Rattle.prop_map.specs.Formed.{character_groups, paragraph_groups, IsMapEntry}
 use Rattle.prop_map.specs.Acting.{is_kept, sets_code, clears_code, concerns_code, left_by, value_after}
 use Rattle.prop_map.specs.Laws.{SaidCodeByCode, ListsActInTurn, ActingIsOne, ModifierIsOne, SettingsStayFormed}
 use Rattle.prop_map.proofs.ActingLemmas.{value_after-append, style_of-append}
@@ -40,8 +40,8 @@ put_formed false here old value P same other e = other e
 
 pub stay_formed : SettingsStayFormed
 stay_formed groups map prl formed setting code value e =
-    put_formed (eq_by_cmp nat_cmp code prl.0) prl.1 (get map code) value (IsSetting groups (code, value))
-    (λ tied here. let key = eqb-true code prl.0 (sym (unsigned_tied code prl.0) ∙ tied) in subst (IsSetting groups) (λ i. (sym key i, here i)) setting)
+    put_formed (eq_by_cmp nat_cmp code prl.0) prl.1 (get map code) value (IsMapEntry groups (code, value))
+    (λ tied here. let key = eqb-true code prl.0 (sym (unsigned_tied code prl.0) ∙ tied) in subst (IsMapEntry groups) (λ i. (sym key i, here i)) setting)
     (formed code value)
     (sym (get-insert nat_cmp_total map prl.0 prl.1 code) ∙ e)
 

@@ -1,6 +1,7 @@
 pub mod EntriesLemmas
 pub mod ChangeLemmas
 pub mod ActingLemmas
+pub mod ByteLemmas
 pub mod PrintLemmas
 pub mod OverlayLemmas
 pub mod ModifierLemmas
@@ -8,3 +9,7 @@ pub mod GroupLemmas
 pub mod ListedLemmas
 pub mod PrintedLemmas
 pub mod LawLemmas
+pub mod MapLemmas
+pub mod ExistMaps
+pub mod CodeLemmas
+pub mod AcceptedLemmas

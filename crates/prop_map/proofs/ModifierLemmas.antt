@@ -6,12 +6,13 @@ use Rattle.std.specs.List.{All, filter, last_or, list_any}
 use Rattle.std.specs.FinMap.{get, get-empty}
 use Rattle.std.specs.Ordering.{nat_cmp}
 use Rattle.std.proofs.lemmas.Bool.{eqb-true}
+use Rattle.doc_bits.proofs.TestLemmas.{both_true}
 use Rattle.sprm_table.specs.declared.Class.TheVariants.{Plain, Toggle, Clear, Style, Refused}
 use Rattle.sprm_table.specs.Codes.{is_held, is_among, toggles, refused_codes, class_of, is_setting, is_clear}
-use Rattle.sprm_table.specs.Sprm.{Prl, IsSetting}
+use Rattle.sprm_table.specs.Sprm.{Prl}
 use Rattle.prop_map.specs.declared.modifiers.Modifier.{Modifier}
 use Rattle.prop_map.specs.Settings.{Settings}
-use Rattle.prop_map.specs.Formed.{IsPropertyMap, character_groups, paragraph_groups}
+use Rattle.prop_map.specs.Formed.{IsMapEntry, IsPropertyMap, character_groups, paragraph_groups}
 use Rattle.prop_map.specs.Acting.{is_kept, concerns_code, left_by, value_after}
 use Rattle.prop_map.specs.Modifiers.{value_over, clears_characters, IsModifierOf, DoesAsListed, IsComposed, ActsInTurn}
 use Rattle.prop_map.proofs.ActingLemmas.{last_has}
@@ -61,7 +62,7 @@ from_over None before clear code value P e later earlier = earlier (unless (clea
 
 pub IsPropertyMap-over : (groups : ℕ) (clear : Bool) (top base made : Settings) → ((code : ℕ) → get made code ≡ value_over clear code (get top code) (get base code)) → IsPropertyMap groups top → IsPropertyMap groups base → IsPropertyMap groups made
 IsPropertyMap-over groups clear top base made over later earlier code value e =
-    from_over (get top code) (get base code) clear code value (IsSetting groups (code, value)) (sym (over code) ∙ e) (later code value) (earlier code value)
+    from_over (get top code) (get base code) clear code value (IsMapEntry groups (code, value)) (sym (over code) ∙ e) (later code value) (earlier code value)
 
 -- ---- the modifier of a list
 
@@ -153,10 +154,6 @@ clear_not_marked code h =
       | true ↦ λ t h. let e = eqb-true code 0x2A33 t in rw e refl
       | false ↦ λ t h. absurd (let f = others_not_clear (code == 0x4600) (is_among code toggles) (is_among code refused_codes) in cc)
     ] refl h
-
-both_true : (a b : Bool) → (a && b) ≡ true → (a ≡ true) × (b ≡ true)
-both_true true b e = (refl, e)
-both_true false b e = absurd (cc)
 
 mark_case : (prls : List Prl) (code : ℕ) (before : Option (List ℕ)) (last : Option Prl) → last_or None (filter (concerns_code paragraph_groups code) prls) ≡ last → option_or (left_by last None) before ≡ left_by last before
 mark_case prls code before None was = refl

@@ -1,10 +1,11 @@
 -- A printed map: its entries, and what acting with them gives.
-use Rattle.std.proofs.Common.{◌≡◌, inl, inr, ℕ, zero, suc, ◌+◌, ◌<◌, ◌≤◌, ◌==◌, Bool, true, false, cond, not, ◌&&◌, ◌||◌, T, List, [], ◌∷◌, length, get_or, Some, None, refl, sym, ap, ◌∙◌, subst, arith, length-append}
+use Rattle.std.proofs.Common.{◌≡◌, inl, inr, ℕ, zero, suc, ◌+◌, ◌<◌, ◌≤◌, ◌==◌, Bool, true, false, cond, not, ◌&&◌, ◌||◌, T, List, [], ◌∷◌, length, get_or, Option, Some, None, refl, sym, ap, ◌∙◌, subst, arith, length-append}
 use Rattle.std.proofs.lemmas.List.{append-nil, get_or_default}
 use Rattle.std.proofs.lemmas.List.Elements.{All-weaker, All-head, All-tail}
 use Rattle.std.proofs.lemmas.Bool.{eqb-true, cases_lt}
 use Rattle.std.specs.Ordering.{nat_cmp, is_eq, eq_by_cmp}
 use Rattle.std.specs.Cmp.{unsigned_tied}
+use Rattle.std.specs.Option.{option_or}
 use Rattle.std.specs.List.{All, filter, last_or, flat_map}
 use Rattle.std.specs.FinMap.{get, get-entries, get-empty, entries, entries_sorted, empty, find, is_sorted}
 use Rattle.std.specs.FinMap.Entries.{below_all}
@@ -20,7 +21,7 @@ use Rattle.sprm_table.specs.Operands.{size_of, operand_bytes}
 use Rattle.sprm_table.proofs.SprmLemmas.{spelt_unique}
 use Rattle.prop_map.specs.Settings.{Settings}
 use Rattle.prop_map.specs.Entries.{Entries}
-use Rattle.prop_map.specs.Formed.{IsPropertyMap, IsFormedMap}
+use Rattle.prop_map.specs.Formed.{IsMapEntry, IsPropertyMap, IsFormedMap}
 use Rattle.prop_map.specs.Acting.{is_kept, concerns_code, left_by, value_after, names_style, style_of, ArePropertiesAfter}
 use Rattle.prop_map.specs.Printing.{printed_list, IsPrintOf}
 use Rattle.prop_map.proofs.EntriesLemmas.{rises, find_found, AllBelow, less_from, both_first, both_second, cmp_less}
@@ -37,8 +38,11 @@ get-entry m i d within =
     let below : AllBelow code i es = λ j e l. let lt = rises es j i e (entries_sorted m) l within in let same = here e in omega arith in
     get-entries m code ∙ find_found i code es d within below here
 
+pub entries_of : (groups : ℕ) (m : Settings) → IsPropertyMap groups m → All (IsMapEntry groups) (entries m)
+entries_of groups m formed k d within = formed _ _ (get-entry m k d within)
+
 pub settings_of : (groups : ℕ) (m : Settings) → IsPropertyMap groups m → All (IsSetting groups) (entries m)
-settings_of groups m formed k d within = formed _ _ (get-entry m k d within)
+settings_of groups m formed = All-weaker (IsMapEntry groups) (IsSetting groups) (λ prl h. h.setting) (entries m) (entries_of groups m formed)
 
 pub prls_of : (m : Settings) → IsFormedMap m → All IsPrl (entries m)
 prls_of m formed = All-weaker (IsSetting formed.0) IsPrl (λ prl h. h.entry) (entries m) (settings_of formed.0 m formed.1)
@@ -55,8 +59,8 @@ found_has P (x ∷ es) code value all e =
     ] refl e
 
 -- a map holds what its entries are
-pub held_by_entries : (groups : ℕ) (m : Settings) → All (IsSetting groups) (entries m) → IsPropertyMap groups m
-held_by_entries groups m all code value e = found_has (IsSetting groups) (entries m) code value all (sym (get-entries m code) ∙ e)
+pub held_by_entries : (groups : ℕ) (m : Settings) → All (IsMapEntry groups) (entries m) → IsPropertyMap groups m
+held_by_entries groups m all code value e = found_has (IsMapEntry groups) (entries m) code value all (sym (get-entries m code) ∙ e)
 
 -- a code is at least as great as its place, so there are at most 65,536
 at_least : (es : Entries) (i : ℕ) (d : ℕ × List ℕ) → T (is_sorted nat_cmp es) → i < length es → i ≤ (get_or es i d).0
@@ -109,19 +113,27 @@ none_above groups code (e ∷ es) h all =
     let is : concerns_code groups code e ≡ false = concerns-setting groups code e (All-head (IsSetting groups) e es all) ∙ apart in
     rw is (none_above groups code es (both_second _ _ h) (All-tail (IsSetting groups) e es all))
 
-pub value_after-entries : (groups code : ℕ) (es : Entries) → T (is_sorted nat_cmp es) → All (IsSetting groups) es → value_after es groups code None ≡ find nat_cmp code es
-value_after-entries groups code [] h all = refl
-value_after-entries groups code (e ∷ es) h all =
+-- what the entries of a map leave at a code: the value that they have there, or what was there
+pub value_after-entries_over : (groups code : ℕ) (es : Entries) (before : Option (List ℕ)) → T (is_sorted nat_cmp es) → All (IsSetting groups) es → value_after es groups code before ≡ option_or (find nat_cmp code es) before
+value_after-entries_over groups code [] before h all = refl
+value_after-entries_over groups code (e ∷ es) before h all =
     let rest = filter (concerns_code groups code) es in
     let setting = All-head (IsSetting groups) e es all in
     rw (concerns-setting groups code e setting, unsigned_tied code e.0)
-    (elim (code == e.0) as (λ b. (code == e.0) ≡ b → left_by (last_or None (cond b (e ∷ rest) rest)) None ≡ cond b (Some e.1) (find nat_cmp code es)) [
+    (elim (code == e.0) as (λ b. (code == e.0) ≡ b → left_by (last_or None (cond b (e ∷ rest) rest)) before ≡ option_or (cond b (Some e.1) (find nat_cmp code es)) before) [
       | true ↦ λ t.
           let same : code ≡ e.0 = eqb-true code e.0 t in
           let none = none_above groups code es (subst (λ k. T (below_all nat_cmp k es)) (sym same) (both_first _ _ h)) (All-tail (IsSetting groups) e es all) in
           rw none (rw setting.sets refl)
-      | false ↦ λ t. value_after-entries groups code es (both_second _ _ h) (All-tail (IsSetting groups) e es all)
+      | false ↦ λ t. value_after-entries_over groups code es before (both_second _ _ h) (All-tail (IsSetting groups) e es all)
     ] refl)
+
+or_none : (o : Option (List ℕ)) → option_or o None ≡ o
+or_none None = refl
+or_none (Some v) = refl
+
+pub value_after-entries : (groups code : ℕ) (es : Entries) → T (is_sorted nat_cmp es) → All (IsSetting groups) es → value_after es groups code None ≡ find nat_cmp code es
+value_after-entries groups code es h all = value_after-entries_over groups code es None h all ∙ or_none (find nat_cmp code es)
 
 sets_names_none : (held : Bool) (kind : Class) → is_setting kind ≡ true → (held && is_style kind) ≡ false
 sets_names_none true Plain h = refl

@@ -1,7 +1,8 @@
 -- What maps may hold: the line on codes and values of a well-formed document.
 use Rattle.std.specs.Prelude.{◌≡◌, ℕ, List, Some}
 use Rattle.std.specs.FinMap.{get}
-use Rattle.sprm_table.specs.Sprm.{IsSetting}
+use Rattle.doc_bits.specs.Number.{AreBytes}
+use Rattle.sprm_table.specs.Sprm.{Prl, IsSetting}
 use Rattle.prop_map.specs.Settings.{Settings}
 
 -- the groups that a place holds, bit sgc for each: characters 2, paragraphs 1 and 5, sections 4, a Prc 1, 2 and 5
@@ -17,9 +18,14 @@ section_groups = 0x10
 abbrev pub prc_groups : ℕ
 prc_groups = 0x26
 
--- the map has codes of these groups that set something, each with a value of its operand's size
+-- an entry that a map at a place with these groups may hold: it sets its code, and its value is bytes
+pub record IsMapEntry (groups : ℕ) (prl : Prl) : Type 0 where
+  pub setting : IsSetting groups prl
+  pub bytes : AreBytes prl.1
+
+-- the map has codes of these groups that set something, each with a value of bytes of its operand's size
 abbrev pub IsPropertyMap : ℕ → Settings → Type 0
-IsPropertyMap groups map = (code : ℕ) (value : List ℕ) → get map code ≡ Some value → IsSetting groups (code, value)
+IsPropertyMap groups map = (code : ℕ) (value : List ℕ) → get map code ≡ Some value → IsMapEntry groups (code, value)
 
 -- some place may hold the map
 abbrev pub IsFormedMap : Settings → Type 0

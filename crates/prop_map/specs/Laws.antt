@@ -1,14 +1,15 @@
 -- What the definitions imply.
-use Rattle.std.specs.Prelude.{◌≡◌, ℕ, true, false, List, ◌∷◌, ◌++◌, Option, Some, None}
+use Rattle.std.specs.Prelude.{◌≡◌, ◌↔◌, ℕ, Bool, true, false, List, ◌∷◌, ◌++◌, Option, Some, None}
 use Rattle.std.specs.Option.{option_or}
 use Rattle.std.specs.List.{All}
 use Rattle.std.specs.FinMap.{insert}
-use Rattle.sprm_table.specs.Sprm.{Prl, IsSetting}
+use Rattle.sprm_table.specs.Sprm.{Prl}
 use Rattle.prop_map.specs.declared.modifiers.Modifier.{Modifier}
 use Rattle.prop_map.specs.Settings.{Settings}
-use Rattle.prop_map.specs.Formed.{IsPropertyMap}
+use Rattle.prop_map.specs.Formed.{IsMapEntry, IsPropertyMap}
 use Rattle.prop_map.specs.Acting.{sets_code, clears_code, value_after, style_of, ArePropertiesAfter}
-use Rattle.prop_map.specs.Modifiers.{IsModifierOf}
+use Rattle.prop_map.specs.Modifiers.{IsModifierOf, IsOver, IsComposed}
+use Rattle.prop_map.specs.Overlay.{overlay, cleared_where, composed}
 
 abbrev pub NoneSets : ℕ → ℕ → List Prl → Type 0
 NoneSets groups code list = All (λ e. sets_code groups code e ≡ false) list
@@ -43,4 +44,16 @@ abbrev pub ModifierIsOne : Type 0
 ModifierIsOne = (list : List Prl) (one other : Modifier) → IsModifierOf list one → IsModifierOf list other → one ≡ other
 
 abbrev pub SettingsStayFormed : Type 0
-SettingsStayFormed = (groups : ℕ) (map : Settings) (prl : Prl) → IsPropertyMap groups map → IsSetting groups prl → IsPropertyMap groups (insert map prl.0 prl.1)
+SettingsStayFormed = (groups : ℕ) (map : Settings) (prl : Prl) → IsPropertyMap groups map → IsMapEntry groups prl → IsPropertyMap groups (insert map prl.0 prl.1)
+
+-- one map put over another is their overlay
+abbrev pub OverIsOverlay : Type 0
+OverIsOverlay = (clear : Bool) (top base made : Settings) → IsOver clear top base made ↔ made ≡ overlay top (cleared_where clear base)
+
+-- one modifier and then another are one modifier
+abbrev pub ComposedIsOne : Type 0
+ComposedIsOne = (first next made : Modifier) → IsComposed first next made ↔ made ≡ composed first next
+
+-- a map is there after each list
+abbrev pub ListsMakeMaps : Type 0
+ListsMakeMaps = (list : List Prl) (groups : ℕ) (old : Settings) → (new : Settings) × ArePropertiesAfter list groups old new

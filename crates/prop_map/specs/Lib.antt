@@ -5,4 +5,5 @@ pub mod Formed
 pub mod Steps
 pub mod Printing
 pub mod Modifiers
+pub mod Overlay
 pub mod Laws

@@ -39,7 +39,7 @@ pub fn act(alloc: Global, list: &[u8], groups: u8, map: &PropMap) -> Result<Acte
     })
 }
 
-// The style that a sprm names, or the one that was named before.
+/// The style that a sprm names, or the one that was named before.
 fn style(groups: u8, code: Code, value: &[u8], before: Option<u16>) -> Option<u16>
     requires { IsPrl (code.0, value.now) }
     ensures { result ≡ option_or (style_of ((code.0, value.now) ∷ []) groups) before }

@@ -1,6 +1,7 @@
 // Codes by their names in the standard, the groups that places hold, and what a map may hold.
 ghost use Rattle.std.specs.Prelude.{◌↔◌, IsTrue};
 ghost use Rattle.sprm_table.specs.Sprm.{IsPrl, IsSetting};
+ghost use Rattle.prop_map.specs.Formed.{IsMapEntry};
 
 use sprm_table::{Class, Code, OperandSize, class, held, operand_size};
 
@@ -24,6 +25,13 @@ pub const PRC_GROUPS: u8 = 0x26;
 
 /// Whether a map at a place with these groups may hold the value at the code.
 pub fn may_hold(groups: u8, code: Code, value: &[u8]) -> bool
+    ensures { IsTrue result ↔ IsMapEntry groups (code.0, value.now) }
+{
+    is_setting_of(groups, code, value)
+}
+
+/// Whether an entry with the code and the value sets the code, at a place with these groups.
+fn is_setting_of(groups: u8, code: Code, value: &[u8]) -> bool
     ensures { IsTrue result ↔ IsSetting groups (code.0, value.now) }
 {
     if !held(groups, code) || !is_prl(code, value) {
@@ -35,7 +43,7 @@ pub fn may_hold(groups: u8, code: Code, value: &[u8]) -> bool
     }
 }
 
-// Whether the value has the size of the code's operand, and the code is not the one that ends lists.
+/// Whether the value has the size of the code's operand, and the code is not the one that ends lists.
 fn is_prl(code: Code, value: &[u8]) -> bool
     ensures { IsTrue result ↔ IsPrl (code.0, value.now) }
 {

@@ -1,8 +1,10 @@
 // A map that is being changed: a tree, so that each change costs the logarithm of its size.
-ghost use Rattle.std.specs.Prelude.{◌≡◌, ℕ, [], ◌∷◌, OnOk, IfOk};
-ghost use Rattle.std.specs.Option.{option_or};
+ghost use Rattle.std.specs.Prelude.{◌≡◌, ℕ, [], ◌∷◌, map as each, OnOk, IfOk};
+ghost use Rattle.std.specs.Option.{option_map, option_or};
 ghost use Rattle.std.specs.FinMap as map;
+ghost use Rattle.sprm_table.specs.Codes.{is_among};
 ghost use Rattle.prop_map.specs.Acting.{is_kept, ArePropertiesAfter};
+ghost use Rattle.prop_map.specs.Overlay.{without};
 
 use crate::PropMap;
 use crate::sorted::Sorted;
@@ -12,9 +14,9 @@ use std::alloc::Global;
 use std::collections::BTreeMap;
 use std::marker::Model;
 
-/// Codes and their values.
+/// A map in the making: codes and their values.
 #[derive(Drop)]
-pub(crate) struct Draft {
+pub struct Draft {
     tree: BTreeMap<u16, Bytes>,
 }
 
@@ -34,7 +36,8 @@ impl Model for Draft {
 }
 
 impl Draft {
-    pub(crate) fn new(alloc: Global) -> Draft
+    /// The empty map. It takes no memory.
+    pub fn new(alloc: Global) -> Draft
         ensures { result ≡ map.empty }
     {
         Draft {
@@ -42,31 +45,50 @@ impl Draft {
         }
     }
 
-    fn put(&mut self, code: u16, value: Bytes) -> Result<(), Memory>
-        ensures { OnOk result (self.new ≡ map.insert self.old code value) }
+    /// The value at a code.
+    pub fn get(&self, code: Code) -> Option<&[u8]>
+        ensures { option_map (λ v. v.now) result ≡ map.get self.now code.0 }
     {
-        self.tree.insert(code, value)?;
+        match self.tree.get(&code.0) {
+            None => None,
+            Some(value) => Some(value.as_slice()),
+        }
+    }
+
+    /// Puts a value at a code, in place of what stood there.
+    pub fn put(&mut self, code: Code, value: Bytes) -> Result<(), Memory>
+        ensures { OnOk result (self.new ≡ map.insert self.old code.0 value) }
+    {
+        self.tree.insert(code.0, value)?;
         Ok(())
     }
 
-    // Puts each entry of a map, in place of what stood at its code.
+    /// Puts each entry of a map, in place of what stood at its code.
     pub(crate) fn put_all(&mut self, alloc: Global, top: &PropMap) -> Result<(), Memory>
-        ensures { OnOk result ((code : ℕ) → map.get self.new code ≡ option_or (map.get top.now code) (map.get self.old code)) }
+        ensures { OnOk result
+            ((code : ℕ) → map.get self.new code ≡ option_or (map.get top.now code) (map.get self.old code)) }
     {
         for entry in top.entries() {
-            self.put(entry.0, Bytes::from_slice(alloc, entry.1.as_slice())?)?;
+            self.put(Code(entry.0), Bytes::from_slice(alloc, entry.1.as_slice())?)?;
         }
         Ok(())
     }
 
-    // Removes all but what sprmCPlain leaves: sprmCFSpec, sprmCFData, sprmCPicLocation and sprmCIstd.
+    /// Removes all but what sprmCPlain leaves: sprmCFSpec, sprmCFData, sprmCPicLocation and sprmCIstd.
     pub(crate) fn clear(&mut self)
         ensures { self.new ≡ map.retain_keys self.old is_kept }
     {
         self.tree.retain(|code, _| matches!(*code, 0x0855 | 0x0806 | 0x6A03 | 0x4A30));
     }
 
-    // Acts with one sprm.
+    /// Removes what stands at these codes.
+    pub(crate) fn remove(&mut self, codes: &[Code])
+        ensures { self.new ≡ without (each (λ c. c.0) codes.now) self.old }
+    {
+        self.tree.retain(|code, _| !is_one_of(codes, *code));
+    }
+
+    /// Acts with one sprm.
     pub(crate) fn act(
         &mut self,
         alloc: Global,
@@ -79,7 +101,7 @@ impl Draft {
         if held(groups, code) {
             match class(code) {
                 Class::Plain | Class::Toggle => {
-                    self.put(code.0, Bytes::from_slice(alloc, value)?)?;
+                    self.put(code, Bytes::from_slice(alloc, value)?)?;
                 }
                 Class::Clear => self.clear(),
                 Class::Style | Class::Refused => {}
@@ -88,7 +110,8 @@ impl Draft {
         Ok(())
     }
 
-    pub(crate) fn into_map(self, alloc: Global) -> Result<PropMap, Memory>
+    /// The map itself, as a list that copies share.
+    pub fn into_map(self, alloc: Global) -> Result<PropMap, Memory>
         ensures { IfOk result (λ made. made ≡ self) }
     {
         let mut items = Vec::with_capacity(alloc, self.tree.len())?;
@@ -97,4 +120,16 @@ impl Draft {
         }
         PropMap::from_sorted(alloc, Sorted::from_vec(items))
     }
+}
+
+/// Whether the code is one of these.
+fn is_one_of(codes: &[Code], code: u16) -> bool
+    ensures { result ≡ is_among code (each (λ c. c.0) codes.now) }
+{
+    for other in codes {
+        if other.0 == code {
+            return true;
+        }
+    }
+    false
 }

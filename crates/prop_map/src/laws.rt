@@ -1,5 +1,6 @@
 // Laws over the definitions alone.
 ghost use Rattle.prop_map.specs.Laws.{SaidCodeByCode, ListsActInTurn, ActingIsOne, ModifierIsOne, SettingsStayFormed};
+ghost use Rattle.prop_map.specs.Laws.{OverIsOverlay, ComposedIsOne, ListsMakeMaps};
 
 /// What a list leaves at a code, by its last entry that sets or removes it.
 pub fn said_code_by_code()
@@ -24,4 +25,19 @@ pub fn modifier_is_one()
 /// A map that may stand at a place stays one when a setting of the place is put into it.
 pub fn settings_stay_formed()
     ensures { SettingsStayFormed }
+{}
+
+/// One map put over another is their overlay.
+pub fn over_is_overlay()
+    ensures { OverIsOverlay }
+{}
+
+/// One modifier and then another are one modifier.
+pub fn composed_is_one()
+    ensures { ComposedIsOne }
+{}
+
+/// A map is there after each list.
+pub fn lists_make_maps()
+    ensures { ListsMakeMaps }
 {}

@@ -14,11 +14,10 @@ mod sorted;
 
 pub use acting::{Acted, act};
 pub use codes::{CHARACTER_GROUPS, PARAGRAPH_GROUPS, PRC_GROUPS, SECTION_GROUPS, may_hold};
+pub use draft::Draft;
 pub use laws::{
-    acting_is_one, lists_act_in_turn, modifier_is_one, said_code_by_code, settings_stay_formed,
+    acting_is_one, composed_is_one, lists_act_in_turn, lists_make_maps, modifier_is_one,
+    over_is_overlay, said_code_by_code, settings_stay_formed,
 };
 pub use map::PropMap;
 pub use modifiers::Modifier;
-
-#[cfg(test)]
-mod tests;

@@ -1,8 +1,10 @@
 // The map itself. Copies share one sorted list.
-ghost use Rattle.std.specs.Prelude.{◌≡◌, ◌↔◌, IsTrue, IfOk, OnOk, OnErr, MatchOption, Some, None};
+ghost use Rattle.std.specs.Prelude.{◌≡◌, ◌↔◌, ℕ, map as each, IsTrue, IfOk, OnOk, OnErr, MatchOption, Some, None};
 ghost use Rattle.std.specs.FinMap as map;
-ghost use Rattle.prop_map.specs.Formed.{IsPropertyMap};
+ghost use Rattle.prop_map.specs.Formed.{IsPropertyMap, StaysFormed};
+ghost use Rattle.prop_map.specs.Overlay.{without};
 
+use crate::draft::Draft;
 use crate::may_hold;
 use crate::sorted::{Sorted, same_entries};
 use doc_bits::{Bytes, Memory};
@@ -39,7 +41,7 @@ impl PropMap {
         }
     }
 
-    // It takes no memory where the list is empty.
+    /// It takes no memory where the list is empty.
     pub(crate) fn from_sorted(alloc: Global, sorted: Sorted) -> Result<PropMap, Memory>
         ensures { IfOk result (λ made. made ≡ sorted) }
     {
@@ -133,7 +135,19 @@ impl PropMap {
         }
     }
 
-    // The entries in a list of their own.
+    /// The map without what stands at these codes.
+    pub fn without(&self, alloc: Global, codes: &[Code]) -> Result<PropMap, Memory>
+        ensures map { IfOk result (λ made. made ≡ without (each (λ c. c.0) codes.now) self.now) }
+        ensures formed { IfOk result (λ made. (groups : ℕ) → StaysFormed groups self.now made) }
+    {
+        let mut draft = Draft::new(alloc);
+        draft.put_all(alloc, self)?;
+        draft.remove(codes);
+        let made = draft.into_map(alloc)?;
+        Ok(made)
+    }
+
+    /// The entries in a list of their own.
     fn opened(&self, alloc: Global) -> Result<Sorted, Memory>
         ensures { IfOk result (λ sorted. sorted ≡ self.now) }
     {

@@ -1,10 +1,13 @@
 // The modifiers of pieces.
-ghost use Rattle.std.specs.Prelude.{◌≡◌, ◌↔◌, List, [], ◌∷◌, ◌++◌, ◌<◌, ◌≤◌, Some, None, MatchOption, ⊤, IsTrue, IfOk, OnOk, length};
+ghost use Rattle.std.specs.Prelude.{◌≡◌, ◌↔◌, List, [], ◌∷◌, ◌++◌, ◌<◌, ◌≤◌, Some, None, MatchOption, ⊤, IsTrue, IfOk};
+ghost use Rattle.std.specs.Prelude.{OnOk, length};
 ghost use Rattle.std.specs.List.{flat_map};
 ghost use Rattle.doc_bits.specs.Number.{number_bytes};
 ghost use Rattle.sprm_table.specs.Sprm.{Prl, spelling, SpellsSprmList, IsAcceptedList};
 ghost use Rattle.prop_map.specs.Formed.{character_groups, paragraph_groups, prc_groups, StaysFormed};
-ghost use Rattle.prop_map.specs.Modifiers.{no_modifier, mark_style, clears_characters, IsSpeltModifier, DoesAsSpelt, IsCharacterAfter, IsMarkAfter, IsComposed, ActsInTurn, IsFormedModifier, StaysFormedModifier, style_prls, clear_prls, printed_modifier};
+ghost use Rattle.prop_map.specs.Modifiers.{no_modifier, mark_style, clears_characters, IsSpeltModifier, DoesAsSpelt};
+ghost use Rattle.prop_map.specs.Modifiers.{IsCharacterAfter, IsMarkAfter, IsComposed, ActsInTurn, IsFormedModifier};
+ghost use Rattle.prop_map.specs.Modifiers.{StaysFormedModifier, style_prls, clear_prls, printed_modifier};
 
 use crate::codes::{SPRM_C_PLAIN, SPRM_P_ISTD};
 use crate::overlay::over;
@@ -106,7 +109,8 @@ impl Modifier {
     /// The properties and the style number of a mark after the modifier. The style number is always there.
     pub fn on_mark(&self, alloc: Global, istd: u16, pap: &PropMap) -> Result<Acted, Memory>
         ensures map { IfOk result (λ acted. IsMarkAfter self.now pap.now acted.map) }
-        ensures formed { IfOk result (λ acted. IsFormedModifier self.now → StaysFormed paragraph_groups pap.now acted.map) }
+        ensures formed { IfOk result
+            (λ acted. IsFormedModifier self.now → StaysFormed paragraph_groups pap.now acted.map) }
         ensures style { IfOk result (λ acted. acted.istd ≡ Some (mark_style self.now istd)) }
     {
         Ok(Acted {
@@ -141,7 +145,7 @@ impl Modifier {
     }
 }
 
-// Appends the style as an entry, where there is one.
+/// Appends the style as an entry, where there is one.
 fn push_style(bytes: &mut Bytes, istd: Option<u16>) -> Result<(), Memory>
     ensures bytes { OnOk result (bytes.new ≡ bytes.old ++ flat_map spelling (style_prls istd)) }
     ensures word { OnOk result (MatchOption istd ⊤ (λ number. number < 65536)) }
@@ -152,7 +156,7 @@ fn push_style(bytes: &mut Bytes, istd: Option<u16>) -> Result<(), Memory>
     Ok(())
 }
 
-// The bytes of a style number, the lowest first.
+/// The bytes of a style number, the lowest first.
 fn style_bytes(istd: u16) -> [u8; 2]
     ensures bytes { result ≡ number_bytes 2 istd }
     ensures word { istd < 65536 }
@@ -160,7 +164,7 @@ fn style_bytes(istd: u16) -> [u8; 2]
     istd.to_le_bytes()
 }
 
-// Appends the clear as an entry, where it is set.
+/// Appends the clear as an entry, where it is set.
 fn push_clear(bytes: &mut Bytes, clear: bool) -> Result<(), Memory>
     ensures { OnOk result (bytes.new ≡ bytes.old ++ flat_map spelling (clear_prls clear)) }
 {
@@ -170,7 +174,7 @@ fn push_clear(bytes: &mut Bytes, clear: bool) -> Result<(), Memory>
     Ok(())
 }
 
-// How many bytes `push_style` appends.
+/// How many bytes `push_style` appends.
 fn style_len(istd: Option<u16>) -> u64
     ensures len { result ≡ length (flat_map spelling (style_prls istd)) }
     ensures bound { result ≤ 4 }
@@ -181,7 +185,7 @@ fn style_len(istd: Option<u16>) -> u64
     }
 }
 
-// How many bytes `push_clear` appends.
+/// How many bytes `push_clear` appends.
 fn clear_len(clear: bool) -> u64
     ensures len { result ≡ length (flat_map spelling (clear_prls clear)) }
     ensures bound { result ≤ 3 }
@@ -189,14 +193,14 @@ fn clear_len(clear: bool) -> u64
     if clear { 3 } else { 0 }
 }
 
-// Whether a sprm clears characters.
+/// Whether a sprm clears characters.
 fn clears_character(code: Code) -> bool
     ensures { result ≡ clears_characters ((code.0, []) ∷ []) }
 {
     held(CHARACTER_GROUPS, code) && class(code) == Class::Clear
 }
 
-// Whether a list clears characters.
+/// Whether a list clears characters.
 fn clears(list: &[u8]) -> bool
     ensures { (prls : List Prl) → SpellsSprmList list.now prls → result ≡ clears_characters prls }
 {

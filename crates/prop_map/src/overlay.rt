@@ -32,7 +32,7 @@ pub(crate) fn over(
     Ok(made)
 }
 
-// A map to be changed, which is cleared where `clear` is set.
+/// A map to be changed, which is cleared where `clear` is set.
 fn draft_of(alloc: Global, base: &PropMap, clear: bool) -> Result<Draft, Memory>
     ensures { IfOk result (IsClearedWhere clear base.now) }
 {

@@ -21,7 +21,7 @@ impl PropMap {
         Ok(bytes)
     }
 
-    // Appends the map's list.
+    /// Appends the map's list.
     pub(crate) fn print_to(&self, bytes: &mut Bytes) -> Result<(), Memory>
         requires { IsFormedMap self.now }
         ensures { OnOk result (bytes.new ≡ bytes.old ++ printed_list self.now) }
@@ -60,7 +60,7 @@ pub(crate) fn push_prl(bytes: &mut Bytes, code: Code, value: &[u8]) -> Result<()
     bytes.push_all(value)
 }
 
-// How many bytes `push_prl` appends.
+/// How many bytes `push_prl` appends.
 fn prl_len(code: Code, value: &[u8]) -> u64
     requires { IsPrl (code.0, value.now) }
     ensures len { result ≡ length (spelling (code.0, value.now)) }

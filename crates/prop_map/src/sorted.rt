@@ -30,6 +30,7 @@ impl Model for Sorted {
 }
 
 impl Sorted {
+    /// The empty list. It takes no memory.
     pub(crate) fn new(alloc: Global) -> Sorted
         ensures { result ≡ map.empty }
     {
@@ -38,6 +39,7 @@ impl Sorted {
         }
     }
 
+    /// The list of these entries, which are in order.
     pub(crate) fn from_vec(items: Vec<(u16, Bytes)>) -> Sorted
         requires { IsTrue (map.is_sorted nat_cmp items.items) }
         ensures { result ≡ map.from_sorted items.items }
@@ -45,12 +47,14 @@ impl Sorted {
         Sorted { items }
     }
 
+    /// The entries themselves.
     pub(crate) fn entries(&self) -> &[(u16, Bytes)]
         ensures { result.now ≡ map.entries self.now }
     {
         &self.items
     }
 
+    /// The value at a code.
     pub(crate) fn get(&self, code: u16) -> Option<&[u8]>
         ensures { MatchOption result (map.get self.now code ≡ None) (λ v. map.get self.now code ≡ Some v.now) }
     {
@@ -60,6 +64,7 @@ impl Sorted {
         }
     }
 
+    /// Puts a value at a code, in place of what stood there.
     pub(crate) fn insert(&mut self, code: u16, value: Bytes) -> Result<(), Memory>
         ensures ok { OnOk result (self.new ≡ map.insert self.old code value) }
         ensures err { OnErr result (self.new ≡ self.old) }
@@ -73,6 +78,7 @@ impl Sorted {
         }
     }
 
+    /// The same entries in a list of their own.
     pub(crate) fn copy(&self, alloc: Global) -> Result<Sorted, Memory>
         ensures { IfOk result (λ copy. copy ≡ self.now) }
     {
@@ -84,7 +90,7 @@ impl Sorted {
     }
 }
 
-// Where a code stands, or where it would stand.
+/// Where a code stands, or where it would stand.
 fn place(items: &[(u16, Bytes)], code: u16) -> Result<usize, usize>
     requires { IsTrue (map.is_sorted nat_cmp items.now) }
     ensures { IsPlaced items.now code result }

@@ -9,3 +9,8 @@ pub mod StdLemmas
 pub mod StyleBackLemmas
 pub mod SheetBackLemmas
 pub mod UniqueLemmas
+pub mod BaseLemmas
+pub mod MadeLists
+pub mod StableStyles
+pub mod ExistStyles
+pub mod ExistSheet

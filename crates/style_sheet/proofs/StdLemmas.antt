@@ -30,7 +30,7 @@ stk_small (Other stk upxes) f = elim f.0 [ inl e ↦ omega arith | inr e ↦ ome
 pub upxes_few : (istd : ℕ) (kind : Kind) → IsFormedKind kind → length (written_upxes istd kind) < 16
 upxes_few istd (Para pap chp) f = omega arith
 upxes_few istd (Char chp) f = omega arith
-upxes_few istd (Other stk upxes) f = let few = f.1 in omega arith
+upxes_few istd (Other stk upxes) f = let few = f.1.0 in omega arith
 
 pub base_small : (base : Option ℕ) → IsFormedBase base → written_base base < 4096
 base_small None f = omega arith

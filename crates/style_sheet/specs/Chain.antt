@@ -64,3 +64,7 @@ pub record HasSoundBase (sheet : Sheet) (istd : ℕ) : Type 0 where
 -- a style has one chain of bases at most
 abbrev pub BaseChainIsOne : Type 0
 BaseChainIsOne = (sheet : Sheet) (istd : ℕ) (one other : List ℕ) → IsBaseChain sheet istd one → IsBaseChain sheet istd other → one ≡ other
+
+-- where no style breaks the rule of bases, the bases are sound
+abbrev pub UnbrokenBasesAreSound : Type 0
+UnbrokenBasesAreSound = (sheet : Sheet) → ((istd : ℕ) → ¬ (BreaksBases sheet istd)) → HasSoundBases sheet

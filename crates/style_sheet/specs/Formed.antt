@@ -1,17 +1,18 @@
 -- What a sheet of styles may hold.
 use Rattle.std.specs.Prelude.{◌≡◌, ◌⊎◌, ℕ, ◌<◌, ◌≤◌, length, Option, Some, None, ⊤}
 use Rattle.std.specs.List.{All}
+use Rattle.doc_bits.specs.Number.{AreBytes}
 use Rattle.prop_map.specs.Formed.{IsPropertyMap, character_groups, paragraph_groups}
 use Rattle.style_sheet.specs.declared.styles.Style.{Style}
 use Rattle.style_sheet.specs.declared.styles.Kind.{Kind}
 use Rattle.style_sheet.specs.declared.styles.Kind.TheVariants.{Para, Char, Other}
 use Rattle.style_sheet.specs.Sheet.{Sheet}
 
--- settings of the kind's places, or stk 3 or 4 and at most 15 upxes
+-- settings of the kind's places, or stk 3 or 4 and at most 15 upxes of bytes
 abbrev pub IsFormedKind : Kind → Type 0
 IsFormedKind (Para pap chp) = IsPropertyMap paragraph_groups pap × IsPropertyMap character_groups chp
 IsFormedKind (Char chp) = IsPropertyMap character_groups chp
-IsFormedKind (Other stk upxes) = ((stk ≡ 3) ⊎ (stk ≡ 4)) × (length upxes ≤ 15)
+IsFormedKind (Other stk upxes) = ((stk ≡ 3) ⊎ (stk ≡ 4)) × ((length upxes ≤ 15) × All AreBytes upxes)
 
 -- 12 bits, where all of them set mean that there is no base
 abbrev pub IsFormedBase : Option ℕ → Type 0

@@ -2,7 +2,7 @@
 -- upx of a style of paragraphs, bchUpe as cbStd.
 use Rattle.std.specs.Prelude.{◌≡◌, ℕ, suc, ◌+◌, ◌*◌, ◌≤◌, List, [], ◌∷◌, ◌++◌, length, Option, Some, None}
 use Rattle.std.specs.List.{flat_map}
-use Rattle.doc_bits.specs.Number.{number_bytes}
+use Rattle.doc_bits.specs.Number.{number_bytes, AreBytes}
 use Rattle.doc_bits.specs.Rules.{Hold}
 use Rattle.prop_map.specs.Printing.{printed_list}
 use Rattle.style_sheet.specs.declared.styles.Style.{Style}
@@ -79,3 +79,13 @@ SheetIsReadBack = (sheet : Sheet) → IsFormedSheet sheet → IsWritable sheet �
 -- a part holds one sheet at most
 abbrev pub SheetIsOne : Type 0
 SheetIsOne = (part : List ℕ) (one other : Sheet) → HasStyleSheet part one → HasStyleSheet part other → one ≡ other
+
+-- a part holds a sheet, which is well formed
+pub record HasFormedSheet (part : List ℕ) : Type 0 where
+  pub sheet : Sheet
+  pub has : HasStyleSheet part sheet
+  pub formed : IsFormedSheet sheet
+
+-- a part of bytes that breaks no rule holds one
+abbrev pub PartsHoldSheets : Type 0
+PartsHoldSheets = (part : List ℕ) (at : ℕ) → AreBytes part → Hold (stsh_rules part at) → HasFormedSheet part

@@ -8,7 +8,7 @@ use doc_bits::Memory;
 use std::alloc::Global;
 
 impl StyleSheet {
-    // 1 where a style of paragraphs is there, 2 where one of characters is, else 0.
+    /// 1 where a style of paragraphs is there, 2 where one of characters is, else 0.
     fn kind_number(&self, istd: u16) -> u8
         ensures { result ≡ kind_at self.now istd }
     {
@@ -36,7 +36,7 @@ impl StyleSheet {
         self.kind_number(istd) == 1
     }
 
-    // The base of the style there, where there is a style that has one.
+    /// The base of the style there, where there is a style that has one.
     fn base(&self, istd: u16) -> Option<u16>
         ensures { result ≡ base_at self.now istd }
     {

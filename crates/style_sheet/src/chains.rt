@@ -28,6 +28,7 @@ impl Chain {
         }
     }
 
+    /// The chain of these numbers.
     pub(crate) fn from_vec(items: Vec<u16>) -> Chain
         ensures { result ≡ items.items }
     {

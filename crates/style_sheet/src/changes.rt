@@ -3,7 +3,8 @@ ghost use Rattle.std.specs.Prelude.{◌≡◌, ◌<◌, false, IfOk, OnOk, OnErr
 ghost use Rattle.prop_map.specs.Formed.{IsPropertyMap, character_groups, paragraph_groups};
 ghost use Rattle.prop_map.specs.Modifiers.{IsOver};
 ghost use Rattle.style_sheet.specs.Chain.{kind_at};
-ghost use Rattle.style_sheet.specs.Changes.{with_kind, HasCharactersOver, HasParagraphsOver, SetsCharacters, SetsParagraphs};
+ghost use Rattle.style_sheet.specs.Changes.{with_kind, HasCharactersOver, HasParagraphsOver, SetsCharacters};
+ghost use Rattle.style_sheet.specs.Changes.{SetsParagraphs};
 
 use crate::{Kind, Style, StyleSheet};
 use doc_bits::{Memory, Units};
@@ -42,7 +43,7 @@ impl StyleSheet {
 }
 
 impl Style {
-    // The style with another kind.
+    /// The style with another kind.
     fn with_kind(&self, alloc: Global, kind: Kind) -> Result<Style, Memory>
         ensures { IfOk result (λ made. made ≡ with_kind self.now kind) }
     {
@@ -59,7 +60,7 @@ impl Style {
 }
 
 impl Kind {
-    // The kind with character settings put over its own.
+    /// The kind with character settings put over its own.
     fn with_characters(&self, alloc: Global, set: &PropMap) -> Result<Kind, Memory>
         ensures { IfOk result (HasCharactersOver self.now set.now) }
     {
@@ -78,7 +79,7 @@ impl Kind {
         }
     }
 
-    // The kind with paragraph settings put over its own.
+    /// The kind with paragraph settings put over its own.
     fn with_paragraphs(&self, alloc: Global, set: &PropMap) -> Result<Kind, Memory>
         ensures { IfOk result (HasParagraphsOver self.now set.now) }
     {
@@ -98,7 +99,7 @@ impl Kind {
     }
 }
 
-// The entries of `set`, and those of `base` at other codes.
+/// The entries of `set`, and those of `base` at other codes.
 fn over(alloc: Global, base: &PropMap, set: &PropMap) -> Result<PropMap, Memory>
     ensures { IfOk result (IsOver false set.now base.now) }
 {

@@ -1,10 +1,12 @@
 // [MS-DOC] STD: the style that one spells. `base` is cbSTDBaseInFile.
 ghost use Rattle.std.specs.Prelude.{◌≡◌, ◌+◌, ◌*◌, ◌<◌, ◌≤◌, length, slice_index, IfOk};
-ghost use Rattle.doc_bits.specs.Number.{u16_at};
+ghost use Rattle.std.specs.List.{All};
+ghost use Rattle.doc_bits.specs.Number.{u16_at, AreBytes};
 ghost use Rattle.sprm_table.specs.Sprm.{IsAcceptedList};
 ghost use Rattle.prop_map.specs.Formed.{IsPropertyMap};
 ghost use Rattle.style_sheet.specs.Formed.{IsFormedBase, IsFormedKind, IsFormedStyle};
-ghost use Rattle.style_sheet.specs.StyleDefinition.{base_of, IsStd, HasAcceptedLists, IsMapOf, AreUpxes, IsNameOf, SpellsKind, SpellsStyle};
+ghost use Rattle.style_sheet.specs.StyleDefinition.{base_of, IsStd, HasAcceptedLists, IsMapOf, AreUpxes, IsNameOf};
+ghost use Rattle.style_sheet.specs.StyleDefinition.{SpellsKind, SpellsStyle};
 
 use crate::counted::{counted_bytes, next_place};
 use crate::definition::{first_upx, kind_number, upx_count};
@@ -33,7 +35,7 @@ pub(crate) fn read_style(alloc: Global, std: &[u8], base: usize) -> Result<Style
     })
 }
 
-// The base that a number of 12 bits names; all bits set are none.
+/// The base that a number of 12 bits names; all bits set are none.
 fn base_of(number: u16) -> Option<u16>
     requires { number < 4096 }
     ensures base { result ≡ base_of number }
@@ -42,6 +44,7 @@ fn base_of(number: u16) -> Option<u16>
     if number == 0xFFF { None } else { Some(number) }
 }
 
+/// The units of the name.
 fn read_name(alloc: Global, std: &[u8], base: usize) -> Result<Units, Memory>
     requires std { IsStd std.now base }
     requires base { (8 < base) × (base < 20) }
@@ -54,6 +57,7 @@ fn read_name(alloc: Global, std: &[u8], base: usize) -> Result<Units, Memory>
     Ok(name)
 }
 
+/// The kind and its settings, by the number of the kind.
 fn read_kind(alloc: Global, std: &[u8], base: usize) -> Result<Kind, Memory>
     requires std { IsStd std.now base }
     requires base { (8 < base) × (base < 20) }
@@ -80,7 +84,7 @@ fn read_kind(alloc: Global, std: &[u8], base: usize) -> Result<Kind, Memory>
     }
 }
 
-// The settings that a list makes of none.
+/// The settings that a list makes of none.
 fn settings(alloc: Global, list: &[u8], groups: u8) -> Result<PropMap, Memory>
     requires { IsAcceptedList list.now groups }
     ensures map { IfOk result (IsMapOf list.now groups) }
@@ -91,10 +95,12 @@ fn settings(alloc: Global, list: &[u8], groups: u8) -> Result<PropMap, Memory>
     Ok(map)
 }
 
+/// The upxes as they are.
 fn read_upxes(alloc: Global, std: &[u8], base: usize) -> Result<UpxList, Memory>
     requires std { IsStd std.now base }
     requires base { (8 < base) × (base < 20) }
-    ensures { IfOk result (AreUpxes std.now base) }
+    ensures spelt { IfOk result (AreUpxes std.now base) }
+    ensures bytes { IfOk result (λ upxes. All AreBytes upxes) }
 {
     let mut upxes = UpxList::new(alloc);
     let mut at = first_upx(std, base);

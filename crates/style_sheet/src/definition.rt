@@ -2,7 +2,8 @@
 ghost use Rattle.std.specs.Prelude.{◌≡◌, ◌↔◌, ◌⊎◌, ◌+◌, ◌<◌, ◌≤◌, ◌^◌, length, IsTrue, None};
 ghost use Rattle.doc_bits.specs.Rules.{LeastOrNone, From};
 ghost use Rattle.sprm_table.specs.Sprm.{HasSprmFaultAt, IsAcceptedList};
-ghost use Rattle.style_sheet.specs.StyleDefinition.{stk, cupx, upxes_start, upx_place, HasName, HasKind, HasUpxes, IsStd, HasParagraphLists, HasAcceptedLists};
+ghost use Rattle.style_sheet.specs.StyleDefinition.{stk, cupx, upxes_start, upx_place, HasName, HasKind, HasUpxes};
+ghost use Rattle.style_sheet.specs.StyleDefinition.{IsStd, HasParagraphLists, HasAcceptedLists};
 ghost use Rattle.style_sheet.specs.Stsh.{IsParagraphFault, IsCharacterFault, HasListFault};
 
 use crate::counted::{counted_bytes, counted_end, even_up, next_place};
@@ -21,6 +22,7 @@ pub(crate) fn is_std(std: &[u8], base: usize) -> bool
     kind_number(std) != 1 || get16(std, first_upx(std, base)) >= 2
 }
 
+/// Whether the name and the zero unit behind it are within the STD.
 fn has_name(std: &[u8], base: usize) -> bool
     requires { base < 20 }
     ensures { IsTrue result ↔ HasName std.now base }
@@ -32,7 +34,7 @@ fn has_name(std: &[u8], base: usize) -> bool
     start <= std.len() && get16(std, start - 2) == 0
 }
 
-// Where the upxes begin: after the name and the zero unit.
+/// Where the upxes begin: after the name and the zero unit.
 fn upxes_start(std: &[u8], base: usize) -> usize
     requires { (base + 2 ≤ length std.now) × (base < 20) }
     ensures start { result ≡ upxes_start std.now base }
@@ -41,6 +43,7 @@ fn upxes_start(std: &[u8], base: usize) -> usize
     base + 4 + 2 * get16(std, base) as usize
 }
 
+/// The number of the kind.
 pub(crate) fn kind_number(std: &[u8]) -> u16
     requires { 4 ≤ length std.now }
     ensures { result ≡ stk std.now }
@@ -48,6 +51,7 @@ pub(crate) fn kind_number(std: &[u8]) -> u16
     get16(std, 2) % 16
 }
 
+/// The number of the upxes.
 pub(crate) fn upx_count(std: &[u8]) -> u16
     requires { 6 ≤ length std.now }
     ensures { result ≡ cupx std.now }
@@ -55,6 +59,7 @@ pub(crate) fn upx_count(std: &[u8]) -> u16
     get16(std, 4) % 16
 }
 
+/// Whether the kind is one, and has its number of upxes.
 fn has_kind(std: &[u8]) -> bool
     requires { 6 ≤ length std.now }
     ensures { IsTrue result ↔ HasKind std.now }
@@ -67,6 +72,7 @@ fn has_kind(std: &[u8]) -> bool
     }
 }
 
+/// Whether the upxes are within the STD, and nothing is behind them.
 fn has_upxes(std: &[u8], base: usize) -> bool
     requires { (base + 2 ≤ length std.now) × (base < 20) × (6 ≤ length std.now) }
     ensures { IsTrue result ↔ HasUpxes std.now base }
@@ -81,7 +87,7 @@ fn has_upxes(std: &[u8], base: usize) -> bool
     std.len() <= at
 }
 
-// Where the first upx stands.
+/// Where the first upx stands.
 pub(crate) fn first_upx(std: &[u8], base: usize) -> usize
     requires { (base + 2 ≤ length std.now) × (base < 20) }
     ensures place { result ≡ upx_place std.now base 0 }
@@ -108,13 +114,14 @@ pub(crate) fn std_fault(std: &[u8], base: usize) -> Option<u32>
     }
 }
 
-// The first fault in the two lists of a style of paragraphs.
+/// The first fault in the two lists of a style of paragraphs.
 fn paragraph_fault(std: &[u8], base: usize) -> Option<u32>
     requires std { IsStd std.now base }
     requires base { (8 < base) × (base < 20) }
     requires short { length std.now < 65536 }
     requires kind { stk std.now ≡ 1 }
-    ensures first { LeastOrNone (λ offset. IsParagraphFault std.now base offset ⊎ IsCharacterFault std.now (upx_place std.now base 1) offset) result }
+    ensures first { LeastOrNone (λ offset. IsParagraphFault std.now base offset ⊎ IsCharacterFault std.now
+        (upx_place std.now base 1) offset) result }
     ensures accepted { result ≡ None → HasParagraphLists std.now base }
 {
     let at = first_upx(std, base);
@@ -128,7 +135,7 @@ fn paragraph_fault(std: &[u8], base: usize) -> Option<u32>
     lesser(paragraphs, characters)
 }
 
-// The first fault of a list that begins at an offset.
+/// The first fault of a list that begins at an offset.
 fn fault_in(list: &[u8], groups: u8, offset: u32) -> Option<u32>
     requires { offset + length list.now < 2 ^ 32 }
     ensures first { LeastOrNone (From offset (HasSprmFaultAt list.now groups)) result }

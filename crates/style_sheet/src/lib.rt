@@ -18,10 +18,10 @@ mod upxes;
 
 pub use chains::Chain;
 pub use fault::StyleFault;
-pub use laws::{base_chain_is_one, sheet_is_one, sheet_is_read_back};
+pub use laws::{
+    base_chain_is_one, parts_hold_sheets, sheet_is_one, sheet_is_read_back,
+    unbroken_bases_are_sound,
+};
 pub use sheet::StyleSheet;
 pub use styles::{Kind, Style};
 pub use upxes::UpxList;
-
-#[cfg(test)]
-mod tests;

@@ -8,7 +8,8 @@ ghost use Rattle.prop_map.specs.Printing.{printed_list};
 ghost use Rattle.style_sheet.specs.Sheet.{style_at};
 ghost use Rattle.style_sheet.specs.Formed.{IsFormedStyle, IsFormedKind};
 ghost use Rattle.style_sheet.specs.Counted.{written_counted};
-ghost use Rattle.style_sheet.specs.Written.{written_stk, written_upxes, written_style, written_slot, written_sheet, IsWritable, IsReadAs};
+ghost use Rattle.style_sheet.specs.Written.{written_stk, written_upxes, written_style, written_slot, written_sheet};
+ghost use Rattle.style_sheet.specs.Written.{IsWritable, IsReadAs};
 
 use crate::{Kind, Style, StyleSheet};
 use doc_bits::{Bytes, Memory};
@@ -64,7 +65,7 @@ impl StyleSheet {
         true
     }
 
-    // Appends a slot: its cbStd and its STD.
+    /// Appends a slot: its cbStd and its STD.
     fn push_slot(&self, alloc: Global, bytes: &mut Bytes, istd: u16) -> Result<(), Memory>
         requires { IsWritable self.now }
         ensures { OnOk result (bytes.new ≡ bytes.old ++ written_counted (written_slot istd (style_at self.now istd))) }
@@ -81,7 +82,7 @@ impl StyleSheet {
 }
 
 impl Style {
-    // The STD of the style in this slot.
+    /// The STD of the style in this slot.
     fn print(&self, alloc: Global, istd: u16) -> Result<Bytes, Memory>
         requires formed { IsFormedStyle self.now }
         requires short { length (written_style istd self.now) ≤ 32767 }
@@ -100,7 +101,7 @@ impl Style {
         Ok(bytes)
     }
 
-    // How many bytes `print` answers.
+    /// How many bytes `print` answers.
     fn std_len(&self, istd: u16) -> u64
         requires { IsFormedKind self.now.kind }
         ensures { result ≡ min (length (written_style istd self.now)) (2 ^ 64 - 1) }
@@ -114,7 +115,7 @@ impl Style {
 }
 
 impl Kind {
-    // [MS-DOC] stk.
+    /// [MS-DOC] stk.
     fn stk(&self) -> u16
         requires { IsFormedKind self.now }
         ensures stk { result ≡ written_stk self.now }
@@ -127,7 +128,7 @@ impl Kind {
         }
     }
 
-    // [MS-DOC] cupx.
+    /// [MS-DOC] cupx.
     fn upx_count(&self, istd: u16) -> u16
         requires { IsFormedKind self.now }
         ensures count { result ≡ length (written_upxes istd self.now) }
@@ -140,11 +141,12 @@ impl Kind {
         }
     }
 
-    // Appends the upxes of a style in this slot.
+    /// Appends the upxes of a style in this slot.
     fn push_upxes(&self, alloc: Global, bytes: &mut Bytes, istd: u16) -> Result<(), Memory>
         requires formed { IsFormedKind self.now }
         requires short { All (λ upx. length upx < 65536) (written_upxes istd self.now) }
-        ensures { OnOk result (bytes.new ≡ bytes.old ++ flat_map (λ upx. written_counted upx) (written_upxes istd self.now)) }
+        ensures { OnOk result
+            (bytes.new ≡ bytes.old ++ flat_map (λ upx. written_counted upx) (written_upxes istd self.now)) }
     {
         match self {
             Kind::Para { pap, chp } => {
@@ -166,10 +168,11 @@ impl Kind {
         }
     }
 
-    // How many bytes `push_upxes` appends.
+    /// How many bytes `push_upxes` appends.
     fn upxes_len(&self, istd: u16) -> u64
         requires { IsFormedKind self.now }
-        ensures { result ≡ min (length (flat_map (λ upx. written_counted upx) (written_upxes istd self.now))) (2 ^ 64 - 1) }
+        ensures { result ≡ min (length (flat_map (λ upx. written_counted upx) (written_upxes istd self.now)))
+            (2 ^ 64 - 1) }
     {
         match self {
             Kind::Para { pap, chp } => {
@@ -181,7 +184,7 @@ impl Kind {
     }
 }
 
-// The number of the slot, and the list of paragraph settings.
+/// The number of the slot, and the list of paragraph settings.
 fn paragraph_upx(alloc: Global, istd: u16, pap: &PropMap) -> Result<Bytes, Memory>
     requires { IsFormedMap pap.now }
     ensures { IfOk result (λ bytes. bytes ≡ number_bytes 2 istd ++ printed_list pap.now) }
@@ -193,6 +196,7 @@ fn paragraph_upx(alloc: Global, istd: u16, pap: &PropMap) -> Result<Bytes, Memor
     Ok(bytes)
 }
 
+/// Appends the lists, each with its count and its pad.
 fn push_list(bytes: &mut Bytes, upxes: &[Bytes]) -> Result<(), Memory>
     requires { All (λ upx. length upx < 65536) upxes.now }
     ensures { OnOk result (bytes.new ≡ bytes.old ++ flat_map (λ upx. written_counted upx) upxes.now) }
@@ -203,6 +207,7 @@ fn push_list(bytes: &mut Bytes, upxes: &[Bytes]) -> Result<(), Memory>
     Ok(())
 }
 
+/// How many bytes `push_list` appends, or the most that the type has.
 fn list_len(upxes: &[Bytes]) -> u64
     ensures { result ≡ min (length (flat_map (λ upx. written_counted upx) upxes.now)) (2 ^ 64 - 1) }
 {
@@ -213,7 +218,7 @@ fn list_len(upxes: &[Bytes]) -> u64
     len
 }
 
-// How many bytes a count, so many bytes and their pad are.
+/// How many bytes a count, so many bytes and their pad are.
 fn counted_len(len: u64) -> u64
     requires { len < 2 ^ 63 }
     ensures { result ≡ 2 + (len + len % 2) }

@@ -4,7 +4,9 @@ ghost use Rattle.doc_bits.specs.Rules.{Hold, LeastOrNone, Among};
 ghost use Rattle.style_sheet.specs.Formed.{IsFormedSlot};
 ghost use Rattle.style_sheet.specs.StyleDefinition.{HasAcceptedLists};
 ghost use Rattle.style_sheet.specs.Counted.{counted_bytes};
-ghost use Rattle.style_sheet.specs.Stsh.{cstd, head_of, slot_place, table_offset, HasStshif, IsSlotAt, AreSlots, IsWrongSlot, HasSlotFault, HasStyleFault, HasSoundLists, SpellsSlotAt, HasStyleSheet, stsh_rules, IsStyleFault};
+ghost use Rattle.style_sheet.specs.Stsh.{cstd, head_of, slot_place, table_offset, HasStshif, IsSlotAt, AreSlots};
+ghost use Rattle.style_sheet.specs.Stsh.{IsWrongSlot, HasSlotFault, HasStyleFault, HasSoundLists, SpellsSlotAt};
+ghost use Rattle.style_sheet.specs.Stsh.{HasStyleSheet, stsh_rules, IsStyleFault};
 
 use crate::counted::{counted_bytes, counted_end, even_up, next_place};
 use crate::decoding::read_style;
@@ -50,7 +52,7 @@ impl StyleSheet {
     }
 }
 
-// Whether the Stshif is there, with a number of slots and a base that are read.
+/// Whether the Stshif is there, with a number of slots and a base that are read.
 fn has_stshif(part: &[u8]) -> bool
     ensures { IsTrue result ↔ HasStshif part.now }
 {
@@ -61,7 +63,7 @@ fn has_stshif(part: &[u8]) -> bool
         && (get16(part, 4) == 10 || get16(part, 4) == 18)
 }
 
-// Where the first slot stands.
+/// Where the first slot stands.
 fn first_slot(part: &[u8]) -> usize
     requires { HasStshif part.now }
     ensures place { result ≡ slot_place part.now 0 }
@@ -70,7 +72,7 @@ fn first_slot(part: &[u8]) -> usize
     even_up(2 + get16(part, 0) as usize)
 }
 
-// The first slot that leaves the part, or holds what is no STD.
+/// The first slot that leaves the part, or holds what is no STD.
 fn wrong_slot(part: &[u8], at: u32) -> Option<u32>
     requires stshif { HasStshif part.now }
     requires room { at + length part.now < 2 ^ 32 }
@@ -88,7 +90,7 @@ fn wrong_slot(part: &[u8], at: u32) -> Option<u32>
     None
 }
 
-// An offset of the part as one of the table stream.
+/// An offset of the part as one of the table stream.
 fn table_offset(at: u32, place: usize) -> u32
     requires { place < 2 ^ 40 }
     ensures { result ≡ table_offset at place }
@@ -96,7 +98,7 @@ fn table_offset(at: u32, place: usize) -> u32
     (at as usize + place).min(u32::MAX as usize) as u32
 }
 
-// Whether a slot is within the part, and is empty or holds an STD.
+/// Whether a slot is within the part, and is empty or holds an STD.
 fn is_slot(part: &[u8], place: usize, base: usize) -> bool
     requires { (8 < base) × (base < 20) }
     ensures { IsTrue result ↔ IsSlotAt part.now base place }
@@ -107,7 +109,7 @@ fn is_slot(part: &[u8], place: usize, base: usize) -> bool
     }
 }
 
-// The first fault in a list of settings.
+/// The first fault in a list of settings.
 fn wrong_list(part: &[u8], at: u32) -> Option<u32>
     requires stshif { HasStshif part.now }
     requires slots { AreSlots part.now }
@@ -125,7 +127,7 @@ fn wrong_list(part: &[u8], at: u32) -> Option<u32>
     least
 }
 
-// The first fault in the lists of the style in a slot.
+/// The first fault in the lists of the style in a slot.
 fn slot_fault(part: &[u8], place: usize, base: usize, at: u32) -> Option<u32>
     requires slot { IsSlotAt part.now base place }
     requires base { (8 < base) × (base < 20) }
@@ -143,7 +145,7 @@ fn slot_fault(part: &[u8], place: usize, base: usize, at: u32) -> Option<u32>
     }
 }
 
-// The sheet of a part that breaks no rule.
+/// The sheet of a part that breaks no rule.
 fn read_slots(alloc: Global, part: &[u8]) -> Result<StyleSheet, Memory>
     requires stshif { HasStshif part.now }
     requires slots { AreSlots part.now }
@@ -160,7 +162,7 @@ fn read_slots(alloc: Global, part: &[u8]) -> Result<StyleSheet, Memory>
     Ok(sheet)
 }
 
-// The seven numbers after cbSTDBaseInFile.
+/// The seven numbers after cbSTDBaseInFile.
 fn read_head(part: &[u8]) -> [u16; 7]
     requires { 20 ≤ length part.now }
     ensures { result ≡ head_of part.now }
@@ -176,7 +178,7 @@ fn read_head(part: &[u8]) -> [u16; 7]
     ]
 }
 
-// The style in a slot, where it is not empty.
+/// The style in a slot, where it is not empty.
 fn read_slot(alloc: Global, part: &[u8], place: usize, base: usize) -> Result<Option<Style>, Memory>
     requires slot { IsSlotAt part.now base place }
     requires base { (8 < base) × (base < 20) }

@@ -1,5 +1,6 @@
 // The sheet. Copies share one list of slots, and lists of slots share their styles.
-ghost use Rattle.std.specs.Prelude.{◌≡◌, ◌↔◌, ◌<◌, ◌≤◌, ℕ, [], ◌∷◌, ◌++◌, length, IsTrue, IfSome, IfOk, OnOk, OnErr, MatchOption, Some, None};
+ghost use Rattle.std.specs.Prelude.{◌≡◌, ◌↔◌, ◌<◌, ◌≤◌, ℕ, [], ◌∷◌, ◌++◌, length, IsTrue, IfSome, IfOk, OnOk, OnErr};
+ghost use Rattle.std.specs.Prelude.{MatchOption, Some, None};
 ghost use Rattle.style_sheet.specs.Sheet.{Sheet, style_at};
 ghost use Rattle.style_sheet.specs.Formed.{IsFormedSheet, IsFormedStyle, IsFormedSlot};
 ghost use Rattle.style_sheet.specs.Changes.{with_style};
@@ -63,7 +64,8 @@ impl StyleSheet {
 
     /// The style in a slot, where the slot is there and not empty.
     pub fn get(&self, istd: u16) -> Option<&Style>
-        ensures style { MatchOption result (style_at self.now istd ≡ None) (λ style. style_at self.now istd ≡ Some style.now) }
+        ensures style { MatchOption result (style_at self.now istd ≡ None)
+            (λ style. style_at self.now istd ≡ Some style.now) }
         ensures formed { IfSome result (λ style. IsFormedStyle style.now) }
     {
         self.shared.get(istd)
@@ -97,7 +99,7 @@ impl StyleSheet {
         Ok(())
     }
 
-    // Puts a style into a slot that is there.
+    /// Puts a style into a slot that is there.
     pub(crate) fn put(&mut self, istd: u16, style: Style) -> Result<(), Memory>
         requires there { istd < length self.old.styles }
         requires formed { IsFormedStyle style }

@@ -1,5 +1,6 @@
 // The slots of a sheet. Styles are shared, so that a copy of the list copies no style.
-ghost use Rattle.std.specs.Prelude.{◌≡◌, ◌↔◌, [], ◌∷◌, ◌++◌, length, slice_set, IsTrue, IfOk, OnOk, OnErr, MatchOption, Some, None, ◌<◌};
+ghost use Rattle.std.specs.Prelude.{◌≡◌, ◌↔◌, [], ◌∷◌, ◌++◌, length, slice_set, IsTrue, IfOk, OnOk, OnErr, MatchOption};
+ghost use Rattle.std.specs.Prelude.{Some, None, ◌<◌};
 ghost use Rattle.std.specs.List.{All};
 ghost use Rattle.style_sheet.specs.Sheet.{style_at};
 ghost use Rattle.style_sheet.specs.Slots.{slot_of, styles_of, sheet_of};
@@ -17,6 +18,7 @@ pub(crate) struct Slots {
 }
 
 impl Slots {
+    /// One slot, and the numbers.
     pub(crate) fn new(alloc: Global, head: &[u16; 7], first: Option<Style>) -> Result<Slots, Memory>
         ensures made { IfOk result (λ made. sheet_of made ≡ record { head = head.now; styles = first ∷ [] }) }
         ensures words { IfOk result (λ made. All (λ number. number < 65536) (sheet_of made).head) }
@@ -44,7 +46,8 @@ impl Slots {
 
     /// Puts a slot at the end.
     pub(crate) fn add(&mut self, alloc: Global, style: Option<Style>) -> Result<(), Memory>
-        ensures ok { OnOk result (sheet_of self.new ≡ record { head = self.old.head; styles = (sheet_of self.old).styles ++ style ∷ [] }) }
+        ensures ok { OnOk result
+            (sheet_of self.new ≡ record { head = self.old.head; styles = (sheet_of self.old).styles ++ style ∷ [] }) }
         ensures err { OnErr result (sheet_of self.new ≡ sheet_of self.old) }
     {
         let slot = match style {
@@ -58,7 +61,8 @@ impl Slots {
     /// Puts a style into a slot that is there.
     pub(crate) fn set(&mut self, alloc: Global, istd: u16, style: Style) -> Result<(), Memory>
         requires { istd < length (sheet_of self.old).styles }
-        ensures ok { OnOk result (sheet_of self.new ≡ record { head = self.old.head; styles = slice_set (sheet_of self.old).styles istd (Some style) }) }
+        ensures ok { OnOk result (sheet_of self.new ≡
+            record { head = self.old.head; styles = slice_set (sheet_of self.old).styles istd (Some style) }) }
         ensures err { OnErr result (sheet_of self.new ≡ sheet_of self.old) }
     {
         let shared = Rc::new(alloc, style)?;
@@ -92,6 +96,7 @@ impl Slots {
     }
 }
 
+/// Whether both lists have the same styles in the same slots.
 fn same_slots(ours: &[Option<Rc<Style>>], theirs: &[Option<Rc<Style>>]) -> bool
     ensures { IsTrue result ↔ styles_of ours.now ≡ styles_of theirs.now }
 {
@@ -106,7 +111,7 @@ fn same_slots(ours: &[Option<Rc<Style>>], theirs: &[Option<Rc<Style>>]) -> bool
     true
 }
 
-// Whether both slots are empty or have the same style.
+/// Whether both slots are empty or have the same style.
 fn same_slot(slot: &Option<Rc<Style>>, other: &Option<Rc<Style>>) -> bool
     ensures { IsTrue result ↔ slot_of slot.now ≡ slot_of other.now }
 {

@@ -60,6 +60,7 @@ impl UpxList {
         Ok(UpxList { items })
     }
 
+    /// The lists themselves.
     pub(crate) fn as_slice(&self) -> &[Bytes]
         ensures { result.now ≡ self.now }
     {
@@ -74,6 +75,7 @@ impl UpxList {
     }
 }
 
+/// Whether both have the same lists in the same order.
 fn same_lists(ours: &[Bytes], theirs: &[Bytes]) -> bool
     ensures { IsTrue result ↔ ours.now ≡ theirs.now }
 {

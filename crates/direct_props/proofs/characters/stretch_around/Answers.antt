@@ -14,4 +14,5 @@ returns c =
         makes = c.in_ok-made-in-Some.ensures.made;
         modified = c.in_ok-map-in-Some.ensures.map;
       };
+      formed = λ by. c.in_ok-map-in-Some.ensures.formed by c.in_ok-made-in-Some.ensures.formed;
     }

@@ -1,4 +1,4 @@
-use Rattle.std.proofs.Common.{◌≡◌, ℕ, List, [], ◌∷◌, ◌++◌, Option, Some, None, refl, sym, ap, ◌∙◌, subst, append_assoc}
+use Rattle.std.proofs.Common.{◌≡◌, ℕ, List, [], ◌∷◌, ◌++◌, Option, Some, None, refl, sym, ap, ◌∙◌, subst, append_assoc, arith}
 use Rattle.std.proofs.lemmas.List.{append-nil}
 use Rattle.std.specs.Prelude.{slice_range}
 use Rattle.std.specs.Ordering.{nat_cmp}
@@ -7,6 +7,7 @@ use Rattle.std.specs.FinMap.{get, get-empty}
 use Rattle.sprm_table.specs.Sprm.{Prl}
 use Rattle.prop_map.specs.Acting.{value_after, style_of}
 use Rattle.prop_map.proofs.ActingLemmas.{value_after-append, style_of-append, IsPropertyMap-after}
+use Rattle.prop_map.proofs.ByteLemmas.{list_bytes}
 use Rattle.prop_map.proofs.acting.act.Goals as goal
 
 or_none : (o : Option (List ℕ)) → option_or o None ≡ o
@@ -59,4 +60,7 @@ returns-clause-acted c = λ prls h.
     }
 
 pub returns-clause-formed : goal.returns-clause-formed
-returns-clause-formed c = IsPropertyMap-after c.requires.list c.args.groups c.args.map.now _ c.requires.spelt.entries (returns-clause-acted c c.requires.list c.requires.spelt).map
+returns-clause-formed c =
+    IsPropertyMap-after c.requires.list c.args.groups c.args.map.now _ c.requires.spelt.entries
+    (list_bytes c.args.list.now c.requires.list (λ i. omega (arith, c.type_inv.list i)) c.requires.spelt)
+    (returns-clause-acted c c.requires.list c.requires.spelt).map

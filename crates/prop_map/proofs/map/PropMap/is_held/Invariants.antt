@@ -1,7 +1,7 @@
 use Rattle.std.proofs.Common.{take}
 use Rattle.std.specs.List.{All}
-use Rattle.sprm_table.specs.Sprm.{IsSetting}
+use Rattle.prop_map.specs.Formed.{IsMapEntry}
 use Rattle.prop_map.proofs.map.PropMap.is_held.Given as goal
 
 abbrev pub invariant-loop-entry : goal.invariant-loop-entry
-invariant-loop-entry l = All (IsSetting l.groups) (take l.entry-index l.entry-items)
+invariant-loop-entry l = All (IsMapEntry l.groups) (take l.entry-index l.entry-items)

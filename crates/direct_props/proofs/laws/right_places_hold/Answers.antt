@@ -1,0 +1,5 @@
+use Rattle.direct_props.proofs.RightLemmas.{right_places_hold}
+use Rattle.direct_props.proofs.laws.right_places_hold.Goals as goal
+
+pub returns : goal.returns
+returns c = right_places_hold

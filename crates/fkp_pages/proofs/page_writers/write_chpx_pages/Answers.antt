@@ -1,0 +1,16 @@
+use Rattle.std.proofs.Common.{◌≡◌, ◌∙◌, subst}
+use Rattle.std.specs.Result.{IfOk}
+use Rattle.std.proofs.lemmas.Result.{IfOk-weaker}
+use Rattle.fkp_pages.specs.declared.kind.PageKind.TheVariants.{Chpx}
+use Rattle.fkp_pages.specs.Pages.{ArePagesOf}
+use Rattle.fkp_pages.specs.Packed.{pages_of}
+use Rattle.fkp_pages.proofs.PackedLemmas.{pages_are_these}
+use Rattle.fkp_pages.proofs.page_writers.write_chpx_pages.Goals as goal
+
+pub returns-clause-is : goal.returns-clause-is
+returns-clause-is c =
+    let runs = c.args.runs.now in
+    let same : c.deref.result.now ≡ runs = c.deref.ensures.value ∙ c.runs.view_is in
+    IfOk-weaker c.write_pages.result (ArePagesOf Chpx runs) (λ pages. pages ≡ pages_of Chpx runs)
+    (λ pages is. pages_are_these Chpx runs pages c.requires.writable is)
+    (subst (λ items. IfOk c.write_pages.result (ArePagesOf Chpx items)) same c.write_pages.ensures)
