@@ -1,9 +1,10 @@
 -- The Clx that is printed of entries is that of the pieces as they are seen.
-use Rattle.std.proofs.Common.{◌≡◌, ℕ, ◌^◌, ◌<◌, List, [], ◌∷◌, ◌++◌, length, map, All, get_or, slice_index, slice_index_or, refl, inl, inr, sym, ap, subst, ◌∙◌, arith}
+use Rattle.std.proofs.Common.{◌≡◌, ℕ, ◌^◌, ◌<◌, List, [], ◌++◌, length, map, All, get_or, slice_index, slice_index_or, inl, inr, sym, ap, subst, ◌∙◌, arith}
 use Rattle.std.specs.List.{sum}
 use Rattle.std.proofs.Math.ListN.{get_or-map, length-map}
 use Rattle.std.proofs.lemmas.Option.{slice_get_within, get_or_from_slice_get}
 use Rattle.std.proofs.lemmas.List.Sums.{sum-map}
+use Rattle.doc_bits.proofs.ListLemmas.{map-map}
 use Rattle.prop_map.specs.declared.modifiers.Modifier.{Modifier}
 use Rattle.prop_map.specs.Modifiers.{no_modifier}
 use Rattle.piece_table.specs.declared.pieces.Entry.{Entry}
@@ -16,11 +17,6 @@ use Rattle.piece_table.specs.Printing.{IsPrintable, IsPrintedClx, NamesModifier,
 use Rattle.piece_table.specs.PrintSteps.{HasPrintable, ArePrinted, lens_of, pcds_of}
 use Rattle.piece_table.proofs.PieceLemmas.{All-seen}
 use Rattle.piece_table.proofs.NumberingLemmas.{seen_piece, same_or_apart}
-
--- a map of a map
-pub map-map : {A B C : Type 0} (f : B → C) (g : A → B) (xs : List A) → map f (map g xs) ≡ map (λ x. f (g x)) xs
-map-map f g [] = refl
-map-map f g (x ∷ xs) = ap (λ ys. f (g x) ∷ ys) (map-map f g xs)
 
 pub entries_printable : (modifiers : List Modifier) (entries : List Entry) → AreNumbered modifiers entries → ArePieces (map (text_piece modifiers) entries) → IsPrintable (map (text_piece modifiers) entries) → All (HasPrintable modifiers) entries
 entries_printable modifiers entries numbered are printable =

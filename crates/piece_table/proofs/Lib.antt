@@ -14,3 +14,8 @@ pub mod ClxPrintLemmas
 pub mod PlcBackLemmas
 pub mod ReadBackLemmas
 pub mod PrintedClxLemmas
+pub mod FlatLemmas
+pub mod CutLemmas
+pub mod RenumberLemmas
+pub mod SpliceLemmas
+pub mod ModifiedLemmas

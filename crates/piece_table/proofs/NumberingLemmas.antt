@@ -8,7 +8,7 @@ use Rattle.std.proofs.lemmas.Bool.{cases_lt}
 use Rattle.std.proofs.lemmas.Option.{slice_get_within, slice_get-get_or, get_or_from_slice_get}
 use Rattle.std.proofs.lemmas.List.Elements.{All-push}
 use Rattle.std.proofs.lemmas.List.{ext_get_or}
-use Rattle.doc_parts.proofs.TableLemmas.{slice_get_before}
+use Rattle.doc_bits.proofs.ListLemmas.{slice_get_before}
 use Rattle.prop_map.specs.declared.modifiers.Modifier.{Modifier}
 use Rattle.prop_map.specs.Modifiers.{no_modifier, IsFormedModifier}
 use Rattle.piece_table.specs.declared.pieces.Piece.{Piece}

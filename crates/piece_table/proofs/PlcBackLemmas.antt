@@ -10,8 +10,8 @@ use Rattle.std.proofs.lemmas.Option.{get_or_from_slice_get}
 use Rattle.doc_bits.specs.Number.{number_bytes, number_at}
 use Rattle.doc_bits.specs.Plc.{PlcPart, plc_cp, plc_entry}
 use Rattle.doc_bits.proofs.NumberLemmas.{number_at-read_back, length-number_bytes}
-use Rattle.doc_parts.specs.Table.{printed_plc, HasPlc}
-use Rattle.doc_parts.proofs.PrintLemmas.{printed-HasPlc}
+use Rattle.doc_bits.specs.Plc.{printed_plc, HasPlc}
+use Rattle.doc_bits.proofs.PlcLemmas.{printed-HasPlc}
 use Rattle.piece_table.specs.declared.pieces.Piece.{Piece}
 use Rattle.piece_table.specs.Clx.{IsPlcPcd, fc_compressed, pcd_fc, prm_word}
 use Rattle.piece_table.specs.Printing.{cps_of, plc_bytes, pcd_bytes, fc_number}

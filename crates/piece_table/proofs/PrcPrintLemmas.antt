@@ -7,7 +7,7 @@ use Rattle.std.proofs.lemmas.List.{append-nil, get_or-set_same, get_or-set_other
 use Rattle.std.proofs.lemmas.Grind.{flat_map-append}
 use Rattle.std.proofs.lemmas.Option.{slice_get_within, get_or_from_slice_get}
 use Rattle.std.proofs.lemmas.List.Elements.{All-push, All-nil, Contains-get_or}
-use Rattle.doc_parts.proofs.TableLemmas.{slice_get_before, slice_get_push}
+use Rattle.doc_bits.proofs.ListLemmas.{slice_get_before, slice_get_push}
 use Rattle.sprm_table.specs.Sprm.{IsAcceptedList, spelling}
 use Rattle.prop_map.specs.Formed.{prc_groups}
 use Rattle.prop_map.specs.declared.modifiers.Modifier.{Modifier}

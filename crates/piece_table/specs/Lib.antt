@@ -7,3 +7,6 @@ pub mod Front
 pub mod Numbering
 pub mod Printing
 pub mod PrintSteps
+pub mod Changes
+pub mod Cuts
+pub mod Renumbering

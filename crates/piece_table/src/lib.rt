@@ -1,7 +1,9 @@
 //! The piece table of a document: read from the Clx, judged by rules 27 to 32, and written again.
 #![tactic(auto)]
 
+mod changes;
 mod collect;
+mod cutting;
 mod fault;
 mod judge;
 mod laws;
@@ -12,11 +14,12 @@ mod pieces;
 mod prcs;
 mod printing;
 mod reading;
+mod renumber;
 
 pub use fault::ClxFault;
 pub use laws::{
     clx_is_read_back, clx_pieces_are_one, first_clx_fault_is_least, flat_length_is_total,
 };
 pub use pcd::{FcCompressed, Prm};
-pub use pieces::{Piece, PieceList, TextBounds};
+pub use pieces::{Piece, PieceList, Spot, TextBounds};
 pub use reading::read_clx;

@@ -1,5 +1,5 @@
 ghost use Rattle.std.specs.Prelude.{◌≡◌, ℕ, ◌+◌, ◌*◌, ◌^◌, ◌<◌, ◌≤◌, length, map, slice_get, Some, option_map, IfOk};
-ghost use Rattle.piece_table.specs.Piece.{TextPiece, PieceTable, total_length, piece_end, IsPiece};
+ghost use Rattle.piece_table.specs.Piece.{TextPiece, PieceTable, total_length, unit_bytes, piece_end, IsPiece};
 
 use doc_bits::Memory;
 use prop_map::Modifier;
@@ -19,9 +19,23 @@ impl Piece {
     pub fn end(self) -> u64
         ensures { result ≡ piece_end self }
     {
-        let unit_bytes: u64 = if self.wide { 2 } else { 1 };
-        self.at as u64 + self.len as u64 * unit_bytes
+        self.at as u64 + self.len as u64 * self.unit_bytes() as u64
     }
+
+    /// The number of bytes of a unit.
+    pub(crate) fn unit_bytes(self) -> u32
+        ensures value { result ≡ unit_bytes self.wide }
+        ensures bound { result ≤ 2 }
+    {
+        if self.wide { 2 } else { 1 }
+    }
+}
+
+/// Where a CP is: the number of its piece, and its place within the piece, in units.
+#[derive(Clone, Copy, Debug, PartialEq, Eq)]
+pub struct Spot {
+    pub piece: usize,
+    pub within: u32,
 }
 
 /// Where text may stand in `WordDocument`: from the end of the FIB to the end of the stream, in bytes.

@@ -1,0 +1,18 @@
+use Rattle.std.proofs.Common.{◌∙◌}
+use Rattle.piece_table.proofs.CutLemmas.{entries_sound}
+use Rattle.piece_table.proofs.SpliceLemmas.{seam_begins, kept_numbered, kept_pieces, kept_total}
+use Rattle.piece_table.proofs.pieces.PieceList.split.Goals as goal
+
+pub cut-requires-clause-sound : goal.cut-requires-clause-sound
+cut-requires-clause-sound c = entries_sound c.self.inside.modifiers.items c.self.inside.items.items c.self.invariant.1.0
+
+pub invariant_of-self : goal.invariant_of-self
+invariant_of-self c =
+    let modifiers = c.self.inside.modifiers.items in
+    let old = c.self.inside.items.items in
+    let new = c.cut.new.entries.items in
+    let keeps = c.cut.ensures.cut.keeps in
+    (kept_numbered modifiers old new keeps c.self.invariant.0, (kept_pieces modifiers old new keeps c.self.invariant.1.0, c.self.invariant.1.1 ∙ kept_total modifiers old new keeps))
+
+pub returns-clause-begins : goal.returns-clause-begins
+returns-clause-begins c = seam_begins c.self.inside.modifiers.items c.cut.new.entries.items c.args.cp c.cut.result c.cut.ensures.cut.seam

@@ -1,0 +1,97 @@
+// Changes of a list of pieces, each by its meaning on the flat entries.
+ghost use Rattle.std.specs.Prelude.{◌≡◌, ◌+◌, ◌-◌, ◌<◌, ◌≤◌, length, ⊤, OnOk, OnErr, Option, MatchOption, option_to_list};
+ghost use Rattle.std.specs.List.{splice};
+ghost use Rattle.prop_map.specs.Modifiers.{IsFormedModifier};
+ghost use Rattle.piece_table.specs.Piece.{IsPiece, flat_pieces, total_length};
+ghost use Rattle.piece_table.specs.Changes.{IsSpot, HasBegin, fresh_places, fresh_units, AreModified};
+
+use crate::cutting::{copy_of, cut, cut_range, put, spot_of, units_of};
+use crate::renumber::{Copies, compose_all, copy_all, renumber};
+use crate::{Piece, PieceList, Spot};
+use doc_bits::Memory;
+use prop_map::Modifier;
+
+impl PieceList {
+    /// Takes memory for so many further pieces.
+    pub fn reserve(&mut self, n: usize) -> Result<(), Memory>
+        ensures ok { OnOk result (n ≤ self.new.spare) }
+        ensures pieces { self.new.pieces ≡ self.old.pieces }
+        ensures more { self.old.spare ≤ self.new.spare }
+    {
+        self.items.reserve(n)?;
+        Ok(())
+    }
+
+    /// The piece of a CP, and the place of the CP within it.
+    pub fn locate(&self, cp: u32) -> Spot
+        requires { cp < total_length self.now.pieces }
+        ensures { IsSpot self.now.pieces cp result }
+    {
+        spot_of(&self.items, cp)
+    }
+
+    /// Splits the piece that holds a CP, so that one begins there. No memory is taken.
+    pub fn split(&mut self, cp: u32)
+        requires within { cp ≤ total_length self.old.pieces }
+        requires spare { 1 ≤ self.old.spare }
+        ensures text { flat_pieces self.new.pieces ≡ flat_pieces self.old.pieces }
+        ensures begins { HasBegin self.new.pieces cp }
+        ensures count { length self.new.pieces ≤ length self.old.pieces + 1 }
+        ensures spare { self.old.spare ≤ self.new.spare + 1 }
+    {
+        let _ = cut(&mut self.items, cp);
+    }
+
+    /// Puts a fresh piece, which has no modifier, or nothing in the place of a range of CPs. No memory is taken.
+    pub fn splice(&mut self, from: u32, to: u32, fresh: Option<Piece>)
+        requires order { from ≤ to }
+        requires within { to ≤ total_length self.old.pieces }
+        requires spare { 3 ≤ self.old.spare }
+        requires fresh { MatchOption fresh ⊤ IsPiece }
+        requires total { total_length self.old.pieces + fresh_units fresh ≤ 500001 + (to - from) }
+        ensures text { flat_pieces self.new.pieces ≡ splice (flat_pieces self.old.pieces) from to (fresh_places fresh) }
+        ensures count { length self.new.pieces ≤ length self.old.pieces + 1 + length (option_to_list fresh) }
+        ensures spare { self.old.spare ≤ self.new.spare + 3 }
+    {
+        let (first, last) = cut_range(&mut self.items, from, to);
+        let _ = self.items.drain(first..last);
+        put(&mut self.items, first, fresh);
+        self.total = self.total - (to - from) + units_of(fresh);
+    }
+
+    /// Composes the modifiers of a range of CPs with another. Its ends are split first.
+    pub fn modify(&mut self, from: u32, to: u32, by: &Modifier) -> Result<(), Memory>
+        requires order { from < to }
+        requires within { to ≤ total_length self.old.pieces }
+        requires spare { 2 ≤ self.old.spare }
+        requires formed { IsFormedModifier by.now }
+        ensures text { OnOk result (AreModified by.now from to (flat_pieces self.old.pieces) (flat_pieces self.new.pieces)) }
+        ensures count { OnOk result (length self.new.pieces ≤ length self.old.pieces + 2) }
+        ensures spare { OnOk result (self.old.spare ≤ self.new.spare + 2) }
+        ensures err { OnErr result (self.new ≡ self.old) }
+    {
+        let mut items = copy_of(&self.items)?;
+        let (first, last) = cut_range(&mut items, from, to);
+        let numbers = compose_all(
+            *self.items.allocator(),
+            &items[first..last],
+            &mut self.modifiers,
+            by,
+        )?;
+        renumber(&mut items, first, last, &numbers);
+        self.items = items;
+        Ok(())
+    }
+
+    /// Lets go of the modifiers that no piece names any longer.
+    pub fn drop_unused_modifiers(&mut self) -> Result<(), Memory>
+        ensures { self.new ≡ self.old }
+    {
+        let alloc = *self.items.allocator();
+        let Copies { modifiers, numbers } = copy_all(alloc, &self.items, &self.modifiers)?;
+        let count = self.items.len();
+        renumber(&mut self.items, 0, count, &numbers);
+        self.modifiers = modifiers;
+        Ok(())
+    }
+}
