@@ -1,12 +1,12 @@
 -- Streams that are put last in a list of them.
-use Rattle.std.proofs.Common.{◌≡◌, ◌↔◌, ◌⊎◌, inl, inr, ℕ, zero, suc, ◌+◌, ◌-◌, ◌^◌, ◌<◌, ◌≤◌, List, [], ◌∷◌, ◌++◌, length, Some, slice_index, refl, sym, ap, ◌∙◌, subst, arith, length-append}
+use Rattle.std.proofs.Common.{◌≡◌, ◌⊎◌, inl, inr, ℕ, ◌+◌, ◌-◌, ◌^◌, ◌<◌, ◌≤◌, List, [], ◌∷◌, ◌++◌, length, Some, slice_index, sym, ap, ◌∙◌, subst, arith, length-append}
 use Rattle.std.specs.Prelude.{slice_get}
 use Rattle.std.specs.List.{sum_by}
 use Rattle.std.proofs.lemmas.Bool.{cases_lt, cases_order}
 use Rattle.std.proofs.lemmas.List.Sums.{sum_by_push}
 use Rattle.std.proofs.lemmas.Option.{slice_get_within, same_Some}
 use Rattle.doc_bits.proofs.ListLemmas.{there_is, slice_get_push, slice_get_before}
-use Rattle.cfb_streams.specs.Directory.{upper_case, IsNameLessAt, ComesBefore}
+use Rattle.cfb_streams.specs.Directory.{upper_case, ComesBefore}
 use Rattle.cfb_streams.specs.Contents.{NamedBytes, AreStreams, IsStored, AreStored, EndsBefore}
 
 -- a name that comes before a second comes before a third that the second comes before

@@ -1,9 +1,9 @@
 -- The first broken rule: how the least places of parts join, and that there is one answer.
-use Rattle.std.proofs.Common.{◌≡◌, ◌⊎◌, inl, inr, ℕ, ◌+◌, ◌<◌, ◌≤◌, min, Option, Some, None, refl, sym, ◌∙◌, ap, subst, arith}
+use Rattle.std.proofs.Common.{◌≡◌, ◌⊎◌, inl, inr, ℕ, ◌+◌, ◌<◌, ◌≤◌, min, Option, Some, None, refl, sym, ◌∙◌, subst, arith}
 use Rattle.std.proofs.lemmas.Bool.{cases_lt}
 use Rattle.doc_bits.specs.declared.places.Where.{Where}
 use Rattle.doc_bits.specs.Rules.{Rules, rule, ◌then◌, given, Nowhere, IsLeast, Hold, FirstBy, IsFirst, LeastOrNone, Among, From, lesser_of, IsSingle, Breaks, Ascends, IsLeastOfAll}
-use Rattle.doc_bits.specs.Places.{Place, IsFirstPlace, rules_in}
+use Rattle.doc_bits.specs.Places.{IsFirstPlace, rules_in}
 use Rattle.doc_bits.proofs.PlaceLemmas.{upto_same}
 
 -- two ways to say one rule have one least place

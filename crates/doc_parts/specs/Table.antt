@@ -1,5 +1,5 @@
 -- [MS-DOC] Plc, as a part of the table stream: what its entries are, where it breaks a rule, and how it is printed.
-use Rattle.std.specs.Prelude.{◌≡◌, ◌⊎◌, ℕ, ◌+◌, ◌-◌, ◌*◌, ◌/◌, ◌<◌, ◌≤◌, ◌^◌, List, [], ◌∷◌, ◌++◌, length, map, Option, Some, MatchOption, IsSome, All, slice_get, slice_index}
+use Rattle.std.specs.Prelude.{◌≡◌, ◌⊎◌, ℕ, ◌+◌, ◌-◌, ◌*◌, ◌/◌, ◌<◌, ◌≤◌, List, length, map, Option, Some, MatchOption, IsSome, slice_get}
 use Rattle.doc_bits.specs.Plc.{PlcPart, IsPlcOf, plc_cp, plc_entry}
 pub use Rattle.doc_bits.specs.Plc.{printed_plc, HasPlc}
 use Rattle.doc_bits.specs.Rules.{Rules, Among, LeastOrNone, IsFirst}

@@ -1,6 +1,6 @@
 -- Operands: how their bytes tell where the value ends.
-use Rattle.std.proofs.Common.{◌≡◌, ℕ, ◌+◌, ◌-◌, ◌*◌, ◌/◌, ◌%◌, ◌<◌, ◌≤◌, List, [], ◌∷◌, ◌++◌, length, take, drop, get_or, slice_index, refl, sym, ap, ◌∙◌, arith, append_assoc, length-append, length-take, length-drop}
-use Rattle.std.proofs.lemmas.List.{take-append-drop, drop-drop, append_cancel_left}
+use Rattle.std.proofs.Common.{◌≡◌, ℕ, ◌+◌, ◌-◌, ◌*◌, ◌/◌, ◌%◌, ◌<◌, ◌≤◌, List, [], ◌∷◌, ◌++◌, length, take, drop, get_or, refl, sym, ap, ◌∙◌, arith, append_assoc, length-append}
+use Rattle.std.proofs.lemmas.List.{drop-drop, append_cancel_left}
 use Rattle.std.specs.Prelude.{slice_range}
 use Rattle.doc_bits.specs.Number.{number_at, u16_at, number_bytes}
 use Rattle.doc_bits.proofs.NumberLemmas.{number_at-number_bytes, length-number_bytes}

@@ -1,4 +1,4 @@
-use Rattle.std.proofs.Common.{◌≡◌, ◌<◌, [], ◌∷◌, ◌++◌, List, sym, subst, arith}
+use Rattle.std.proofs.Common.{◌≡◌, [], ◌∷◌, ◌++◌, List, sym, subst, arith}
 use Rattle.cfb_streams.specs.Contents.{NamedBytes, AreStreams, IsStored, AreStored}
 use Rattle.cfb_streams.proofs.AddLemmas.{push-AreStored}
 use Rattle.cfb_streams.proofs.list.Streams.add.Goals as goal
