@@ -21,8 +21,8 @@ use Rattle.cfb_layout.proofs.SectorLemmas.{length-chains_from}
 use Rattle.cfb_layout.proofs.CountLemmas.{length-sector_counts, counts_stream, counts_mini_stream, counts_mini_fat, counts_directory, sectors-needed, length-lengths_of, lengths_at}
 use Rattle.cfb_layout.proofs.EntryLemmas.{IsWhole, length-entry_bytes}
 use Rattle.cfb_layout.proofs.Image.{part_place}
-use Rattle.cfb_layout.proofs.ImageStreams.{length-large_part, length-mini_stream}
-use Rattle.cfb_layout.proofs.ImageRules.{all_counts}
+use Rattle.cfb_layout.proofs.PartLemmas.{length-large_part, length-mini_stream}
+use Rattle.cfb_layout.proofs.ImageSharing.{all_counts}
 
 -- there are at most 109 FAT sectors
 pub fats_few : (lengths : List ℕ) → Fits lengths → fat_count lengths ≤ 109

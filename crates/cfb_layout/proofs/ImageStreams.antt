@@ -1,168 +1,31 @@
--- The streams of an image: their chains, their bytes, and what is read.
-use Rattle.std.proofs.Common.{◌≡◌, inl, inr, ℕ, ◌+◌, ◌-◌, ◌*◌, ◌<◌, ◌≤◌, ltb, List, [], Some, None, length, map, take, drop, slice_index, slice_index_or, sum, sym, ap, ◌∙◌, subst, arith, length-take, length-drop}
+-- The bytes of the streams of an image, and what is read.
+use Rattle.std.proofs.Common.{◌≡◌, inl, inr, ℕ, ◌+◌, ◌-◌, ◌*◌, ◌<◌, ◌≤◌, ltb, List, Some, None, length, map, take, drop, slice_index, slice_index_or, sym, ap, ◌∙◌, subst, arith, length-take, length-drop}
 use Rattle.std.specs.List.{flat_map, range_with_len}
 use Rattle.std.proofs.lemmas.Bool.{cases_lt, cases_eq, lt-ltb, le-ltb, cond-true, cond-false}
 use Rattle.std.proofs.lemmas.List.{take-take, get_or-take, get_or-drop, nil_from_length}
 use Rattle.std.proofs.lemmas.Option.{get_or_from_slice_get, slice_get_within}
 use Rattle.std.proofs.lemmas.List.FromFn.{length-range_with_len, get_or-range_with_len, length-map-range_with_len, get_or-map-range_with_len}
 use Rattle.cfb_streams.specs.Header.{sector_bytes}
-use Rattle.cfb_streams.specs.Chain.{fat_table, mini_table, HoldsChain}
 use Rattle.cfb_streams.specs.Contents.{NamedBytes, AreStreams}
 use Rattle.cfb_streams.specs.Directory.{entry_size}
-use Rattle.cfb_streams.specs.Reach.{directory_head, IsDirectory}
 use Rattle.cfb_streams.specs.Order.{ListsStreams}
-use Rattle.cfb_streams.specs.StreamRules.{Parts, IsMiniFat, IsMiniStream, mini_fat_head, stream_head, mini_table_of, IsStreamEntry}
+use Rattle.cfb_streams.specs.StreamRules.{IsStreamEntry}
 use Rattle.cfb_streams.specs.Container.{mini_bytes, IsStreamOf, HasContents}
-use Rattle.cfb_layout.specs.Sectors.{units_for, padded, start_of}
+use Rattle.cfb_layout.specs.Sectors.{units_for, start_of}
 use Rattle.cfb_layout.specs.Tree.{all_entries}
-use Rattle.cfb_layout.specs.Counts.{large_len, small_len, mini_counts, sector_counts, first_sector}
-use Rattle.cfb_layout.specs.Layout.{lengths_of, no_stream, large_part, small_part, mini_stream, stream_at, contents_of}
+use Rattle.cfb_layout.specs.Counts.{mini_counts, sector_counts}
+use Rattle.cfb_layout.specs.Layout.{lengths_of, no_stream, mini_stream, stream_at, contents_of}
 use Rattle.cfb_layout.specs.Laws.{IsLayout}
 use Rattle.cfb_layout.proofs.SectorLemmas.{start_room}
-use Rattle.cfb_layout.proofs.BytesLemmas.{HaveCounts, run_bytes, range_is, parts_at, length-parts, length-padded, padded_at}
-use Rattle.cfb_layout.proofs.CountLemmas.{length-sector_counts, length-mini_counts, minis_at, counts_stream, counts_mini_stream, counts_directory, sectors-needed, length-lengths_of, lengths_at}
+use Rattle.cfb_layout.proofs.BytesLemmas.{run_bytes, range_is}
+use Rattle.cfb_layout.proofs.CountLemmas.{length-sector_counts, length-mini_counts, minis_at, counts_stream, counts_mini_stream, sectors-needed, length-lengths_of, lengths_at}
 use Rattle.cfb_layout.proofs.TreeLemmas.{IsWithin}
 use Rattle.cfb_layout.proofs.Image.{IsImage, part_place}
-use Rattle.cfb_layout.proofs.ImageChains.{sectors_of, part_holds, mini_sectors, mini_holds}
-use Rattle.cfb_layout.proofs.ImageTree.{directory_of, place_in, length-directory_of, image_entry, image_stream, image_node, image_name, image_order, reached_only, reached_each}
-
--- a stream has one part
-pub large_is : (len : ℕ) → 4096 ≤ len → large_len len ≡ len
-large_is len h = cond-false (ltb len 4096) 0 len (le-ltb len 4096 h)
-
-pub large_none : (len : ℕ) → len < 4096 → large_len len ≡ 0
-large_none len h = cond-true (ltb len 4096) 0 len (lt-ltb len 4096 h)
-
-pub small_is : (len : ℕ) → len < 4096 → small_len len ≡ len
-small_is len h = cond-true (ltb len 4096) len 0 (lt-ltb len 4096 h)
-
-pub small_none : (len : ℕ) → 4096 ≤ len → small_len len ≡ 0
-small_none len h = cond-false (ltb len 4096) len 0 (le-ltb len 4096 h)
-
-pub large_whole : (bytes : List ℕ) → 4096 ≤ length bytes → large_part bytes ≡ bytes
-large_whole bytes h = cond-false (ltb (length bytes) 4096) [] bytes (le-ltb (length bytes) 4096 h)
-
-pub large_empty : (bytes : List ℕ) → length bytes < 4096 → large_part bytes ≡ []
-large_empty bytes h = cond-true (ltb (length bytes) 4096) [] bytes (lt-ltb (length bytes) 4096 h)
-
-pub small_whole : (bytes : List ℕ) → length bytes < 4096 → small_part bytes ≡ bytes
-small_whole bytes h = cond-true (ltb (length bytes) 4096) bytes [] (lt-ltb (length bytes) 4096 h)
-
-pub small_empty : (bytes : List ℕ) → 4096 ≤ length bytes → small_part bytes ≡ []
-small_empty bytes h = cond-false (ltb (length bytes) 4096) bytes [] (le-ltb (length bytes) 4096 h)
-
-pub length-large_part : (bytes : List ℕ) → length (large_part bytes) ≡ large_len (length bytes)
-length-large_part bytes = elim (cases_lt (length bytes) 4096) [
-  | inl low ↦ ap length (large_empty bytes low) ∙ sym (large_none (length bytes) low)
-  | inr high ↦ ap length (large_whole bytes high) ∙ sym (large_is (length bytes) high)
-]
-
-pub length-small_part : (bytes : List ℕ) → length (small_part bytes) ≡ small_len (length bytes)
-length-small_part bytes = elim (cases_lt (length bytes) 4096) [
-  | inl low ↦ ap length (small_whole bytes low) ∙ sym (small_is (length bytes) low)
-  | inr high ↦ ap length (small_empty bytes high) ∙ sym (small_none (length bytes) high)
-]
-
--- the mini stream has the small parts at their mini sectors
-pub mini_parts : (streams : List NamedBytes) → HaveCounts (λ stream. padded 64 0 (small_part stream.bytes)) 64 (mini_counts (lengths_of streams)) streams no_stream
-mini_parts streams =
-    let n = length-lengths_of streams in
-    let m = length-mini_counts (lengths_of streams) in
-    record {
-      len = omega arith;
-      each = λ i h.
-          let bytes = (slice_index_or streams i no_stream).bytes in
-          let len = length-padded 64 0 (small_part bytes) (omega arith) in
-          let part = length-small_part bytes in
-          let count = minis_at (lengths_of streams) i (omega arith) in
-          let here = ap (λ len. units_for 64 (small_len len)) (lengths_at streams i h) in
-          let same = ap (λ len. units_for 64 len) part in
-          omega arith;
-    }
-
-pub length-mini_stream : (streams : List NamedBytes) → length (mini_stream streams) ≡ 64 * sum (mini_counts (lengths_of streams))
-unfolding mini_stream
-length-mini_stream streams = length-parts (λ stream. padded 64 0 (small_part stream.bytes)) 64 (mini_counts (lengths_of streams)) streams no_stream (mini_parts streams)
-
-pub mini_stream_at : (streams : List NamedBytes) (i x at : ℕ) → i < length streams → x < length (small_part (slice_index_or streams i no_stream).bytes) → at ≡ 64 * start_of (mini_counts (lengths_of streams)) i + x → slice_index (mini_stream streams) at ≡ slice_index (small_part (slice_index_or streams i no_stream).bytes) x
-unfolding mini_stream
-mini_stream_at streams i x at low less here =
-    let bytes = (slice_index_or streams i no_stream).bytes in
-    let len = length-padded 64 0 (small_part bytes) (omega arith) in
-    parts_at (λ stream. padded 64 0 (small_part stream.bytes)) 64 (mini_counts (lengths_of streams)) streams no_stream i x at (mini_parts streams) low (omega arith) here
-    ∙ padded_at 64 0 (small_part bytes) x less
-
--- the parts of the file
-abbrev pub parts_of : List NamedBytes → Parts
-parts_of streams = record {
-  directory = directory_of streams;
-  mini_fat = mini_sectors (lengths_of streams);
-  mini_stream = sectors_of (sector_counts (lengths_of streams)) (length (lengths_of streams));
-}
-
-pub image_directory : (file : List ℕ) (streams : List NamedBytes) (clsid : List ℕ) → IsImage file streams clsid → IsLayout streams clsid → IsDirectory file (directory_of streams)
-image_directory file streams clsid im lay =
-    let lengths = lengths_of streams in
-    let count = counts_directory lengths in
-    let n = length-lengths_of streams in
-    let len = length-directory_of streams in
-    let few = lay.few in
-    record {
-      holds = part_holds file lengths (length lengths + 2) (directory_head file) im.header im.tables lay.fits (omega arith) (omega arith) im.header.directory (omega arith);
-      short = omega arith;
-    }
-
-pub image_mini_fat : (file : List ℕ) (streams : List NamedBytes) (clsid : List ℕ) → IsImage file streams clsid → IsLayout streams clsid → IsMiniFat file (mini_sectors (lengths_of streams))
-image_mini_fat file streams clsid im lay =
-    let lengths = lengths_of streams in
-    let counts = sector_counts lengths in
-    let fats = im.header.mini_fats in
-    elim (cases_eq (slice_index counts (length lengths + 1)) 0) [
-      | inl none ↦ inl (fats ∙ none, ap (λ m. range_with_len (start_of counts (length lengths + 1)) m) none)
-      | inr some ↦ inr (λ e. some (sym fats ∙ e), part_holds file lengths (length lengths + 1) (mini_fat_head file) im.header im.tables lay.fits (omega arith) (omega arith) im.header.mini_fat (omega arith))
-    ]
-
-pub image_mini_stream : (file : List ℕ) (streams : List NamedBytes) (clsid : List ℕ) → IsImage file streams clsid → IsLayout streams clsid → IsMiniStream file (directory_of streams) (parts_of streams).mini_stream
-image_mini_stream file streams clsid im lay =
-    let lengths = lengths_of streams in
-    let counts = sector_counts lengths in
-    let root = image_entry file streams clsid 0 im (omega arith) in
-    let size = root.size in
-    let count = counts_mini_stream lengths in
-    elim (cases_eq (sum (mini_counts lengths)) 0) [
-      | inl none ↦
-          let zero_count : slice_index counts (length lengths) ≡ 0 = omega arith in
-          inl (omega arith, ap (λ m. range_with_len (start_of counts (length lengths)) m) zero_count)
-      | inr some ↦ inr (λ e. some (omega arith), part_holds file lengths (length lengths) (stream_head file 512 (place_in streams 0)) im.header im.tables lay.fits (omega arith) (omega arith) root.start (omega arith))
-    ]
-
--- the chain of a stream that has sectors of its own
-pub large_holds : (file : List ℕ) (streams : List NamedBytes) (clsid : List ℕ) (i k : ℕ) → IsImage file streams clsid → IsLayout streams clsid → i < length streams → k ≡ i + 1 → 4096 ≤ entry_size file (place_in streams k) → HoldsChain (fat_table file) (stream_head file 512 (place_in streams k)) (sectors_of (sector_counts (lengths_of streams)) i)
-large_holds file streams clsid i k im lay low is large =
-    let lengths = lengths_of streams in
-    let n = length-lengths_of streams in
-    let e = image_stream file streams clsid i k im low is in
-    let size = e.size in
-    let here = lengths_at streams i low in
-    let len = large_is (slice_index lengths i) (omega arith) in
-    let count = counts_stream lengths i (omega arith) ∙ ap (λ m. units_for 512 m) len in
-    let start = e.start ∙ cond-false (ltb (slice_index lengths i) 4096) (first_sector (mini_counts lengths) i) (first_sector (sector_counts lengths) i) (le-ltb (slice_index lengths i) 4096 (omega arith)) in
-    part_holds file lengths i (stream_head file 512 (place_in streams k)) im.header im.tables lay.fits (omega arith) (omega arith) start (omega arith)
-
--- the mini chain of a shorter one
-pub small_holds : (file : List ℕ) (streams : List NamedBytes) (clsid : List ℕ) (i k : ℕ) → IsImage file streams clsid → IsLayout streams clsid → i < length streams → k ≡ i + 1 → 0 < entry_size file (place_in streams k) → entry_size file (place_in streams k) < 4096 → HoldsChain (mini_table_of file (directory_of streams) (mini_sectors (lengths_of streams))) (stream_head file 64 (place_in streams k)) (sectors_of (mini_counts (lengths_of streams)) i)
-small_holds file streams clsid i k im lay low is some small =
-    let lengths = lengths_of streams in
-    let n = length-lengths_of streams in
-    let root = image_entry file streams clsid 0 im (omega arith) in
-    let e = image_stream file streams clsid i k im low is in
-    let size = e.size in
-    let here = lengths_at streams i low in
-    let len = small_is (slice_index lengths i) (omega arith) in
-    let count = minis_at lengths i (omega arith) ∙ ap (λ m. units_for 64 m) len in
-    let start = e.start ∙ cond-true (ltb (slice_index lengths i) 4096) (first_sector (mini_counts lengths) i) (first_sector (sector_counts lengths) i) (lt-ltb (slice_index lengths i) 4096 (omega arith)) in
-    let holds = mini_holds file lengths i (stream_head file 64 (place_in streams k)) im.tables lay.fits (omega arith) (omega arith) start (omega arith) in
-    subst (λ m. HoldsChain (mini_table file (mini_sectors lengths) m) (stream_head file 64 (place_in streams k)) (sectors_of (mini_counts lengths) i)) (sym root.size) holds
+use Rattle.cfb_layout.proofs.ImageChains.{sectors_of}
+use Rattle.cfb_layout.proofs.ImageTree.{directory_of, place_in, image_entry, image_stream, image_node, reached_only, reached_each}
+use Rattle.cfb_layout.proofs.ImageNames.{image_name, image_order}
+use Rattle.cfb_layout.proofs.PartLemmas.{large_is, small_is, large_whole, small_whole, length-mini_stream, mini_stream_at}
+use Rattle.cfb_layout.proofs.ImageParts.{parts_of, image_directory, image_mini_fat, image_mini_stream, large_holds, small_holds}
 
 -- the bytes of a part are those of its sectors
 long_bytes : (file : List ℕ) (streams : List NamedBytes) (clsid : List ℕ) (i : ℕ) → IsImage file streams clsid → i < length streams → 4096 ≤ length (slice_index_or streams i no_stream).bytes → (slice_index_or streams i no_stream).bytes ≡ take (length (slice_index_or streams i no_stream).bytes) (flat_map (sector_bytes 512 512 file) (sectors_of (sector_counts (lengths_of streams)) i))

@@ -1,13 +1,12 @@
--- The directory of an image: its entries, its tree and its names.
+-- The directory of an image: its entries and its tree.
 use Rattle.std.proofs.Common.{◌≡◌, ◌≢◌, inl, inr, ℕ, suc, ◌+◌, ◌-◌, ◌*◌, ◌/◌, ◌%◌, ◌<◌, ◌≤◌, ltb, List, length, slice_index, slice_index_or, refl, sym, ap, ◌∙◌, subst, arith}
-use Rattle.std.proofs.lemmas.Bool.{cases_lt, cases_order, lt-ltb, cond-true}
-use Rattle.std.proofs.lemmas.Option.{slice_get-get_or}
+use Rattle.std.proofs.lemmas.Bool.{cases_lt, lt-ltb, cond-true}
 use Rattle.std.proofs.lemmas.List.FromFn.{length-range_with_len}
 use Rattle.doc_bits.specs.Number.{u32_at}
 use Rattle.doc_bits.specs.Rules.{Nowhere}
-use Rattle.cfb_streams.specs.Contents.{NamedBytes, AreStreams}
-use Rattle.cfb_streams.specs.Directory.{no_entry, entry_left, entry_right, entry_child, entry_type, entry_unit, upper_case, IsNameOf, HaveOneName, EntryBefore, ComesBefore}
-use Rattle.cfb_streams.specs.Reach.{entry_place, IsEntry, IsReached, child, left, right, IsLink, BreaksRoot, BreaksTree, BreaksName, BreaksStorage}
+use Rattle.cfb_streams.specs.Contents.{NamedBytes}
+use Rattle.cfb_streams.specs.Directory.{no_entry, entry_left, entry_right, entry_child, entry_type}
+use Rattle.cfb_streams.specs.Reach.{entry_place, IsEntry, IsReached, child, left, right, IsLink, BreaksRoot, BreaksTree, BreaksStorage}
 use Rattle.cfb_layout.specs.declared.tree.Span.{Span}
 use Rattle.cfb_layout.specs.Sectors.{units_for, start_of}
 use Rattle.cfb_layout.specs.Tree.{middle, lower, upper, top, all_entries, part_of, left_of, right_of}
@@ -202,96 +201,3 @@ storage_holds file streams clsid im few = λ p h.
     let node = image_node file streams clsid h.entry im (reached_only file streams clsid h.entry im few h.reached) in
     let kind = node.kind in
     let storage = h.broken.storage in omega arith
-
--- the name of an entry
-pub image_name : (file : List ℕ) (streams : List NamedBytes) (clsid : List ℕ) (i k : ℕ) → IsImage file streams clsid → i < length streams → k ≡ i + 1 → IsNameOf file (place_in streams k) (slice_index_or streams i no_stream).name
-image_name file streams clsid i k im low is =
-    let e = image_stream file streams clsid i k im low is in
-    record { long = e.long; units = λ j h. sym (e.units j h) }
-
--- the order of names is that of entries
-pub entry_before : (file : List ℕ) (at other : ℕ) (name later : List ℕ) → IsNameOf file at name → IsNameOf file other later → ComesBefore name later → EntryBefore file at other
-entry_before file at other name later a b h =
-    let x = a.long in
-    let y = b.long in
-    elim h [
-      | inl short ↦ inl (omega arith)
-      | inr same ↦
-          let len = same.0 in
-          let place = same.1.0 in
-          let less = same.1.1 in
-          let inside = less.inside in
-          let first : (i : ℕ) → i < length name → upper_case (entry_unit file at i) ≡ upper_case (slice_index name i) = λ i low. ap upper_case (sym (a.units i low)) in
-          let second : (i : ℕ) → i < length name → upper_case (entry_unit file other i) ≡ upper_case (slice_index later i) = λ i low. ap upper_case (sym (b.units i (omega arith))) in
-          inr (
-            omega arith,
-            (
-              place,
-              record {
-                inside = omega arith;
-                front = λ i low. first i (omega arith) ∙ (less.front i low ∙ sym (second i (omega arith)));
-                less = let p = first place inside in let q = second place inside in let lower = less.less in omega arith;
-              },
-            ),
-          )
-    ]
-
--- entries in the order of names have two names
-pub before_apart : (file : List ℕ) (at other : ℕ) → EntryBefore file at other → ¬ HaveOneName file at other
-before_apart file at other h one =
-    let long = one.long in
-    elim h [
-      | inl short ↦ omega arith
-      | inr same ↦
-          let less = same.1.1 in
-          let e = one.units same.1.0 less.inside in
-          let below = less.less in omega arith
-    ]
-
-pub after_apart : (file : List ℕ) (at other : ℕ) → EntryBefore file other at → ¬ HaveOneName file at other
-after_apart file at other h one =
-    let long = one.long in
-    elim h [
-      | inl short ↦ omega arith
-      | inr same ↦
-          let less = same.1.1 in
-          let inside = less.inside in
-          let e = one.units same.1.0 (omega arith) in
-          let below = less.less in omega arith
-    ]
-
--- the entries stand in the order of their names
-pub image_order : (file : List ℕ) (streams : List NamedBytes) (clsid : List ℕ) (e k : ℕ) → IsImage file streams clsid → AreStreams streams → 1 ≤ e → e < k → k ≤ length streams → EntryBefore file (place_in streams e) (place_in streams k)
-image_order file streams clsid e k im are some less low =
-    let a = image_name file streams clsid (e - 1) e im (omega arith) (omega arith) in
-    let b = image_name file streams clsid (k - 1) k im (omega arith) (omega arith) in
-    entry_before file (place_in streams e) (place_in streams k) (slice_index_or streams (e - 1) no_stream).name (slice_index_or streams (k - 1) no_stream).name a b
-    (are.order (e - 1) (k - 1) (slice_index_or streams (e - 1) no_stream) (slice_index_or streams (k - 1) no_stream) (omega arith) (slice_get-get_or streams (e - 1) no_stream (omega arith)) (slice_get-get_or streams (k - 1) no_stream (omega arith)))
-
--- rule 9
-pub names_hold : (file : List ℕ) (streams : List NamedBytes) (clsid : List ℕ) → IsImage file streams clsid → AreStreams streams → length streams ≤ 1023 → Nowhere (BreaksName file (directory_of streams))
-names_hold file streams clsid im are few = λ p h.
-    let k = h.entry in
-    let w = reached_only file streams clsid k im few h.reached in
-    let from = w.from in
-    let below = w.below in
-    let stream = slice_index_or streams (k - 1) no_stream in
-    let there = slice_get-get_or streams (k - 1) no_stream (omega arith) in
-    let name = image_name file streams clsid (k - 1) k im (omega arith) (omega arith) in
-    let long = name.long in
-    let some = are.some (k - 1) stream there in
-    let short = are.short (k - 1) stream there in
-    elim h.broken.wrong [
-      | inl wrong ↦ elim wrong [ inl odd ↦ odd (omega arith) | inr size ↦ elim size [ inl low ↦ omega arith | inr high ↦ omega arith ] ]
-      | inr taken ↦
-          let v = reached_only file streams clsid taken.earlier im few taken.reached in
-          let x = v.from in
-          let y = v.below in
-          elim (cases_order taken.earlier k) [
-            | inl same ↦ let e = ap (λ j. place_in streams j) same in let less = taken.below in omega arith
-            | inr apart ↦ elim apart [
-              | inl less ↦ before_apart file (place_in streams taken.earlier) (place_in streams k) (image_order file streams clsid taken.earlier k im are x less (omega arith)) taken.same
-              | inr more ↦ after_apart file (place_in streams taken.earlier) (place_in streams k) (image_order file streams clsid k taken.earlier im are from more (omega arith)) taken.same
-            ]
-          ]
-    ]

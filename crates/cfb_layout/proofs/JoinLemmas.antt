@@ -23,7 +23,7 @@ use Rattle.cfb_layout.specs.Entries.{link_fields, place_fields, name_bytes, entr
 use Rattle.cfb_layout.specs.Layout.{lengths_of, large_part, small_part, mini_stream, fat, directory_bytes, parts, header_fields, fat_numbers, header_bytes, compound_file}
 use Rattle.cfb_layout.proofs.BytesLemmas.{length-table}
 use Rattle.cfb_layout.proofs.TreeLemmas.{IsWithin, part_low, part_up, part_same, within_low, within_up}
-use Rattle.cfb_layout.proofs.ImageStreams.{length-mini_stream}
+use Rattle.cfb_layout.proofs.PartLemmas.{length-mini_stream}
 use Rattle.cfb_layout.proofs.FileLemmas.{length-fat, parts_behind}
 use Rattle.cfb_layout.proofs.WritingLemmas.{table_join}
 

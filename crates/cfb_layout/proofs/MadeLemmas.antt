@@ -1,156 +1,32 @@
 -- The canonical container is an image.
-use Rattle.std.proofs.Common.{◌≡◌, inl, inr, ℕ, zero, suc, ◌+◌, ◌*◌, ◌^◌, ◌<◌, ◌≤◌, ltb, true, List, ◌++◌, length, take, replicate, slice_index, slice_index_or, sum, refl, ap, ◌∙◌, arith}
+use Rattle.std.proofs.Common.{◌≡◌, inl, inr, ℕ, ◌+◌, ◌*◌, ◌^◌, ◌<◌, ◌≤◌, List, ◌++◌, length, take, replicate, slice_index, slice_index_or, sum, refl, ap, ◌∙◌, arith}
 use Rattle.std.specs.List.{flat_map, range_with_len}
-use Rattle.std.proofs.lemmas.Bool.{cases_lt, ltb-true, cond_both}
-use Rattle.std.proofs.lemmas.List.{get_or_append_left, get_or_past}
-use Rattle.std.specs.List.{list_all}
-use Rattle.std.proofs.lemmas.List.Elements.{All-get_or}
-use Rattle.std.proofs.lemmas.List.Sums.{AllPass-from_list_all}
+use Rattle.std.proofs.lemmas.Bool.{cases_lt}
+use Rattle.std.proofs.lemmas.List.{get_or_append_left}
 use Rattle.std.proofs.lemmas.List.FromFn.{length-range_with_len, get_or-range_with_len}
-use Rattle.std.proofs.lemmas.Option.{slice_get-get_or}
 use Rattle.doc_bits.specs.Number.{number_at, number_bytes, u32_at}
 use Rattle.doc_bits.specs.Rules.{Hold}
 use Rattle.doc_bits.proofs.NumberLemmas.{number_at-after, number_at-before}
 use Rattle.cfb_streams.specs.Contents.{NamedBytes, AreStreams}
-use Rattle.cfb_streams.specs.SectorChain.{end_of_chain}
 use Rattle.cfb_streams.specs.Opening.{signature}
 use Rattle.cfb_streams.specs.Container.{container_rules, HasContents}
-use Rattle.cfb_layout.specs.declared.tree.Span.{Span}
-use Rattle.cfb_layout.specs.Sectors.{units_for, padded, chains_from, start_of, table_bytes, free_sector, fat_sector_mark}
+use Rattle.cfb_layout.specs.Sectors.{units_for, padded, chains_from, table_bytes, free_sector, fat_sector_mark}
 use Rattle.cfb_layout.specs.Fields.{fields_bytes}
-use Rattle.cfb_layout.specs.Tree.{lower, upper, top, all_entries, part_of}
-use Rattle.cfb_layout.specs.Counts.{mini_counts, sector_counts, fat_count, Fits, first_sector}
-use Rattle.cfb_layout.specs.Entries.{entry_bytes, unused_entry, root_name}
-use Rattle.cfb_layout.specs.Layout.{lengths_of, no_stream, large_part, mini_stream, fat, root_entry, stream_entry, directory_entry, directory_bytes, parts, header_fields, fat_numbers, header_bytes, compound_file, contents_of}
+use Rattle.cfb_layout.specs.Counts.{mini_counts, sector_counts, fat_count, first_sector}
+use Rattle.cfb_layout.specs.Entries.{entry_bytes}
+use Rattle.cfb_layout.specs.Layout.{lengths_of, no_stream, large_part, mini_stream, fat, directory_entry, directory_bytes, parts, header_fields, fat_numbers, header_bytes, compound_file, contents_of}
 use Rattle.cfb_layout.specs.Laws.{IsLayout}
 use Rattle.cfb_layout.proofs.BytesLemmas.{blocks_at, entry_at, field_at, padded_at, filled_at, length-padded}
-use Rattle.cfb_layout.proofs.SectorLemmas.{length-chains_from, chains_below, start_below}
-use Rattle.cfb_layout.proofs.CountLemmas.{length-sector_counts, counts_stream, counts_mini_stream, counts_mini_fat, counts_directory, sectors-needed, length-lengths_of, lengths_at}
+use Rattle.cfb_layout.proofs.SectorLemmas.{length-chains_from, chains_below}
+use Rattle.cfb_layout.proofs.CountLemmas.{length-sector_counts, counts_mini_fat, counts_directory, sectors-needed, length-lengths_of}
 use Rattle.cfb_layout.proofs.SectorLemmas.{start_room}
-use Rattle.cfb_layout.proofs.TreeLemmas.{part_is, top_none, top_some}
-use Rattle.cfb_layout.proofs.EntryLemmas.{IsWritable, length-entry_bytes, entry_reads}
-use Rattle.cfb_layout.proofs.FileLemmas.{entries_whole, fats_few, length-no_clsid, length-fields, length-header_bytes, length-compound_file, length-fat_numbers, part_stream, part_behind, length-table_bytes, length-directory_bytes, length-fat, file_at, file_number, start_all}
+use Rattle.cfb_layout.proofs.EntryLemmas.{length-entry_bytes, entry_reads}
+use Rattle.cfb_layout.proofs.FileLemmas.{entries_whole, fats_few, length-fields, length-header_bytes, length-compound_file, length-fat_numbers, part_stream, part_behind, length-table_bytes, length-directory_bytes, length-fat, file_at, file_number, start_all}
 use Rattle.cfb_layout.proofs.Image.{IsEntryAt, IsHeaderOf, HasTables, IsImage, part_place}
-use Rattle.cfb_layout.proofs.ImageStreams.{large_is, large_whole, large_empty, image_contents}
-use Rattle.cfb_layout.proofs.ImageRules.{image_holds}
-
--- starts and links are 32-bit numbers
-first_below : (counts : List ℕ) (i : ℕ) → sum counts < 2 ^ 32 → first_sector counts i < 2 ^ 32
-first_below counts i h = cond_both (ltb 0 (slice_index counts i)) (start_of counts i) end_of_chain (λ n. n < 2 ^ 32)
-    (λ is. let low = start_below counts i in omega arith) (λ is. omega arith)
-
-top_below : (span : Span) → span.low + span.count < 2 ^ 32 → top span < 2 ^ 32
-top_below span h = elim (cases_lt 0 span.count) [
-  | inl some ↦ let e = top_some span some in omega arith
-  | inr none ↦ let e = top_none span (omega arith) in omega arith
-]
-
--- how much fits
-pub record IsBounded (lengths : List ℕ) : Type 0 where
-  pub sectors : sum (sector_counts lengths) < 2 ^ 14
-  pub minis : sum (mini_counts lengths) < 2 ^ 17
-  pub each : (i : ℕ) → i < length lengths → slice_index lengths i < 2 ^ 32
-
-pub bounded : (lengths : List ℕ) → Fits lengths → IsBounded lengths
-bounded lengths fits =
-    let counts = sector_counts lengths in
-    let all = sectors-needed lengths in
-    let len = length-sector_counts lengths in
-    let room = start_room counts (length lengths) (omega arith) in
-    let stored = counts_mini_stream lengths in
-    record {
-      sectors = omega arith;
-      minis = omega arith;
-      each = λ i h. elim (cases_lt (slice_index lengths i) 4096) [
-        | inl small ↦ omega arith
-        | inr large ↦
-            let part = start_room counts i (omega arith) in
-            let count = counts_stream lengths i h ∙ ap (λ m. units_for 512 m) (large_is (slice_index lengths i) large) in
-            omega arith
-      ];
-    }
-
--- the units of the root's name
-root_all : list_all (λ unit. ltb unit 65536) root_name ≡ true
-unfolding root_name
-root_all = refl
-
-root_unit : (i : ℕ) → slice_index root_name i < 2 ^ 16
-root_unit i = elim (cases_lt i (length root_name)) [
-  | inr past ↦ let e = get_or_past root_name i 0 past in omega arith
-  | inl low ↦ ltb-true (slice_index root_name i) 65536 (All-get_or (λ unit. ltb unit 65536 ≡ true) root_name i 0 low (AllPass-from_list_all (λ unit. ltb unit 65536) root_name root_all))
-]
-
--- the numbers of each entry fit their fields
-root_writable : (streams : List NamedBytes) (clsid : List ℕ) → AreStreams streams → IsLayout streams clsid → IsWritable (root_entry (lengths_of streams) clsid)
-root_writable streams clsid are lay =
-    let lengths = lengths_of streams in
-    let n = length-lengths_of streams in
-    let few = lay.few in
-    let b = bounded lengths lay.fits in
-    let sectors = b.sectors in
-    let minis = b.minis in
-    record {
-      whole = entries_whole streams clsid 0 are lay.clsid_len;
-      units = root_unit;
-      long = omega arith;
-      kind = omega arith;
-      left = omega arith;
-      right = omega arith;
-      child = top_below (all_entries (length lengths)) (omega arith);
-      start = first_below (sector_counts lengths) (length lengths) (omega arith);
-      size = omega arith;
-    }
-
-stream_writable : (streams : List NamedBytes) (clsid : List ℕ) (i : ℕ) → AreStreams streams → IsLayout streams clsid → i < length streams → IsWritable (stream_entry (lengths_of streams) i (slice_index_or streams i no_stream))
-stream_writable streams clsid i are lay low =
-    let lengths = lengths_of streams in
-    let n = length-lengths_of streams in
-    let few = lay.few in
-    let b = bounded lengths lay.fits in
-    let sectors = b.sectors in
-    let minis = b.minis in
-    let size = b.each i (omega arith) in
-    let here = lengths_at streams i low in
-    let all = all_entries (length lengths) in
-    let part = part_is (length lengths) (i + 1) all (omega arith) (record { from = omega arith; below = omega arith }) in
-    let from = part.from in
-    let end = part.end in
-    let stream = slice_index_or streams i no_stream in
-    let there = slice_get-get_or streams i no_stream low in
-    let short = are.short i stream there in
-    record {
-      whole = record { few = omega arith; clsid = length-no_clsid };
-      units = λ k. (lay.stored i stream there).units k;
-      long = omega arith;
-      kind = omega arith;
-      left = top_below (lower (part_of (length lengths) (i + 1) all)) (omega arith);
-      right = top_below (upper (part_of (length lengths) (i + 1) all)) (omega arith);
-      child = omega arith;
-      start = cond_both (ltb (slice_index lengths i) 4096) (first_sector (mini_counts lengths) i) (first_sector (sector_counts lengths) i) (λ n. n < 2 ^ 32)
-          (λ is. first_below (mini_counts lengths) i (omega arith)) (λ is. first_below (sector_counts lengths) i (omega arith));
-      size = omega arith;
-    }
-
-unused_writable : IsWritable unused_entry
-unused_writable = record {
-  whole = record { few = omega arith; clsid = length-no_clsid };
-  units = λ i. omega arith;
-  long = omega arith;
-  kind = omega arith;
-  left = omega arith;
-  right = omega arith;
-  child = omega arith;
-  start = omega arith;
-  size = omega arith;
-}
-
-pub entry_writable : (streams : List NamedBytes) (clsid : List ℕ) (k : ℕ) → AreStreams streams → IsLayout streams clsid → IsWritable (directory_entry streams clsid k)
-entry_writable streams clsid zero are lay = root_writable streams clsid are lay
-entry_writable streams clsid (suc i) are lay =
-    cond_both (ltb i (length streams)) (stream_entry (lengths_of streams) i (slice_index_or streams i no_stream)) unused_entry IsWritable
-    (λ is. stream_writable streams clsid i are lay (ltb-true i (length streams) is))
-    (λ is. unused_writable)
+use Rattle.cfb_layout.proofs.PartLemmas.{large_whole, large_empty}
+use Rattle.cfb_layout.proofs.ImageStreams.{image_contents}
+use Rattle.cfb_layout.proofs.ImageAccepted.{image_holds}
+use Rattle.cfb_layout.proofs.WritableLemmas.{first_below, bounded, entry_writable}
 
 -- the entries of the directory
 made_entry : (streams : List NamedBytes) (clsid : List ℕ) (k : ℕ) → AreStreams streams → IsLayout streams clsid → k < 4 * slice_index (sector_counts (lengths_of streams)) (length (lengths_of streams) + 2) → IsEntryAt (compound_file streams clsid) (directory_entry streams clsid k) (part_place (sector_counts (lengths_of streams)) (length (lengths_of streams) + 2) + 128 * k)

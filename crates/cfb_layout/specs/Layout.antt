@@ -1,6 +1,6 @@
--- The canonical container: the one file that holds these streams and this CLSID in the order of the profile. Each stream
--- has a large part, one of which and of the small part is empty. An empty part takes no sector and no FAT entry, so part
--- i is stream i and directory entry i + 1. Nothing is searched for, and no table is filled as it goes.
+-- Profile: the canonical container, the one file that is written for these streams and this CLSID. Each stream has a
+-- large part and a small part, one of which is empty. An empty part takes no sector and no FAT entry, so part i is stream
+-- i and directory entry i + 1. Nothing is searched for, and no table is filled as it goes.
 use Rattle.std.specs.Prelude.{ℕ, zero, suc, ◌+◌, ◌*◌, List, [], ◌∷◌, ◌++◌, Option, Some, None, length, map, replicate, sum, nat_lt, if◌then◌else◌, slice_index, slice_index_or}
 use Rattle.std.specs.List.{flat_map, range_with_len}
 use Rattle.doc_bits.specs.Number.{number_bytes}

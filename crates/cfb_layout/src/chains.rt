@@ -29,7 +29,7 @@ impl Model for Chains {
 
 impl Chains {
     /// Chains of these counts.
-    pub fn new(alloc: Global, counts: Vec<u32>) -> Result<Chains, Memory>
+    pub(crate) fn new(alloc: Global, counts: Vec<u32>) -> Result<Chains, Memory>
         requires { sum counts.items < 2 ^ 32 }
         ensures { IfOk result (λ chains. chains ≡ counts.items) }
     {
@@ -47,7 +47,7 @@ impl Chains {
     }
 
     /// The counts of sectors.
-    pub fn counts(&self) -> &[u32]
+    pub(crate) fn counts(&self) -> &[u32]
         ensures is { result.now ≡ self.now }
         ensures few { sum self.now < 2 ^ 32 }
     {
@@ -55,14 +55,14 @@ impl Chains {
     }
 
     /// All sectors.
-    pub fn total(&self) -> u32
+    pub(crate) fn total(&self) -> u32
         ensures { result ≡ sum self.now }
     {
         self.total
     }
 
     /// The count of the i-th chain.
-    pub fn count(&self, i: usize) -> u32
+    pub(crate) fn count(&self, i: usize) -> u32
         requires { i < length self.now }
         ensures { result ≡ slice_index self.now i }
     {
@@ -70,7 +70,7 @@ impl Chains {
     }
 
     /// The start of the i-th chain, where it has a sector.
-    pub fn first_sector(&self, i: usize) -> u32
+    pub(crate) fn first_sector(&self, i: usize) -> u32
         requires { i < length self.now }
         ensures { result ≡ first_sector self.now i }
     {

@@ -36,14 +36,15 @@ fn push_name(out: &mut Bytes, name: &[u16]) -> Result<(), Memory>
 }
 
 /// Appends an entry.
-pub fn push_entry(
+pub(crate) fn push_entry(
     out: &mut Bytes,
     name: &[u16],
     clsid: &[u8],
     fields: &EntryFields,
 ) -> Result<(), Memory>
     requires { length name.now ≤ 32 }
-    ensures { OnOk result (out.new ≡ out.old ++ entry_bytes (record { name = name.now; clsid = clsid.now; fields = fields.now })) }
+    ensures { OnOk result (out.new ≡ out.old
+        ++ entry_bytes (record { name = name.now; clsid = clsid.now; fields = fields.now })) }
 {
     let name_length = Field::Word(fields.name_length);
     let kind = Field::Byte(fields.kind);

@@ -33,7 +33,7 @@ fn push_field(out: &mut Bytes, field: Field) -> Result<(), Memory>
 }
 
 /// Appends fields, one after another.
-pub fn push_fields(out: &mut Bytes, fields: &[Field]) -> Result<(), Memory>
+pub(crate) fn push_fields(out: &mut Bytes, fields: &[Field]) -> Result<(), Memory>
     ensures { OnOk result (out.new ≡ out.old ++ fields_bytes fields.now) }
 {
     for field in fields {

@@ -51,7 +51,7 @@ impl Model for Plan {
 
 impl Plan {
     /// The plan of streams of these lengths.
-    pub fn new(alloc: Global, lengths: Vec<u64>) -> Result<Plan, Memory>
+    pub(crate) fn new(alloc: Global, lengths: Vec<u64>) -> Result<Plan, Memory>
         requires few { length lengths.items ≤ 1023 }
         requires fits { Fits lengths.items }
         ensures { IfOk result (λ plan. plan ≡ lengths.items) }
@@ -68,7 +68,7 @@ impl Plan {
     }
 
     /// The number of streams.
-    pub fn count(&self) -> usize
+    pub(crate) fn count(&self) -> usize
         ensures is { result ≡ length self.now }
         ensures few { length self.now ≤ 1023 }
         ensures fits { Fits self.now }
@@ -77,14 +77,14 @@ impl Plan {
     }
 
     /// The chains in the mini stream.
-    pub fn minis(&self) -> &Chains
+    pub(crate) fn minis(&self) -> &Chains
         ensures { result.now ≡ mini_counts self.now }
     {
         &self.minis
     }
 
     /// The chains of the streams, of the mini stream, the mini FAT and the directory.
-    pub fn sectors(&self) -> &Chains
+    pub(crate) fn sectors(&self) -> &Chains
         ensures is { result.now ≡ sector_counts self.now }
         ensures len { length result.now ≡ length self.now + 3 }
     {
@@ -92,7 +92,7 @@ impl Plan {
     }
 
     /// The number of FAT sectors.
-    pub fn fats(&self) -> u32
+    pub(crate) fn fats(&self) -> u32
         ensures is { result ≡ fat_count self.now }
         ensures few { result ≤ 109 }
     {
@@ -100,7 +100,7 @@ impl Plan {
     }
 
     /// The numbers of the root's entry.
-    pub fn root(&self) -> EntryFields
+    pub(crate) fn root(&self) -> EntryFields
         ensures { result ≡ root_fields self.now }
     {
         let count = self.lengths.len();
@@ -129,7 +129,7 @@ impl Plan {
     }
 
     /// The numbers of the entry of a stream, whose name has so many units.
-    pub fn stream(&self, i: usize, units: usize) -> EntryFields
+    pub(crate) fn stream(&self, i: usize, units: usize) -> EntryFields
         requires inside { i < length self.now }
         requires short { units ≤ 31 }
         ensures { result ≡ stream_fields self.now i units }

@@ -25,7 +25,7 @@ pub const FREE_SECTOR: u32 = 0xFFFF_FFFF;
 pub const FAT_SECTOR: u32 = 0xFFFF_FFFD;
 
 /// How many parts of `unit` hold so much.
-pub fn units_for(unit: u64, size: u64) -> u64
+pub(crate) fn units_for(unit: u64, size: u64) -> u64
     requires some { 0 < unit }
     requires room { size + unit ≤ 2 ^ 63 }
     ensures { result ≡ units_for unit size }
@@ -34,7 +34,7 @@ pub fn units_for(unit: u64, size: u64) -> u64
 }
 
 /// What is missing of whole parts of `unit`.
-pub fn rest_of(unit: usize, len: usize) -> usize
+pub(crate) fn rest_of(unit: usize, len: usize) -> usize
     requires some { 0 < unit }
     requires small { unit ≤ 512 }
     requires room { len < 2 ^ 63 }
@@ -45,7 +45,7 @@ pub fn rest_of(unit: usize, len: usize) -> usize
 }
 
 /// Appends zeros, a sector at most.
-pub fn push_zeros(out: &mut Bytes, count: usize) -> Result<(), Memory>
+pub(crate) fn push_zeros(out: &mut Bytes, count: usize) -> Result<(), Memory>
     requires { count ≤ 512 }
     ensures { OnOk result (out.new ≡ out.old ++ replicate count 0) }
 {
@@ -55,7 +55,7 @@ pub fn push_zeros(out: &mut Bytes, count: usize) -> Result<(), Memory>
 }
 
 /// Appends bytes, filled up with zeros to whole parts of `unit`.
-pub fn push_padded(out: &mut Bytes, bytes: &[u8], unit: usize) -> Result<(), Memory>
+pub(crate) fn push_padded(out: &mut Bytes, bytes: &[u8], unit: usize) -> Result<(), Memory>
     requires some { 0 < unit }
     requires small { unit ≤ 512 }
     ensures { OnOk result (out.new ≡ out.old ++ padded unit 0 bytes.now) }
@@ -66,7 +66,7 @@ pub fn push_padded(out: &mut Bytes, bytes: &[u8], unit: usize) -> Result<(), Mem
 }
 
 /// Appends numbers that follow one another.
-pub fn push_row(out: &mut Bytes, from: u32, count: u32) -> Result<(), Memory>
+pub(crate) fn push_row(out: &mut Bytes, from: u32, count: u32) -> Result<(), Memory>
     requires { from + count < 2 ^ 32 }
     ensures { OnOk result (out.new ≡ out.old ++ flat_map (number_bytes 4) (range_with_len from count)) }
 {
@@ -77,7 +77,7 @@ pub fn push_row(out: &mut Bytes, from: u32, count: u32) -> Result<(), Memory>
 }
 
 /// Appends a number so many times.
-pub fn push_repeated(out: &mut Bytes, number: u32, count: usize) -> Result<(), Memory>
+pub(crate) fn push_repeated(out: &mut Bytes, number: u32, count: usize) -> Result<(), Memory>
     ensures { OnOk result (out.new ≡ out.old ++ flat_map (number_bytes 4) (replicate count number)) }
 {
     for _turn in 0..count {
@@ -100,7 +100,7 @@ fn push_chain(out: &mut Bytes, start: u32, count: u32) -> Result<(), Memory>
 }
 
 /// Appends the entries of such chains, one after another, from sector 0 on.
-pub fn push_chains(out: &mut Bytes, counts: &[u32]) -> Result<(), Memory>
+pub(crate) fn push_chains(out: &mut Bytes, counts: &[u32]) -> Result<(), Memory>
     requires { sum counts.now < 2 ^ 32 }
     ensures { OnOk result (out.new ≡ out.old ++ flat_map (number_bytes 4) (chains_from 0 counts.now)) }
 {

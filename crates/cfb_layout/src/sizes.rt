@@ -12,7 +12,7 @@ pub const CUTOFF: u64 = 4_096;
 pub const MAX_SECTORS: u64 = 13_952;
 
 /// The sectors of a stream's own.
-pub fn large_sectors(len: u64) -> u64
+pub(crate) fn large_sectors(len: u64) -> u64
     requires { len < 2 ^ 62 }
     ensures is { result ≡ units_for 512 (large_len len) }
     ensures few { result ≤ len }
@@ -21,7 +21,7 @@ pub fn large_sectors(len: u64) -> u64
 }
 
 /// The mini sectors of a stream.
-pub fn mini_sectors(len: u64) -> u64
+pub(crate) fn mini_sectors(len: u64) -> u64
     ensures is { result ≡ units_for 64 (small_len len) }
     ensures few { result ≤ len }
     ensures most { result ≤ 64 }

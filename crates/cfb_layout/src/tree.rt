@@ -22,7 +22,7 @@ impl Span {
     }
 
     /// The entries below the middle one.
-    pub fn lower(self) -> Span
+    pub(crate) fn lower(self) -> Span
         ensures { result ≡ lower self }
     {
         Span {
@@ -32,7 +32,7 @@ impl Span {
     }
 
     /// The entries above the middle one.
-    pub fn upper(self) -> Span
+    pub(crate) fn upper(self) -> Span
         requires room { self.low + self.count < 2 ^ 32 }
         requires some { 0 < self.count }
         ensures { result ≡ upper self }
@@ -44,7 +44,7 @@ impl Span {
     }
 
     /// The link to the entries.
-    pub fn top(self) -> u32
+    pub(crate) fn top(self) -> u32
         requires { self.low + self.count < 2 ^ 32 }
         ensures { result ≡ top self }
     {
@@ -70,14 +70,14 @@ impl Span {
 }
 
 /// The entries of so many streams.
-pub fn all_entries(count: u32) -> Span
+pub(crate) fn all_entries(count: u32) -> Span
     ensures { result ≡ all_entries count }
 {
     Span { low: 1, count }
 }
 
 /// The part of the tree that has the entry on top.
-pub fn part_of(count: u32, entry: u32) -> Span
+pub(crate) fn part_of(count: u32, entry: u32) -> Span
     requires few { count < 2 ^ 31 }
     requires first { 1 ≤ entry }
     requires last { entry ≤ count }

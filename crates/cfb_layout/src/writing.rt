@@ -4,7 +4,8 @@ ghost use Rattle.std.specs.List.{flat_map};
 ghost use Rattle.cfb_layout.specs.Sectors.{padded, table_bytes, chains_from, units_for};
 ghost use Rattle.cfb_layout.specs.Counts.{Fits, mini_counts};
 ghost use Rattle.cfb_layout.specs.Entries.{entry_bytes, unused_fields};
-ghost use Rattle.cfb_layout.specs.Layout.{lengths_of, large_part, small_part, mini_stream, fat, directory_entry, directory_bytes, header_bytes, compound_file};
+ghost use Rattle.cfb_layout.specs.Layout.{lengths_of, large_part, small_part, mini_stream, fat};
+ghost use Rattle.cfb_layout.specs.Layout.{directory_entry, directory_bytes, header_bytes, compound_file};
 ghost use Rattle.cfb_layout.specs.Faults.{IsLayoutFault};
 
 use crate::LayoutFault;
@@ -145,7 +146,8 @@ fn small_part(bytes: &[u8]) -> &[u8]
 
 /// Appends the streams that have sectors of their own.
 fn push_large(out: &mut Bytes, streams: &Streams) -> Result<(), Memory>
-    ensures { OnOk result (out.new ≡ out.old ++ flat_map (λ stream. padded 512 0 (large_part stream.bytes)) streams.now) }
+    ensures { OnOk result (out.new ≡ out.old
+        ++ flat_map (λ stream. padded 512 0 (large_part stream.bytes)) streams.now) }
 {
     for i in 0..streams.count() {
         let part = large_part(streams.bytes(i));

@@ -2,7 +2,7 @@ use Rattle.std.proofs.Common.{◌≡◌, ◌+◌, ◌*◌, ◌^◌, ◌<◌, [],
 use Rattle.std.proofs.lemmas.List.{take_all}
 use Rattle.cfb_layout.specs.Sectors.{units_for}
 use Rattle.cfb_layout.specs.Counts.{large_len, mini_counts, large_counts, sector_counts}
-use Rattle.cfb_layout.proofs.MadeLemmas.{bounded}
+use Rattle.cfb_layout.proofs.WritableLemmas.{bounded}
 use Rattle.cfb_layout.proofs.JoinLemmas.{four_join}
 use Rattle.cfb_layout.proofs.plan.count_sectors.Goals as goal
 

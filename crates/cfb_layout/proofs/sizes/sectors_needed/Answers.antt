@@ -4,7 +4,7 @@ use Rattle.std.proofs.lemmas.List.Sums.{sum_by_more}
 use Rattle.cfb_layout.specs.Sectors.{units_for}
 use Rattle.cfb_layout.specs.Counts.{large_counts, mini_counts, sector_counts}
 use Rattle.cfb_layout.proofs.CountLemmas.{sectors-needed}
-use Rattle.cfb_layout.proofs.ShorterLemmas.{sum_counts}
+use Rattle.cfb_layout.proofs.HeldLemmas.{sum_counts}
 use Rattle.cfb_layout.proofs.JoinLemmas.{large_first, mini_first, large_more, mini_more}
 use Rattle.cfb_layout.proofs.sizes.sectors_needed.Goals as goal
 

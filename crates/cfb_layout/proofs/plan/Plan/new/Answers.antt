@@ -1,6 +1,6 @@
 use Rattle.std.proofs.Common.{sum, ap, ◌∙◌, arith}
 use Rattle.cfb_layout.specs.Counts.{mini_counts, sector_counts}
-use Rattle.cfb_layout.proofs.MadeLemmas.{bounded}
+use Rattle.cfb_layout.proofs.WritableLemmas.{bounded}
 use Rattle.cfb_layout.proofs.plan.Plan.new.Goals as goal
 
 pub new-requires : goal.new-requires

@@ -1,6 +1,6 @@
 use Rattle.std.proofs.Common.{◌*◌, ◌^◌, ◌<◌, length, sum, ap, arith, rules}
 use Rattle.cfb_layout.proofs.CountLemmas.{length-sector_counts}
-use Rattle.cfb_layout.proofs.MadeLemmas.{bounded}
+use Rattle.cfb_layout.proofs.WritableLemmas.{bounded}
 use Rattle.cfb_layout.proofs.plan.Plan.root.Goals as goal
 
 pub first_sector-requires : goal.first_sector-requires

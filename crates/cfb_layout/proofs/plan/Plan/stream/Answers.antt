@@ -1,6 +1,6 @@
 use Rattle.std.proofs.Common.{◌^◌, ◌<◌, length, ap, arith, rules}
 use Rattle.std.proofs.lemmas.List.{get_or_read}
-use Rattle.cfb_layout.proofs.MadeLemmas.{bounded}
+use Rattle.cfb_layout.proofs.WritableLemmas.{bounded}
 use Rattle.cfb_layout.proofs.plan.Plan.stream.Goals as goal
 
 pub overflow_cast-result-2 : goal.overflow_cast-result-2
