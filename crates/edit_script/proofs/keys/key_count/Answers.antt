@@ -1,0 +1,11 @@
+use Rattle.std.proofs.Common.{Option, sym, ap, ◌∙◌}
+use Rattle.std.specs.Option.{option_map, unwrap_or}
+use Rattle.serde_json.specs.Data.{Members}
+use Rattle.serde_json.specs.Events.{members_len}
+use Rattle.serde_json.proofs.Views.{members_len-members_view}
+use Rattle.edit_script.proofs.keys.key_count.Goals as goal
+
+pub returns-in-Some : goal.returns-in-Some
+returns-in-Some c =
+    c.len.ensures.len ∙ sym (members_len-members_view c.in-Some.members.now.entries)
+    ∙ ap (λ (found : Option Members). unwrap_or (option_map members_len found) 0) c.in-Some.ensures
