@@ -20,7 +20,7 @@ use Rattle.plain_doc.specs.Document.{HasPropertyMaps, IsFormedItem, IsFormedText
 use Rattle.plain_doc.specs.NothingCarried.{empty_parts_are_short, no_lists, no_flags, no_streams}
 use Rattle.plain_doc.specs.Blank.{blank_item, one_setting, normal_style, heading_style, default_font_style, blank_sheet, word_clsid, blank_carried, blank_document}
 use Rattle.doc_bits.specs.Number.{AreBytes}
-use Rattle.doc_bits.proofs.ByteListLemmas.{no_bytes}
+use Rattle.doc_bits.proofs.ByteListLemmas.{no_bytes, one_byte}
 use Rattle.plain_doc.specs.Formed.{carried_parts, IsFormed}
 use Rattle.plain_doc.proofs.FormedLemmas.{All-one, HasPropertyMaps-from_parts}
 
@@ -31,11 +31,14 @@ pub replicate_more : {X : Type 0} (k : ℕ) (x : X) → replicate k x ++ x ∷ [
 replicate_more k x = replicate-append-replicate k 1 x
 
 -- one empty slot more
-pub slots_more : (sheet more new : Sheet) (k : ℕ) → more ≡ record { head = sheet.head; styles = sheet.styles ++ replicate k None }
-    → new ≡ record { head = more.head; styles = more.styles ++ None ∷ [] } → new ≡ record { head = sheet.head; styles = sheet.styles ++ replicate (k + 1) None }
+pub slots_more : (sheet more new : Sheet) (k : ℕ) →
+    more ≡ record { head = sheet.head; styles = sheet.styles ++ replicate k None }
+    → new ≡ record { head = more.head; styles = more.styles ++ None ∷ [] } →
+    new ≡ record { head = sheet.head; styles = sheet.styles ++ replicate (k + 1) None }
 slots_more sheet more new k so_far is =
     let styles : more.styles ++ None ∷ [] ≡ sheet.styles ++ replicate (k + 1) None =
-    ap (λ m. m.styles ++ None ∷ []) so_far ∙ append_assoc sheet.styles (replicate k None) (None ∷ []) ∙ ap (λ slots. sheet.styles ++ slots) (replicate_more k None) in
+    ap (λ m. m.styles ++ None ∷ []) so_far ∙ append_assoc sheet.styles (replicate k None) (None ∷ [])
+    ∙ ap (λ slots. sheet.styles ++ slots) (replicate_more k None) in
     is ∙ (λ i. record { head = (so_far i).head; styles = styles i })
 
 -- numbers that a test finds to have 16 bits
@@ -46,19 +49,34 @@ are_words xs tested k d below = ltb-true _ _ (AllPass-from_list_all (λ x. ltb x
 
 pub blank_item_maps : HasPropertyMaps blank_item
 blank_item_maps =
-    HasPropertyMaps-from_parts blank_item (IsPropertyMap-empty character_groups) (IsPropertyMap-empty paragraph_groups) (IsPropertyMap-empty section_groups)
+    HasPropertyMaps-from_parts blank_item (IsPropertyMap-empty character_groups)
+    (IsPropertyMap-empty paragraph_groups) (IsPropertyMap-empty section_groups)
 
 -- ---- the styles
 
 pub outline_level : IsPropertyMap paragraph_groups (one_setting 0x2640 0)
 outline_level =
     stay_formed paragraph_groups empty (0x2640, 0 ∷ []) (IsPropertyMap-empty paragraph_groups)
-    (record { entry = record { some = omega arith; word = omega arith; size = refl }; held = refl; sets = refl })
+    (record {
+      setting = record {
+        entry = record { some = omega arith; word = omega arith; size = refl };
+        held = refl;
+        sets = refl;
+      };
+      bytes = one_byte 0 (omega arith);
+    })
 
 pub bold : IsPropertyMap character_groups (one_setting 0x0835 1)
 bold =
     stay_formed character_groups empty (0x0835, 1 ∷ []) (IsPropertyMap-empty character_groups)
-    (record { entry = record { some = omega arith; word = omega arith; size = refl }; held = refl; sets = refl })
+    (record {
+      setting = record {
+        entry = record { some = omega arith; word = omega arith; size = refl };
+        held = refl;
+        sets = refl;
+      };
+      bytes = one_byte 1 (omega arith);
+    })
 
 pub normal_is_formed : IsFormedStyle normal_style
 normal_is_formed =
@@ -105,7 +123,8 @@ blank_slots_are_formed =
     All-cons IsFormedSlot (Some normal_style) (Some heading_style ∷ rest) normal_is_formed
     (All-cons IsFormedSlot (Some heading_style) rest heading_is_formed
     (All-append IsFormedSlot (replicate 8 None) last (All-replicate IsFormedSlot 8 None tt)
-    (All-cons IsFormedSlot (Some default_font_style) (replicate 4 None) default_font_is_formed (All-replicate IsFormedSlot 4 None tt))))
+    (All-cons IsFormedSlot (Some default_font_style) (replicate 4 None) default_font_is_formed
+    (All-replicate IsFormedSlot 4 None tt))))
 
 pub blank_sheet_is_formed : IsFormedSheet blank_sheet
 blank_sheet_is_formed =
@@ -143,14 +162,21 @@ are_bytes xs tested i = elim (cases_lt i (length xs)) [
 ]
 
 blank_bytes : All AreBytes (word_clsid ∷ carried_parts blank_carried)
-blank_bytes = All-cons AreBytes word_clsid (carried_parts blank_carried) (are_bytes word_clsid refl) (All-replicate AreBytes 6 [] no_bytes)
+blank_bytes =
+    All-cons AreBytes word_clsid (carried_parts blank_carried) (are_bytes word_clsid refl)
+    (All-replicate AreBytes 6 [] no_bytes)
 
 pub blank_document_is_formed : IsFormed blank_document
 blank_document_is_formed =
     record {
       main = record { few = omega arith; each = All-one IsFormedItem blank_item blank_item_is_formed };
       notes = record { few = omega arith; each = All-nil IsFormedText };
-      heads = record { few = omega arith; each = All-replicate IsFormedText 12 [] (record { few = omega arith; each = All-nil IsFormedItem }) };
+      heads =
+          record {
+            few = omega arith;
+            each = All-replicate IsFormedText 12 []
+                (record { few = omega arith; each = All-nil IsFormedItem });
+          };
       sheet = blank_sheet_is_formed;
       carried = record {
         parts = empty_parts_are_short;
@@ -160,6 +186,7 @@ blank_document_is_formed =
         languages = (omega arith, omega arith);
         flags = no_flags;
         ordered = no_streams_are_streams;
+        stored = λ i s here. absurd (grind (arith, here));
         streams = no_streams;
       };
     }

@@ -29,7 +29,12 @@ pub implied : {A B : Type 0} → ¬ ¬ A → (A → B) → ¬ ¬ B
 implied wrong then not = wrong (λ a. not (then a))
 
 pub at_most_or : (a b : ℕ) → IsDecided (a ≤ b)
-at_most_or a b = elim (cases_lt b a) [ inl more ↦ inr (λ h. omega (arith, more, h)) | inr most ↦ inl (let h : a ≤ b = omega arith in h) ]
+at_most_or a b =
+    elim (cases_lt b a) [
+      | inl more ↦ inr (λ h. omega (arith, more, h))
+      | inr most ↦ inl
+          (let h : a ≤ b = omega arith in h)
+    ]
 
 pub equal_or : (a b : ℕ) → IsDecided (a ≡ b)
 equal_or a b = cases_eq a b
@@ -90,7 +95,8 @@ cells_or None cells = inr (λ none. none)
 cells_or (Some value) cells = some_or (slice_get value 0) cells
 
 -- field characters nest exactly where the walk over them comes to an end with nothing open
-nest_by : (units : List ℕ) (open_fields : Option Open) → after_all most_open units (Some []) ≡ open_fields → IsDecided (AreFields most_open units)
+nest_by : (units : List ℕ) (open_fields : Option Open) → after_all most_open units (Some []) ≡ open_fields →
+    IsDecided (AreFields most_open units)
 nest_by units None e = inr (λ nests. let passes = nest_passes most_open units nests in absurd (cc))
 nest_by units (Some []) e = inl (fields_nest most_open units e)
 nest_by units (Some (field ∷ fields)) e = inr (λ nests. let passes = nest_passes most_open units nests in absurd (cc))
@@ -99,5 +105,6 @@ pub nest_or : (units : List ℕ) → IsDecided (AreFields most_open units)
 nest_or units = nest_by units (after_all most_open units (Some [])) refl
 
 -- what is said of what may be there
-pub ForSome_settled : {A : Type 0} (P : A → Type 0) (o : Option A) → ((x : A) → IsDecided (P x)) → ¬ ¬ ((x : A) → o ≡ Some x → P x) → (x : A) → o ≡ Some x → P x
+pub ForSome_settled : {A : Type 0} (P : A → Type 0) (o : Option A) → ((x : A) → IsDecided (P x)) →
+    ¬ ¬ ((x : A) → o ≡ Some x → P x) → (x : A) → o ≡ Some x → P x
 ForSome_settled P o decided wrong x is = settled (decided x) (implied wrong (λ all. all x is))

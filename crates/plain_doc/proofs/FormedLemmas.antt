@@ -13,7 +13,8 @@ All-one P x p zero d h = p
 All-one P x p (suc k) d h = absurd (omega (arith, h))
 
 -- one more entry
-pub IsFormedList-add : {X : Type 0} (P : X → Type 0) (xs ys : List X) (x : X) → ys ≡ xs ++ x ∷ [] → length xs + 1 < 2 ^ 32 → IsFormedList P xs → P x → IsFormedList P ys
+pub IsFormedList-add : {X : Type 0} (P : X → Type 0) (xs ys : List X) (x : X) → ys ≡ xs ++ x ∷ [] →
+    length xs + 1 < 2 ^ 32 → IsFormedList P xs → P x → IsFormedList P ys
 IsFormedList-add P xs ys x is few formed one =
     rw is (record {
       few = omega (arith, length-append xs (x ∷ []));
@@ -21,13 +22,20 @@ IsFormedList-add P xs ys x is few formed one =
     })
 
 -- the length after a splice
-pub length-splice : {X : Type 0} (xs fresh : List X) (from to : ℕ) → from ≤ to → to ≤ length xs → length (splice xs from to fresh) ≡ from + (length fresh + (length xs - to))
+pub length-splice : {X : Type 0} (xs fresh : List X) (from to : ℕ) → from ≤ to → to ≤ length xs →
+    length (splice xs from to fresh) ≡ from + (length fresh + (length xs - to))
 length-splice xs fresh from to ordered within =
     let short : from ≤ length xs = omega arith in
-    rw (length-append (take from xs) (fresh ++ drop to xs), length-append fresh (drop to xs), length-take-le from xs short, length-drop to xs) refl
+    rw (
+      length-append (take from xs) (fresh ++ drop to xs),
+      length-append fresh (drop to xs),
+      length-take-le from xs short,
+      length-drop to xs,
+    ) refl
 
 -- fresh entries in place of some
-pub IsFormedList-splice : {X : Type 0} (P : X → Type 0) (xs ys fresh : List X) (from to : ℕ) → ys ≡ splice xs from to fresh → from ≤ to → to ≤ length xs
+pub IsFormedList-splice : {X : Type 0} (P : X → Type 0) (xs ys fresh : List X) (from to : ℕ) →
+    ys ≡ splice xs from to fresh → from ≤ to → to ≤ length xs
     → length xs + length fresh < 2 ^ 32 + (to - from) → IsFormedList P xs → IsFormedList P fresh → IsFormedList P ys
 IsFormedList-splice P xs ys fresh from to is ordered within few formed new =
     rw is (record {
@@ -38,7 +46,8 @@ IsFormedList-splice P xs ys fresh from to is ordered within few formed new =
     })
 
 -- an entry in place of another
-pub IsFormedList-set : {X : Type 0} (P : X → Type 0) (xs : List X) (i : ℕ) (x : X) → IsFormedList P xs → P x → IsFormedList P (set xs i x)
+pub IsFormedList-set : {X : Type 0} (P : X → Type 0) (xs : List X) (i : ℕ) (x : X) → IsFormedList P xs → P x →
+    IsFormedList P (set xs i x)
 IsFormedList-set P xs i x formed one =
     record {
       few = search (rules, arith);
@@ -53,7 +62,9 @@ ForSome-from_cases None P here x is = absurd (grind (arith, is))
 ForSome-from_cases (Some y) P here x is = subst P (ap (λ o. unwrap_or o y) is) here
 
 -- the maps of an item, each of its place
-pub HasPropertyMaps-from_parts : (item : Item) → IsPropertyMap character_groups item.chp → IfSome item.mark (λ mark. IsPropertyMap paragraph_groups mark.pap) → IfSome item.sect (IsPropertyMap section_groups)
+pub HasPropertyMaps-from_parts : (item : Item) → IsPropertyMap character_groups item.chp →
+    IfSome item.mark (λ mark. IsPropertyMap paragraph_groups mark.pap) →
+    IfSome item.sect (IsPropertyMap section_groups)
     → HasPropertyMaps item
 HasPropertyMaps-from_parts item chp pap sect =
     record {

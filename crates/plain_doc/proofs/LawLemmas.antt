@@ -13,7 +13,8 @@ use Rattle.plain_doc.proofs.SoundLemmas.{document_rules-IsSingle, document_rules
 
 pub first_fault_least : FirstDocFaultIsLeast
 first_fault_least document number place first =
-    least_of_all Upto (document_rules document) 60 72 number place (document_rules-IsSingle document) (document_rules-Ascends document) first
+    least_of_all Upto (document_rules document) 60 72 number place (document_rules-IsSingle document)
+    (document_rules-Ascends document) first
 
 pub sound_are_right : SoundDocumentsAreRight
 sound_are_right document = (sound_is_right document, right_is_sound document)
@@ -25,7 +26,8 @@ pub cut_into_stretches : ItemsAreCutIntoStretches
 cut_into_stretches joins items = are_stretches joins items
 
 pub one_cut : StretchesAreOne
-one_cut joins items one other cut another = stretches_only joins items one cut ∙ sym (stretches_only joins items other another)
+one_cut joins items one other cut another =
+    stretches_only joins items one cut ∙ sym (stretches_only joins items other another)
 
 pub equal_are_same : EqualSettingsAreSame
 equal_are_same one other = same_settings-Decides one other

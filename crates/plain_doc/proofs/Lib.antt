@@ -17,8 +17,9 @@ pub mod BlankLemmas
 pub mod StretchLemmas
 pub mod CutLemmas
 pub mod SettingsLemmas
-pub mod BaseLemmas
 pub mod DecisionLemmas
 pub mod RightLemmas
 pub mod MainLemmas
+pub mod MarkedLemmas
 pub mod LawLemmas
+pub mod CollectedLemmas

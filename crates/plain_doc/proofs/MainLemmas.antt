@@ -61,23 +61,27 @@ ends_main document right =
     let placed = (main_right document right).placed (length document.main - 1) last.item last.here in
     placed.section.last refl (let e : length document.main - 1 + 1 ≡ length document.main = omega (arith, some) in e)
 
-pub last_ends : (document : Document) → IsRightDocument document → EndsParagraph document.main (length document.main - 1)
+pub last_ends : (document : Document) → IsRightDocument document →
+    EndsParagraph document.main (length document.main - 1)
 last_ends document right =
     let last = main_ends document right in
     record { item = last.item; here = last.here; marked = last_marked document right }
 
 -- a paragraph ends from each item on
-pub some_end : (document : Document) (pos : ℕ) → IsRightDocument document → pos < length document.main → ¬ (HasNoParagraphEnd document.main pos)
+pub some_end : (document : Document) (pos : ℕ) → IsRightDocument document → pos < length document.main →
+    ¬ (HasNoParagraphEnd document.main pos)
 some_end document pos right h none = none (length document.main - 1) (omega (arith, h)) (last_ends document right)
 
 -- ---- well-formed items
 
 -- the maps of items are those of their places
-pub maps_there : (items : List Item) (at : ℕ) (item : Item) → IsFormedText items → slice_get items at ≡ Some item → HasPropertyMaps item
+pub maps_there : (items : List Item) (at : ℕ) (item : Item) → IsFormedText items → slice_get items at ≡ Some item →
+    HasPropertyMaps item
 maps_there items at item formed here =
     let each = All-get_or IsFormedItem items at item (slice_get_within items at item here) formed.each in
     let same : IsFormedItem item = subst IsFormedItem (get_or_from_slice_get items at item item here) each in
     same.maps
 
-pub item_map : (items : List Item) (at : ℕ) (item : Item) → IsFormedText items → slice_get items at ≡ Some item → IsPropertyMap character_groups item.chp
+pub item_map : (items : List Item) (at : ℕ) (item : Item) → IsFormedText items → slice_get items at ≡ Some item →
+    IsPropertyMap character_groups item.chp
 item_map items at item formed here = (maps_there items at item formed here).chp

@@ -11,13 +11,15 @@ abbrev pub HasNoMark : List Item → ℕ → ℕ → Type 0
 HasNoMark items from to = (at : ℕ) → from ≤ at → at < to → ¬ EndsParagraph items at
 
 -- an item without a mark ends no paragraph
-pub no_mark_at : (items : List Item) (at : ℕ) (item : Item) → is_some (get_or items at item).mark ≡ false → ¬ EndsParagraph items at
+pub no_mark_at : (items : List Item) (at : ℕ) (item : Item) → is_some (get_or items at item).mark ≡ false →
+    ¬ EndsParagraph items at
 no_mark_at items at item unmarked ends =
     let same : get_or items at item ≡ ends.item = get_or_from_slice_get items at ends.item item ends.here in
     absurd (grind (arith, sym ends.marked ∙ sym (ap (λ x. is_some x.mark) same) ∙ unmarked))
 
 -- an item with a mark ends one
-pub mark_at : (items : List Item) (at : ℕ) (item : Item) → at < length items → item ≡ get_or items at item → is_some (get_or items at item).mark ≡ true → EndsParagraph items at
+pub mark_at : (items : List Item) (at : ℕ) (item : Item) → at < length items → item ≡ get_or items at item →
+    is_some (get_or items at item).mark ≡ true → EndsParagraph items at
 mark_at items at item within is marked =
     record {
       item = item;
@@ -26,7 +28,8 @@ mark_at items at item within is marked =
     }
 
 -- one more item without a mark
-pub HasNoMark-more : (items : List Item) (from to : ℕ) (item : Item) → HasNoMark items from to → is_some (get_or items to item).mark ≡ false → HasNoMark items from (to + 1)
+pub HasNoMark-more : (items : List Item) (from to : ℕ) (item : Item) → HasNoMark items from to →
+    is_some (get_or items to item).mark ≡ false → HasNoMark items from (to + 1)
 HasNoMark-more items from to item none unmarked at after below =
     elim (cases_lt at to) [
       | inl less ↦ none at after less
@@ -36,7 +39,8 @@ HasNoMark-more items from to item none unmarked at after below =
     ]
 
 -- past the end there is no item
-pub HasNoMark-all : (items : List Item) (from to : ℕ) → HasNoMark items from to → length items ≤ to → HasNoParagraphEnd items from
+pub HasNoMark-all : (items : List Item) (from to : ℕ) → HasNoMark items from to → length items ≤ to →
+    HasNoParagraphEnd items from
 HasNoMark-all items from to none end at after ends =
     elim (cases_lt at to) [
       | inl less ↦ none at after less ends

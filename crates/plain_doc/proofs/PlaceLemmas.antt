@@ -23,22 +23,29 @@ inner_of Heads k = refl
 
 -- the text of this number, where it is there, does not break the rule
 pub HoldsInText : Side → List (List Item) → (Where → List Item → ℕ → Type 0) → ℕ → Type 0
-HoldsInText side texts breaks k = (text : List Item) → slice_get texts k ≡ Some text → (at : ℕ) → ¬ (breaks (part_of side k) text at)
+HoldsInText side texts breaks k =
+    (text : List Item) → slice_get texts k ≡ Some text → (at : ℕ) → ¬ (breaks (part_of side k) text at)
 
-pub holds_here : (side : Side) (texts : List (List Item)) (breaks : Where → List Item → ℕ → Type 0) (k : ℕ) (text : List Item) → slice_get texts k ≡ Some text → Nowhere (breaks (part_of side k) text) → HoldsInText side texts breaks k
+pub holds_here : (side : Side) (texts : List (List Item)) (breaks : Where → List Item → ℕ → Type 0) (k : ℕ)
+    (text : List Item) → slice_get texts k ≡ Some text → Nowhere (breaks (part_of side k) text) →
+    HoldsInText side texts breaks k
 unfolding HoldsInText
 holds_here side texts breaks k text there none = λ other is at broken.
     let same : other ≡ text = cc in none at (subst (λ t. breaks (part_of side k) t at) same broken)
 
 -- where no text breaks it, the list does not
-pub list_holds : (side : Side) (texts : List (List Item)) (breaks : Where → List Item → ℕ → Type 0) (n : ℕ) → length texts ≤ n → ((k : ℕ) → k < n → HoldsInText side texts breaks k) → Nowhere (InList side texts breaks)
+pub list_holds : (side : Side) (texts : List (List Item)) (breaks : Where → List Item → ℕ → Type 0) (n : ℕ) →
+    length texts ≤ n → ((k : ℕ) → k < n → HoldsInText side texts breaks k) → Nowhere (InList side texts breaks)
 unfolding HoldsInText
 list_holds side texts breaks n all before = λ place w.
     let within = slice_get_within texts w.number w.text w.there in
     before w.number (omega arith) w.text w.there place.1 (subst (λ part. breaks part w.text place.1) w.here w.broken)
 
 -- the first text that breaks it has the least place
-pub list_first : (side : Side) (texts : List (List Item)) (breaks : Where → List Item → ℕ → Type 0) (k at : ℕ) (text : List Item) → ((j : ℕ) → j < k → HoldsInText side texts breaks j) → slice_get texts k ≡ Some text → IsLeast (λ a b. a ≤ b) (breaks (part_of side k) text) at → IsLeast Upto (InList side texts breaks) (part_of side k, at)
+pub list_first : (side : Side) (texts : List (List Item)) (breaks : Where → List Item → ℕ → Type 0) (k at : ℕ)
+    (text : List Item) → ((j : ℕ) → j < k → HoldsInText side texts breaks j) → slice_get texts k ≡ Some text →
+    IsLeast (λ a b. a ≤ b) (breaks (part_of side k) text) at →
+    IsLeast Upto (InList side texts breaks) (part_of side k, at)
 unfolding HoldsInText
 list_first side texts breaks k at text before there first = record {
   broken = record { number = k; text = text; there = there; here = refl; broken = first.broken };
@@ -53,8 +60,11 @@ list_first side texts breaks k at text before there first = record {
           | inl over ↦ upto_next (part_of side k, at) q ranks (omega arith)
           | inr under ↦
               let e : w.number ≡ k = omega arith in
-              let same : w.text ≡ text = (let a = w.there in let b = subst (λ n. slice_get texts n ≡ Some text) (sym e) there in cc) in
-              let le : at ≤ q.1 = first.least q.1 (subst (λ t. breaks (part_of side k) t q.1) same (subst (λ n. breaks (part_of side n) w.text q.1) e broken)) in
+              let same : w.text ≡ text =
+              (let a = w.there in let b = subst (λ n. slice_get texts n ≡ Some text) (sym e) there in cc) in
+              let le : at ≤ q.1 =
+              first.least q.1 (subst (λ t. breaks (part_of side k) t q.1) same
+              (subst (λ n. breaks (part_of side n) w.text q.1) e broken)) in
               upto_same (part_of side k, at) q (ap (part_of side) (sym e) ∙ sym w.here) le
         ]
       ];

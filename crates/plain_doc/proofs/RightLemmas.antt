@@ -21,7 +21,7 @@ use Rattle.plain_doc.specs.RulesOfTexts.{InTexts, text_of, EndsRight, IsHead, Ha
 use Rattle.plain_doc.specs.RulesOfSheet.{InSheet, HasShortKind, HasShortStyle, FitsStd, note_count, head_count, item_count, most_items}
 use Rattle.plain_doc.specs.Sound.{IsSound}
 use Rattle.plain_doc.specs.RightDocument.{HoldsAtItems, IsRightText, IsRightDocument}
-use Rattle.plain_doc.proofs.BaseLemmas.{unbroken_bases}
+use Rattle.style_sheet.proofs.BaseLemmas.{unbroken_bases}
 use Rattle.plain_doc.proofs.WalkLemmas.{after_all}
 use Rattle.plain_doc.proofs.NestingLemmas.{nest_passes}
 use Rattle.plain_doc.proofs.FieldLemmas.{nothing_open}
@@ -31,27 +31,33 @@ use Rattle.plain_doc.proofs.DecisionLemmas.{IsDecided, settled, implied, at_most
 
 mark_settled : (item : Item) → ¬ ¬ (HasMarkRight item) → HasMarkRight item
 mark_settled item wrong =
-    let ends = either_or (equal_or item.unit paragraph_mark) (either_or (equal_or item.unit cell_mark) (true_or (is_some item.sect))) in (
+    let ends =
+    either_or (equal_or item.unit paragraph_mark) (either_or (equal_or item.unit cell_mark)
+    (true_or (is_some item.sect))) in (
       settled (implies_or (true_or (is_some item.mark)) ends) (implied wrong (λ right. right.0)),
       settled (implies_or ends (true_or (is_some item.mark))) (implied wrong (λ right. right.1)),
     )
 
-section_settled : (part : Where) (len place : ℕ) (item : Item) → ¬ ¬ (HasSectionRight part len place item) → HasSectionRight part len place item
+section_settled : (part : Where) (len place : ℕ) (item : Item) → ¬ ¬ (HasSectionRight part len place item) →
+    HasSectionRight part len place item
 section_settled part len place item wrong = record {
   alone =
-      settled (implies_or (true_or (is_some item.sect)) (both_or (main_or part) (either_or (equal_or (place + 1) len) (equal_or item.unit section_mark))))
+      settled (implies_or (true_or (is_some item.sect))
+      (both_or (main_or part) (either_or (equal_or (place + 1) len) (equal_or item.unit section_mark))))
       (implied wrong (λ right. right.alone));
   last =
       settled (implies_or (main_or part) (implies_or (equal_or (place + 1) len) (true_or (is_some item.sect))))
       (implied wrong (λ right. right.last));
 }
 
-placed_settled : (part : Where) (len place : ℕ) (item : Item) → ¬ ¬ (IsPlacedRight part len place item) → IsPlacedRight part len place item
+placed_settled : (part : Where) (len place : ℕ) (item : Item) → ¬ ¬ (IsPlacedRight part len place item) →
+    IsPlacedRight part len place item
 placed_settled part len place item wrong = record {
   mark = mark_settled item (implied wrong (λ right. right.mark));
   section = section_settled part len place item (implied wrong (λ right. right.section));
   field =
-      settled (implies_or (true_or (is_some item.fld)) (both_or (at_most_or 0x13 item.unit) (at_most_or item.unit 0x15)))
+      settled (implies_or (true_or (is_some item.fld))
+      (both_or (at_most_or 0x13 item.unit) (at_most_or item.unit 0x15)))
       (implied wrong (λ right. right.field));
   note = settled (implies_or (true_or (is_some item.note)) (main_or part)) (implied wrong (λ right. right.note));
 }
@@ -61,7 +67,9 @@ row_settled cells item wrong = record {
   row =
       settled (implies_or (true_or (is_row_mark item)) (cells_or (paragraph_value item 0xD608) cells))
       (implied wrong (λ right. right.row));
-  outside = settled (implies_or (true_or (is_mark_outside item)) (equal_or cells 0)) (implied wrong (λ right. right.outside));
+  outside =
+      settled (implies_or (true_or (is_mark_outside item)) (equal_or cells 0))
+      (implied wrong (λ right. right.outside));
 }
 
 short_settled : (item : Item) → ¬ ¬ (HasShortSettings item) → HasShortSettings item
@@ -70,7 +78,9 @@ short_settled item wrong = record {
   pap =
       ForSome_settled (λ mark. IsShortPap mark.pap) item.mark (λ mark. at_most_or (printed_length mark.pap) 480)
       (implied wrong (λ right. right.pap));
-  sect = ForSome_settled IsShortSect item.sect (λ sect. at_most_or (printed_length sect) 500) (implied wrong (λ right. right.sect));
+  sect =
+      ForSome_settled IsShortSect item.sect (λ sect. at_most_or (printed_length sect) 500)
+      (implied wrong (λ right. right.sect));
 }
 
 style_settled : (sheet : Sheet) (item : Item) → ¬ ¬ (HasParagraphStyle sheet item) → HasParagraphStyle sheet item
@@ -88,43 +98,54 @@ ends_or part text = either_or (some_or (last_unit text) paragraph_mark) (both_or
 -- ---- a rule on each item of a text
 
 -- no item is wrong, so each is right
-items_right : (such : ℕ → Item → Type 0) (text : List Item) → ((i : ℕ) (item : Item) → ¬ ¬ (such i item) → such i item) →
+items_right : (such : ℕ → Item → Type 0) (text : List Item) →
+    ((i : ℕ) (item : Item) → ¬ ¬ (such i item) → such i item) →
     ((i : ℕ) → ¬ (IsWrongItem such text i)) → HoldsAtItems text such
 items_right such text settles none i item here =
     settles i item (λ wrong. none i (record { item = item; there = here; wrong = wrong }))
 
 -- each is right, so none is wrong
-none_wrong : (such : ℕ → Item → Type 0) (text : List Item) → HoldsAtItems text such → (i : ℕ) → ¬ (IsWrongItem such text i)
+none_wrong : (such : ℕ → Item → Type 0) (text : List Item) → HoldsAtItems text such → (i : ℕ) →
+    ¬ (IsWrongItem such text i)
 none_wrong such text right i wrong = wrong.wrong (right i wrong.item wrong.there)
 
 -- a rule that no text of the document breaks is broken in none of them
 in_text : (document : Document) (breaks : Where → List Item → ℕ → Type 0) → Nowhere (InTexts document breaks) →
     (part : Where) (text : List Item) → text_of document part ≡ Some text → (i : ℕ) → ¬ (breaks part text i)
-in_text document breaks none part text there i broken = none (part, i) (record { text = text; there = there; broken = broken })
+in_text document breaks none part text there i broken =
+    none (part, i) (record { text = text; there = there; broken = broken })
 
 -- ---- from soundness
 
-text_right : (document : Document) → IsSound document → (part : Where) (text : List Item) → text_of document part ≡ Some text → IsRightText document.sheet part text
+text_right : (document : Document) → IsSound document → (part : Where) (text : List Item) →
+    text_of document part ≡ Some text → IsRightText document.sheet part text
 text_right document sound part text there = record {
-  ends = settled (ends_or part text) (λ wrong. in_text document HasWrongEnd sound.0.0 part text there (length text - 1) (refl, wrong));
+  ends =
+      settled (ends_or part text) (λ wrong. in_text document HasWrongEnd sound.0.0 part text there (length text - 1)
+      (refl, wrong));
   placed =
       items_right (IsPlacedRight part (length text)) text (placed_settled part (length text))
       (in_text document (λ part text. IsWrongItem (IsPlacedRight part (length text)) text) sound.0.1.0 part text there);
   fields =
       settled (nest_or (field_characters text))
-      (λ wrong. in_text document (λ part text. BreaksNesting text) sound.0.1.1.0 part text there (length text) (inr (refl, wrong)));
+      (λ wrong. in_text document (λ part text. BreaksNesting text) sound.0.1.1.0 part text there (length text)
+      (inr (refl, wrong)));
   rows =
-      items_right (λ i item. FitsRow (open_cells (take i text)) item) text (λ i item. row_settled (open_cells (take i text)) item)
+      items_right (λ i item. FitsRow (open_cells (take i text)) item) text
+      (λ i item. row_settled (open_cells (take i text)) item)
       (λ i wrong. in_text document (λ part text. BreaksRows text) sound.0.1.1.1.0 part text there i (inl wrong));
   row_ends =
       settled (equal_or (open_cells text) 0)
-      (λ wrong. in_text document (λ part text. BreaksRows text) sound.0.1.1.1.0 part text there (length text) (inr (refl, wrong)));
+      (λ wrong. in_text document (λ part text. BreaksRows text) sound.0.1.1.1.0 part text there (length text)
+      (inr (refl, wrong)));
   styles =
       items_right (λ i item. HasParagraphStyle document.sheet item) text (λ i item. style_settled document.sheet item)
-      (in_text document (λ part text. IsWrongItem (λ place item. HasParagraphStyle document.sheet item) text) sound.0.1.1.1.1 part text there);
+      (in_text document (λ part text. IsWrongItem (λ place item. HasParagraphStyle document.sheet item) text)
+      sound.0.1.1.1.1 part text there);
   short =
       items_right (λ i item. HasShortSettings item) text (λ i item. short_settled item)
-      (in_text document (λ part text. IsWrongItem (λ i item. HasShortSettings item) text) (λ place wrong. sound.1.1.1.0 place (inr wrong)) part text there);
+      (in_text document (λ part text. IsWrongItem (λ i item. HasShortSettings item) text)
+      (λ place wrong. sound.1.1.1.0 place (inr wrong)) part text there);
 }
 
 pub sound_is_right : (document : Document) → IsSound document → IsRightDocument document
@@ -138,20 +159,27 @@ sound_is_right document sound = record {
       (λ wrong. sound.1.1.0.1.0 (Main, length document.heads) (refl, wrong));
   few =
       settled (at_most_or (item_count document) most_items)
-      (λ wrong. sound.1.1.0.1.1 (Main, most_items) (refl, let more : most_items < item_count document = omega (arith, wrong) in more));
+      (λ wrong. sound.1.1.0.1.1 (Main, most_items) (
+        refl,
+        let more : most_items < item_count document = omega (arith, wrong) in more,
+      ));
   bases = unbroken_bases document.sheet (λ istd broken. sound.1.0 (SheetPart, istd) (refl, broken));
   short = λ istd style is.
-      settled (kind_or style.kind) (λ wrong. sound.1.1.1.0 (SheetPart, istd) (inl (refl, λ short. wrong (short style is))));
+      settled (kind_or style.kind) (λ wrong. sound.1.1.1.0 (SheetPart, istd)
+      (inl (refl, λ short. wrong (short style is))));
   writable = λ istd.
-      settled (at_most_or (length (written_slot istd (style_at document.sheet istd))) 32767) (λ wrong. sound.1.1.1.1 (SheetPart, istd) (refl, wrong));
+      settled (at_most_or (length (written_slot istd (style_at document.sheet istd))) 32767)
+      (λ wrong. sound.1.1.1.1 (SheetPart, istd) (refl, wrong));
 }
 
 -- ---- to soundness
 
 -- what each text says holds at each place of a rule on texts
 nowhere_in_texts : (document : Document) (breaks : Where → List Item → ℕ → Type 0) → IsRightDocument document →
-    ((part : Where) (text : List Item) → IsRightText document.sheet part text → (i : ℕ) → ¬ (breaks part text i)) → Nowhere (InTexts document breaks)
-nowhere_in_texts document breaks right none place w = none place.0 w.text (right.texts place.0 w.text w.there) place.1 w.broken
+    ((part : Where) (text : List Item) → IsRightText document.sheet part text → (i : ℕ) → ¬ (breaks part text i)) →
+    Nowhere (InTexts document breaks)
+nowhere_in_texts document breaks right none place w =
+    none place.0 w.text (right.texts place.0 w.text w.there) place.1 w.broken
 
 unbroken : (document : Document) → IsRightDocument document → (istd : ℕ) → ¬ (BreaksBases document.sheet istd)
 unbroken document right istd broken = elim broken [
@@ -168,7 +196,8 @@ right_is_sound document right =
     (λ part text t. none_wrong (IsPlacedRight part (length text)) text t.placed) in
     let fields =
     nowhere_in_texts document (λ part text. BreaksNesting text) right
-    (λ part text t. nothing_open text (ap (λ items. after_all most_open (field_characters items) (Some [])) (take-length text) ∙ nest_passes most_open (field_characters text) t.fields)) in
+    (λ part text t. nothing_open text (ap (λ items. after_all most_open (field_characters items) (Some []))
+    (take-length text) ∙ nest_passes most_open (field_characters text) t.fields)) in
     let rows =
     nowhere_in_texts document (λ part text. BreaksRows text) right
     (λ part text t i w. elim w [

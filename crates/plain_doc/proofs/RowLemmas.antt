@@ -16,7 +16,8 @@ unfolding open_cells
 open_cells-nil = refl
 
 -- of a row mark and what is before it nothing is counted
-stops_at_row : (row : Bool) (item : Item) (others : List Item) → count_by is_cell_mark (cond (not row) (item ∷ others) []) ≡ cond row 0 (count_by is_cell_mark (item ∷ others))
+stops_at_row : (row : Bool) (item : Item) (others : List Item) →
+    count_by is_cell_mark (cond (not row) (item ∷ others) []) ≡ cond row 0 (count_by is_cell_mark (item ∷ others))
 stops_at_row true item others = refl
 stops_at_row false item others = refl
 
@@ -25,7 +26,9 @@ one_more true cell n = refl
 one_more false true n = omega arith
 one_more false false n = omega arith
 
-cells_onto : (item : Item) (others : List Item) → count_by is_cell_mark (take_while (λ item. not (is_row_mark item)) (item ∷ others)) ≡ cells_after (count_by is_cell_mark (take_while (λ item. not (is_row_mark item)) others)) item
+cells_onto : (item : Item) (others : List Item) →
+    count_by is_cell_mark (take_while (λ item. not (is_row_mark item)) (item ∷ others)) ≡ cells_after
+    (count_by is_cell_mark (take_while (λ item. not (is_row_mark item)) others)) item
 cells_onto item others =
     let such : Item → Bool = λ item. not (is_row_mark item) in
     let inside : List Item = take_while such others in
@@ -35,17 +38,22 @@ cells_onto item others =
     ∙ one_more (is_row_mark item) (is_cell_mark item) (count_by is_cell_mark inside)
 
 -- after one item more
-pub open_cells_more : (text : List Item) (i : ℕ) (item : Item) → i < length text → item ≡ get_or text i item → open_cells (take (i + 1) text) ≡ cells_after (open_cells (take i text)) item
+pub open_cells_more : (text : List Item) (i : ℕ) (item : Item) → i < length text → item ≡ get_or text i item →
+    open_cells (take (i + 1) text) ≡ cells_after (open_cells (take i text)) item
 unfolding open_cells
 open_cells_more text i item h is =
-    let turned : reverse (take (i + 1) text) ≡ item ∷ reverse (take i text) = ap reverse (take_more text i item h ∙ ap (λ x. take i text ++ x ∷ []) (sym is)) ∙ reverse-append (take i text) (item ∷ []) in
-    ap (λ items. count_by is_cell_mark (take_while (λ item. not (is_row_mark item)) items)) turned ∙ cells_onto item (reverse (take i text))
+    let turned : reverse (take (i + 1) text) ≡ item ∷ reverse (take i text) =
+    ap reverse (take_more text i item h ∙ ap (λ x. take i text ++ x ∷ []) (sym is))
+    ∙ reverse-append (take i text) (item ∷ []) in
+    ap (λ items. count_by is_cell_mark (take_while (λ item. not (is_row_mark item)) items)) turned
+    ∙ cells_onto item (reverse (take i text))
 
 abbrev pub RightIn : List Item → ℕ → Item → Type 0
 RightIn text i item = FitsRow (open_cells (take i text)) item
 
 -- the first wrong item of the rows
-pub row_stops : (text : List Item) (i : ℕ) → ((k : ℕ) → k < i → IsWrongItem (RightIn text) text k → ⊥) → IsWrongItem (RightIn text) text i → IsLeast (λ a b. a ≤ b) (BreaksRows text) i
+pub row_stops : (text : List Item) (i : ℕ) → ((k : ℕ) → k < i → IsWrongItem (RightIn text) text k → ⊥) →
+    IsWrongItem (RightIn text) text i → IsLeast (λ a b. a ≤ b) (BreaksRows text) i
 row_stops text i before here = record {
   broken = inl here;
   least = λ p broken. elim broken [
@@ -54,13 +62,15 @@ row_stops text i before here = record {
   ];
 }
 
-pub no_row_open : (text : List Item) → ((k : ℕ) → k < length text → IsWrongItem (RightIn text) text k → ⊥) → open_cells (take (length text) text) ≡ 0 → Nowhere (BreaksRows text)
+pub no_row_open : (text : List Item) → ((k : ℕ) → k < length text → IsWrongItem (RightIn text) text k → ⊥) →
+    open_cells (take (length text) text) ≡ 0 → Nowhere (BreaksRows text)
 no_row_open text right none = λ p broken. elim broken [
   | inl w ↦ right p (wrong_within (RightIn text) text p w) w
   | inr end ↦ end.1 (ap open_cells (sym (take-length text)) ∙ none)
 ]
 
-pub row_open : (text : List Item) → ((k : ℕ) → k < length text → IsWrongItem (RightIn text) text k → ⊥) → (open_cells (take (length text) text) ≡ 0 → ⊥) → IsLeast (λ a b. a ≤ b) (BreaksRows text) (length text)
+pub row_open : (text : List Item) → ((k : ℕ) → k < length text → IsWrongItem (RightIn text) text k → ⊥) →
+    (open_cells (take (length text) text) ≡ 0 → ⊥) → IsLeast (λ a b. a ≤ b) (BreaksRows text) (length text)
 row_open text right some = record {
   broken = inr (refl, λ none. some (ap open_cells (take-length text) ∙ none));
   least = λ p broken. elim broken [

@@ -11,14 +11,16 @@ use Rattle.prop_map.specs.Settings.{Settings}
 use Rattle.plain_doc.specs.Settings.{same_prls, same_settings}
 
 heads : (a b : Prl) (more others : List Prl) → a ∷ more ≡ b ∷ others → (a.0 ≡ b.0) × ((a.1 ≡ b.1) × (more ≡ others))
-heads a b more others e = let first : a ≡ b = cc in let rest : more ≡ others = cc in (ap (λ p. p.0) first, (ap (λ p. p.1) first, rest))
+heads a b more others e =
+    let first : a ≡ b = cc in let rest : more ≡ others = cc in (ap (λ p. p.0) first, (ap (λ p. p.1) first, rest))
 
 same_prls-Decides : (xs ys : List Prl) → Decides (same_prls xs ys) (xs ≡ ys)
 same_prls-Decides [] [] = (λ _. refl, λ _. refl)
 same_prls-Decides [] (b ∷ others) = (λ e. absurd (cc), λ e. absurd (cc))
 same_prls-Decides (a ∷ more) [] = (λ e. absurd (cc), λ e. absurd (cc))
 same_prls-Decides (a ∷ more) (b ∷ others) =
-    Decides-like _ (λ h. let rest = h.1.1 in let code = h.0 in let value = h.1.0 in λ i. (code i, value i) ∷ rest i) (heads a b more others)
+    Decides-like _ (λ h. let rest = h.1.1 in let code = h.0 in let value = h.1.0 in λ i. (code i, value i) ∷ rest i)
+    (heads a b more others)
     (Decides-and (a.0 == b.0) (bytes_eq a.1 b.1 && same_prls more others) (Decides-eqb a.0 b.0)
     (Decides-and (bytes_eq a.1 b.1) (same_prls more others) (bytes_eq-Decides a.1 b.1) (same_prls-Decides more others)))
 

@@ -12,8 +12,14 @@ use Rattle.doc_bits.specs.Places.{LeastPlaceOrNone}
 use Rattle.plain_doc.specs.RulesOfTexts.{InTexts}
 use Rattle.doc_bits.proofs.PlaceLemmas.{upto_later, upto_same, least_first, least_second}
 
-pub first_style : (breaks : ℕ → Type 0) (istd : ℕ) → IsLeast (λ a b. a ≤ b) breaks istd → IsLeast Upto (InSheet breaks) (Sheet, istd)
-first_style breaks istd first = record { broken = (refl, first.broken); least = λ q w. upto_same (Sheet, istd) q (sym w.0) (first.least q.1 w.1) }
+pub first_style : (breaks : ℕ → Type 0) (istd : ℕ) → IsLeast (λ a b. a ≤ b) breaks istd →
+    IsLeast Upto (InSheet breaks) (Sheet, istd)
+first_style breaks istd first =
+    record {
+      broken = (refl, first.broken);
+      least = λ q w. upto_same (Sheet, istd) q (sym w.0)
+          (first.least q.1 w.1);
+    }
 
 pub no_style : (breaks : ℕ → Type 0) → Nowhere breaks → Nowhere (InSheet breaks)
 no_style breaks none = λ place w. none place.1 w.1
@@ -29,10 +35,14 @@ module _ (document : Document) (breaks : Where → List Item → ℕ → Type 0)
   after_sheet (Head number) at w = omega arith
 
   -- a rule on styles and on texts
-  pub style_first : (styles : ℕ → Type 0) (istd : ℕ) → IsLeast (λ a b. a ≤ b) styles istd → IsLeast Upto (λ place. InSheet styles place ⊎ InTexts document breaks place) (Sheet, istd)
+  pub style_first : (styles : ℕ → Type 0) (istd : ℕ) → IsLeast (λ a b. a ≤ b) styles istd →
+      IsLeast Upto (λ place. InSheet styles place ⊎ InTexts document breaks place) (Sheet, istd)
   style_first styles istd first =
       least_first (InSheet styles) (InTexts document breaks) (Sheet, istd) (first_style styles istd first)
       (λ q w. upto_later (Sheet, istd) q (after_sheet q.0 q.1 w))
 
-  pub texts_after : (styles : ℕ → Type 0) (found : Option Place) → Nowhere styles → LeastPlaceOrNone (InTexts document breaks) found → LeastPlaceOrNone (λ place. InSheet styles place ⊎ InTexts document breaks place) found
-  texts_after styles found none texts = least_second (InSheet styles) (InTexts document breaks) found (no_style styles none) texts
+  pub texts_after : (styles : ℕ → Type 0) (found : Option Place) → Nowhere styles →
+      LeastPlaceOrNone (InTexts document breaks) found →
+      LeastPlaceOrNone (λ place. InSheet styles place ⊎ InTexts document breaks place) found
+  texts_after styles found none texts =
+      least_second (InSheet styles) (InTexts document breaks) found (no_style styles none) texts

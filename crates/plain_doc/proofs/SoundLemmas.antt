@@ -8,10 +8,62 @@ pub document_rules-IsSingle : (document : Document) → IsSingle (document_rules
 document_rules-IsSingle document = ((tt, (tt, (tt, (tt, tt)))), (tt, ((tt, (tt, tt)), (tt, tt))))
 
 text_rules-Ascends : (document : Document) → Ascends (text_rules document) 60 65
-text_rules-Ascends document = (61, ((lit≤ tt, lit< tt), (lit≤ tt, lit≤ tt, (62, ((lit≤ tt, lit< tt), (lit≤ tt, lit≤ tt, (63, ((lit≤ tt, lit< tt), (lit≤ tt, lit≤ tt, (64, ((lit≤ tt, lit< tt), (lit≤ tt, lit≤ tt, (lit≤ tt, lit< tt)))))))))))))
+text_rules-Ascends document = (
+  61,
+  (
+    (lit≤ tt, lit< tt),
+    (
+      lit≤ tt,
+      lit≤ tt,
+      (
+        62,
+        (
+          (lit≤ tt, lit< tt),
+          (
+            lit≤ tt,
+            lit≤ tt,
+            (
+              63,
+              (
+                (lit≤ tt, lit< tt),
+                (
+                  lit≤ tt,
+                  lit≤ tt,
+                  (
+                    64,
+                    (
+                      (
+                        lit≤ tt,
+                        lit< tt,
+                      ),
+                      (lit≤ tt, lit≤ tt, (lit≤ tt, lit< tt)),
+                    ),
+                  ),
+                ),
+              ),
+            ),
+          ),
+        ),
+      ),
+    ),
+  ),
+)
 
 count_rules-Ascends : (document : Document) → Ascends (count_rules document) 66 69
-count_rules-Ascends document = (67, ((lit≤ tt, lit< tt), (lit≤ tt, lit≤ tt, (68, ((lit≤ tt, lit< tt), (lit≤ tt, lit≤ tt, (lit≤ tt, lit< tt)))))))
+count_rules-Ascends document = (
+  67,
+  (
+    (lit≤ tt, lit< tt),
+    (
+      lit≤ tt,
+      lit≤ tt,
+      (
+        68,
+        ((lit≤ tt, lit< tt), (lit≤ tt, lit≤ tt, (lit≤ tt, lit< tt))),
+      ),
+    ),
+  ),
+)
 
 size_rules-Ascends : (document : Document) → Ascends (size_rules document) 69 72
 size_rules-Ascends document = (71, ((lit≤ tt, lit< tt), (lit≤ tt, lit≤ tt, (lit≤ tt, lit< tt))))

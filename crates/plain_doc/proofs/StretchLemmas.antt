@@ -22,7 +22,8 @@ leads joins x ((y ∷ ys) ∷ more) =
     ]
 
 -- an element that joins no next one is a stretch
-alone : {A : Type 0} (joins : A → A → Bool) (x : A) (xs : List A) → joins_at joins (x ∷ xs) 0 ≡ false → stretches joins (x ∷ xs) ≡ (x ∷ []) ∷ stretches joins xs
+alone : {A : Type 0} (joins : A → A → Bool) (x : A) (xs : List A) → joins_at joins (x ∷ xs) 0 ≡ false →
+    stretches joins (x ∷ xs) ≡ (x ∷ []) ∷ stretches joins xs
 unfolding stretches
 alone joins x [] e = refl
 alone joins x (y ∷ ys) e =
@@ -31,13 +32,15 @@ alone joins x (y ∷ ys) e =
     rw (next.is, apart) refl
 
 -- an element joins the next one wherever both stand
-pub joins_at-tail : {A : Type 0} (joins : A → A → Bool) (x : A) (xs : List A) (k : ℕ) → joins_at joins (x ∷ xs) (suc k) ≡ joins_at joins xs k
+pub joins_at-tail : {A : Type 0} (joins : A → A → Bool) (x : A) (xs : List A) (k : ℕ) →
+    joins_at joins (x ∷ xs) (suc k) ≡ joins_at joins xs k
 joins_at-tail joins x xs k =
     let e : suc k + 1 ≡ suc (k + 1) = omega arith in
     ap (λ i. joins_next joins (slice_get xs k) (slice_get (x ∷ xs) i)) e
 
 -- the rest of a stretch
-tail : {A : Type 0} (joins : A → A → Bool) (x : A) (xs : List A) (n : ℕ) → BeginsStretch joins (x ∷ xs) (suc (suc n)) → BeginsStretch joins xs (suc n)
+tail : {A : Type 0} (joins : A → A → Bool) (x : A) (xs : List A) (n : ℕ) →
+    BeginsStretch joins (x ∷ xs) (suc (suc n)) → BeginsStretch joins xs (suc n)
 tail joins x xs n b =
     let within = b.within in
     record {
@@ -47,11 +50,13 @@ tail joins x xs n b =
       ends =
           let here : suc n - 1 ≡ n = omega arith in
           let there : suc (suc n) - 1 ≡ suc n = omega arith in
-          ap (λ i. joins_at joins xs i) here ∙ (sym (joins_at-tail joins x xs n) ∙ (ap (λ i. joins_at joins (x ∷ xs) i) (sym there) ∙ b.ends));
+          ap (λ i. joins_at joins xs i) here ∙ (sym (joins_at-tail joins x xs n)
+          ∙ (ap (λ i. joins_at joins (x ∷ xs) i) (sym there) ∙ b.ends));
     }
 
 -- a list that begins with a stretch
-pub stretches-first : {A : Type 0} (joins : A → A → Bool) (xs : List A) (len : ℕ) → BeginsStretch joins xs len → stretches joins xs ≡ take len xs ∷ stretches joins (drop len xs)
+pub stretches-first : {A : Type 0} (joins : A → A → Bool) (xs : List A) (len : ℕ) → BeginsStretch joins xs len →
+    stretches joins xs ≡ take len xs ∷ stretches joins (drop len xs)
 unfolding stretches
 stretches-first joins [] len b = absurd (let s = b.some in let w = b.within in omega arith)
 stretches-first joins (x ∷ xs) zero b = absurd (let s = b.some in omega arith)
@@ -76,23 +81,30 @@ pub part_of : {A : Type 0} (xs : List A) (at len : ℕ) → take (at + len - at)
 part_of xs at len = let e : at + len - at ≡ len = omega arith in ap (λ n. take n (drop at xs)) e
 
 -- a text goes on by the text of the next stretch
-pub goes_on : {A : Type 0} (joins : A → A → Bool) (f : List A → List ℕ) (xs : List A) (at len : ℕ) (text more whole : List ℕ) →
-    BeginsStretch joins (take (length xs - at) (drop at xs)) len → more ≡ text ++ f (take (at + len - at) (drop at xs)) →
-    text ++ flat_map f (stretches joins (drop at xs)) ≡ whole → more ++ flat_map f (stretches joins (drop (at + len) xs)) ≡ whole
+pub goes_on : {A : Type 0} (joins : A → A → Bool) (f : List A → List ℕ) (xs : List A) (at len : ℕ)
+    (text more whole : List ℕ) →
+    BeginsStretch joins (take (length xs - at) (drop at xs)) len →
+    more ≡ text ++ f (take (at + len - at) (drop at xs)) →
+    text ++ flat_map f (stretches joins (drop at xs)) ≡ whole →
+    more ++ flat_map f (stretches joins (drop (at + len) xs)) ≡ whole
 goes_on joins f xs at len text more whole b m w =
     let begins = rw (rest_of xs at) at b in
     let first = stretches-first joins (drop at xs) len begins in
-    rw (m, part_of xs at len, ← drop-drop len at xs, append_assoc) (subst (λ parts. text ++ flat_map f parts ≡ whole) first w)
+    rw (m, part_of xs at len, ← drop-drop len at xs, append_assoc)
+    (subst (λ parts. text ++ flat_map f parts ≡ whole) first w)
 
 -- the part of a list that a stretch takes is within it
-pub stays_within : {A : Type 0} (joins : A → A → Bool) (xs : List A) (at len : ℕ) → at ≤ length xs → BeginsStretch joins (take (length xs - at) (drop at xs)) len → at + len ≤ length xs
+pub stays_within : {A : Type 0} (joins : A → A → Bool) (xs : List A) (at len : ℕ) → at ≤ length xs →
+    BeginsStretch joins (take (length xs - at) (drop at xs)) len → at + len ≤ length xs
 stays_within joins xs at len h b =
     let begins = rw (rest_of xs at) at b in
     let within = begins.within in
     omega (arith, length-drop at xs)
 
 -- where the list is used up nothing is left to write
-pub done_at : {A : Type 0} (joins : A → A → Bool) (f : List A → List ℕ) (xs : List A) (at : ℕ) (text whole : List ℕ) → length xs ≤ at → text ++ flat_map f (stretches joins (drop at xs)) ≡ whole → text ≡ whole
+pub done_at : {A : Type 0} (joins : A → A → Bool) (f : List A → List ℕ) (xs : List A) (at : ℕ) (text whole : List ℕ) →
+    length xs ≤ at → text ++ flat_map f (stretches joins (drop at xs)) ≡ whole → text ≡ whole
 done_at joins f xs at text whole h w =
     let none : drop at xs ≡ [] = drop_all at xs h in
-    sym (append-nil text) ∙ (ap (λ parts. text ++ flat_map f parts) (sym (stretches-nil joins)) ∙ (ap (λ rest. text ++ flat_map f (stretches joins rest)) (sym none) ∙ w))
+    sym (append-nil text) ∙ (ap (λ parts. text ++ flat_map f parts) (sym (stretches-nil joins))
+    ∙ (ap (λ rest. text ++ flat_map f (stretches joins rest)) (sym none) ∙ w))

@@ -20,5 +20,7 @@ wrong_within rule sheet istd wrong = elim (cases_lt istd (length sheet.styles)) 
   | inr past ↦ absurd (wrong (right_past rule sheet istd (get_or_past sheet.styles istd None past)))
 ]
 
-pub none_wrong : (rule : StyleRule) (sheet : Sheet) (n : ℕ) → length sheet.styles ≤ n → ((k : ℕ) → k < n → IsWrongStyle rule sheet k → ⊥) → Nowhere (IsWrongStyle rule sheet)
-none_wrong rule sheet n all before = λ p wrong. let within = wrong_within rule sheet p wrong in before p (omega arith) wrong
+pub none_wrong : (rule : StyleRule) (sheet : Sheet) (n : ℕ) → length sheet.styles ≤ n →
+    ((k : ℕ) → k < n → IsWrongStyle rule sheet k → ⊥) → Nowhere (IsWrongStyle rule sheet)
+none_wrong rule sheet n all before =
+    λ p wrong. let within = wrong_within rule sheet p wrong in before p (omega arith) wrong

@@ -32,19 +32,31 @@ module _ (document : Document) (breaks : Where → List Item → ℕ → Type 0)
   parts_at Wd at w = absurd (none-some w.text w.there)
   parts_at Table at w = absurd (none-some w.text w.there)
   parts_at Sheet at w = absurd (none-some w.text w.there)
-  parts_at Main at w = let same : w.text ≡ document.main = (let there = w.there in cc) in inl (refl, subst (λ text. breaks Main text at) same w.broken)
-  parts_at (Note number) at w = inr (inl (record { number = number; text = w.text; there = w.there; here = refl; broken = w.broken }))
-  parts_at (Head number) at w = inr (inr (record { number = number; text = w.text; there = w.there; here = refl; broken = w.broken }))
+  parts_at Main at w =
+      let same : w.text ≡ document.main = (let there = w.there in cc) in inl
+      (refl, subst (λ text. breaks Main text at) same w.broken)
+  parts_at (Note number) at w =
+      inr (inl (record { number = number; text = w.text; there = w.there; here = refl; broken = w.broken }))
+  parts_at (Head number) at w =
+      inr (inr (record { number = number; text = w.text; there = w.there; here = refl; broken = w.broken }))
 
   in_parts : (place : Place) → InTexts document breaks place → InParts place
   in_parts place w = parts_at place.0 place.1 w
 
   in_texts : (place : Place) → InParts place → InTexts document breaks place
   in_texts place w = elim w [
-    | inl main ↦ record { text = document.main; there = ap (text_of document) main.0; broken = subst (λ part. breaks part document.main place.1) (sym main.0) main.1 }
+    | inl main ↦
+        record {
+          text = document.main;
+          there = ap (text_of document) main.0;
+          broken = subst
+              (λ part. breaks part document.main place.1) (sym main.0) main.1;
+        }
     | inr more ↦ elim more [
-      | inl note ↦ record { text = note.text; there = ap (text_of document) note.here ∙ note.there; broken = note.broken }
-      | inr head ↦ record { text = head.text; there = ap (text_of document) head.here ∙ head.there; broken = head.broken }
+      | inl note ↦
+          record { text = note.text; there = ap (text_of document) note.here ∙ note.there; broken = note.broken }
+      | inr head ↦
+          record { text = head.text; there = ap (text_of document) head.here ∙ head.there; broken = head.broken }
     ]
   ]
 
@@ -62,23 +74,32 @@ module _ (document : Document) (breaks : Where → List Item → ℕ → Type 0)
       upto_later p q (omega arith)
 
   main_least : (at : ℕ) → IsLeast (λ a b. a ≤ b) (breaks Main document.main) at → IsLeast Upto InMain (Main, at)
-  main_least at first = record { broken = (refl, first.broken); least = λ q w. upto_same (Main, at) q (sym w.0) (first.least q.1 w.1) }
+  main_least at first =
+      record {
+        broken = (refl, first.broken);
+        least = λ q w. upto_same (Main, at) q (sym w.0)
+            (first.least q.1 w.1);
+      }
 
   none_in_main : Nowhere (breaks Main document.main) → Nowhere InMain
   none_in_main none = λ q w. none q.1 w.1
 
-  pub first_in_main : (at : ℕ) → IsLeast (λ a b. a ≤ b) (breaks Main document.main) at → IsLeast Upto (InTexts document breaks) (Main, at)
+  pub first_in_main : (at : ℕ) → IsLeast (λ a b. a ≤ b) (breaks Main document.main) at →
+      IsLeast Upto (InTexts document breaks) (Main, at)
   first_in_main at first =
       same_places InParts (InTexts document breaks) (Some (Main, at)) in_texts in_parts
       (least_first InMain (λ q. InNotes q ⊎ InHeads q) (Main, at) (main_least at first) (main_before at))
 
-  pub first_in_notes : (place : Place) → Nowhere (breaks Main document.main) → IsLeast Upto InNotes place → IsLeast Upto (InTexts document breaks) place
+  pub first_in_notes : (place : Place) → Nowhere (breaks Main document.main) → IsLeast Upto InNotes place →
+      IsLeast Upto (InTexts document breaks) place
   first_in_notes place none first =
       same_places InParts (InTexts document breaks) (Some place) in_texts in_parts
       (least_second InMain (λ q. InNotes q ⊎ InHeads q) (Some place) (none_in_main none)
       (least_first InNotes InHeads place first (λ q head. note_before place q first.broken head)))
 
-  pub first_in_heads : (found : Option Place) → Nowhere (breaks Main document.main) → Nowhere InNotes → LeastPlaceOrNone InHeads found → LeastPlaceOrNone (InTexts document breaks) found
+  pub first_in_heads : (found : Option Place) → Nowhere (breaks Main document.main) → Nowhere InNotes →
+      LeastPlaceOrNone InHeads found → LeastPlaceOrNone (InTexts document breaks) found
   first_in_heads found none no_note heads =
       same_places InParts (InTexts document breaks) found in_texts in_parts
-      (least_second InMain (λ q. InNotes q ⊎ InHeads q) found (none_in_main none) (least_second InNotes InHeads found no_note heads))
+      (least_second InMain (λ q. InNotes q ⊎ InHeads q) found (none_in_main none)
+      (least_second InNotes InHeads found no_note heads))

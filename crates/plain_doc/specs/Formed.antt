@@ -2,7 +2,7 @@
 use Rattle.std.specs.Prelude.{◌≡◌, ℕ, ◌^◌, ◌<◌, List, [], ◌∷◌, length, All}
 use Rattle.doc_bits.specs.Number.{AreBytes}
 use Rattle.fib_form.specs.FibFields.{IsKeptFlags}
-use Rattle.cfb_streams.specs.Contents.{AreStreams}
+use Rattle.cfb_streams.specs.Contents.{AreStreams, AreStored}
 use Rattle.style_sheet.specs.Formed.{IsFormedSheet}
 use Rattle.plain_doc.specs.declared.carried.Carried.{Carried}
 use Rattle.plain_doc.specs.declared.document.Document.{Document}
@@ -15,7 +15,7 @@ abbrev pub carried_parts : Carried → List (List ℕ)
 carried_parts carried =
     carried.fonts ∷ carried.dop ∷ carried.assoc ∷ carried.lst ∷ carried.levels ∷ carried.lfo ∷ []
 
--- what a well-formed document carries; its parts and its CLSID are bytes
+-- what a well-formed document carries; its parts, its CLSID and its streams are bytes, and names have units of 16 bits
 pub record IsFormedCarried (carried : Carried) : Type 0 where
   pub parts : ArePartsShort (carried_parts carried)
   pub bytes : All AreBytes (carried.clsid ∷ carried_parts carried)
@@ -24,6 +24,7 @@ pub record IsFormedCarried (carried : Carried) : Type 0 where
   pub languages : (carried.lid < 2 ^ 16) × (carried.lid_fe < 2 ^ 16)
   pub flags : IsKeptFlags carried.flags
   pub ordered : AreStreams carried.streams
+  pub stored : AreStored carried.streams
   pub streams : AreCarriedStreams carried.streams
 
 -- a well-formed document

@@ -18,3 +18,4 @@ pub mod RightDocument
 pub mod Stretches
 pub mod Settings
 pub mod Entries
+pub mod Collected

@@ -5,4 +5,5 @@ use Rattle.plain_doc.proofs.carried.same_streams.Goals as goal
 
 pub loop-i-preserved : goal.loop-i-preserved
 loop-i-preserved c =
-    take_next_same _ _ _ (search rules) (search rules) (c.if-not-same_stream.ensures.0 (search rules)) c.loop-i.invariant
+    take_next_same _ _ _ (search rules) (search rules)
+    (c.if-not-same_stream.ensures.0 (search rules)) c.loop-i.invariant

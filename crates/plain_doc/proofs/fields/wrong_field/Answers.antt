@@ -11,7 +11,8 @@ returns-then-not-pass c =
     let text = c.args.text.now in
     let item = c.index-text-i.result in
     stops_at text c.loop-i.i c.loop-i.open (omega arith) c.loop-i.invariant
-    (open_after text c.loop-i.i item c.loop-i.open (omega arith) c.index-text-i.is (sym c.if-is_some.ensures) c.loop-i.invariant ∙ c.if-not-pass.ensures)
+    (open_after text c.loop-i.i item c.loop-i.open (omega arith) c.index-text-i.is
+    (sym c.if-is_some.ensures) c.loop-i.invariant ∙ c.if-not-pass.ensures)
 
 pub loop-i-preserved : goal.loop-i-preserved
 loop-i-preserved c =
@@ -19,20 +20,24 @@ loop-i-preserved c =
     let item = c.index-text-i.result in
     elim c.if-is_some.branch [
       | then-is_some+else-not-pass w ↦
-          open_after text c.loop-i.i item c.loop-i.open (omega arith) c.index-text-i.is (sym w.if-is_some.ensures) c.loop-i.invariant ∙ w.if-not-pass.ensures ∙ ap Some (sym w.open-is)
+          open_after text c.loop-i.i item c.loop-i.open (omega arith) c.index-text-i.is
+          (sym w.if-is_some.ensures) c.loop-i.invariant ∙ w.if-not-pass.ensures ∙ ap Some (sym w.open-is)
       | else-is_some w ↦
-          open_still text c.loop-i.i item c.loop-i.open (omega arith) c.index-text-i.is (sym w.if-is_some.ensures) c.loop-i.invariant ∙ ap Some (sym w.open-is)
+          open_still text c.loop-i.i item c.loop-i.open (omega arith) c.index-text-i.is
+          (sym w.if-is_some.ensures) c.loop-i.invariant ∙ ap Some (sym w.open-is)
     ]
 
 pub returns-then-is_empty : goal.returns-then-is_empty
 returns-then-is_empty c =
     let text = c.args.text.now in
     let end : c.loop-i.i ≡ length text = omega arith in
-    nothing_open text (subst (λ n. after_all most_open (field_characters (take n text)) (Some []) ≡ Some []) end (c.loop-i.invariant ∙ ap Some (c.if-is_empty.ensures.0 refl)))
+    nothing_open text (subst (λ n. after_all most_open (field_characters (take n text)) (Some []) ≡ Some []) end
+    (c.loop-i.invariant ∙ ap Some (c.if-is_empty.ensures.0 refl)))
 
 pub returns-else-is_empty : goal.returns-else-is_empty
 returns-else-is_empty c =
     let text = c.args.text.now in
     let end : c.loop-i.i ≡ length text = omega arith in
     still_open text c.loop-i.open (λ none. false≢true (c.if-is_empty.ensures.1 none))
-    (subst (λ n. after_all most_open (field_characters (take n text)) (Some []) ≡ Some c.loop-i.open) end c.loop-i.invariant)
+    (subst (λ n. after_all most_open (field_characters (take n text)) (Some []) ≡ Some c.loop-i.open) end
+    c.loop-i.invariant)

@@ -17,6 +17,7 @@ returns c =
         languages = (c.is_word.ensures, c.is_word-2.ensures);
         flags = c.args.document.now.carried.kept;
         ordered = c.count.ensures.ordered;
+        stored = c.count.ensures.stored;
         streams = c.args.document.now.carried.others;
       };
     }

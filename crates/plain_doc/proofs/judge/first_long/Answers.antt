@@ -12,4 +12,5 @@ returns-in-Some c =
 pub returns : goal.returns
 returns c =
     texts_after c.args.document.now (λ part text. IsWrongItem (λ i item. HasShortSettings item) text)
-    (IsWrongStyle Settings c.args.document.now.sheet) c.first_in_texts.result c.in_default.ensures c.first_in_texts.ensures
+    (IsWrongStyle Settings c.args.document.now.sheet) c.first_in_texts.result c.in_default.ensures
+    c.first_in_texts.ensures

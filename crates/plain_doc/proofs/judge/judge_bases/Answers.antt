@@ -7,4 +7,9 @@ pub returns-in-None : goal.returns-in-None
 returns-in-None c = no_style (BreaksBases c.args.document.now.sheet) c.in-None.ensures.first
 
 pub returns-in-Some : goal.returns-in-Some
-returns-in-Some c = rw c.fault.ensures (refl, first_style (BreaksBases c.args.document.now.sheet) c.in-Some.istd c.in-Some.ensures.first)
+returns-in-Some c =
+    rw c.fault.ensures (
+      refl,
+      first_style (BreaksBases c.args.document.now.sheet) c.in-Some.istd
+          c.in-Some.ensures.first,
+    )

@@ -15,7 +15,8 @@ returns-then-not-fits_row c =
     let i = c.loop-i.i in
     row_stops text i c.loop-i.invariant.right
     (wrong_there (RightIn text) text i c.index-text-i.result (omega arith) c.index-text-i.is
-    (λ right. false≢true (c.if-not-fits_row.ensures.1 (subst (λ n. FitsRow n c.index-text-i.result) (sym c.loop-i.invariant.count) right))))
+    (λ right. false≢true (c.if-not-fits_row.ensures.1
+    (subst (λ n. FitsRow n c.index-text-i.result) (sym c.loop-i.invariant.count) right))))
 
 pub loop-i-preserved : goal.loop-i-preserved
 loop-i-preserved c =
@@ -25,9 +26,12 @@ loop-i-preserved c =
     let count : c.loop-i.cells ≡ open_cells (take i text) = c.loop-i.invariant.count in
     record {
       few = omega (arith, c.next_cells-cells.ensures.few);
-      count = c.next_cells-cells.ensures.after ∙ subst (λ n. cells_after n item ≡ open_cells (take (i + 1) text)) (sym count) (sym (open_cells_more text i item (omega arith) c.index-text-i.is));
+      count =
+          c.next_cells-cells.ensures.after ∙ subst (λ n. cells_after n item ≡ open_cells (take (i + 1) text))
+          (sym count) (sym (open_cells_more text i item (omega arith) c.index-text-i.is));
       right = below_more (λ k. IsWrongItem (RightIn text) text k → ⊥) i c.loop-i.invariant.right
-          (right_there (RightIn text) text i item c.index-text-i.is (subst (λ n. FitsRow n item) count (c.if-not-fits_row.ensures.0 refl)));
+          (right_there (RightIn text) text i item c.index-text-i.is
+          (subst (λ n. FitsRow n item) count (c.if-not-fits_row.ensures.0 refl)));
     }
 
 pub returns-then-cells-eq0 : goal.returns-then-cells-eq0

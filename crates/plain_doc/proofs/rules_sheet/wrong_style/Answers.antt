@@ -16,4 +16,6 @@ loop-istd-preserved c =
     (λ wrong. wrong (c.if-not-is_right_style.ensures.0 refl))
 
 pub returns : goal.returns
-returns c = none_wrong c.args.rule c.args.sheet.now c.loop-istd.istd (omega (arith, c.slots-istd-end.ensures.count)) c.loop-istd.invariant
+returns c =
+    none_wrong c.args.rule c.args.sheet.now c.loop-istd.istd
+    (omega (arith, c.slots-istd-end.ensures.count)) c.loop-istd.invariant

@@ -12,4 +12,5 @@ returns-then-not-is_right c =
     let i = c.loop-i.i in
     let right = IsRightItem c.args.rule c.args.sheet.now c.args.part (length text) in
     first_number (IsWrongItem right text) i c.loop-i.invariant
-    (wrong_there right text i c.index-text-i.result (omega arith) c.index-text-i.is (λ good. false≢true (c.if-not-is_right.ensures.1 good)))
+    (wrong_there right text i c.index-text-i.result (omega arith) c.index-text-i.is
+    (λ good. false≢true (c.if-not-is_right.ensures.1 good)))

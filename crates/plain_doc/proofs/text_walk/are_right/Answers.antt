@@ -11,4 +11,6 @@ loop-k-preserved c rule =
     (holds_here c.args.side c.args.texts.now breaks c.loop-k.k c.get.result.now c.get.ensures (right.0 rule))
 
 pub returns : goal.returns
-returns c = λ _ rule. list_holds c.args.side c.args.texts.now (BreaksText rule c.args.sheet.now) c.loop-k.k (omega (arith, c.len-k-end.ensures.len)) (c.loop-k.invariant rule)
+returns c =
+    λ _ rule. list_holds c.args.side c.args.texts.now (BreaksText rule c.args.sheet.now) c.loop-k.k
+    (omega (arith, c.len-k-end.ensures.len)) (c.loop-k.invariant rule)

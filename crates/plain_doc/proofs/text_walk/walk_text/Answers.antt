@@ -15,7 +15,8 @@ pass-requires-clause-last c = λ main last.
 
 pub loop-i-preserved : goal.loop-i-preserved
 loop-i-preserved c =
-    one_passed c.args.sheet.now c.args.part c.args.text.now c.loop-i.i c.index-text-i.result c.loop-i.walk c.pass.new.self (omega arith) c.index-text-i.is
+    one_passed c.args.sheet.now c.args.part c.args.text.now c.loop-i.i c.index-text-i.result c.loop-i.walk
+    c.pass.new.self (omega arith) c.index-text-i.is
     c.loop-i.invariant (c.if-not-pass.ensures refl)
 
 pub returns-then-is_empty : goal.returns-then-is_empty
@@ -23,7 +24,8 @@ returns-then-is_empty c =
     let text = c.args.text.now in
     let end : c.loop-i.i ≡ length text = omega arith in
     let passed = subst (λ n. HasPassed c.args.sheet.now c.args.part text n c.loop-i.walk) end c.loop-i.invariant in (
-      all_passed c.args.sheet.now c.args.part text c.loop-i.walk (c.if-not-ends_right.ensures.0 refl) passed c.if-walk-eq0.true (c.if-is_empty.ensures.0 refl),
+      all_passed c.args.sheet.now c.args.part text c.loop-i.walk
+          (c.if-not-ends_right.ensures.0 refl) passed c.if-walk-eq0.true (c.if-is_empty.ensures.0 refl),
       record {
         notes = passed.notes ∙ ap note_count (take-length text);
         sections = passed.sections ∙ ap section_count (take-length text);

@@ -6,5 +6,6 @@ use Rattle.plain_doc.proofs.items.Items.splice.Goals as goal
 
 pub invariant_of-self-2 : goal.invariant_of-self-2
 invariant_of-self-2 c =
-    IsFormedList-splice IsFormedItem _ _ _ _ _ (c.in_ok-splice_list.ensures.ok) c.requires.ordered (search rules) (search rules)
+    IsFormedList-splice IsFormedItem _ _ _ _ _ (c.in_ok-splice_list.ensures.ok) c.requires.ordered (search rules)
+    (search rules)
     c.self.invariant c.fresh.invariant
