@@ -1,8 +1,7 @@
 -- There is one answer at each place, and one first broken rule.
 use Rattle.std.proofs.Common.{◌≡◌, ◌∙◌, ap, sym, subst, ℕ, List, drop, Option, lit<, lit≤, rules}
 use Rattle.std.specs.Option.{unwrap_or}
-use Rattle.std.specs.FinMap.{empty, get, same_map, nat_cmp-IsAntisymmetric}
-use Rattle.std.specs.Cmp.{nat_cmp_total}
+use Rattle.std.specs.FinMap.{empty, get}
 use Rattle.doc_bits.specs.Number.{u16_at}
 use Rattle.doc_bits.specs.Rules.{IsSingle, Ascends}
 use Rattle.sprm_table.proofs.SprmLemmas.{spelt_unique}
@@ -11,6 +10,7 @@ use Rattle.prop_map.specs.Formed.{character_groups, paragraph_groups}
 use Rattle.prop_map.specs.Acting.{ArePropertiesAfter, style_of}
 use Rattle.prop_map.specs.Modifiers.{character_value, mark_value, mark_style}
 use Rattle.prop_map.proofs.LawLemmas.{acting_one}
+use Rattle.prop_map.proofs.MapLemmas.{same_settings}
 use Rattle.fkp_pages.specs.declared.kind.PageKind.{PageKind}
 use Rattle.fkp_pages.specs.declared.kind.PageKind.TheVariants.{Chpx, Papx}
 use Rattle.fkp_pages.proofs.PropertyLemmas.{list_at_one}
@@ -30,9 +30,6 @@ makes_one list groups one other style named a b =
       map = acting_one a.prls groups empty one other a.map (subst (λ ps. ArePropertiesAfter ps groups empty other) (sym prls) b.map);
       style_is = a.style_is ∙ (ap (λ ps. style_of ps groups) prls ∙ sym b.style_is);
     }
-
-same_settings : (one other : Settings) → ((code : ℕ) → get one code ≡ get other code) → one ≡ other
-same_settings one other e = same_map nat_cmp_total nat_cmp-IsAntisymmetric one other e
 
 pub character_one : DirectCharacterIsOne
 character_one wd bin fc modifier one other table a b =

@@ -1,16 +1,13 @@
 -- Values laid over one another.
-use Rattle.std.proofs.Common.{◌≡◌, ℕ, ◌+◌, ◌<◌, ◌==◌, Bool, true, false, not, cond, List, [], ◌∷◌, ◌++◌, length, take, get_or, Option, Some, None, IsTrue, refl, sym, ap, ◌∙◌, arith, subst, length-take}
-use Rattle.std.proofs.lemmas.List.{take_more, get_or-take, get_or_default, append-nil, length-append}
-use Rattle.std.proofs.Math.Seq.{take-append_seam, get_or-append_seam}
+use Rattle.std.proofs.Common.{◌≡◌, ℕ, ◌+◌, ◌<◌, ◌==◌, Bool, true, false, not, cond, List, [], ◌∷◌, ◌++◌, length, take, get_or, Option, Some, None, IsTrue, refl, sym, ap, ◌∙◌, arith, length-take}
+use Rattle.std.proofs.lemmas.List.{take_more, get_or-take, get_or_default, append-nil}
 use Rattle.std.proofs.lemmas.List.Elements.{filter_map-append}
 use Rattle.std.proofs.lemmas.List.Sums.{fold-append}
 use Rattle.std.proofs.lemmas.Bool.{eqb-true}
-use Rattle.std.specs.Ordering.{nat_cmp, eq_by_cmp}
+use Rattle.std.specs.Ordering.{nat_cmp}
 use Rattle.std.specs.Cmp.{nat_cmp_total, unsigned_tied}
 use Rattle.std.specs.List.{filter_map, last_or}
-use Rattle.std.specs.Map.{lookup}
-use Rattle.std.specs.BTreeMap.{is_at}
-use Rattle.std.specs.FinMap.{empty, get, get-empty, insert, find, is_sorted, from_sorted, get-insert, get-from_sorted, same_map, nat_cmp-IsAntisymmetric}
+use Rattle.std.specs.FinMap.{empty, get, get-empty, insert, find, is_sorted, get-insert}
 use Rattle.std.specs.FinMap.Entries.{find-append}
 use Rattle.sprm_table.specs.Codes.{class_of}
 use Rattle.prop_map.specs.Settings.{Settings}

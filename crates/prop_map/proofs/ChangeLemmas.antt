@@ -29,6 +29,11 @@ pub find-lookup : (code : ℕ) (es : Entries) → find nat_cmp code es ≡ looku
 find-lookup code [] = refl
 find-lookup code (e ∷ es) = ap (cond (eq_by_cmp nat_cmp code e.0) (Some e.1)) (find-lookup code es)
 
+-- an option with nothing behind it
+pub or_none : (o : Option (List ℕ)) → option_or o None ≡ o
+or_none None = refl
+or_none (Some v) = refl
+
 -- equal codes pass a test alike
 alike : (p : ℕ → Bool) (q x : ℕ) → nat_cmp q x ≡ Equal → p x ≡ p q
 alike p q x e = ap p (sym (nat_cmp-IsAntisymmetric q x e))

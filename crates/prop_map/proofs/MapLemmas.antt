@@ -15,7 +15,7 @@ use Rattle.prop_map.specs.Modifiers.{IsOver, IsClearedWhere, IsCharacterAfter, I
 use Rattle.prop_map.specs.Overlay.{overlay, without, cleared, cleared_where, modified_characters, modified_paragraph, composed}
 use Rattle.prop_map.proofs.ActingLemmas.{value_after-set, value_after-clear, sets_not_clears}
 use Rattle.doc_bits.proofs.TestLemmas.{either}
-use Rattle.prop_map.proofs.ChangeLemmas.{get-retained}
+use Rattle.prop_map.proofs.ChangeLemmas.{get-retained, or_none}
 use Rattle.prop_map.proofs.ModifierLemmas.{IsPropertyMap-over}
 use Rattle.prop_map.proofs.PrintLemmas.{settings_of, value_after-entries_over}
 
@@ -94,10 +94,6 @@ is_composed first next = record {
 }
 
 -- ---- nothing over a map, and a map over nothing
-
-or_none : (o : Option (List ℕ)) → option_or o None ≡ o
-or_none None = refl
-or_none (Some v) = refl
 
 pub overlay-empty : (set : Settings) → overlay set empty ≡ set
 overlay-empty set = same_settings (overlay set empty) set (λ code. get-overlay set empty code ∙ (ap (option_or (get set code)) (get-empty nat_cmp code) ∙ or_none (get set code)))

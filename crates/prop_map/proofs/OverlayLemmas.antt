@@ -6,6 +6,7 @@ use Rattle.std.specs.FinMap.{get, empty, get-empty}
 use Rattle.prop_map.specs.Settings.{Settings}
 use Rattle.prop_map.specs.Acting.{is_kept}
 use Rattle.prop_map.specs.Modifiers.{value_over}
+use Rattle.prop_map.proofs.ChangeLemmas.{or_none}
 
 pub over_nothing : (clear : Bool) (code : ℕ) (top base : Settings) → base ≡ empty → get top code ≡ value_over clear code (get top code) (get base code)
 over_nothing clear code top base e = sym (ap (λ o. value_over clear code (get top code) o) (ap (λ m. get m code) e ∙ get-empty nat_cmp code) ∙ or_nothing (get top code) (clear && not (is_kept code)))
@@ -17,10 +18,6 @@ over_nothing clear code top base e = sym (ap (λ o. value_over clear code (get t
 
 pub nothing_over : (code : ℕ) (top base : Settings) → top ≡ empty → get base code ≡ value_over false code (get top code) (get base code)
 nothing_over code top base e = sym (ap (λ o. value_over false code o (get base code)) (ap (λ m. get m code) e ∙ get-empty nat_cmp code))
-
-or_none : (o : Option (List ℕ)) → option_or o None ≡ o
-or_none None = refl
-or_none (Some v) = refl
 
 -- a map put into an empty draft
 pub put_first : (draft fresh base : Settings) (code : ℕ) → get draft code ≡ option_or (get base code) (get fresh code) → fresh ≡ empty → get draft code ≡ get base code

@@ -26,6 +26,7 @@ use Rattle.prop_map.specs.Acting.{is_kept, concerns_code, left_by, value_after, 
 use Rattle.prop_map.specs.Printing.{printed_list, IsPrintOf}
 use Rattle.prop_map.proofs.EntriesLemmas.{rises, find_found, AllBelow, less_from, both_first, both_second, cmp_less}
 use Rattle.prop_map.proofs.ActingLemmas.{sets_not_clears}
+use Rattle.prop_map.proofs.ChangeLemmas.{or_none}
 
 -- ---- the entries of a map
 
@@ -127,10 +128,6 @@ value_after-entries_over groups code (e ∷ es) before h all =
           rw none (rw setting.sets refl)
       | false ↦ λ t. value_after-entries_over groups code es before (both_second _ _ h) (All-tail (IsSetting groups) e es all)
     ] refl)
-
-or_none : (o : Option (List ℕ)) → option_or o None ≡ o
-or_none None = refl
-or_none (Some v) = refl
 
 pub value_after-entries : (groups code : ℕ) (es : Entries) → T (is_sorted nat_cmp es) → All (IsSetting groups) es → value_after es groups code None ≡ find nat_cmp code es
 value_after-entries groups code es h all = value_after-entries_over groups code es None h all ∙ or_none (find nat_cmp code es)

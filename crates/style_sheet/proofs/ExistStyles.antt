@@ -17,12 +17,13 @@ use Rattle.style_sheet.specs.Counted.{counted_end}
 use Rattle.style_sheet.specs.StyleDefinition.{stk, cupx, name_len, upx_place, upx, IsStd, IsMapOf, paragraph_list, SpellsKind, SpellsStyle, base_of}
 use Rattle.style_sheet.specs.Stsh.{HasListFault}
 use Rattle.style_sheet.specs.Formed.{IsFormedKind, IsFormedBase, IsFormedStyle}
+use Rattle.doc_bits.proofs.ListLemmas.{All-from_slice_get}
 use Rattle.doc_bits.proofs.ByteListLemmas.{AreBytes-drop, AreBytes-range}
 use Rattle.prop_map.proofs.ActingLemmas.{IsPropertyMap-after, IsPropertyMap-empty}
 use Rattle.prop_map.proofs.AcceptedLemmas.{accepted_of}
 use Rattle.prop_map.proofs.ByteLemmas.{list_bytes}
 use Rattle.prop_map.proofs.ExistMaps.{after_list}
-use Rattle.style_sheet.proofs.MadeLists.{list_of, All-from_slice_get}
+use Rattle.style_sheet.proofs.MadeLists.{list_of}
 
 -- a list's map, and that it is right
 record HasMap (bytes : List ℕ) (groups : ℕ) : Type 0 where

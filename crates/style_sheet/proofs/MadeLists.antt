@@ -1,9 +1,8 @@
 -- A list of what stands at each place.
 use Rattle.std.proofs.Common.{◌≡◌, refl, ap, subst, ℕ, zero, suc, ◌<◌, List, [], ◌∷◌, length, Some, arith}
-use Rattle.std.specs.Prelude.{slice_get, slice_index_or}
+use Rattle.std.specs.Prelude.{slice_get}
 use Rattle.std.specs.Option.{unwrap_or}
-use Rattle.std.specs.List.{All}
-use Rattle.std.proofs.lemmas.Option.{slice_get_within, slice_get-get_or}
+use Rattle.std.proofs.lemmas.Option.{slice_get_within}
 
 -- a list of so many values, each of which is such at its place
 pub record HasList {A : Type 0} (n : ℕ) (Is : ℕ → A → Type 0) : Type 0 where
@@ -25,6 +24,3 @@ list_of (suc n) Is at =
       len = ap suc others.len;
       each = each_of Is first.0 others.list first.1 others.each;
     }
-
-pub All-from_slice_get : {A : Type 0} (P : A → Type 0) (xs : List A) → ((k : ℕ) (x : A) → slice_get xs k ≡ Some x → P x) → All P xs
-All-from_slice_get P xs each = λ k d below. each k (slice_index_or xs k d) (slice_get-get_or xs k d below)

@@ -1,12 +1,8 @@
 -- A style has one chain at most: each of its styles is one of the bases that follow each other from the style on.
-use Rattle.std.proofs.Common.{◌≡◌, ◌≢◌, inl, inr, false, ℕ, zero, suc, ◌+◌, ◌-◌, ◌<◌, ◌≤◌, List, length, get_or, slice_index, eqb, Some, None, refl, sym, ◌∙◌, ap, arith}
-use Rattle.std.proofs.lemmas.Bool.{cases_lt, ne_eqb, false≢true}
+use Rattle.std.proofs.Common.{◌≡◌, inl, inr, ℕ, zero, suc, ◌+◌, ◌-◌, ◌<◌, ◌≤◌, List, length, slice_index, Some, None, refl, sym, ◌∙◌, ap, arith}
+use Rattle.std.proofs.lemmas.Bool.{cases_lt}
 use Rattle.std.proofs.lemmas.List.{ext_get_or, get_or_past}
-use Rattle.std.proofs.lemmas.List.Folds.{list_any_none}
-use Rattle.std.proofs.lemmas.List.Elements.{All-from_get_or}
-use Rattle.std.proofs.lemmas.Grind.{get_or_default_zero}
-use Rattle.std.proofs.lemmas.Map.Keys.{IsDistinct-from_apart}
-use Rattle.std.proofs.lemmas.Map.Steps.{length-le_from_distinct_below}
+use Rattle.doc_bits.proofs.ListLemmas.{length_below}
 use Rattle.style_sheet.specs.Sheet.{Sheet}
 use Rattle.style_sheet.specs.Chain.{kind_at, kind_in, base_at, IsBaseChain, HasSoundBase, HasSoundBases, BreaksBases, BaseChainIsOne}
 use Rattle.style_sheet.proofs.ChainLemmas.{up, IsClimbed, up_more}
@@ -71,19 +67,6 @@ there sheet istd h = elim (cases_lt istd (length sheet.styles)) [
       let none : kind_at sheet istd ≡ 0 = ap kind_in (get_or_past sheet.styles istd None high) in
       absurd (omega arith)
 ]
-
--- numbers below n that differ are at most n
-length_below : (xs : List ℕ) (n : ℕ) → ((i : ℕ) → i < length xs → slice_index xs i < n) → ((i j : ℕ) → i < j → j < length xs → slice_index xs i ≢ slice_index xs j) → length xs ≤ n
-length_below xs n within distinct =
-    length-le_from_distinct_below xs n
-    (IsDistinct-from_apart eqb xs (λ i j d h below.
-    let a = get_or_default_zero xs i d (omega arith) in
-    let b = get_or_default_zero xs j d below in
-    ne_eqb (get_or xs i d) (get_or xs j d) (λ e. distinct i j h below (sym a ∙ (e ∙ b)))))
-    (λ q any. elim (cases_lt q n) [
-      | inl low ↦ low
-      | inr high ↦ absurd (false≢true (sym (list_any_none (eqb q) xs (All-from_get_or (λ x. eqb q x ≡ false) xs 0 (λ i h. let low = within i h in ne_eqb q (get_or xs i 0) (λ e. absurd (omega arith))))) ∙ any))
-    ])
 
 -- a chain is no longer than there are slots
 pub chain_short : (sheet : Sheet) (istd : ℕ) (chain : List ℕ) → IsBaseChain sheet istd chain → length chain ≤ length sheet.styles

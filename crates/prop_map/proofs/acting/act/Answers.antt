@@ -1,4 +1,4 @@
-use Rattle.std.proofs.Common.{◌≡◌, ℕ, List, [], ◌∷◌, ◌++◌, Option, Some, None, refl, sym, ap, ◌∙◌, subst, append_assoc, arith}
+use Rattle.std.proofs.Common.{◌≡◌, [], ◌∷◌, ◌++◌, refl, sym, ap, ◌∙◌, subst, append_assoc, arith}
 use Rattle.std.proofs.lemmas.List.{append-nil}
 use Rattle.std.specs.Prelude.{slice_range}
 use Rattle.std.specs.Ordering.{nat_cmp}
@@ -8,11 +8,8 @@ use Rattle.sprm_table.specs.Sprm.{Prl}
 use Rattle.prop_map.specs.Acting.{value_after, style_of}
 use Rattle.prop_map.proofs.ActingLemmas.{value_after-append, style_of-append, IsPropertyMap-after}
 use Rattle.prop_map.proofs.ByteLemmas.{list_bytes}
+use Rattle.prop_map.proofs.ChangeLemmas.{or_none}
 use Rattle.prop_map.proofs.acting.act.Goals as goal
-
-or_none : (o : Option (List ℕ)) → option_or o None ≡ o
-or_none None = refl
-or_none (Some v) = refl
 
 pub loop-code-init : goal.loop-code-init
 loop-code-init c =
