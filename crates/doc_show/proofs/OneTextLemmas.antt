@@ -10,7 +10,8 @@ use Rattle.doc_show.specs.Properties.{IsMarkFrom, item_lines, mark_lines}
 use Rattle.doc_show.specs.Laws.{PropertyLinesAreOne}
 
 -- a paragraph has one mark
-mark_one : (items : List Item) (from : ℕ) (one other : Mark) → IsMarkFrom items from one → IsMarkFrom items from other → one ≡ other
+mark_one : (items : List Item) (from : ℕ) (one other : Mark) → IsMarkFrom items from one →
+    IsMarkFrom items from other → one ≡ other
 mark_one items from one other x y =
     let up = x.is_end.least y.end y.is_end.after y.is_end.ends in
     let down = y.is_end.least x.end x.is_end.after x.is_end.ends in

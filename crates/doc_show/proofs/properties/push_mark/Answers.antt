@@ -6,5 +6,6 @@ use Rattle.doc_show.proofs.properties.push_mark.Goals as goal
 pub returns : goal.returns
 returns c =
     three_written c.push_tabs.result c.args.text.now c.push_map.new.text c.push_map-2.new.text c.push_tabs.new.text
-    (settings_line (codes "par") c.args.mark.now.pap) (settings_line (codes "par effective") c.args.effect.now.map) (tabs_line c.args.effect.now.tabs)
+    (settings_line (codes "par") c.args.mark.now.pap) (settings_line (codes "par effective") c.args.effect.now.map)
+    (tabs_line c.args.effect.now.tabs)
     c.in_ok-push_map.ensures c.in_ok-push_map-2.ensures c.push_tabs.ensures

@@ -7,7 +7,8 @@ use Rattle.doc_show.proofs.story.push_runs.Given as goal
 abbrev pub invariant-loop-at : goal.invariant-loop-at
 invariant-loop-at l = record {
   within : l.at ≤ length l.items;
-  lines : l.text ++ flat_map run_line (stretches is_one_run (drop l.at l.items)) ≡ l.initial.text ++ flat_map run_line (stretches is_one_run l.items);
+  lines : l.text ++ flat_map run_line (stretches is_one_run (drop l.at l.items)) ≡ l.initial.text ++ flat_map
+      run_line (stretches is_one_run l.items);
 }
 
 abbrev pub decreases-loop-at : goal.decreases-loop-at
