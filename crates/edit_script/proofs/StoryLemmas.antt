@@ -1,5 +1,5 @@
 -- Numbers as they are written, and words that begin with a prefix.
-use Rattle.std.proofs.Common.{◌≡◌, ◌≢◌, ℕ, zero, suc, ◌^◌, ◌<◌, ◌≤◌, Bool, true, false, List, [], ◌∷◌, ◌++◌, length, take, drop, Option, Some, None, Result, Ok, Err, refl, sym, ap, ◌∙◌, subst, arith}
+use Rattle.std.proofs.Common.{◌≡◌, ◌≢◌, ℕ, zero, suc, ◌^◌, ◌<◌, Bool, true, false, List, [], ◌∷◌, ◌++◌, length, take, drop, Option, Some, None, Result, Ok, Err, refl, sym, ap, ◌∙◌, subst, arith}
 use Rattle.std.specs.Prelude.{nat_lt, if◌then◌else◌, slice_index, bytes_eq, decimal}
 use Rattle.std.specs.Result.{result_ok}
 use Rattle.std.specs.Char.{digit_value}
@@ -57,9 +57,10 @@ zero_is_not_written digits e long =
     not_written digits (λ small is. no_zero (digits_value 10 digits) (omega arith)
     (subst (λ ds. slice_index ds 0 ≡ 48) is e) (subst (λ ds. 1 < length ds) is long))
 
-pub lone_zero : (digits : List ℕ) → slice_index digits 0 ≡ 48 → length digits ≤ 1 → length digits ≡ 1
+pub lone_zero : (digits : List ℕ) → slice_index digits 0 ≡ 48 → (1 < length digits → ⊥) → length digits ≡ 1
 lone_zero [] e short = absurd (omega (arith, e))
-lone_zero (c ∷ cs) e short = omega (arith, short)
+lone_zero (c ∷ []) e short = refl
+lone_zero (c ∷ d ∷ cs) e short = absurd (short (omega arith))
 
 model : IsNumeralModel (AllDigits 10) (digits_value 10)
 model = numerals_by_value (AllDigits 10) tells_digits

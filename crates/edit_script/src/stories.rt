@@ -1,5 +1,5 @@
 // The words that name the texts of a document.
-ghost use Rattle.std.specs.Prelude.{◌≡◌};
+ghost use Rattle.std.specs.Prelude.{◌≡◌, ◌<◌, ◌↔◌, IsTrue, length, slice_index};
 ghost use Rattle.edit_script.specs.Stories.{number_written, number_after, story_with_name};
 
 use doc_bits::Story;
@@ -34,8 +34,16 @@ fn written_number(digits: &str) -> Option<u32>
     if digits.starts_with('+') {
         return None;
     }
-    if digits.starts_with('0') && digits.len() > 1 {
+    if has_leading_zero(digits) {
         return None;
     }
     digits.parse::<u32>().ok()
+}
+
+/// Whether there are more digits after a zero.
+fn has_leading_zero(digits: &str) -> bool
+    ensures { IsTrue result ↔ (1 < length digits.now) × (slice_index digits.now 0 ≡ 48) }
+{
+    let digits = digits.as_bytes();
+    digits.len() > 1 && digits[0] == b'0'
 }
