@@ -1,5 +1,5 @@
 -- What a right document says of its main text: how it ends, and what follows each of its items.
-use Rattle.std.proofs.Common.{◌≡◌, ◌∙◌, inl, inr, ap, sym, subst, refl, ℕ, ◌+◌, ◌-◌, ◌<◌, List, length, get_or, Some, arith}
+use Rattle.std.proofs.Common.{◌≡◌, ◌∙◌, inl, inr, ap, sym, subst, refl, ℕ, ◌+◌, ◌-◌, ◌<◌, List, length, Some, arith}
 use Rattle.std.specs.Prelude.{IsSome}
 use Rattle.std.specs.List.{slice_get}
 use Rattle.std.specs.Option.{option_map}
@@ -13,7 +13,7 @@ use Rattle.plain_doc.specs.declared.item.Item.{Item}
 use Rattle.plain_doc.specs.declared.document.Document.{Document}
 use Rattle.plain_doc.specs.Document.{HasPropertyMaps, IsFormedItem, IsFormedText}
 use Rattle.plain_doc.specs.Paragraphs.{EndsParagraph, HasNoParagraphEnd}
-use Rattle.plain_doc.specs.RulesOfTexts.{EndsRight, last_unit}
+use Rattle.plain_doc.specs.RulesOfTexts.{last_unit}
 use Rattle.plain_doc.specs.RightDocument.{IsRightText, IsRightDocument}
 
 -- the last item of a text, a paragraph mark

@@ -1,11 +1,10 @@
 -- In a right text a mark stands exactly where a paragraph ends.
-use Rattle.std.proofs.Common.{◌≡◌, ◌⊎◌, inl, inr, ℕ, ◌+◌, Bool, true, false, List, length, get_or, Some, refl, sym, ap, subst, arith}
+use Rattle.std.proofs.Common.{◌≡◌, ◌⊎◌, inl, inr, ℕ, Bool, true, false, List, length, Some, refl, sym, subst}
 use Rattle.std.specs.Prelude.{is_some, IsTrue, IsSome, slice_get}
 use Rattle.std.proofs.lemmas.Bool.{cases_eq, ne_eqb, false≢true}
 use Rattle.std.proofs.lemmas.Option.{slice_get_within, get_or_from_slice_get}
 use Rattle.text_codes.specs.Paragraph.{paragraph_mark, cell_mark, section_mark, is_paragraph_end}
 use Rattle.doc_bits.specs.declared.places.Where.{Where}
-use Rattle.doc_bits.specs.declared.places.Where.TheVariants.{Main}
 use Rattle.style_sheet.specs.Sheet.{Sheet}
 use Rattle.plain_doc.specs.declared.item.Item.{Item}
 use Rattle.plain_doc.specs.RulesOfItems.{IsPlacedRight}

@@ -1,12 +1,12 @@
 -- The least place of a rule over the texts of a document: the main text first, then the notes and the header texts by
 -- their numbers.
-use Rattle.std.proofs.Common.{◌≡◌, ◌⊎◌, inl, inr, ℕ, ◌<◌, ◌≤◌, List, length, Option, Some, None, refl, sym, ◌∙◌, ap, subst, arith}
+use Rattle.std.proofs.Common.{◌≡◌, inl, inr, ℕ, ◌<◌, ◌≤◌, List, length, Some, refl, sym, ◌∙◌, ap, subst, arith}
 use Rattle.std.specs.Prelude.{slice_get}
 use Rattle.std.proofs.lemmas.Bool.{cases_lt}
 use Rattle.std.proofs.lemmas.Option.{slice_get_within}
 use Rattle.doc_bits.specs.declared.places.Where.{Where}
 use Rattle.doc_bits.specs.Rules.{Nowhere, IsLeast}
-use Rattle.doc_bits.specs.Places.{Place, rank, inner, Upto}
+use Rattle.doc_bits.specs.Places.{rank, inner, Upto}
 use Rattle.doc_bits.proofs.PlaceLemmas.{upto_same, upto_next}
 use Rattle.plain_doc.specs.declared.item.Item.{Item}
 use Rattle.plain_doc.specs.declared.rules_texts.Side.{Side}

@@ -1,7 +1,6 @@
 -- What soundness says place by place, and back.
-use Rattle.std.specs.Prelude.{◌↔◌, slice_get, is_some, IsSome}
-use Rattle.std.specs.Option.{ForSome}
-use Rattle.std.proofs.Common.{◌≡◌, ◌⊎◌, inl, inr, ℕ, ◌+◌, ◌-◌, ◌<◌, ◌≤◌, List, [], length, take, Option, Some, None, refl, sym, ◌∙◌, ap, subst, arith}
+use Rattle.std.specs.Prelude.{is_some}
+use Rattle.std.proofs.Common.{◌≡◌, inl, inr, ℕ, ◌+◌, ◌-◌, ◌<◌, List, [], length, take, Some, refl, ◌∙◌, ap, arith}
 use Rattle.std.proofs.Math.Seq.{take-length}
 use Rattle.doc_bits.specs.declared.places.Where.{Where}
 use Rattle.doc_bits.specs.declared.places.Where.TheVariants.{Sheet as SheetPart, Main}
@@ -9,16 +8,16 @@ use Rattle.doc_bits.specs.Rules.{Nowhere}
 use Rattle.text_codes.specs.Paragraph.{paragraph_mark, cell_mark, section_mark}
 use Rattle.style_sheet.specs.Sheet.{Sheet, style_at}
 use Rattle.style_sheet.specs.Chain.{kind_at, BreaksBases}
-use Rattle.style_sheet.specs.Written.{written_slot, IsWritable}
+use Rattle.style_sheet.specs.Written.{written_slot}
 use Rattle.style_sheet.specs.declared.styles.Kind.{Kind}
 use Rattle.style_sheet.specs.declared.styles.Kind.TheVariants.{Para, Char, Other}
 use Rattle.plain_doc.specs.declared.item.Item.{Item}
 use Rattle.plain_doc.specs.declared.document.Document.{Document}
-use Rattle.plain_doc.specs.Nesting.{AreFields, field_characters, most_open, BreaksNesting}
-use Rattle.plain_doc.specs.Rows.{FitsRow, open_cells, BreaksRows, HasCells, paragraph_value, is_row_mark, is_mark_outside}
-use Rattle.plain_doc.specs.RulesOfItems.{IsWrongItem, IsPlacedRight, HasMarkRight, HasSectionRight, HasShortSettings, IsShortChp, IsShortPap, IsShortSect, printed_length}
-use Rattle.plain_doc.specs.RulesOfTexts.{InTexts, text_of, EndsRight, IsHead, HasWrongEnd, HasParagraphStyle, last_unit}
-use Rattle.plain_doc.specs.RulesOfSheet.{InSheet, HasShortKind, HasShortStyle, FitsStd, note_count, head_count, item_count, most_items}
+use Rattle.plain_doc.specs.Nesting.{field_characters, most_open, BreaksNesting}
+use Rattle.plain_doc.specs.Rows.{FitsRow, open_cells, BreaksRows, paragraph_value, is_row_mark, is_mark_outside}
+use Rattle.plain_doc.specs.RulesOfItems.{IsWrongItem, IsPlacedRight, HasMarkRight, HasSectionRight, HasShortSettings, IsShortPap, IsShortSect, printed_length}
+use Rattle.plain_doc.specs.RulesOfTexts.{InTexts, text_of, EndsRight, HasWrongEnd, HasParagraphStyle, last_unit}
+use Rattle.plain_doc.specs.RulesOfSheet.{HasShortKind, note_count, head_count, item_count, most_items}
 use Rattle.plain_doc.specs.Sound.{IsSound}
 use Rattle.plain_doc.specs.RightDocument.{HoldsAtItems, IsRightText, IsRightDocument}
 use Rattle.style_sheet.proofs.BaseLemmas.{unbroken_bases}

@@ -1,5 +1,5 @@
 -- Each of the seven is a list of bytes.
-use Rattle.std.proofs.Common.{ℕ, List, [], ◌∷◌, subst}
+use Rattle.std.proofs.Common.{[], ◌∷◌, subst}
 use Rattle.std.proofs.lemmas.List.Elements.{All-nil, All-cons}
 use Rattle.doc_bits.specs.Number.{AreBytes}
 use Rattle.plain_doc.proofs.formed.carries_bytes.Goals as goal
