@@ -1,20 +1,17 @@
 -- What a sound document says of the paragraph that an item of its main text is in.
-use Rattle.std.proofs.Common.{◌≡◌, ◌∙◌, inl, inr, ap, sym, subst, refl, ℕ, ◌-◌, ◌<◌, List, length, get_or, Option, Some, None, Bor, arith}
+use Rattle.std.proofs.Common.{◌≡◌, ◌∙◌, ap, sym, subst, refl, ℕ, ◌<◌, List, length, get_or, Option, Some, None, Bor}
 use Rattle.std.specs.Prelude.{is_some, IsSome}
 use Rattle.std.specs.List.{slice_get}
-use Rattle.std.specs.Option.{option_map, option_copied, MatchOption}
-use Rattle.std.proofs.lemmas.Bool.{cases_eq, cases_Bool, false≢true}
-use Rattle.std.proofs.lemmas.Option.{same_Some, slice_get_cases, slice_get_within, slice_get_read, get_or_from_slice_get}
-use Rattle.std.proofs.lemmas.List.Elements.{All-get_or}
-use Rattle.doc_bits.specs.declared.places.Where.TheVariants.{Sheet as SheetPart, Main}
-use Rattle.doc_bits.specs.Places.{rank}
-use Rattle.prop_map.specs.Formed.{IsPropertyMap, character_groups, paragraph_groups}
+use Rattle.std.specs.Option.{option_copied, MatchOption}
+use Rattle.std.proofs.lemmas.Bool.{false≢true}
+use Rattle.std.proofs.lemmas.Option.{same_Some, slice_get_within, slice_get_read}
+use Rattle.prop_map.specs.Formed.{IsPropertyMap, paragraph_groups}
 use Rattle.style_sheet.specs.Chain.{kind_at, HasSoundBases}
 use Rattle.plain_doc.specs.declared.item.Item.{Item}
 use Rattle.plain_doc.specs.declared.item.Mark.{Mark}
 use Rattle.plain_doc.specs.declared.document.Document.{Document}
-use Rattle.plain_doc.specs.Document.{HasPropertyMaps, IsFormedItem, IsFormedText}
-use Rattle.plain_doc.specs.Paragraphs.{EndsParagraph, IsParagraphEnd, HasNoParagraphEnd}
+use Rattle.plain_doc.specs.Document.{IsFormedText}
+use Rattle.plain_doc.specs.Paragraphs.{IsParagraphEnd, HasNoParagraphEnd}
 use Rattle.plain_doc.specs.Sound.{IsSound}
 use Rattle.plain_doc.proofs.RightLemmas.{sound_is_right}
 use Rattle.plain_doc.proofs.MainLemmas.{main_right, some_end, maps_there}
