@@ -14,8 +14,9 @@ use Rattle.std.proofs.lemmas.List.{get_or_default}
 use Rattle.piece_table.specs.ClxRules.{FitsPages}
 use Rattle.piece_table.specs.Numbering.{text_piece, AreNumbered}
 use Rattle.piece_table.specs.Printing.{IsPrintable, IsPrintedClx, NamesModifier, printed_prcs, plc_bytes, pcd_bytes}
-use Rattle.piece_table.specs.PrintSteps.{HasPrintable, ArePrinted, lens_of, pcds_of}
+use Rattle.piece_table.specs.PrintSteps.{PrcTable, HasPrintable, ArePrinted, lens_of, pcds_of}
 use Rattle.piece_table.proofs.PieceLemmas.{All-seen}
+use Rattle.piece_table.proofs.PrcPrintLemmas.{printed_once}
 use Rattle.piece_table.proofs.NumberingLemmas.{seen_piece, same_or_apart}
 
 pub entries_printable : (modifiers : List Modifier) (entries : List Entry) → AreNumbered modifiers entries → ArePieces (map (text_piece modifiers) entries) → IsPrintable (map (text_piece modifiers) entries) → All (HasPrintable modifiers) entries
@@ -34,8 +35,9 @@ pub lens_total : (modifiers : List Modifier) (entries : List Entry) → sum (len
 lens_total modifiers entries = ap sum (sym (lens_seen modifiers entries)) ∙ sum-map (λ (piece : TextPiece). piece.len) (map (text_piece modifiers) entries)
 
 -- the whole Clx
-pub printed_clx : (modifiers : List Modifier) (entries : List Entry) (count : ℕ) (prms prcs bytes : List ℕ) → ArePrinted modifiers entries (length entries) count prms prcs → bytes ≡ prcs ++ pcdt_bytes (plc_bytes (lens_of entries) (pcds_of entries prms)) → IsPrintedClx (map (text_piece modifiers) entries) bytes
-printed_clx modifiers entries count prms prcs bytes printed is =
+pub printed_clx : (modifiers : List Modifier) (entries : List Entry) (table : PrcTable) (bytes : List ℕ) → ArePrinted modifiers entries (length entries) table → bytes ≡ table.bytes ++ pcdt_bytes (plc_bytes (lens_of entries) (pcds_of entries table.prms)) → IsPrintedClx (map (text_piece modifiers) entries) bytes
+printed_clx modifiers entries table bytes printed is =
+    let prms = table.prms in
     let view = text_piece modifiers in
     let pcd : Entry → List ℕ = λ entry. pcd_bytes entry.piece (slice_index prms entry.modifier) in
     let seen = length-map entries view in
@@ -44,6 +46,7 @@ printed_clx modifiers entries count prms prcs bytes printed is =
       pcds = pcds_of entries prms;
       few = let few = printed.few in let count_is = printed.count_is in omega arith;
       each = printed.each;
+      once = printed_once modifiers entries (length entries) table printed;
       count = length-map entries pcd ∙ sym seen;
       pcd = λ k piece there.
           let found = seen_piece modifiers entries k piece there in

@@ -19,3 +19,4 @@ pub mod CutLemmas
 pub mod RenumberLemmas
 pub mod SpliceLemmas
 pub mod ModifiedLemmas
+pub mod PrcListLemmas

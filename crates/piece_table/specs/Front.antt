@@ -2,6 +2,7 @@
 use Rattle.std.specs.Prelude.{◌≡◌, ℕ, ◌+◌, ◌<◌, ◌≤◌, List, ◌++◌, length, drop, flat_map, All, slice_index, slice_index_or, slice_range, Bool, false, IsTrue, ◌↔◌}
 use Rattle.doc_bits.specs.Number.{u16_at, u32_at}
 use Rattle.doc_bits.specs.Plc.{PlcPart, plc_cp}
+use Rattle.piece_table.specs.declared.parts.Parts.{Parts}
 use Rattle.piece_table.specs.Clx.{ClxParts, SpellsClx, IsPlcPcd, IsGrpprl, prc_bytes, plc_place, clx_piece}
 use Rattle.piece_table.specs.ClxRules.{IsNamedPrc}
 use Rattle.piece_table.specs.Piece.{piece_end}
@@ -36,6 +37,10 @@ pub record AreAllPrcs (clx : List ℕ) (prcs : List (List ℕ)) (end : ℕ) : Ty
 pub record AreParts (clx : List ℕ) (parts : ClxParts) (place : ℕ) : Type 0 where
   pub spelt : SpellsClx clx parts
   pub place_is : place ≡ plc_place parts
+
+-- the parts that were read, as those of a Clx
+abbrev pub clx_parts : Parts → ClxParts
+clx_parts parts = record { prcs = parts.prcs; plc = parts.plc }
 
 -- the CPs begin with 0, ascend, and end with the text length
 pub record AscendsTo (plc : PlcPart) (text_len : ℕ) : Type 0 where

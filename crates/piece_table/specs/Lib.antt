@@ -10,3 +10,4 @@ pub mod PrintSteps
 pub mod Changes
 pub mod Cuts
 pub mod Renumbering
+pub mod PrcLists

@@ -56,12 +56,13 @@ pub record IsPrintedPcd (prcs : List Modifier) (piece : TextPiece) (pcd : List �
   pub names : NamesModifier prcs prm piece.modifier
   pub spelt : pcd ≡ pcd_bytes (bare_piece piece) prm
 
--- Profile: a Prc for each modifier that pieces name, and the Pcdt
+-- Profile: one Prc for each modifier that does something and that pieces have, and the Pcdt
 pub record IsPrintedClx (pieces : List TextPiece) (bytes : List ℕ) : Type 0 where
   pub prcs : List Modifier
   pub pcds : List (List ℕ)
   pub few : length prcs ≤ length pieces
   pub each : All (IsPrintedPrc pieces) prcs
+  pub once : (i j : ℕ) (modifier : Modifier) → slice_get prcs i ≡ Some modifier → slice_get prcs j ≡ Some modifier → i ≡ j
   pub count : length pcds ≡ length pieces
   pub pcd : (k : ℕ) (piece : TextPiece) → slice_get pieces k ≡ Some piece → IsPrintedPcd prcs piece (slice_index_or pcds k [])
   pub spelt : bytes ≡ printed_prcs prcs ++ pcdt_bytes (plc_bytes (map (λ piece. piece.len) pieces) pcds)

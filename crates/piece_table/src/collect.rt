@@ -4,7 +4,7 @@ ghost use Rattle.doc_bits.specs.Plc.{PlcPart};
 ghost use Rattle.piece_table.specs.Piece.{bare_piece};
 ghost use Rattle.piece_table.specs.Clx.{ClxParts, IsPlcPcd, clx_piece, clx_pieces, HaveModifiers};
 ghost use Rattle.piece_table.specs.ClxRules.{AreReadPrms};
-ghost use Rattle.piece_table.specs.Front.{AscendsTo, EndsWithin};
+ghost use Rattle.piece_table.specs.Front.{AscendsTo, EndsWithin, clx_parts};
 ghost use Rattle.piece_table.specs.Numbering.{HasMet, AreAccepted, AreEntriesOf};
 
 use crate::modifier_table::ModifierTable;
@@ -41,10 +41,10 @@ pub fn pieces_of(
     requires within { EndsWithin parts.now.plc (2 ^ 32 - 1) }
     requires text { text_len ≤ 500001 }
     requires read { AreReadPrms parts.now.plc (length parts.now.prcs) }
-    requires accepted { AreAccepted (record { prcs = parts.now.prcs; plc = parts.now.plc }) (length parts.now.prcs) }
+    requires accepted { AreAccepted (clx_parts parts.now) (length parts.now.prcs) }
     requires met { HasMet parts.now.prcs table.modifiers.items table.numbers.items }
     ensures pieces { IfOk result (λ list. map bare_piece list.pieces ≡ clx_pieces parts.now.plc) }
-    ensures modifiers { IfOk result (λ list. HaveModifiers (record { prcs = parts.now.prcs; plc = parts.now.plc }) list.pieces) }
+    ensures modifiers { IfOk result (λ list. HaveModifiers (clx_parts parts.now) list.pieces) }
 {
     let items = entries_of(alloc, parts, &mut table)?;
     let modifiers = table.into_modifiers();
@@ -59,9 +59,9 @@ fn entries_of(
 ) -> Result<Vec<Entry>, Memory>
     requires plc { IsPlcPcd parts.now.plc }
     requires read { AreReadPrms parts.now.plc (length parts.now.prcs) }
-    requires accepted { AreAccepted (record { prcs = parts.now.prcs; plc = parts.now.plc }) (length parts.now.prcs) }
+    requires accepted { AreAccepted (clx_parts parts.now) (length parts.now.prcs) }
     requires met { HasMet parts.now.prcs table.old.modifiers.items table.old.numbers.items }
-    ensures entries { IfOk result (λ entries. AreEntriesOf (record { prcs = parts.now.prcs; plc = parts.now.plc })
+    ensures entries { IfOk result (λ entries. AreEntriesOf (clx_parts parts.now)
         table.new.modifiers.items parts.now.plc.count entries.items) }
     ensures met { OnOk result (HasMet parts.now.prcs table.new.modifiers.items table.new.numbers.items) }
 {

@@ -11,6 +11,7 @@ mod modifier_table;
 mod parts;
 mod pcd;
 mod pieces;
+mod prc_lists;
 mod prcs;
 mod printing;
 mod reading;

@@ -4,7 +4,7 @@ ghost use Rattle.doc_bits.specs.Rules.{Nowhere, From, IsLeast, rule, Hold};
 ghost use Rattle.doc_bits.specs.Plc.{PlcPart};
 ghost use Rattle.piece_table.specs.Clx.{IsWrongAt};
 ghost use Rattle.piece_table.specs.ClxRules.{IsClxFault};
-ghost use Rattle.piece_table.specs.Front.{IsPrcFront, IsPcdtFront, AreAllPrcs, AreParts};
+ghost use Rattle.piece_table.specs.Front.{IsPrcFront, IsPcdtFront, AreAllPrcs, AreParts, clx_parts};
 
 use crate::ClxFault;
 use doc_bits::{Memory, Plc, get16, get32, plc_of};
@@ -84,7 +84,7 @@ pub struct Parts<'a> {
 pub fn parts_of(alloc: Global, clx: &[u8], at: u32) -> Result<Parts<'_>, ClxFault>
     requires place { at + length clx.now < 2 ^ 32 }
     ensures { MatchResult result
-        (λ parts. Hold (rule 27 (From at (IsWrongAt clx.now))) × AreParts clx.now (record { prcs = parts.prcs; plc = parts.plc }) parts.place)
+        (λ parts. Hold (rule 27 (From at (IsWrongAt clx.now))) × AreParts clx.now (clx_parts parts) parts.place)
         (IsClxFault (rule 27 (From at (IsWrongAt clx.now)))) }
 {
     let (prcs, end) = prcs_of(alloc, clx)?;

@@ -8,7 +8,7 @@ ghost use Rattle.prop_map.specs.Modifiers.{IsFormedModifier};
 ghost use Rattle.piece_table.specs.Clx.{ClxParts, IsPlcPcd, prc_bytes, pcd_prm};
 ghost use Rattle.piece_table.specs.ClxRules.{IsFaultyPrc, IsLongPrc, FitsPages, IsReadPrm, AreReadPrms, IsClxFault};
 ghost use Rattle.piece_table.specs.declared.pcd.Prm.TheVariants.{Prc};
-ghost use Rattle.piece_table.specs.Front.{MarksNamed};
+ghost use Rattle.piece_table.specs.Front.{MarksNamed, clx_parts};
 ghost use Rattle.piece_table.specs.Numbering.{HasMet, AreAccepted};
 
 use crate::modifier_table::ModifierTable;
@@ -32,7 +32,7 @@ const MAX_PAP: u64 = 480;
 pub fn named_prcs(alloc: Global, parts: &Parts<'_>) -> Result<Vec<bool>, Memory>
     requires table { IsPlcPcd parts.now.plc }
     requires read { AreReadPrms parts.now.plc (length parts.now.prcs) }
-    ensures { IfOk result (λ marks. MarksNamed (record { prcs = parts.now.prcs; plc = parts.now.plc }) marks.items) }
+    ensures { IfOk result (λ marks. MarksNamed (clx_parts parts.now) marks.items) }
 {
     let mut marks = vec![in alloc; false; parts.prcs.len()]?;
     if parts.prcs.len() == 0 {
@@ -59,9 +59,9 @@ fn mark(marks: &mut [bool], prm: Prm)
 /// The place of the first sprm fault in a Prc that is named. The Clx begins at `at` in the table stream.
 pub fn faulty_prc(parts: &Parts<'_>, marks: &[bool], at: u32) -> Option<u32>
     requires place { at + length (flat_map prc_bytes parts.now.prcs) < 2 ^ 32 }
-    requires marks { MarksNamed (record { prcs = parts.now.prcs; plc = parts.now.plc }) marks.now }
-    ensures least { LeastOrNone (Among (length parts.now.prcs) (IsFaultyPrc (record { prcs = parts.now.prcs; plc = parts.now.plc }) at)) result }
-    ensures accepted { IfNone result (AreAccepted (record { prcs = parts.now.prcs; plc = parts.now.plc }) (length parts.now.prcs)) }
+    requires marks { MarksNamed (clx_parts parts.now) marks.now }
+    ensures least { LeastOrNone (Among (length parts.now.prcs) (IsFaultyPrc (clx_parts parts.now) at)) result }
+    ensures accepted { IfNone result (AreAccepted (clx_parts parts.now) (length parts.now.prcs)) }
 {
     let mut place = at;
     for i in 0..parts.prcs.len() {
@@ -96,12 +96,12 @@ pub fn prc_modifiers(
     at: u32,
 ) -> Result<ModifierTable, ClxFault>
     requires place { at + length (flat_map prc_bytes parts.now.prcs) < 2 ^ 32 }
-    requires marks { MarksNamed (record { prcs = parts.now.prcs; plc = parts.now.plc }) marks.now }
-    requires accepted { AreAccepted (record { prcs = parts.now.prcs; plc = parts.now.plc }) (length parts.now.prcs) }
+    requires marks { MarksNamed (clx_parts parts.now) marks.now }
+    requires accepted { AreAccepted (clx_parts parts.now) (length parts.now.prcs) }
     ensures { MatchResult result
-        (λ table. Nowhere (Among (length parts.now.prcs) (IsLongPrc (record { prcs = parts.now.prcs; plc = parts.now.plc }) at))
+        (λ table. Nowhere (Among (length parts.now.prcs) (IsLongPrc (clx_parts parts.now) at))
         × HasMet parts.now.prcs table.modifiers.items table.numbers.items)
-        (IsClxFault (rule 32 (Among (length parts.now.prcs) (IsLongPrc (record { prcs = parts.now.prcs; plc = parts.now.plc }) at)))) }
+        (IsClxFault (rule 32 (Among (length parts.now.prcs) (IsLongPrc (clx_parts parts.now) at)))) }
 {
     let mut table = ModifierTable::new(alloc)?;
     let mut place = at;

@@ -3,10 +3,11 @@ ghost use Rattle.std.specs.Prelude.{◌≡◌, ℕ, ◌+◌, ◌*◌, ◌^◌, �
 ghost use Rattle.doc_bits.specs.Number.{number_bytes};
 ghost use Rattle.piece_table.specs.Clx.{prc_bytes, pcdt_bytes};
 ghost use Rattle.piece_table.specs.Printing.{IsPrintable, IsPrintedClx, fc_number, pcd_bytes, cps_of, plc_bytes};
-ghost use Rattle.piece_table.specs.PrintSteps.{HasPrintable, ArePrinted, lens_of, pcds_of};
+ghost use Rattle.piece_table.specs.PrintSteps.{HasPrintable, ArePrinted, HasPrm, prc_table, lens_of, pcds_of};
 
 use crate::parts::{CLXT_PCDT, CLXT_PRC};
 use crate::pieces::{Entry, Piece, PieceList};
+use crate::prc_lists::PrcLists;
 use doc_bits::{Bytes, Memory};
 use prop_map::Modifier;
 use std::alloc::Global;
@@ -15,7 +16,7 @@ use std::alloc::Global;
 const F_COMPRESSED: u32 = 1 << 30;
 
 impl PieceList {
-    /// The Clx of the pieces: a Prc for each modifier that a piece has and that does something, and the Pcdt.
+    /// The Clx of the pieces: one Prc for each modifier that a piece has and that does something, and the Pcdt.
     pub fn print_clx(&self, alloc: Global) -> Result<Bytes, Memory>
         requires { IsPrintable self.now.pieces }
         ensures { IfOk result (IsPrintedClx self.now.pieces) }
@@ -24,6 +25,7 @@ impl PieceList {
         let PrintedPrcs {
             mut bytes,
             prms,
+            lists: _,
             count: _,
         } = printed;
         push_pcdt(&mut bytes, &self.items, &prms)?;
@@ -37,6 +39,7 @@ struct PrintedPrcs {
     bytes: Bytes,
     /// For each modifier the Prm that names it, or 0 where it has no Prc.
     prms: Vec<u16>,
+    lists: PrcLists,
     /// The number of Prcs.
     count: u16,
 }
@@ -49,11 +52,12 @@ fn print_prcs(
 ) -> Result<PrintedPrcs, Memory>
     requires few { length entries.now ≤ 16384 }
     requires printable { All (HasPrintable modifiers.now) entries.now }
-    ensures { IfOk result (λ printed. ArePrinted modifiers.now entries.now (length entries.now) printed.count printed.prms.items printed.bytes) }
+    ensures { IfOk result (λ printed. ArePrinted modifiers.now entries.now (length entries.now) (prc_table printed)) }
 {
     let mut printed = PrintedPrcs {
         bytes: Bytes::new(alloc),
         prms: zeros(alloc, modifiers.len())?,
+        lists: PrcLists::new(alloc),
         count: 0,
     };
     for k in 0..entries.len() {
@@ -83,8 +87,8 @@ impl PrintedPrcs {
         requires few { length entries.now ≤ 16384 }
         requires entry { k < length entries.now }
         requires printable { All (HasPrintable modifiers.now) entries.now }
-        requires printed { ArePrinted modifiers.now entries.now k self.old.count self.old.prms.items self.old.bytes }
-        ensures { OnOk result (ArePrinted modifiers.now entries.now (k + 1) self.new.count self.new.prms.items self.new.bytes) }
+        requires printed { ArePrinted modifiers.now entries.now k (prc_table self.old) }
+        ensures { OnOk result (ArePrinted modifiers.now entries.now (k + 1) (prc_table self.new)) }
     {
         let number = entries[k].modifier;
         let modifier = &modifiers[number];
@@ -92,10 +96,25 @@ impl PrintedPrcs {
             return Ok(());
         }
         let list = modifier.print(alloc)?;
-        push_prc(&mut self.bytes, list.as_slice())?;
-        self.prms[number] = 2 * self.count + 1;
-        self.count += 1;
+        let prm = self.prm_of(alloc, list.as_slice())?;
+        self.prms[number] = prm;
         Ok(())
+    }
+
+    /// The Prm of a list, which is printed where it was not before.
+    fn prm_of(&mut self, alloc: Global, list: &[u8]) -> Result<u16, Memory>
+        requires list { length list.now < 2 ^ 16 }
+        requires few { self.old.count < 16384 }
+        ensures { IfOk result (HasPrm (prc_table self.old) (prc_table self.new) list.now) }
+    {
+        if let Some(prm) = self.lists.prm(list) {
+            return Ok(prm);
+        }
+        push_prc(&mut self.bytes, list)?;
+        let prm = 2 * self.count + 1;
+        self.lists.put(alloc, list, prm)?;
+        self.count += 1;
+        Ok(prm)
     }
 }
 

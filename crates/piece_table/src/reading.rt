@@ -3,6 +3,7 @@ ghost use Rattle.doc_bits.specs.Rules.{Hold, IsFirst};
 ghost use Rattle.doc_bits.specs.Plc.{PlcPart};
 ghost use Rattle.piece_table.specs.Clx.{ClxParts, IsPlcPcd, SpellsClx, plc_place, IsClx, clx_pieces, HaveModifiers};
 ghost use Rattle.piece_table.specs.ClxRules.{clx_rules, parts_rules, early_bounds, IsClxFault, StaysInStream, FitsPages};
+ghost use Rattle.piece_table.specs.Front.{clx_parts};
 ghost use Rattle.piece_table.specs.Piece.{total_length, bare_piece};
 
 use crate::collect::pieces_of;
@@ -56,12 +57,12 @@ fn read_parts(
     requires place { at + parts.now.place + length parts.now.plc.bytes < 2 ^ 32 }
     requires table { IsPlcPcd parts.now.plc }
     requires end { bounds.end < 2 ^ 32 }
-    requires place_is { parts.now.place ≡ plc_place (record { prcs = parts.now.prcs; plc = parts.now.plc }) }
+    requires place_is { parts.now.place ≡ plc_place (clx_parts parts.now) }
     requires text { text_len ≤ 500001 }
     ensures read { MatchResult result
-        (λ list. Hold (parts_rules (record { prcs = parts.now.prcs; plc = parts.now.plc }) at bounds text_len)
-        × ((map bare_piece list.pieces ≡ clx_pieces parts.now.plc) × HaveModifiers (record { prcs = parts.now.prcs; plc = parts.now.plc }) list.pieces))
-        (IsClxFault (parts_rules (record { prcs = parts.now.prcs; plc = parts.now.plc }) at bounds text_len)) }
+        (λ list. Hold (parts_rules (clx_parts parts.now) at bounds text_len)
+        × ((map bare_piece list.pieces ≡ clx_pieces parts.now.plc) × HaveModifiers (clx_parts parts.now) list.pieces))
+        (IsClxFault (parts_rules (clx_parts parts.now) at bounds text_len)) }
     ensures within { IfOk result (λ list. All (λ piece. StaysInStream bounds (bare_piece piece)) list.pieces) }
     ensures total { IfOk result (λ list. total_length list.pieces ≡ text_len) }
     ensures fit { IfOk result (λ list. All (λ piece. FitsPages piece.modifier) list.pieces) }

@@ -1,6 +1,7 @@
 -- The list is seen as its pieces; its entries are printed.
 use Rattle.std.proofs.Common.{map, sym, subst}
 use Rattle.piece_table.specs.Numbering.{text_piece}
+use Rattle.piece_table.specs.PrintSteps.{prc_table}
 use Rattle.piece_table.specs.Printing.{IsPrintable, IsPrintedClx}
 use Rattle.piece_table.proofs.ClxPrintLemmas.{entries_printable, entries_placed, printed_clx}
 use Rattle.piece_table.proofs.pieces.PieceList.print_clx.Goals as goal
@@ -24,4 +25,4 @@ returns c =
     let entries = c.self.inside.items.items in
     let modifiers = c.self.inside.modifiers.items in
     subst (λ table. IsPrintedClx table.pieces c.push_pcdt.new.bytes) c.self.view_is
-    (printed_clx modifiers entries c.in_ok-printed.printed.count c.in_ok-printed.printed.prms.items c.in_ok-printed.printed.bytes c.push_pcdt.new.bytes (rw (c.deref.ensures.value, c.deref-2.ensures.value) at c.in_ok-printed.ensures) (rw (c.deref-3.ensures.value, c.deref-4.ensures.value) at c.in_ok-push_pcdt.ensures))
+    (printed_clx modifiers entries (prc_table c.in_ok-printed.printed) c.push_pcdt.new.bytes (rw (c.deref.ensures.value, c.deref-2.ensures.value) at c.in_ok-printed.ensures) (rw (c.deref-3.ensures.value, c.deref-4.ensures.value) at c.in_ok-push_pcdt.ensures))
