@@ -5,10 +5,10 @@ use Rattle.std.specs.Char.Escape.{encode_utf16}
 use Rattle.std.proofs.lemmas.Str.{chars-nil, chars_past_char, IsUtf8-past_char}
 use Rattle.edit_script.specs.Values.{utf16}
 
-pub one_more : (text left rest units grown pair : List ℕ) (character : ℕ) → IsUtf8 left → left ≡ encode_utf8 character ++ rest → pair ≡ encode_utf16 character → grown ≡ units ++ pair → units ++ utf16 left ≡ utf16 text → IsUtf8 rest × (grown ++ utf16 rest ≡ utf16 text)
-one_more text left rest units grown pair character utf8 is spelt grows so_far = (
+pub one_more : (text left rest units grown : List ℕ) (character : ℕ) → IsUtf8 left → left ≡ encode_utf8 character ++ rest → grown ≡ units ++ encode_utf16 character → units ++ utf16 left ≡ utf16 text → IsUtf8 rest × (grown ++ utf16 rest ≡ utf16 text)
+one_more text left rest units grown character utf8 is grows so_far = (
   IsUtf8-past_char left rest character utf8 is,
-  ap (λ us. us ++ utf16 rest) (grows ∙ ap (λ us. units ++ us) spelt) ∙ append_assoc units (encode_utf16 character) (utf16 rest)
+  ap (λ us. us ++ utf16 rest) grows ∙ append_assoc units (encode_utf16 character) (utf16 rest)
       ∙ ap (λ cs. units ++ flat_map encode_utf16 cs) (sym (chars_past_char left rest character utf8 is)) ∙ so_far,
 )
 

@@ -1,5 +1,6 @@
 // What single values are read as.
-ghost use Rattle.std.specs.Prelude.{◌≡◌, ◌<◌, ◌^◌, ℕ, List, Bool, IfOk, IfSome, codes};
+ghost use Rattle.std.specs.Prelude.{◌≡◌, ◌<◌, ◌^◌, ℕ, List, Bool, IfOk, IfSome, OnOk, ◌++◌};
+ghost use Rattle.std.specs.Char.Escape.{encode_utf16};
 ghost use Rattle.serde_json.specs.Find.{as_bool};
 ghost use Rattle.serde_json.specs.View.{view};
 ghost use Rattle.edit_script.specs.Json.{Gives};
@@ -86,11 +87,18 @@ fn units_of_text(alloc: Global, text: &str) -> Result<Units, Memory>
     ensures { IfOk result (λ units. units ≡ utf16 text.now) }
 {
     let mut units = Units::new(alloc);
-    let mut two = [0u16; 2];
     for character in text.chars() {
-        units.push_all(character.encode_utf16(&mut two))?;
+        push_character(&mut units, character)?;
     }
     Ok(units)
+}
+
+/// Puts the units of a character last.
+fn push_character(units: &mut Units, character: char) -> Result<(), Memory>
+    ensures { OnOk result (units.new ≡ units.old ++ encode_utf16 character) }
+{
+    let mut two = [0u16; 2];
+    units.push_all(character.encode_utf16(&mut two))
 }
 
 /// The bytes of a text of digits.
