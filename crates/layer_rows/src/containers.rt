@@ -1,0 +1,174 @@
+// The canonical container: streams laid out as one file, and read again. The lengths and the sums are those of an independently
+// written model of the layout.
+use cfb_layout::{LayoutFault, sectors_needed, whole};
+use cfb_streams::{Container, Streams};
+use doc_bits::{Bytes, Memory};
+use std::alloc::Global;
+use std::test::Fail;
+
+/// The CLSID of each container.
+const CLSID: [u8; 16] = [0, 1, 2, 3, 4, 5, 6, 7, 8, 9, 10, 11, 12, 13, 14, 15];
+
+/// Bytes that differ from stream to stream.
+fn content(alloc: Global, len: usize, stream: usize) -> Result<Vec<u8>, Memory> {
+    let mut bytes = Vec::new(alloc);
+    let mut value = (stream % 251 * 13 % 251) as u8;
+    for _ in 0..len {
+        bytes.push(value)?;
+        value = ((value as u16 + 7) % 251) as u8;
+    }
+    Ok(bytes)
+}
+
+fn add(streams: &mut Streams, name: &[u16], bytes: &[u8]) -> Result<(), Memory> {
+    if streams.can_add(name, bytes) {
+        streams.add(name, bytes)?;
+    }
+    Ok(())
+}
+
+/// Streams of these lengths, each named by one unit.
+fn streams_of(alloc: Global, lengths: &[u64]) -> Result<Streams, Memory> {
+    let mut streams = Streams::new(alloc);
+    let mut name = 0x100u16;
+    for (k, len) in lengths.iter().enumerate() {
+        let bytes = content(alloc, *len as usize, k)?;
+        add(&mut streams, &[name], &bytes)?;
+        name = name.wrapping_add(1);
+    }
+    Ok(streams)
+}
+
+/// The container of streams that are few enough.
+fn container_of(alloc: Global, streams: &Streams) -> Result<Bytes, LayoutFault> {
+    if streams.count() > 1_023 {
+        return Err(LayoutFault::Memory);
+    }
+    whole(alloc, streams, CLSID)
+}
+
+/// The sum by which two copies of a file are told apart (Adler-32).
+fn sum_of(bytes: &[u8]) -> u32 {
+    let mut low = 1u32;
+    let mut high = 0u32;
+    for byte in bytes {
+        low = (low % 65_521 + u32::from(*byte)) % 65_521;
+        high = (high % 65_521 + low) % 65_521;
+    }
+    (high % 65_521) * 65_536 + low % 65_521
+}
+
+fn has_streams(container: &Container, streams: &Streams) -> bool {
+    if container.count() != streams.count() || container.clsid() != CLSID {
+        return false;
+    }
+    for i in 0..container.count() {
+        if container.name(i) != streams.name(i) || container.bytes(i) != streams.bytes(i) {
+            return false;
+        }
+    }
+    true
+}
+
+/// Whether the streams of a file are those that were laid out, and its CLSID too.
+fn reads_as(alloc: Global, file: &[u8], streams: &Streams) -> bool {
+    match Container::load(alloc, file) {
+        Ok(container) => has_streams(&container, streams),
+        Err(_) => false,
+    }
+}
+
+/// The lengths of streams; the sectors after the header, and the sum of the file.
+#[derive(Clone, Copy)]
+struct Row(&'static [u64], usize, u32);
+
+const ROWS: [Row; 7] = [
+    Row(&[], 2, 3_008_230_370),
+    Row(&[4_096], 10, 2_952_962_330),
+    Row(&[0, 63, 64, 4_095, 4_096, 4_097], 30, 1_382_244_718),
+    // 127 sectors before the FAT take one FAT sector, 128 take two.
+    Row(&[64_512], 128, 3_597_873_048),
+    Row(&[65_024], 130, 1_554_652_806),
+    Row(
+        &[5_000, 0, 1, 700, 66_000, 4_096, 300, 12_345, 4_095, 64],
+        189,
+        4_037_351_915,
+    ),
+    Row(&[10, 20, 30, 40, 50, 60, 70], 5, 1_973_909_866),
+];
+
+fn is_laid_out(alloc: Global, row: Row) -> Result<bool, LayoutFault> {
+    let streams = streams_of(alloc, row.0)?;
+    let file = container_of(alloc, &streams)?;
+    let bytes = file.as_slice();
+    let sectors = bytes.len() / 512;
+    Ok(
+        sectors == row.1.saturating_add(1)
+            && sum_of(bytes) == row.2
+            && reads_as(alloc, bytes, &streams),
+    )
+}
+
+#[test]
+fn containers_are_those_of_the_model(rt: HostRuntime) -> Result<(), Fail> {
+    for row in ROWS {
+        assert!(rt; is_laid_out(rt.alloc(), row)?, "{}", row.1);
+        assert!(rt; sectors_needed(row.0) == row.1 as u64, "{}", row.1);
+    }
+    Ok(())
+}
+
+/// A container of one stream of so many bytes: its length, or the sectors that it would need.
+fn length_of(alloc: Global, len: usize) -> Result<usize, LayoutFault> {
+    let mut streams = Streams::new(alloc);
+    let bytes = content(alloc, len, 0)?;
+    add(&mut streams, &[0x100], &bytes)?;
+    let file = container_of(alloc, &streams)?;
+    Ok(file.as_slice().len())
+}
+
+#[test]
+fn the_largest_container_fits_and_the_next_does_not(rt: HostRuntime) -> Result<(), Fail> {
+    let alloc = rt.alloc();
+    assert!(rt; length_of(alloc, 7_087_104) == Ok(7_143_936));
+    let refused = Err(LayoutFault::TooLarge { sectors: 13_954 });
+    assert!(rt; length_of(alloc, 7_087_105) == refused);
+    // A stream that no 32-bit size can tell.
+    assert!(rt; sectors_needed(&[1 << 40]) == 2_164_392_970);
+    Ok(())
+}
+
+/// The lengths of 1,023 short streams.
+fn short_lengths(alloc: Global) -> Result<Vec<u64>, Memory> {
+    let mut lengths = Vec::new(alloc);
+    for k in 0..1_023u64 {
+        lengths.push(k * 37 % 200)?;
+    }
+    Ok(lengths)
+}
+
+/// A container of 1,023 short streams: its length and its sum.
+fn most_streams(alloc: Global) -> Result<(usize, u32), LayoutFault> {
+    let lengths = short_lengths(alloc)?;
+    let streams = streams_of(alloc, &lengths)?;
+    let file = container_of(alloc, &streams)?;
+    Ok((file.as_slice().len(), sum_of(file.as_slice())))
+}
+
+#[test]
+fn a_container_of_1023_streams_is_laid_out(rt: HostRuntime) -> Result<(), Fail> {
+    assert!(rt; most_streams(rt.alloc()) == Ok((278_016, 3_645_249_145)));
+    Ok(())
+}
+
+// `Z` comes before `aa`. `B` and `AA` are names that are there.
+#[test]
+fn names_are_compared_in_any_case(rt: HostRuntime) -> Result<(), Fail> {
+    let mut streams = Streams::new(rt.alloc());
+    add(&mut streams, &[0x62], &[1])?;
+    add(&mut streams, &[0x61, 0x61], &[2, 3])?;
+    assert!(rt; streams.count() == 2);
+    assert!(rt; !streams.can_add(&[0x42], &[]));
+    assert!(rt; !streams.can_add(&[0x41, 0x41], &[]));
+    Ok(())
+}

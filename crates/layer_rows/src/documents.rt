@@ -1,0 +1,182 @@
+// Documents that are made and judged where no file is.
+ghost use Rattle.std.specs.Prelude.{IsTrue};
+ghost use Rattle.std.specs.Option.{ForSome};
+ghost use Rattle.prop_map.specs.Formed.{IsPropertyMap, paragraph_groups, section_groups};
+ghost use Rattle.plain_doc.specs.Document.{HasPropertyMaps};
+
+use doc_bits::{Memory, Where};
+use doc_show::{accepted_line, listing};
+use plain_doc::{Document, Item, Items, Mark, NoteKind, Texts, blank, check};
+use prop_map::{CHARACTER_GROUPS, PARAGRAPH_GROUPS, PropMap, SECTION_GROUPS};
+use std::alloc::Global;
+use std::test::Fail;
+
+const LISTED: &str = "style 0 para none 0 Normal\npar\nchar\n\
+    style 1 para 0 0 heading 1\npar 2640=00\nchar 0835=01\n\
+    style 10 char none 0 Default Paragraph Font\nchar\nstory main\nmark 0\nrun | \\u000d\nsect\n";
+
+const COUNTED: &str = "accepted: units 1 styles 3 sections 1 notes 0 streams 0\n";
+
+#[test]
+fn the_blank_document_is_as_said(rt: HostRuntime) -> Result<(), Fail> {
+    let document = blank(rt.alloc())?;
+    assert!(rt; listing(rt.alloc(), &document)?.as_str() == LISTED);
+    assert!(rt; accepted_line(rt.alloc(), &document)?.as_str() == COUNTED);
+    Ok(())
+}
+
+/// The unit of a letter: the ends of sections `B`, of paragraphs `p`, `P` and `q`, and the letter `a` for all others.
+fn unit_of(letter: u8) -> u16 {
+    match letter {
+        b'B' => 0x0C,
+        b'p' | b'P' | b'q' => 0x0D,
+        _ => 0x61,
+    }
+}
+
+/// A mark of style 0: on `p`, `P` and `B`, and where it is wrong, on `m` and `s`.
+fn mark_of(alloc: Global, letter: u8) -> Option<Mark> {
+    match letter {
+        b'p' | b'P' | b'B' | b'm' | b's' => Some(Mark {
+            istd: 0,
+            pap: PropMap::new(alloc),
+        }),
+        _ => None,
+    }
+}
+
+/// A section that ends: on `P` and `B`, and where it is wrong, on `s`.
+fn section_of(alloc: Global, letter: u8) -> Option<PropMap> {
+    match letter {
+        b'P' | b'B' | b's' => Some(PropMap::new(alloc)),
+        _ => None,
+    }
+}
+
+/// The item of a letter. `n` refers to a note; `F` is a field character, where it is wrong.
+pub fn item_of(alloc: Global, letter: u8) -> Item {
+    Item {
+        unit: unit_of(letter),
+        chp: PropMap::new(alloc),
+        mark: mark_of(alloc, letter),
+        sect: section_of(alloc, letter),
+        fld: if letter == b'F' { Some(1) } else { None },
+        note: if letter == b'n' {
+            Some(NoteKind::Auto)
+        } else {
+            None
+        },
+    }
+}
+
+fn holds_mark(mark: &Option<Mark>) -> bool
+    ensures { IsTrue result → ForSome mark.now (λ mark. IsPropertyMap paragraph_groups mark.pap) }
+{
+    match mark {
+        None => true,
+        Some(mark) => mark.pap.is_held(PARAGRAPH_GROUPS),
+    }
+}
+
+fn holds_section(sect: &Option<PropMap>) -> bool
+    ensures { IsTrue result → ForSome sect.now (IsPropertyMap section_groups) }
+{
+    match sect {
+        None => true,
+        Some(sect) => sect.is_held(SECTION_GROUPS),
+    }
+}
+
+/// Whether the maps of an item may stand in a text.
+pub fn holds_maps(item: &Item) -> bool
+    ensures { IsTrue result → HasPropertyMaps item.now }
+{
+    if !item.chp.is_held(CHARACTER_GROUPS) {
+        return false;
+    }
+    if !holds_mark(&item.mark) {
+        return false;
+    }
+    holds_section(&item.sect)
+}
+
+fn add_item(text: &mut Items, item: Item) -> Result<(), Memory> {
+    if text.len() > 1_000 || !holds_maps(&item) {
+        return Err(Memory);
+    }
+    text.add(item)
+}
+
+/// The text of these letters.
+pub fn text_of(alloc: Global, letters: &str) -> Result<Items, Memory> {
+    let mut text = Items::new(alloc);
+    for letter in letters.bytes() {
+        add_item(&mut text, item_of(alloc, letter))?;
+    }
+    Ok(text)
+}
+
+fn add_text(texts: &mut Texts, text: Items) -> Result<(), Memory> {
+    if texts.len() < 1_000 {
+        texts.add(text)?;
+    }
+    Ok(())
+}
+
+/// The texts of these letters, each up to a `/`.
+pub fn texts_of(alloc: Global, letters: &str) -> Result<Texts, Memory> {
+    let mut texts = Texts::new(alloc);
+    for text in letters.split_terminator('/') {
+        add_text(&mut texts, text_of(alloc, text)?)?;
+    }
+    Ok(texts)
+}
+
+/// The main text, the notes, the header texts, and the first broken rule with its place.
+#[derive(Clone, Copy)]
+struct Row<'a>(&'a str, &'a str, &'a str, (u8, Where, u32));
+
+const HEADS: &str = "////////////";
+
+const ROWS: [Row<'static>; 14] = [
+    Row("", "", HEADS, (60, Where::Main, 0)),
+    Row("aqaP", "", HEADS, (61, Where::Main, 1)),
+    Row("mP", "", HEADS, (61, Where::Main, 0)),
+    Row("asP", "", HEADS, (61, Where::Main, 1)),
+    Row("PaP", "", HEADS, (61, Where::Main, 0)),
+    Row("aap", "", HEADS, (61, Where::Main, 2)),
+    Row("nP", "P/", HEADS, (61, Where::Note(0), 0)),
+    Row("nP", "Bp/", HEADS, (61, Where::Note(0), 0)),
+    Row("nP", "anp/", HEADS, (61, Where::Note(0), 1)),
+    Row("P", "", "/np///////////", (61, Where::Head(1), 0)),
+    Row("aFP", "", HEADS, (61, Where::Main, 1)),
+    Row("naP", "", HEADS, (66, Where::Main, 0)),
+    Row("P", "", "/////////////", (67, Where::Main, 13)),
+    Row("BP", "", HEADS, (67, Where::Main, 12)),
+];
+
+fn document_of(alloc: Global, row: Row<'_>) -> Result<Document, Memory> {
+    let mut document = blank(alloc)?;
+    document.main = text_of(alloc, row.0)?;
+    document.notes = texts_of(alloc, row.1)?;
+    document.heads = texts_of(alloc, row.2)?;
+    Ok(document)
+}
+
+fn breaks(document: &Document, fault: (u8, Where, u32)) -> bool {
+    match check(document) {
+        Ok(()) => false,
+        Err(found) => found.rule == fault.0 && found.place == fault.1 && found.at == fault.2,
+    }
+}
+
+// Rules that no file breaks: a reader gives marks, sections, field characters, references and header texts to the items that
+// they belong to.
+#[test]
+fn documents_of_no_file_are_judged(rt: HostRuntime) -> Result<(), Fail> {
+    for row in ROWS {
+        let document = document_of(rt.alloc(), row)?;
+        assert!(rt; breaks(&document, row.3), "{}", row.0);
+    }
+    Ok(())
+}

@@ -1,0 +1,31 @@
+//! What no file reaches, layer by layer: tests of the calls that write and change.
+#![tactic(auto)]
+
+#[cfg(test)]
+mod containers;
+#[cfg(test)]
+mod documents;
+#[cfg(test)]
+mod edits;
+#[cfg(test)]
+mod fibs;
+#[cfg(test)]
+mod hello;
+#[cfg(test)]
+mod lists;
+#[cfg(test)]
+mod maps;
+#[cfg(test)]
+mod opened;
+#[cfg(test)]
+mod outside;
+#[cfg(test)]
+mod pages;
+#[cfg(test)]
+mod parts;
+#[cfg(test)]
+mod pieces;
+#[cfg(test)]
+mod scripts;
+#[cfg(test)]
+mod sheets;
