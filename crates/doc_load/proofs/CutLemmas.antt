@@ -7,8 +7,8 @@ use Rattle.doc_bits.proofs.RuleLemmas.{least_same}
 use Rattle.doc_parts.specs.Table.{table_of, IsEmptyOrWhole, BreaksTable}
 use Rattle.doc_parts.specs.Stories.{cut_form, cut_cps}
 use Rattle.doc_load.specs.TextCuts.{BreaksCuts}
-use Rattle.doc_load.specs.declared.table_parts.TablePart.TheVariants.{PlcffndRef, PlcffndTxt}
-use Rattle.doc_load.specs.declared.source.Story.TheVariants.{Notes}
+use Rattle.fib_form.specs.declared.table_parts.TablePart.TheVariants.{PlcffndRef, PlcffndTxt}
+use Rattle.fib_form.specs.declared.stories.StoryKind.TheVariants.{Notes}
 use Rattle.doc_load.specs.Source.{DocSource, part_bytes, part_place, story_length}
 use Rattle.doc_load.specs.HeadRules.{IsHeadTable}
 use Rattle.doc_load.specs.NoteRules.{ref_count, HasEntries, BreaksNoteCuts}

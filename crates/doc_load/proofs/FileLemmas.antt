@@ -8,14 +8,14 @@ use Rattle.fib_form.specs.Fib.{fib_pair}
 use Rattle.fib_form.specs.FibFields.{fib_fields, text_length}
 use Rattle.fib_form.specs.FibRules.{fib_rules}
 use Rattle.fib_form.proofs.FibRuleLemmas.{fib_rules-IsSingle, fib_rules-Ascends}
-use Rattle.piece_table.specs.ClxRules.{clx_rules}
+use Rattle.piece_table.specs.ClxRules.{clx_rules, early_bounds}
 use Rattle.piece_table.proofs.ClxRuleLemmas.{clx_rules-IsSingle, clx_rules-Ascends}
 use Rattle.cfb_streams.specs.Contents.{Contents}
 use Rattle.cfb_streams.specs.Container.{container_rules, HasContents}
 use Rattle.cfb_streams.proofs.SingleLemmas.{container_single, container_ascends}
 use Rattle.cfb_streams.proofs.UniqueLemmas.{contents_unique}
-use Rattle.doc_load.specs.declared.table_parts.TablePart.TheVariants.{Clx, PlcfBteChpx, PlcfBtePapx}
-use Rattle.doc_load.specs.PairRules.{pair_of}
+use Rattle.fib_form.specs.declared.table_parts.TablePart.TheVariants.{Clx, PlcfBteChpx, PlcfBtePapx}
+use Rattle.fib_form.specs.TableParts.{pair_of}
 use Rattle.fkp_pages.specs.declared.kind.PageKind.TheVariants.{Chpx, Papx}
 use Rattle.direct_props.specs.PageRules.{page_rules}
 use Rattle.direct_props.proofs.LawLemmas.{page_rules-Ascends}
@@ -23,7 +23,8 @@ use Rattle.doc_load.specs.FormatRules.{judged_places, paragraph_places, rules_of
 use Rattle.doc_load.specs.SheetRules.{rules_of_sheet}
 use Rattle.doc_load.specs.Source.{DocSource, part_bytes}
 use Rattle.doc_load.specs.PartRules.{layout_rules, story_rules, part_rules}
-use Rattle.doc_load.specs.FileRules.{wd_name, table_name, clx_of, source_of, table_rules, wd_rules, text_rules, contents_rules, file_rules}
+use Rattle.doc_load.specs.FileRules.{table_stream_name, clx_of, source_of, table_rules, wd_rules, loading_rules, contents_rules, file_rules}
+use Rattle.cfb_streams.specs.Names.{wd_name}
 use Rattle.doc_load.proofs.RefusalLemmas.{single_in}
 use Rattle.doc_load.proofs.OneLemmas.{sections_one, notes_one, heads_one}
 use Rattle.doc_load.proofs.NameLemmas.{named_one}
@@ -92,14 +93,14 @@ table_single wd table =
     let clx = clx_of wd table in
     let at = (fib_pair wd (pair_of Clx)).0 in
     let text_len = text_length (fib_fields wd).ccps in
-    (tt, single_in Table (clx_rules clx at (length wd) text_len) (clx_rules-IsSingle clx at (length wd) text_len))
+    (tt, single_in Table (clx_rules clx at (early_bounds (length wd)) text_len) (clx_rules-IsSingle clx at (early_bounds (length wd)) text_len))
 
 table_ascends : (wd table : List ℕ) → Ascends (table_rules wd table) 26 33
 table_ascends wd table =
     let clx = clx_of wd table in
     let at = (fib_pair wd (pair_of Clx)).0 in
     let text_len = text_length (fib_fields wd).ccps in
-    let clx_up = ascends_in Table (clx_rules clx at (length wd) text_len) 27 33 (clx_rules-Ascends clx at (length wd) text_len) in
+    let clx_up = ascends_in Table (clx_rules clx at (early_bounds (length wd)) text_len) 27 33 (clx_rules-Ascends clx at (early_bounds (length wd)) text_len) in
     (27, ((lit≤ tt, lit< tt), (lit≤ tt, lit≤ tt, clx_up)))
 
 wd_ascends : (contents : Contents) (wd : List ℕ) → Ascends (wd_rules contents wd) 16 33
@@ -111,7 +112,7 @@ wd_ascends contents wd = (
   ),
 )
 
-text_ascends : (contents : Contents) → Ascends (text_rules contents) 15 33
+text_ascends : (contents : Contents) → Ascends (loading_rules contents) 15 33
 text_ascends contents = (16, ((lit≤ tt, lit< tt), (lit≤ tt, lit≤ tt, (lit≤ tt, λ wd h. wd_ascends contents wd))))
 
 contents_ascends : (contents : Contents) → Ascends (contents_rules contents) 15 57
@@ -120,9 +121,9 @@ contents_ascends contents =
 
 wd_single : (file : List ℕ) (contents : Contents) (wd : List ℕ) → HasContents file contents → IsSingle (wd_rules contents wd)
 wd_single file contents wd has =
-    (single_in Wd (fib_rules wd) (fib_rules-IsSingle wd), (tt, ((λ x y hx hy. named_one file contents (table_name wd) x y has hx hy), λ table h. table_single wd table)))
+    (single_in Wd (fib_rules wd) (fib_rules-IsSingle wd), (tt, ((λ x y hx hy. named_one file contents (table_stream_name wd) x y has hx hy), λ table h. table_single wd table)))
 
-text_single : (file : List ℕ) (contents : Contents) → HasContents file contents → IsSingle (text_rules contents)
+text_single : (file : List ℕ) (contents : Contents) → HasContents file contents → IsSingle (loading_rules contents)
 text_single file contents has =
     (tt, ((λ x y hx hy. named_one file contents wd_name x y has hx hy), λ wd h. wd_single file contents wd has))
 

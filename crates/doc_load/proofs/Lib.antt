@@ -3,6 +3,7 @@ pub mod CutLemmas
 pub mod FieldLemmas
 pub mod ListLemmas
 pub mod PartLemmas
+pub mod StoryLemmas
 pub mod RefusalLemmas
 pub mod RowLemmas
 pub mod SectionLemmas

@@ -9,9 +9,9 @@ use Rattle.doc_parts.specs.Sections.{sed_form, sed_cps}
 use Rattle.doc_parts.specs.Fields.{fld_form, fld_cps}
 use Rattle.doc_parts.specs.Stories.{ref_form, ref_cps, cut_form, cut_cps}
 use Rattle.doc_parts.proofs.ReadBackLemmas.{AreEntries-unique}
-use Rattle.doc_load.specs.declared.table_parts.TablePart.TheVariants.{Stshf, PlcffndRef, PlcffndTxt, PlcfSed, PlcfHdd, PlfLst}
-use Rattle.doc_load.specs.declared.source.Story.{Story}
-use Rattle.doc_load.specs.declared.source.Story.TheVariants.{Main, Notes, Heads}
+use Rattle.fib_form.specs.declared.table_parts.TablePart.TheVariants.{Stshf, PlcffndRef, PlcffndTxt, PlcfSed, PlcfHdd, PlfLst}
+use Rattle.fib_form.specs.declared.stories.StoryKind.{StoryKind}
+use Rattle.fib_form.specs.declared.stories.StoryKind.TheVariants.{Main, Notes, Heads}
 use Rattle.doc_load.specs.Source.{DocSource, part_bytes, part_place, story_length}
 use Rattle.style_sheet.specs.Sheet.{Sheet}
 use Rattle.style_sheet.proofs.UniqueLemmas.{sheets_agree}
@@ -21,13 +21,13 @@ use Rattle.doc_load.specs.FieldRules.{field_part, HasFields}
 use Rattle.doc_load.specs.NoteRules.{HasRefs, HasNoteCuts}
 use Rattle.doc_load.specs.HeadRules.{HasHeadCuts}
 use Rattle.doc_load.specs.ListRules.{HasLevels}
-use Rattle.doc_load.specs.PartRules.{PartLists, HasParts}
+use Rattle.doc_load.specs.PartRules.{PartLists, HasPartLists}
 
 pub sections_one : (source : DocSource) (a b : List Sed) → HasSections source a → HasSections source b → a ≡ b
 sections_one source a b ha hb =
     AreEntries-unique sed_form (sed_cps (story_length source Main)) (table_of 12 (part_bytes source PlcfSed)) a b ha hb
 
-fields_one : (source : DocSource) (story : Story) (a b : List Fld) → HasFields source story a → HasFields source story b → a ≡ b
+fields_one : (source : DocSource) (story : StoryKind) (a b : List Fld) → HasFields source story a → HasFields source story b → a ≡ b
 fields_one source story a b ha hb =
     AreEntries-unique fld_form (fld_cps (story_length source story)) (table_of 2 (part_bytes source (field_part story))) a b ha hb
 
@@ -71,7 +71,7 @@ lists_same a b e0 es e1 e2 e3 e4 e5 e6 e7 =
     let f7 : List ℕ → PartLists = λ x. record b { levels = x } in
     ap f0 e0 ∙ (ap fs es ∙ (ap f1 e1 ∙ (ap f2 e2 ∙ (ap f3 e3 ∙ (ap f4 e4 ∙ (ap f5 e5 ∙ (ap f6 e6 ∙ ap f7 e7)))))))
 
-pub parts_one : (source : DocSource) (a b : PartLists) → HasParts source a → HasParts source b → a ≡ b
+pub parts_one : (source : DocSource) (a b : PartLists) → HasPartLists source a → HasPartLists source b → a ≡ b
 parts_one source a b ha hb =
     lists_same a b
     (sections_one source a.sections b.sections ha.has_sections hb.has_sections)

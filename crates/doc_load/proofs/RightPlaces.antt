@@ -12,11 +12,10 @@ use Rattle.fkp_pages.specs.declared.kind.PageKind.TheVariants.{Chpx, Papx}
 use Rattle.fkp_pages.specs.Bin.{IsBinTable, bin_count}
 use Rattle.direct_props.specs.PageRules.{page_rules, AreRightPlaces}
 use Rattle.direct_props.proofs.RightLemmas.{right_where_hold}
-use Rattle.doc_load.specs.declared.table_parts.TablePart.TheVariants.{PlcfBteChpx, PlcfBtePapx}
+use Rattle.fib_form.specs.declared.table_parts.TablePart.TheVariants.{PlcfBteChpx, PlcfBtePapx}
 use Rattle.doc_load.specs.Source.{DocSource, part_bytes, part_place}
 use Rattle.doc_load.specs.SectionRules.{HasSections}
-use Rattle.doc_load.specs.BinRules.{BreaksBinTable, IsNoAscent, rules_of_bins}
-use Rattle.doc_load.specs.BinRules as bins
+use Rattle.doc_load.specs.BinRules.{IsPlcBte, BreaksBinTable, IsNoAscent, rules_of_bins}
 use Rattle.doc_load.specs.FormatRules.{judged_places, paragraph_places, format_rules, rules_of_formats}
 use Rattle.doc_load.proofs.OneLemmas.{sections_one}
 
@@ -30,7 +29,7 @@ hold_out place (given is rules) h = (h.0, (h.1.0, hold_out place (rules h.0) h.1
 pub right_bin : (bytes : List ℕ) (at : ℕ) → Nowhere (BreaksBinTable bytes at) → IsBinTable bytes
 right_bin bytes at none =
     let table = table_of 4 bytes in
-    let whole : ¬ ¬ (bins.IsBinTable table) = λ no. none at (inl (refl, no)) in
+    let whole : ¬ ¬ (IsPlcBte table) = λ no. none at (inl (refl, no)) in
     record {
       table = elim (cases_eq (length bytes) (4 + bin_count bytes * 8)) [
         | inl e ↦ e

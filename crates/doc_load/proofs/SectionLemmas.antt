@@ -8,7 +8,8 @@ use Rattle.doc_bits.specs.Rules.{Nowhere, IsLeast}
 use Rattle.doc_bits.proofs.RuleLemmas.{least_from}
 use Rattle.sprm_table.specs.Sprm.{HasSprmFaultAt}
 use Rattle.doc_parts.specs.Sections.{AreSections}
-use Rattle.doc_load.specs.SectionRules.{section_begin, sepx_list, section_groups, HasSepxFault}
+use Rattle.doc_load.specs.SectionRules.{section_begin, sepx_list, HasSepxFault}
+use Rattle.prop_map.specs.Formed.{section_groups}
 
 -- a section begins in the main text, and a later one not at its first unit
 pub section_within : (plc : List ℕ) (main_len : ℕ) (list : List Sed) → AreSections plc main_len list → (k : ℕ) → k < length list → section_begin list k < main_len

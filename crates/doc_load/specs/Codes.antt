@@ -25,6 +25,9 @@ text_code =
 abbrev FieldLists : Type 0
 FieldLists = List Fld × (List Fld × List Fld)
 
+abbrev fields_of : PartLists → FieldLists
+fields_of parts = (parts.main_fields, (parts.note_fields, parts.head_fields))
+
 -- the references, the cuts of the notes and of the header texts, and the levels
 abbrev OtherLists : Type 0
 OtherLists = List NoteRef × (List ℕ × (List ℕ × List ℕ))
@@ -42,7 +45,7 @@ parts_code =
     (coded× sheet_code
     (coded× (coded× fields_code (coded× fields_code fields_code))
     (coded× (coded_list ref.the_row.coded) (coded× numbers_code (coded× numbers_code numbers_code))))))
-    (λ p. (p.sections, (p.sheet, ((p.main_fields, (p.note_fields, p.head_fields)), (p.refs, (p.notes, (p.heads, p.levels)))))))
+    (λ p. (p.sections, (p.sheet, (fields_of p, (p.refs, (p.notes, (p.heads, p.levels)))))))
     (λ q. record {
       sections = q.0;
       sheet = q.1.0;

@@ -3,8 +3,8 @@ use Rattle.std.specs.Prelude.{◌≡◌, ◌⊎◌, ℕ, ◌-◌, ◌<◌, ◌�
 use Rattle.doc_bits.specs.declared.places.Where.TheVariants as stands
 use Rattle.doc_bits.specs.Rules.{Rules, rule, given, IsLeast}
 use Rattle.doc_bits.specs.Places.{Place, rules_in}
-use Rattle.doc_load.specs.declared.source.Story.{Story}
-use Rattle.doc_load.specs.declared.source.Story.TheVariants.{Notes, Heads}
+use Rattle.fib_form.specs.declared.stories.StoryKind.{StoryKind}
+use Rattle.fib_form.specs.declared.stories.StoryKind.TheVariants.{Notes, Heads}
 use Rattle.doc_load.specs.Source.{DocSource, story_units, story_places}
 use Rattle.doc_load.specs.NoteRules.{HasNoteCuts}
 use Rattle.doc_load.specs.HeadRules.{HasHeadCuts}
@@ -25,7 +25,7 @@ pub record HasLooseUnit (places story : List ℕ) (end place : ℕ) : Type 0 whe
   pub first : IsLeast (λ a b. a ≤ b) (IsLooseUnit story end) cp
   pub here : place ≡ slice_index places cp
 
-abbrev pub BreaksEnd : DocSource → Story → List ℕ → ℕ → Type 0
+abbrev pub BreaksEnd : DocSource → StoryKind → List ℕ → ℕ → Type 0
 BreaksEnd source story cuts = HasLooseUnit (story_places source story) (story_units source story) (last_end cuts)
 
 abbrev pub BreaksEnds : DocSource → List ℕ → List ℕ → ℕ → Type 0

@@ -7,10 +7,10 @@ use Rattle.doc_bits.specs.Places.{Place, rules_in}
 use Rattle.doc_parts.specs.declared.lists.Fld.{Fld}
 use Rattle.doc_parts.specs.Table.{table_of, IsEmptyOrWhole, IsWrongPart, IsRightEntry, entry_at}
 use Rattle.doc_parts.specs.Fields.{fld_form, fld_cps, AreFields}
-use Rattle.doc_load.specs.declared.table_parts.TablePart.{TablePart}
-use Rattle.doc_load.specs.declared.table_parts.TablePart.TheVariants.{PlcfFldMom, PlcfFldHdr, PlcfFldFtn}
-use Rattle.doc_load.specs.declared.source.Story.{Story}
-use Rattle.doc_load.specs.declared.source.Story.TheVariants.{Main, Notes, Heads}
+use Rattle.fib_form.specs.declared.table_parts.TablePart.{TablePart}
+use Rattle.fib_form.specs.declared.table_parts.TablePart.TheVariants.{PlcfFldMom, PlcfFldHdr, PlcfFldFtn}
+use Rattle.fib_form.specs.declared.stories.StoryKind.{StoryKind}
+use Rattle.fib_form.specs.declared.stories.StoryKind.TheVariants.{Main, Notes, Heads}
 use Rattle.doc_load.specs.Source.{DocSource, part_place, part_bytes, story_length, story_units}
 use Rattle.doc_load.specs.Rows.{HasWrongRow}
 
@@ -29,14 +29,15 @@ BreaksFields story bytes at place =
     let table = table_of 2 bytes in IsWrongPart (IsEmptyOrWhole table) at place ⊎ HasWrongField story table at place
 
 -- the tables: PlcfFldMom, PlcfFldFtn, PlcfFldHdr
-abbrev pub field_part : Story → TablePart
+abbrev pub field_part : StoryKind → TablePart
 field_part Main = PlcfFldMom
 field_part Notes = PlcfFldFtn
 field_part Heads = PlcfFldHdr
 
-abbrev pub BreaksStoryFields : DocSource → Story → ℕ → Type 0
+abbrev pub BreaksStoryFields : DocSource → StoryKind → ℕ → Type 0
 BreaksStoryFields source story =
-    BreaksFields (story_units source story) (part_bytes source (field_part story)) (part_place source (field_part story))
+    let part = field_part story in
+    BreaksFields (story_units source story) (part_bytes source part) (part_place source part)
 
 -- one of the three does; they stand in any order
 abbrev pub BreaksAllFields : DocSource → ℕ → Type 0
@@ -47,7 +48,7 @@ abbrev pub rules_of_fields : DocSource → Rules Place
 rules_of_fields source = rules_in stands.Table (rule 52 (BreaksAllFields source))
 
 -- the field characters of a story
-abbrev pub HasFields : DocSource → Story → List Fld → Type 0
+abbrev pub HasFields : DocSource → StoryKind → List Fld → Type 0
 HasFields source story = AreFields (part_bytes source (field_part story)) (story_length source story)
 
 -- an entry of a list of them names another unit than the one in the text

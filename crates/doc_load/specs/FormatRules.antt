@@ -1,15 +1,17 @@
--- The rules on the pages of a text, 39 to 48: the unit of each CP of the three stories has its characters' page, and each
--- unit that ends a paragraph its paragraphs' page.
-use Rattle.std.specs.Prelude.{ℕ, ◌+◌, ◌==◌, nat_lt, Bool, ◌&&◌, ◌||◌, List, [], ◌∷◌, ◌++◌, length, map, take, drop, filter, slice_index}
+-- The rules on the pages of a text, 39 to 48: the unit of each CP of the three stories has its characters' page, and
+-- each unit that ends a paragraph its paragraphs' page.
+use Rattle.std.specs.Prelude.{ℕ, ◌+◌, ◌==◌, nat_lt, Bool, ◌&&◌, List, [], ◌∷◌, ◌++◌, length, map, take, drop}
+use Rattle.std.specs.Prelude.{filter, slice_index}
 use Rattle.std.specs.List.{list_any, range_with_len}
 use Rattle.doc_bits.specs.declared.places.Where.TheVariants as stands
 use Rattle.doc_bits.specs.Rules.{Rules, ◌then◌, given}
 use Rattle.doc_bits.specs.Places.{Place, rules_in}
+use Rattle.text_codes.specs.Paragraph.{is_paragraph_end}
 use Rattle.doc_parts.specs.declared.lists.Sed.{Sed}
 use Rattle.fkp_pages.specs.declared.kind.PageKind.TheVariants.{Chpx, Papx}
 use Rattle.direct_props.specs.PageRules.{page_rules}
-use Rattle.doc_load.specs.declared.table_parts.TablePart.TheVariants.{PlcfBteChpx, PlcfBtePapx}
-use Rattle.doc_load.specs.declared.source.Story.TheVariants.{Main, Notes, Heads}
+use Rattle.fib_form.specs.declared.table_parts.TablePart.TheVariants.{PlcfBteChpx, PlcfBtePapx}
+use Rattle.fib_form.specs.declared.stories.StoryKind.TheVariants.{Main, Notes, Heads}
 use Rattle.doc_load.specs.Source.{DocSource, part_bytes, story_length}
 use Rattle.doc_load.specs.SectionRules.{HasSections}
 
@@ -35,17 +37,15 @@ is_end ends cp = list_any (λ end. end == cp) ends
 abbrev pub ends_section : List Sed → ℕ → ℕ → Bool
 ends_section sections main_len cp = nat_lt cp main_len && is_end (section_ends sections main_len) (cp + 1)
 
--- [MS-DOC] a paragraph ends at 0x0D and 0x07, and at a 0x0C that ends a section
-abbrev pub is_paragraph_end : ℕ → Bool → Bool
-is_paragraph_end unit section_end = unit == 0x0D || (unit == 0x07 || (unit == 0x0C && section_end))
-
+-- a paragraph ends with it
 abbrev pub ends_paragraph : DocSource → List Sed → ℕ → Bool
 ends_paragraph source sections cp =
     is_paragraph_end (slice_index (judged_units source) cp) (ends_section sections (story_length source Main) cp)
 
 -- the CPs that end a paragraph, and their places
 abbrev pub paragraph_ends : DocSource → List Sed → List ℕ
-paragraph_ends source sections = filter (ends_paragraph source sections) (range_with_len 0 (length (judged_units source)))
+paragraph_ends source sections =
+    filter (ends_paragraph source sections) (range_with_len 0 (length (judged_units source)))
 
 abbrev pub paragraph_places : DocSource → List Sed → List ℕ
 paragraph_places source sections = map (slice_index (judged_places source)) (paragraph_ends source sections)
@@ -54,7 +54,8 @@ paragraph_places source sections = map (slice_index (judged_places source)) (par
 abbrev pub format_rules : DocSource → List Sed → Rules Place
 format_rules source sections =
     rules_in stands.Wd (page_rules Chpx source.wd (part_bytes source PlcfBteChpx) (judged_places source))
-    then rules_in stands.Wd (page_rules Papx source.wd (part_bytes source PlcfBtePapx) (paragraph_places source sections))
+    then rules_in stands.Wd
+    (page_rules Papx source.wd (part_bytes source PlcfBtePapx) (paragraph_places source sections))
 
 abbrev pub rules_of_formats : DocSource → Rules Place
 rules_of_formats source = given (HasSections source) (format_rules source)

@@ -5,8 +5,8 @@ use Rattle.doc_bits.specs.Rules.{Rules, rule, given}
 use Rattle.doc_bits.specs.Places.{Place, rules_in}
 use Rattle.doc_parts.specs.declared.lists.Sed.{Sed}
 use Rattle.doc_parts.specs.Stories.{AreCuts}
-use Rattle.doc_load.specs.declared.table_parts.TablePart.TheVariants.{PlcfHdd}
-use Rattle.doc_load.specs.declared.source.Story.TheVariants.{Heads}
+use Rattle.fib_form.specs.declared.table_parts.TablePart.TheVariants.{PlcfHdd}
+use Rattle.fib_form.specs.declared.stories.StoryKind.TheVariants.{Heads}
 use Rattle.doc_load.specs.Source.{DocSource, part_place, part_bytes, story_length}
 use Rattle.doc_load.specs.SectionRules.{HasSections}
 use Rattle.doc_load.specs.TextCuts.{BreaksCuts}
@@ -24,12 +24,14 @@ IsHeadTable len sections = (len ≡ 0) ⊎ HasHeadTexts len sections
 abbrev pub BreaksHeads : DocSource → List Sed → ℕ → Type 0
 BreaksHeads source sections =
     let bytes = part_bytes source PlcfHdd in
-    BreaksCuts (IsHeadTable (length bytes) (length sections)) bytes (story_length source Heads) (part_place source PlcfHdd)
+    BreaksCuts (IsHeadTable (length bytes) (length sections)) bytes (story_length source Heads)
+    (part_place source PlcfHdd)
 
 abbrev pub rules_of_heads : DocSource → Rules Place
 rules_of_heads source =
     given (HasSections source) (λ sections. rules_in stands.Table (rule 54 (BreaksHeads source sections)))
 
--- the CPs that cut the header texts of a document: text k is from the one to the next, and a text that is missing is empty
+-- the CPs that cut the header texts of a document: text k is from the one to the next, and a text that is missing is
+-- empty
 abbrev pub HasHeadCuts : DocSource → List ℕ → Type 0
 HasHeadCuts source = AreCuts (part_bytes source PlcfHdd) (story_length source Heads)

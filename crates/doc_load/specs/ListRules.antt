@@ -4,7 +4,7 @@ use Rattle.doc_bits.specs.declared.places.Where.TheVariants as stands
 use Rattle.doc_bits.specs.Rules.{Rules}
 use Rattle.doc_bits.specs.Places.{Place, rules_in}
 use Rattle.doc_parts.specs.Levels.{level_rules, HaveLength}
-use Rattle.doc_load.specs.declared.table_parts.TablePart.TheVariants.{PlfLst}
+use Rattle.fib_form.specs.declared.table_parts.TablePart.TheVariants.{PlfLst}
 use Rattle.doc_load.specs.Source.{DocSource, part_place, part_bytes}
 
 abbrev pub rules_of_lists : DocSource → Rules Place
@@ -15,4 +15,6 @@ rules_of_lists source =
 pub record HasLevels (source : DocSource) (bytes : List ℕ) : Type 0 where
   pub len : ℕ
   pub have : HaveLength source.table (part_place source PlfLst) (length (part_bytes source PlfLst)) len
-  pub bytes_are : (let from = part_place source PlfLst + length (part_bytes source PlfLst) in bytes ≡ slice_range source.table from (from + len))
+  pub bytes_are :
+      (let from = part_place source PlfLst + length (part_bytes source PlfLst) in
+      bytes ≡ slice_range source.table from (from + len))

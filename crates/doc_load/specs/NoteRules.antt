@@ -6,8 +6,8 @@ use Rattle.doc_bits.specs.Places.{Place, rules_in}
 use Rattle.doc_parts.specs.declared.lists.NoteRef.{NoteRef}
 use Rattle.doc_parts.specs.Table.{table_of, IsWhole, BreaksTable}
 use Rattle.doc_parts.specs.Stories.{ref_form, ref_cps, AreRefs, AreCuts}
-use Rattle.doc_load.specs.declared.table_parts.TablePart.TheVariants.{PlcffndRef, PlcffndTxt}
-use Rattle.doc_load.specs.declared.source.Story.TheVariants.{Main, Notes}
+use Rattle.fib_form.specs.declared.table_parts.TablePart.TheVariants.{PlcffndRef, PlcffndTxt}
+use Rattle.fib_form.specs.declared.stories.StoryKind.TheVariants.{Main, Notes}
 use Rattle.doc_load.specs.Source.{DocSource, part_place, part_bytes, story_length}
 use Rattle.doc_load.specs.TextCuts.{BreaksCuts}
 
@@ -22,14 +22,17 @@ HasEntries refs = IsWhole (table_of 2 refs) × (0 < ref_count refs)
 -- the references break the rule
 abbrev pub BreaksRefs : DocSource → ℕ → Type 0
 BreaksRefs source =
-    BreaksTable ref_form (ref_cps (story_length source Main)) (part_bytes source PlcffndRef) (part_place source PlcffndRef)
+    BreaksTable ref_form (ref_cps (story_length source Main)) (part_bytes source PlcffndRef)
+    (part_place source PlcffndRef)
 
 -- where there are n references PlcffndTxt has n + 2 CPs. Profile: else it is not looked at
 abbrev pub BreaksNoteCuts : DocSource → ℕ → Type 0
 BreaksNoteCuts source place =
     let refs = part_bytes source PlcffndRef in
     let cuts = part_bytes source PlcffndTxt in
-    HasEntries refs × BreaksCuts (length cuts ≡ 4 * (ref_count refs + 2)) cuts (story_length source Notes) (part_place source PlcffndTxt) place
+    HasEntries refs
+    × BreaksCuts (length cuts ≡ 4 * (ref_count refs + 2)) cuts (story_length source Notes)
+    (part_place source PlcffndTxt) place
 
 abbrev pub rules_of_notes : DocSource → Rules Place
 rules_of_notes source = rules_in stands.Table (rule 53 (λ place. BreaksRefs source place ⊎ BreaksNoteCuts source place))
@@ -41,5 +44,6 @@ HasRefs source = AreRefs (part_bytes source PlcffndRef) (story_length source Mai
 -- the CPs that cut its notes: text k is from the one to the next. Without references there are none
 abbrev pub HasNoteCuts : DocSource → List ℕ → Type 0
 HasNoteCuts source list =
-    (HasEntries (part_bytes source PlcffndRef) × AreCuts (part_bytes source PlcffndTxt) (story_length source Notes) list)
+    (HasEntries (part_bytes source PlcffndRef)
+    × AreCuts (part_bytes source PlcffndTxt) (story_length source Notes) list)
     ⊎ ((¬ (HasEntries (part_bytes source PlcffndRef))) × (list ≡ []))

@@ -2,11 +2,9 @@
 use Rattle.std.specs.Prelude.{◌≡◌, ◌≢◌, ◌⊎◌, ℕ, ◌+◌, ◌<◌, List, [], ◌∷◌, slice_index}
 use Rattle.doc_bits.specs.Rules.{Among}
 use Rattle.fib_form.specs.Fib.{fib_pair, pair_place}
-use Rattle.doc_load.specs.declared.table_parts.TablePart.{TablePart}
-use Rattle.doc_load.specs.declared.table_parts.TablePart.TheVariants.{Stshf, PlcffndRef, PlcffndTxt, PlcfSed, PlcfHdd, PlcfBteChpx, PlcfBtePapx, SttbfFfn, PlcfFldMom, PlcfFldHdr, PlcfFldFtn, Dop, SttbfAssoc, Clx, PlfLst, PlfLfo}
 
--- the numbers of the pairs that are read: Stshf, PlcffndRef, PlcffndTxt, PlcfSed, PlcfHdd, PlcfBteChpx, PlcfBtePapx, SttbfFfn,
--- PlcfFldMom, PlcfFldHdr, PlcfFldFtn, Dop, SttbfAssoc, Clx, PlfLst, PlfLfo
+-- the numbers of the pairs that are read: Stshf, PlcffndRef, PlcffndTxt, PlcfSed, PlcfHdd, PlcfBteChpx, PlcfBtePapx,
+-- SttbfFfn, PlcfFldMom, PlcfFldHdr, PlcfFldFtn, Dop, SttbfAssoc, Clx, PlfLst, PlfLfo
 abbrev pub read_pairs : List ℕ
 read_pairs = 1 ∷ 2 ∷ 3 ∷ 6 ∷ 11 ∷ 12 ∷ 13 ∷ 15 ∷ 16 ∷ 17 ∷ 18 ∷ 31 ∷ 32 ∷ 33 ∷ 73 ∷ 74 ∷ []
 
@@ -16,7 +14,8 @@ IsNeeded n = (n ≡ 1) ⊎ ((n ≡ 6) ⊎ ((n ≡ 12) ⊎ ((n ≡ 13) ⊎ (n ≡
 
 -- a part that is not empty is beyond the table stream, or one that is needed is empty
 abbrev pub IsWrongPart : ℕ × ℕ → ℕ → ℕ → Type 0
-IsWrongPart pair n table_len = ((pair.1 ≢ 0) × (table_len < pair.0 + pair.1)) ⊎ ((pair.1 ≡ 0) × IsNeeded n)
+IsWrongPart pair n table_len =
+    ((pair.1 ≢ 0) × (table_len < pair.0 + pair.1)) ⊎ ((pair.1 ≡ 0) × IsNeeded n)
 
 -- the k-th of the pairs that are read names a wrong part
 abbrev pub HasWrongPart : List ℕ → ℕ → ℕ → ℕ → Type 0
@@ -26,22 +25,3 @@ HasWrongPart wd table_len k p =
 -- rule 26
 abbrev pub BreaksPairs : List ℕ → ℕ → ℕ → Type 0
 BreaksPairs wd table_len = Among 16 (HasWrongPart wd table_len)
-
--- the number of the pair of a part
-abbrev pub pair_of : TablePart → ℕ
-pair_of Stshf = 1
-pair_of PlcffndRef = 2
-pair_of PlcffndTxt = 3
-pair_of PlcfSed = 6
-pair_of PlcfHdd = 11
-pair_of PlcfBteChpx = 12
-pair_of PlcfBtePapx = 13
-pair_of SttbfFfn = 15
-pair_of PlcfFldMom = 16
-pair_of PlcfFldHdr = 17
-pair_of PlcfFldFtn = 18
-pair_of Dop = 31
-pair_of SttbfAssoc = 32
-pair_of Clx = 33
-pair_of PlfLst = 73
-pair_of PlfLfo = 74

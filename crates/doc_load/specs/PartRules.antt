@@ -6,7 +6,7 @@ use Rattle.style_sheet.specs.Sheet.{Sheet}
 use Rattle.doc_parts.specs.declared.lists.Sed.{Sed}
 use Rattle.doc_parts.specs.declared.lists.Fld.{Fld}
 use Rattle.doc_parts.specs.declared.lists.NoteRef.{NoteRef}
-use Rattle.doc_load.specs.declared.source.Story.TheVariants.{Main, Notes, Heads}
+use Rattle.fib_form.specs.declared.stories.StoryKind.TheVariants.{Main, Notes, Heads}
 use Rattle.doc_load.specs.Source.{DocSource}
 use Rattle.doc_load.specs.SectionRules.{rules_of_sections, HasSections}
 use Rattle.doc_load.specs.BinRules.{rules_of_bins}
@@ -31,8 +31,8 @@ story_rules source =
 abbrev pub part_rules : DocSource → Rules Place
 part_rules source = layout_rules source then rules_of_formats source then rules_of_sheet source then story_rules source
 
--- what the parts hold: the sections, the styles, the field characters of each story, the references to the notes, the CPs that cut
--- the notes and the header texts, and the bytes of the levels
+-- what the parts hold: the sections, the styles, the field characters of each story, the references to the notes, the
+-- CPs that cut the notes and the header texts, and the bytes of the levels
 pub record PartLists : Type 0 where
   pub sections : List Sed
   pub sheet : Sheet
@@ -45,7 +45,7 @@ pub record PartLists : Type 0 where
   pub levels : List ℕ
 
 -- the document has these
-pub record HasParts (source : DocSource) (parts : PartLists) : Type 0 where
+pub record HasPartLists (source : DocSource) (parts : PartLists) : Type 0 where
   pub has_sections : HasSections source parts.sections
   pub has_sheet : HasSheet source parts.sheet
   pub has_main_fields : HasFields source Main parts.main_fields
@@ -58,4 +58,4 @@ pub record HasParts (source : DocSource) (parts : PartLists) : Type 0 where
 
 -- it has one of each
 abbrev pub PartsAreOne : Type 0
-PartsAreOne = (source : DocSource) (a b : PartLists) → HasParts source a → HasParts source b → a ≡ b
+PartsAreOne = (source : DocSource) (a b : PartLists) → HasPartLists source a → HasPartLists source b → a ≡ b

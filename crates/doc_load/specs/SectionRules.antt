@@ -5,10 +5,11 @@ use Rattle.doc_bits.specs.Number.{u16_at}
 use Rattle.doc_bits.specs.Rules.{Rules, rule, ◌then◌, given, Among, From}
 use Rattle.doc_bits.specs.Places.{Place, rules_in}
 use Rattle.sprm_table.specs.Sprm.{HasSprmFaultAt}
+use Rattle.prop_map.specs.Formed.{section_groups}
 use Rattle.doc_parts.specs.declared.lists.Sed.{Sed}
 use Rattle.doc_parts.specs.Sections.{section_rules, AreSections, HasSepx, place_of_fc_sepx}
-use Rattle.doc_load.specs.declared.table_parts.TablePart.TheVariants.{PlcfSed}
-use Rattle.doc_load.specs.declared.source.Story.TheVariants.{Main}
+use Rattle.fib_form.specs.declared.table_parts.TablePart.TheVariants.{PlcfSed}
+use Rattle.fib_form.specs.declared.stories.StoryKind.TheVariants.{Main}
 use Rattle.doc_load.specs.Source.{DocSource, part_place, part_bytes, story_length, story_units}
 use Rattle.doc_load.specs.Rows.{HasWrongRow}
 
@@ -34,10 +35,6 @@ pub record LacksSepx (wd : List ℕ) (fc : ℕ) : Type 0 where
 abbrev pub sepx_list : List ℕ → ℕ → List ℕ
 sepx_list wd fc = slice_range wd (fc + 2) (fc + 2 + u16_at wd fc)
 
--- Profile: a Sepx holds the group of sections, 4
-abbrev pub section_groups : ℕ
-section_groups = 16
-
 -- the list of a Sepx has a fault, at this place of WordDocument
 pub record HasSepxFault (wd : List ℕ) (fc place : ℕ) : Type 0 where
   pub settings : fc ≢ 0xFFFFFFFF
@@ -49,7 +46,8 @@ BreaksSectionMarks units list at = HasWrongRow (length list) (λ k. at + 4 * k) 
 
 -- rule 35, at fcSepx of the section
 abbrev pub BreaksSepxs : List ℕ → List Sed → ℕ → ℕ → Type 0
-BreaksSepxs wd list at = HasWrongRow (length list) (place_of_fc_sepx at (length list)) (λ k. LacksSepx wd (section_fc list k))
+BreaksSepxs wd list at =
+    HasWrongRow (length list) (place_of_fc_sepx at (length list)) (λ k. LacksSepx wd (section_fc list k))
 
 -- rule 36: the Sepxs stand in any order
 abbrev pub BreaksSepxLists : List ℕ → List Sed → ℕ → Type 0
@@ -70,5 +68,6 @@ sed_rules source list =
 -- the rules 33 to 36
 abbrev pub rules_of_sections : DocSource → Rules Place
 rules_of_sections source =
-    rules_in stands.Table (section_rules (part_bytes source PlcfSed) (part_place source PlcfSed) (story_length source Main))
+    rules_in stands.Table
+    (section_rules (part_bytes source PlcfSed) (part_place source PlcfSed) (story_length source Main))
     then given (HasSections source) (sed_rules source)

@@ -4,7 +4,7 @@ use Rattle.doc_bits.specs.Rules.{Rules}
 use Rattle.doc_bits.specs.Places.{Place, rules_in}
 use Rattle.style_sheet.specs.Sheet.{Sheet}
 use Rattle.style_sheet.specs.Stsh.{stsh_rules, HasStyleSheet}
-use Rattle.doc_load.specs.declared.table_parts.TablePart.TheVariants.{Stshf}
+use Rattle.fib_form.specs.declared.table_parts.TablePart.TheVariants.{Stshf}
 use Rattle.doc_load.specs.Source.{DocSource, part_bytes, part_place}
 
 abbrev pub rules_of_sheet : DocSource → Rules Place

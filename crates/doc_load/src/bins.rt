@@ -5,8 +5,9 @@ ghost use Rattle.doc_parts.specs.Table.{IsWhole};
 ghost use Rattle.doc_load.specs.Faults.{IsReadFault};
 ghost use Rattle.doc_load.specs.BinRules.{HasNoAscent, BreaksBinTable, rules_of_bins};
 
-use crate::{ReadFault, Source, TablePart};
+use crate::{ReadFault, Source};
 use doc_bits::{Plc, Where, plc_of};
+use fib_form::TablePart;
 
 const RULE_CHARACTER_BINS: u8 = 37;
 

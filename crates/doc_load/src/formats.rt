@@ -1,19 +1,22 @@
 // The rules on the pages: the units of the text, and those that end a paragraph.
-ghost use Rattle.std.specs.Prelude.{◌≡◌, ◌+◌, ◌<◌, ◌≤◌, ◌==◌, ◌||◌, ℕ, false, length, slice_index_or, IfOk, MatchResult};
+ghost use Rattle.std.specs.Prelude.{◌≡◌, ◌+◌, ◌<◌, ◌≤◌, ◌==◌, ◌||◌, ℕ, false, length, slice_index_or, IfOk};
+ghost use Rattle.std.specs.Prelude.{MatchResult};
 ghost use Rattle.doc_bits.specs.Rules.{Hold};
 ghost use Rattle.doc_load.specs.Faults.{IsReadFault};
 ghost use Rattle.doc_load.specs.SectionRules.{HasSections};
 ghost use Rattle.doc_load.specs.BinRules.{rules_of_bins};
-ghost use Rattle.doc_load.specs.FormatRules.{format_rules, is_end, is_paragraph_end, paragraph_places as places_of_paragraphs, rules_of_formats, section_ends};
+ghost use Rattle.doc_load.specs.FormatRules.{format_rules, is_end, paragraph_places as places_of_paragraphs};
+ghost use Rattle.doc_load.specs.FormatRules.{rules_of_formats, section_ends};
 
 use crate::fault::refused_page;
-use crate::{ReadFault, Source, Story, TablePart};
+use crate::{ReadFault, Source};
 use direct_props::judge_places;
 use doc_bits::Memory;
 use doc_parts::Seds;
+use fib_form::{StoryKind, TablePart};
 use fkp_pages::PageKind;
 use std::alloc::Global;
-use text_codes::{CELL_MARK, PARAGRAPH_MARK, SECTION_MARK};
+use text_codes::ends_paragraph;
 
 /// Judges the pages of the text.
 pub fn judge_formats(alloc: Global, source: &Source<'_>, sections: &Seds) -> Result<(), ReadFault>
@@ -57,25 +60,18 @@ fn judge_runs(alloc: Global, source: &Source<'_>, sections: &Seds) -> Result<(),
 fn paragraph_places(alloc: Global, source: &Source<'_>, sections: &Seds) -> Result<Vec<u32>, Memory>
     ensures { IfOk result (λ places. places.items ≡ places_of_paragraphs source.now sections.now) }
 {
-    let main_len = source.story_len(Story::Main);
+    let main_len = source.story_len(StoryKind::Main);
     let marks = section_marks(alloc, sections, main_len)?;
     let units = source.judged_units();
     let all = source.judged_places();
     let mut places = Vec::new(alloc);
     for cp in 0..units.len() {
         let ends = cp < main_len as usize && marks[cp + 1];
-        if ends_at(units[cp], ends) {
+        if ends_paragraph(units[cp], ends) {
             places.push(all[cp])?;
         }
     }
     Ok(places)
-}
-
-/// Whether a unit ends a paragraph. `section_end` says that a section ends with it.
-fn ends_at(unit: u16, section_end: bool) -> bool
-    ensures { result ≡ is_paragraph_end unit section_end }
-{
-    unit == PARAGRAPH_MARK || (unit == CELL_MARK || (unit == SECTION_MARK && section_end))
 }
 
 /// For each CP up to the end of the main text whether a section ends before it.

@@ -6,9 +6,10 @@ ghost use Rattle.doc_load.specs.SectionRules.{HasSections};
 ghost use Rattle.doc_load.specs.HeadRules.{IsHeadTable, rules_of_heads, HasHeadCuts};
 
 use crate::text_cuts::judged_cuts;
-use crate::{ReadFault, Source, Story, TablePart};
+use crate::{ReadFault, Source};
 use doc_bits::Where;
 use doc_parts::{Cuts, Seds};
+use fib_form::{StoryKind, TablePart};
 use std::alloc::Global;
 
 const RULE_HEADS: u8 = 54;
@@ -26,7 +27,7 @@ pub fn read_heads(alloc: Global, source: &Source<'_>, sections: &Seds) -> Result
     let plc = source.part(TablePart::PlcfHdd);
     let at = source.place(TablePart::PlcfHdd);
     let formed = is_head_table(plc.len(), sections.len());
-    let judged = judged_cuts(alloc, plc, at, source.story_len(Story::Heads), formed)?;
+    let judged = judged_cuts(alloc, plc, at, source.story_len(StoryKind::Heads), formed)?;
     if let Some(offset) = judged.fault {
         return Err(ReadFault::Refused {
             rule: RULE_HEADS,

@@ -4,9 +4,10 @@ ghost use Rattle.doc_bits.specs.Rules.{Hold};
 ghost use Rattle.doc_load.specs.Faults.{IsReadFault};
 ghost use Rattle.doc_load.specs.ListRules.{rules_of_lists, HasLevels};
 
-use crate::{ReadFault, Source, TablePart};
+use crate::{ReadFault, Source};
 use doc_bits::Where;
 use doc_parts::list_levels;
+use fib_form::TablePart;
 
 const RULE_LISTS: u8 = 56;
 

@@ -5,8 +5,6 @@ mod bins;
 mod fault;
 mod formats;
 mod heads;
-#[cfg(test)]
-mod hello;
 mod judging;
 mod laws;
 mod levels;
@@ -20,7 +18,6 @@ mod sheets;
 mod source;
 mod story_ends;
 mod story_fields;
-mod table_parts;
 mod text_cuts;
 mod units;
 
@@ -36,13 +33,7 @@ pub use notes::{Notes, read_notes};
 pub use parts::{DocParts, read_parts};
 pub use sections::read_sections;
 pub use sheets::read_sheet;
-pub use source::{Source, Story};
+pub use source::Source;
 pub use story_ends::judge_ends;
 pub use story_fields::{StoryFields, read_fields};
-pub use table_parts::TablePart;
 pub use units::{TextUnits, read_units};
-
-#[cfg(test)]
-mod format_tests;
-#[cfg(test)]
-mod tests;

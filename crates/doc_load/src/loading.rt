@@ -1,18 +1,19 @@
 // The streams of a document, its FIB, and the text by CP.
-ghost use Rattle.std.specs.Prelude.{◌≡◌, ◌<◌, ◌^◌, List, ℕ, length, MatchResult};
+ghost use Rattle.std.specs.Prelude.{◌≡◌, ◌<◌, ◌^◌, length, MatchResult};
 ghost use Rattle.doc_bits.specs.Rules.{Hold};
 ghost use Rattle.fib_form.specs.FibFields.{fib_fields};
 ghost use Rattle.doc_load.specs.Faults.{IsReadFault};
 ghost use Rattle.piece_table.specs.Clx.{IsClx};
-ghost use Rattle.doc_load.specs.FileRules.{AreSmall, HasText, IsTextOf, clx_of, source_of, table_name as name_of_table, table_rules, wd_rules, text_rules};
+ghost use Rattle.doc_load.specs.FileRules.{AreSmall, HasText, IsTextOf, clx_of, source_of, table_rules};
+ghost use Rattle.doc_load.specs.FileRules.{wd_rules, loading_rules};
 
 use crate::fault::refused_clx;
 use crate::pair_rules::wrong_pair;
-use crate::table_parts::{pair_in, part_in};
-use crate::{ReadFault, Source, TablePart, TextUnits, read_units};
-use cfb_streams::Container;
+use crate::source::part_at;
+use crate::{ReadFault, Source, TextUnits, read_units};
+use cfb_streams::{Container, WORD_DOCUMENT, table_name};
 use doc_bits::Where;
-use fib_form::Fib;
+use fib_form::{Fib, TablePart};
 use piece_table::{PieceList, read_clx};
 use std::alloc::Global;
 use std::marker::Model;
@@ -25,13 +26,6 @@ const RULE_PARTS: u8 = 26;
 
 /// Where the flags of the FIB stand, which name the table stream.
 const FLAGS: u32 = 10;
-
-/// `WordDocument`, `0Table` and `1Table` in units.
-const WORD_DOCUMENT: [u16; 12] = [87, 111, 114, 100, 68, 111, 99, 117, 109, 101, 110, 116];
-
-const TABLE_0: [u16; 6] = [48, 84, 97, 98, 108, 101];
-
-const TABLE_1: [u16; 6] = [49, 84, 97, 98, 108, 101];
 
 /// The two streams of a document, with the FIB, the pieces, and the units of the text by CP.
 #[derive(Drop)]
@@ -53,7 +47,8 @@ impl<'a> Model for LoadedText<'a> {
 
     ghost view = { λ t. record { wd = t.wd.now; table = t.table.now; pieces = t.pieces.pieces } };
 
-    ghost invariant = { λ t. IsLoaded (record { wd = t.wd.now; table = t.table.now; pieces = t.pieces.pieces }) t.fib t.units };
+    ghost invariant = { λ t.
+        IsLoaded (record { wd = t.wd.now; table = t.table.now; pieces = t.pieces.pieces }) t.fib t.units };
 }
 
 impl<'a> LoadedText<'a> {
@@ -66,12 +61,14 @@ impl<'a> LoadedText<'a> {
         Source::new(self.wd, &self.fib, self.table, &self.units)
     }
 
+    /// The FIB of `WordDocument`.
     pub fn fib(&self) -> &Fib
         ensures { result.now ≡ fib_fields self.now.wd }
     {
         &self.fib
     }
 
+    /// The pieces of the text.
     pub fn pieces(&self) -> &PieceList
         ensures { result.now.pieces ≡ self.now.pieces }
     {
@@ -91,8 +88,8 @@ impl<'a> LoadedText<'a> {
 pub fn load_text<'a>(alloc: Global, container: &'a Container) -> Result<LoadedText<'a>, ReadFault>
     requires { AreSmall container.now }
     ensures { MatchResult result
-        (λ text. Hold (text_rules container.now) × HasText container.now text)
-        (IsReadFault (text_rules container.now)) }
+        (λ text. Hold (loading_rules container.now) × HasText container.now text)
+        (IsReadFault (loading_rules container.now)) }
 {
     let Some(wd) = container.stream(&WORD_DOCUMENT) else {
         return Err(ReadFault::Refused {
@@ -126,7 +123,7 @@ fn load_wd<'a>(
             });
         }
     };
-    let Some(table) = container.stream(table_name(&fib)) else {
+    let Some(table) = container.stream(table_name(fib.which_table())) else {
         return Err(ReadFault::Refused {
             rule: RULE_TABLE,
             place: Where::Wd,
@@ -134,17 +131,6 @@ fn load_wd<'a>(
         });
     };
     load_table(alloc, wd, fib, table)
-}
-
-/// The units of the name of the table stream.
-fn table_name(fib: &Fib) -> &'static [u16]
-    ensures { (wd : List ℕ) → fib.now ≡ fib_fields wd → result.now ≡ name_of_table wd }
-{
-    if fib.which_table() == 1 {
-        &TABLE_1
-    } else {
-        &TABLE_0
-    }
 }
 
 /// Loads the text from both streams.
@@ -162,16 +148,16 @@ fn load_table<'a>(
         × IsClx (clx_of wd.now table.now) text.pieces)
         (IsReadFault (table_rules wd.now table.now)) }
 {
-    if let Some(offset) = wrong_pair(wd, &fib, table.len()) {
+    if let Some(offset) = wrong_pair(&fib, table.len()) {
         return Err(ReadFault::Refused {
             rule: RULE_PARTS,
             place: Where::Wd,
             offset,
         });
     }
-    let clx = part_in(wd, &fib, table, TablePart::Clx);
-    let (fc, _) = pair_in(wd, &fib, TablePart::Clx);
-    let pieces = match read_clx(alloc, clx, fc, wd.len() as u32, fib.text_len()) {
+    let pair = fib.pair(TablePart::Clx.pair());
+    let clx = part_at(table, pair);
+    let pieces = match read_clx(alloc, clx, pair.0, wd.len() as u32, fib.text_len()) {
         Ok(pieces) => pieces,
         Err(fault) => return Err(refused_clx(fault)),
     };

@@ -2,12 +2,14 @@
 ghost use Rattle.std.specs.Prelude.{◌≡◌, ◌+◌, ◌<◌, ◌^◌, ℕ, None, length, IfOk, MatchOption, MatchResult};
 ghost use Rattle.doc_bits.specs.Rules.{Hold, LeastOrNone};
 ghost use Rattle.doc_load.specs.Faults.{IsReadFault};
-ghost use Rattle.doc_load.specs.NoteRules.{ref_count, HasEntries, BreaksRefs, BreaksNoteCuts, rules_of_notes, HasRefs, HasNoteCuts};
+ghost use Rattle.doc_load.specs.NoteRules.{ref_count, HasEntries, BreaksRefs, BreaksNoteCuts, rules_of_notes};
+ghost use Rattle.doc_load.specs.NoteRules.{HasRefs, HasNoteCuts};
 
 use crate::text_cuts::{JudgedCuts, judged_cuts};
-use crate::{ReadFault, Source, Story, TablePart};
+use crate::{ReadFault, Source};
 use doc_bits::{Memory, Where, lesser, plc_of};
 use doc_parts::{Cuts, PartFault, Refs, note_refs};
+use fib_form::{StoryKind, TablePart};
 use std::alloc::Global;
 
 const RULE_NOTES: u8 = 53;
@@ -57,7 +59,7 @@ fn judged_refs(alloc: Global, source: &Source<'_>) -> Result<JudgedRefs, Memory>
 {
     let plc = source.part(TablePart::PlcffndRef);
     let at = source.place(TablePart::PlcffndRef);
-    match note_refs(alloc, plc, at, source.story_len(Story::Main)) {
+    match note_refs(alloc, plc, at, source.story_len(StoryKind::Main)) {
         Ok(list) => Ok(JudgedRefs { list, fault: None }),
         Err(PartFault::Rule { offset, .. }) => Ok(JudgedRefs {
             list: Refs::new(alloc),
@@ -81,7 +83,7 @@ fn judged_note_cuts(alloc: Global, source: &Source<'_>) -> Result<JudgedCuts, Me
     let plc = source.part(TablePart::PlcffndTxt);
     let at = source.place(TablePart::PlcffndTxt);
     let formed = plc.len() == 4 * (count + 2);
-    judged_cuts(alloc, plc, at, source.story_len(Story::Notes), formed)
+    judged_cuts(alloc, plc, at, source.story_len(StoryKind::Notes), formed)
 }
 
 /// The number of references, where there are some in a table of the right length.

@@ -1,8 +1,8 @@
 // Rule 26: the parts of the table stream that the pairs of the FIB name.
-ghost use Rattle.std.specs.Prelude.{◌≡◌, ◌↔◌, ◌+◌, ◌<◌, ◌*◌, ℕ, List, IsTrue, length, slice_index};
+ghost use Rattle.std.specs.Prelude.{◌≡◌, ◌↔◌, ◌<◌, ℕ, List, IsTrue};
 ghost use Rattle.doc_bits.specs.Rules.{LeastOrNone};
 ghost use Rattle.fib_form.specs.FibFields.{fib_fields};
-ghost use Rattle.doc_load.specs.PairRules.{read_pairs, IsNeeded, IsWrongPart, HasWrongPart, BreaksPairs};
+ghost use Rattle.doc_load.specs.PairRules.{IsNeeded, IsWrongPart, HasWrongPart, BreaksPairs};
 
 use doc_bits::lesser;
 use fib_form::Fib;
@@ -16,22 +16,20 @@ const FIRST_PAIR: u32 = 154;
 const PAIR_LEN: u32 = 8;
 
 /// The first pair that names a wrong part, by its place in `WordDocument`.
-pub fn wrong_pair(wd: &[u8], fib: &Fib, table_len: usize) -> Option<u32>
-    requires { fib.now ≡ fib_fields wd.now }
-    ensures { LeastOrNone (BreaksPairs wd.now table_len) result }
+pub(crate) fn wrong_pair(fib: &Fib, table_len: usize) -> Option<u32>
+    ensures { (wd : List ℕ) → fib.now ≡ fib_fields wd → LeastOrNone (BreaksPairs wd table_len) result }
 {
     let mut least = None;
     for k in 0..16 {
-        least = lesser(least, wrong_read_pair(wd, fib, table_len, k));
+        least = lesser(least, wrong_read_pair(fib, table_len, k));
     }
     least
 }
 
 /// The k-th of the pairs that are read, by its place, where it names a wrong part.
-fn wrong_read_pair(wd: &[u8], fib: &Fib, table_len: usize, k: usize) -> Option<u32>
-    requires fields { fib.now ≡ fib_fields wd.now }
-    requires read { k < 16 }
-    ensures { LeastOrNone (HasWrongPart wd.now table_len k) result }
+fn wrong_read_pair(fib: &Fib, table_len: usize, k: usize) -> Option<u32>
+    requires { k < 16 }
+    ensures { (wd : List ℕ) → fib.now ≡ fib_fields wd → LeastOrNone (HasWrongPart wd table_len k) result }
 {
     let n = READ_PAIRS[k];
     if is_wrong_part(fib.pair(n), n, table_len) {
@@ -41,6 +39,7 @@ fn wrong_read_pair(wd: &[u8], fib: &Fib, table_len: usize, k: usize) -> Option<u
     }
 }
 
+/// Whether a part of this pair is not there as a whole, or is needed and empty.
 fn is_wrong_part(pair: (u32, u32), n: usize, table_len: usize) -> bool
     ensures { IsTrue result ↔ IsWrongPart pair n table_len }
 {

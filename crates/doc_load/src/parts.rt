@@ -4,7 +4,7 @@ ghost use Rattle.doc_bits.specs.Rules.{Hold};
 ghost use Rattle.doc_load.specs.Faults.{IsReadFault};
 ghost use Rattle.doc_load.specs.SectionRules.{HasSections};
 ghost use Rattle.doc_load.specs.SheetRules.{HasSheet};
-ghost use Rattle.doc_load.specs.PartRules.{layout_rules, story_rules, part_rules, HasParts};
+ghost use Rattle.doc_load.specs.PartRules.{layout_rules, story_rules, part_rules, HasPartLists};
 
 use crate::{
     Notes, ReadFault, Source, StoryFields, judge_bins, judge_ends, judge_formats, read_fields,
@@ -52,7 +52,7 @@ impl<'a> Model for DocParts<'a> {
 /// Reads the parts of a document.
 pub fn read_parts<'a>(alloc: Global, source: &Source<'a>) -> Result<DocParts<'a>, ReadFault>
     ensures { MatchResult result
-        (λ parts. Hold (part_rules source.now) × HasParts source.now parts)
+        (λ parts. Hold (part_rules source.now) × HasPartLists source.now parts)
         (IsReadFault (part_rules source.now)) }
 {
     let sections = read_layout(alloc, source)?;
@@ -82,7 +82,7 @@ fn read_stories<'a>(
     requires sections { HasSections source.now sections }
     requires sheet { HasSheet source.now sheet }
     ensures { MatchResult result
-        (λ parts. Hold (story_rules source.now) × HasParts source.now parts)
+        (λ parts. Hold (story_rules source.now) × HasPartLists source.now parts)
         (IsReadFault (story_rules source.now)) }
 {
     let fields = read_fields(alloc, source)?;

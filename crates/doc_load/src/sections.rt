@@ -1,16 +1,19 @@
 // The rules on the sections, one function a rule.
 ghost use Rattle.std.specs.Prelude.{◌≡◌, ◌↔◌, ◌≤◌, ◌<◌, ◌^◌, ◌+◌, length, IsTrue, MatchResult};
 ghost use Rattle.doc_bits.specs.Rules.{Hold, LeastOrNone, Nowhere};
-ghost use Rattle.doc_load.specs.declared.table_parts.TablePart.TheVariants.{PlcfSed};
-ghost use Rattle.doc_load.specs.declared.source.Story.TheVariants.{Main};
+ghost use Rattle.fib_form.specs.declared.table_parts.TablePart.TheVariants.{PlcfSed};
+ghost use Rattle.fib_form.specs.declared.stories.StoryKind.TheVariants.{Main};
 ghost use Rattle.doc_load.specs.Source.{part_place, story_units};
 ghost use Rattle.doc_load.specs.Faults.{IsReadFault};
-ghost use Rattle.doc_load.specs.SectionRules.{LacksSepx, HasSepxFault, BreaksSectionMarks, BreaksSepxs, BreaksSepxLists, HasSections, sed_rules, rules_of_sections};
+ghost use Rattle.doc_load.specs.SectionRules.{LacksSepx, HasSepxFault, BreaksSectionMarks, BreaksSepxs};
+ghost use Rattle.doc_load.specs.SectionRules.{BreaksSepxLists, HasSections, sed_rules, rules_of_sections};
 
 use crate::fault::refused_part;
-use crate::{ReadFault, Source, Story, TablePart};
+use crate::{ReadFault, Source};
 use doc_bits::{Where, lesser};
 use doc_parts::{NO_SEPX, Seds, fc_sepx_place, sections, sepx};
+use fib_form::{StoryKind, TablePart};
+use prop_map::SECTION_GROUPS;
 use sprm_table::list_fault;
 use std::alloc::Global;
 use text_codes::SECTION_MARK;
@@ -21,9 +24,6 @@ const RULE_SEPX: u8 = 35;
 
 const RULE_SEPX_LIST: u8 = 36;
 
-/// A Sepx holds the sprms of sections.
-const SECTION_GROUPS: u8 = 1 << 4;
-
 /// Reads the sections of the main text.
 pub fn read_sections(alloc: Global, source: &Source<'_>) -> Result<Seds, ReadFault>
     ensures { MatchResult result
@@ -32,7 +32,7 @@ pub fn read_sections(alloc: Global, source: &Source<'_>) -> Result<Seds, ReadFau
 {
     let plc = source.part(TablePart::PlcfSed);
     let at = source.place(TablePart::PlcfSed);
-    let list = match sections(alloc, plc, at, source.story_len(Story::Main)) {
+    let list = match sections(alloc, plc, at, source.story_len(StoryKind::Main)) {
         Ok(list) => list,
         Err(fault) => return Err(refused_part(fault)),
     };
@@ -80,7 +80,7 @@ fn other_unit(source: &Source<'_>, list: &Seds) -> Option<u32>
         (BreaksSectionMarks (story_units source.now Main) list.now (part_place source.now PlcfSed))
         result }
 {
-    let units = source.units(Story::Main);
+    let units = source.units(StoryKind::Main);
     let at = source.place(TablePart::PlcfSed);
     for k in 1..list.len() {
         let (start, _) = list.get(k);

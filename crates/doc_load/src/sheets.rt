@@ -5,7 +5,8 @@ ghost use Rattle.doc_load.specs.Faults.{IsReadFault};
 ghost use Rattle.doc_load.specs.SheetRules.{rules_of_sheet, HasSheet};
 
 use crate::fault::refused_sheet;
-use crate::{ReadFault, Source, TablePart};
+use crate::{ReadFault, Source};
+use fib_form::TablePart;
 use std::alloc::Global;
 use style_sheet::StyleSheet;
 

@@ -1,20 +1,13 @@
 // What the rules on the parts of a document read.
-ghost use Rattle.std.specs.Prelude.{◌≡◌, ◌+◌, ◌<◌, ◌≤◌, ◌^◌, length};
+ghost use Rattle.std.specs.Prelude.{◌≡◌, ◌+◌, ◌<◌, ◌≤◌, ◌^◌, length, slice_range};
+ghost use Rattle.fib_form.specs.Fib.{fib_pair};
+ghost use Rattle.fib_form.specs.TableParts.{pair_of};
 ghost use Rattle.doc_load.specs.Source.{part_place, part_bytes, story_length, story_begin, story_units, story_places};
 ghost use Rattle.doc_load.specs.FormatRules.{judged_places, judged_units, text_count};
 
-use crate::table_parts::{pair_in, part_in};
-use crate::{TablePart, TextUnits};
-use fib_form::Fib;
+use crate::TextUnits;
+use fib_form::{Fib, StoryKind, TablePart};
 use std::marker::Model;
-
-/// A story of the text. Its CPs are counted from its begin.
-#[derive(Clone, Copy, Debug, PartialEq, Eq)]
-pub enum Story {
-    Main,
-    Notes,
-    Heads,
-}
 
 /// `WordDocument` with its FIB, the table stream, and the text by CP.
 #[derive(Drop)]
@@ -38,6 +31,7 @@ impl<'a> Model for Source<'a> {
 impl<'a> Source<'a> {
     ghost use Rattle.doc_load.specs.Source.{DocSource, IsSource};
 
+    /// The source of these streams, of this FIB and of this text.
     pub fn new(wd: &'a [u8], fib: &'a Fib, table: &'a [u8], text: &'a TextUnits) -> Source<'a>
         requires { IsSource (record { wd = wd.now; table = table.now; text = text.now }) fib.now }
         ensures { result ≡ record { wd = wd.now; table = table.now; text = text.now } }
@@ -71,46 +65,47 @@ impl<'a> Source<'a> {
         ensures place { result ≡ part_place self.now part }
         ensures addressed { result + length (part_bytes self.now part) < 2 ^ 32 }
     {
-        pair_in(self.wd, self.fib, part).0
+        self.pair(part).0
     }
 
-    /// The bytes of a part.
+    /// The bytes of a part, as far as they are within the table stream.
     pub fn part(&self, part: TablePart) -> &'a [u8]
         ensures bytes { result.now ≡ part_bytes self.now part }
         ensures addressed { part_place self.now part + length result.now < 2 ^ 32 }
-        ensures within { 0 < length result.now → part_place self.now part + length result.now ≤ length self.now.table }
+        ensures within { 0 < length result.now
+            → part_place self.now part + length result.now ≤ length self.now.table }
         ensures small { length self.now.table < 2 ^ 32 }
     {
-        part_in(self.wd, self.fib, self.table, part)
+        part_at(self.table, self.pair(part))
+    }
+
+    /// Where a part begins in the table stream, and its length in bytes.
+    fn pair(&self, part: TablePart) -> (u32, u32)
+        ensures pair { result ≡ fib_pair self.now.wd (pair_of part) }
+        ensures small { length self.now.table < 2 ^ 32 }
+    {
+        self.fib.pair(part.pair())
     }
 
     /// The number of units of a story.
-    pub fn story_len(&self, story: Story) -> u32
+    pub fn story_len(&self, story: StoryKind) -> u32
         ensures count { result ≡ story_length self.now story }
         ensures few { result ≤ 500000 }
     {
-        self.fib.ccp(match story {
-            Story::Main => 0,
-            Story::Notes => 1,
-            Story::Heads => 2,
-        })
+        self.fib.story_len(story)
     }
 
     /// The CP of the text where a story begins.
-    pub fn story_begin(&self, story: Story) -> u32
+    pub fn story_begin(&self, story: StoryKind) -> u32
         ensures begin { result ≡ story_begin self.now story }
         ensures units { result + story_length self.now story ≤ length self.now.text.units }
         ensures places { result + story_length self.now story ≤ length self.now.text.places }
     {
-        match story {
-            Story::Main => 0,
-            Story::Notes => self.fib.ccp(0),
-            Story::Heads => self.fib.ccp(0) + self.fib.ccp(1),
-        }
+        self.fib.story_begin(story)
     }
 
     /// The units of a story, by its CPs.
-    pub fn units(&self, story: Story) -> &'a [u16]
+    pub fn units(&self, story: StoryKind) -> &'a [u16]
         ensures units { result.now ≡ story_units self.now story }
         ensures few { length result.now ≤ 500000 }
         ensures count { length result.now ≡ story_length self.now story }
@@ -120,7 +115,7 @@ impl<'a> Source<'a> {
     }
 
     /// The places of these units in `WordDocument`.
-    pub fn places(&self, story: Story) -> &'a [u32]
+    pub fn places(&self, story: StoryKind) -> &'a [u32]
         ensures places { result.now ≡ story_places self.now story }
         ensures few { length result.now ≤ 500000 }
         ensures count { length result.now ≡ story_length self.now story }
@@ -155,4 +150,17 @@ impl<'a> Source<'a> {
     {
         (self.fib.ccp(0) + self.fib.ccp(1) + self.fib.ccp(2)) as usize
     }
+}
+
+/// The bytes of the table stream that a pair of the FIB names, as far as they are within it.
+pub(crate) fn part_at<'a>(table: &'a [u8], pair: (u32, u32)) -> &'a [u8]
+    requires small { length table.now < 2 ^ 32 }
+    ensures bytes { result.now ≡ slice_range table.now pair.0 (pair.0 + pair.1) }
+    ensures addressed { pair.0 + length result.now < 2 ^ 32 }
+    ensures within { 0 < length result.now → pair.0 + length result.now ≤ length table.now }
+{
+    let (fc, lcb) = pair;
+    let from = table.len().min(fc as usize);
+    let to = table.len().min(fc as usize + lcb as usize);
+    &table[from..to]
 }

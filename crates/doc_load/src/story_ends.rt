@@ -6,9 +6,10 @@ ghost use Rattle.doc_load.specs.NoteRules.{HasNoteCuts};
 ghost use Rattle.doc_load.specs.HeadRules.{HasHeadCuts};
 ghost use Rattle.doc_load.specs.EndRules.{last_end as end_of_last, IsLooseUnit, BreaksEnd, rules_of_ends};
 
-use crate::{ReadFault, Source, Story};
+use crate::{ReadFault, Source};
 use doc_bits::{Where, lesser};
 use doc_parts::Cuts;
+use fib_form::StoryKind;
 use text_codes::PARAGRAPH_MARK;
 
 const RULE_ENDS: u8 = 55;
@@ -21,8 +22,8 @@ pub fn judge_ends(source: &Source<'_>, notes: &Cuts, heads: &Cuts) -> Result<(),
         (λ _. Hold (rules_of_ends source.now))
         (IsReadFault (rules_of_ends source.now)) }
 {
-    let after_notes = loose_place(source, Story::Notes, notes);
-    let after_heads = loose_place(source, Story::Heads, heads);
+    let after_notes = loose_place(source, StoryKind::Notes, notes);
+    let after_heads = loose_place(source, StoryKind::Heads, heads);
     match lesser(after_notes, after_heads) {
         None => Ok(()),
         Some(offset) => Err(ReadFault::Refused {
@@ -34,7 +35,7 @@ pub fn judge_ends(source: &Source<'_>, notes: &Cuts, heads: &Cuts) -> Result<(),
 }
 
 /// The place of the first unit that may not stand after the last text of a story.
-fn loose_place(source: &Source<'_>, story: Story, cuts: &Cuts) -> Option<u32>
+fn loose_place(source: &Source<'_>, story: StoryKind, cuts: &Cuts) -> Option<u32>
     ensures { LeastOrNone (BreaksEnd source.now story cuts.now) result }
 {
     let cp = loose_unit(source.units(story), last_end(cuts) as usize)?;

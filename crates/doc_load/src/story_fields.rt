@@ -3,14 +3,16 @@ ghost use Rattle.std.specs.Prelude.{◌≡◌, ◌+◌, ◌*◌, ◌<◌, ◌^�
 ghost use Rattle.doc_bits.specs.Rules.{Hold, LeastOrNone};
 ghost use Rattle.doc_parts.specs.Cps.{AreCpsInOrder};
 ghost use Rattle.doc_parts.specs.Fields.{fld_cps, AreFields};
-ghost use Rattle.doc_load.specs.declared.source.Story.TheVariants.{Main, Notes, Heads};
+ghost use Rattle.fib_form.specs.declared.stories.StoryKind.TheVariants.{Main, Notes, Heads};
 ghost use Rattle.doc_load.specs.Faults.{IsReadFault};
 ghost use Rattle.doc_load.specs.Rows.{HasWrongRow};
-ghost use Rattle.doc_load.specs.FieldRules.{field_part, HasOtherUnit, BreaksFields, BreaksStoryFields, rules_of_fields, HasFields};
+ghost use Rattle.doc_load.specs.FieldRules.{field_part, HasOtherUnit, BreaksFields, BreaksStoryFields};
+ghost use Rattle.doc_load.specs.FieldRules.{rules_of_fields, HasFields};
 
-use crate::{ReadFault, Source, Story, TablePart};
+use crate::{ReadFault, Source};
 use doc_bits::{Memory, Where, lesser};
 use doc_parts::{Flds, LeadingFields, leading_fields};
+use fib_form::{StoryKind, TablePart};
 use std::alloc::Global;
 
 const RULE_FIELDS: u8 = 52;
@@ -31,9 +33,9 @@ pub fn read_fields(alloc: Global, source: &Source<'_>) -> Result<StoryFields, Re
         × (HasFields source.now Notes fields.notes × HasFields source.now Heads fields.heads)))
         (IsReadFault (rules_of_fields source.now)) }
 {
-    let main = story_fields(alloc, source, Story::Main)?;
-    let notes = story_fields(alloc, source, Story::Notes)?;
-    let heads = story_fields(alloc, source, Story::Heads)?;
+    let main = story_fields(alloc, source, StoryKind::Main)?;
+    let notes = story_fields(alloc, source, StoryKind::Notes)?;
+    let heads = story_fields(alloc, source, StoryKind::Heads)?;
     if let Some(offset) = lesser(main.fault, lesser(notes.fault, heads.fault)) {
         return Err(ReadFault::Refused {
             rule: RULE_FIELDS,
@@ -49,18 +51,22 @@ pub fn read_fields(alloc: Global, source: &Source<'_>) -> Result<StoryFields, Re
 }
 
 /// The table of a story's field characters.
-fn fields_of(story: Story) -> TablePart
+fn fields_of(story: StoryKind) -> TablePart
     ensures { result ≡ field_part story }
 {
     match story {
-        Story::Main => TablePart::PlcfFldMom,
-        Story::Notes => TablePart::PlcfFldFtn,
-        Story::Heads => TablePart::PlcfFldHdr,
+        StoryKind::Main => TablePart::PlcfFldMom,
+        StoryKind::Notes => TablePart::PlcfFldFtn,
+        StoryKind::Heads => TablePart::PlcfFldHdr,
     }
 }
 
 /// The field characters of a story, and where its table first breaks the rule.
-fn story_fields(alloc: Global, source: &Source<'_>, story: Story) -> Result<LeadingFields, Memory>
+fn story_fields(
+    alloc: Global,
+    source: &Source<'_>,
+    story: StoryKind,
+) -> Result<LeadingFields, Memory>
     ensures { IfOk result (λ read. LeastOrNone (BreaksStoryFields source.now story) read.fault
         × (read.fault ≡ None → HasFields source.now story read.list)) }
 {

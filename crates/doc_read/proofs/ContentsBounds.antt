@@ -1,5 +1,6 @@
 -- The streams of a file that breaks no rule of its container are within bounds.
-use Rattle.std.proofs.Common.{◌≡◌, ◌≢◌, inl, inr, ℕ, ◌<◌, ◌≤◌, List, [], ◌∷◌, ◌++◌, length, slice_index, sym, ap, ◌∙◌, subst, arith}
+use Rattle.std.proofs.Common.{◌≡◌, ◌≢◌, inl, inr, ℕ, ◌<◌, ◌≤◌, List, [], ◌∷◌, ◌++◌, length, slice_index, sym}
+use Rattle.std.proofs.Common.{ap, ◌∙◌, subst, arith}
 use Rattle.std.proofs.lemmas.Bool.{cases_lt}
 use Rattle.std.proofs.lemmas.List.{length-take}
 use Rattle.std.proofs.lemmas.Option.{slice_get_within}
@@ -30,15 +31,18 @@ not_itself file at before = elim before [
 ]
 
 -- entries in the order of their names are distinct
-entries-apart : (file directory entries : List ℕ) → AreOrdered file directory entries → (i j : ℕ) → i < j → j < length entries → slice_index entries i ≢ slice_index entries j
+entries-apart : (file directory entries : List ℕ) → AreOrdered file directory entries → (i j : ℕ) → i < j →
+    j < length entries → slice_index entries i ≢ slice_index entries j
 entries-apart file directory entries order i j less below same =
     not_itself file (entry_place directory (slice_index entries j))
     (subst (λ entry. EntryBefore file (entry_place directory entry) (entry_place directory (slice_index entries j))) same (order i j less below))
 
 -- a directory has at most 1,024 entries, and entry 0 is the root
-entries-few : (file directory entries : List ℕ) → length directory ≤ 256 → ListsStreams file directory entries → length entries ≤ 1023
+entries-few : (file directory entries : List ℕ) → length directory ≤ 256 → ListsStreams file directory entries →
+    length entries ≤ 1023
 entries-few file directory entries short lists =
-    let there : (i : ℕ) → i < length entries → IsEntry directory (slice_index entries i) = λ i below. reached_there file directory (lists.sound i below).reached in
+    let there : (i : ℕ) → i < length entries → IsEntry directory (slice_index entries i) =
+    λ i below. reached_there file directory (lists.sound i below).reached in
     let more = length_pushed entries 0 in
     let most = length_below (entries ++ 0 ∷ []) 1024
     (λ i below. elim (cases_lt i (length entries)) [
@@ -50,14 +54,16 @@ entries-few file directory entries short lists =
           (sym (pushed_before entries 0 i (omega arith)) ∙ (same ∙ pushed_before entries 0 j low))
       | inr high ↦
           let low : i < length entries = omega arith in
-          let zero : slice_index entries i ≡ 0 = sym (pushed_before entries 0 i low) ∙ (same ∙ pushed_last entries 0 j (omega arith)) in
+          let zero : slice_index entries i ≡ 0 =
+          sym (pushed_before entries 0 i low) ∙ (same ∙ pushed_last entries 0 j (omega arith)) in
           let above = (there i low).0 in
           omega arith
     ]) in
     omega arith
 
 -- a stream is no longer than the file
-stream-short : (file : List ℕ) (parts : Parts) (entry : ℕ) (stream : Stream) → IsWhole file → IsStreamOf file parts entry stream → length stream.bytes ≤ 7143936
+stream-short : (file : List ℕ) (parts : Parts) (entry : ℕ) (stream : Stream) → IsWhole file →
+    IsStreamOf file parts entry stream → length stream.bytes ≤ 7143936
 stream-short file parts entry stream whole is =
     elim is.holds [
       | inl empty ↦ let none = ap length empty.bytes in omega arith
@@ -68,14 +74,16 @@ stream-short file parts entry stream whole is =
       | inr (inr long) ↦
           let head = stream_head file 512 (entry_place parts.directory entry) in
           let inside = chain_inside file head long.sectors whole long.body.holds in
-          let few = path_short (fat_table file).entry (valid_below file) head.start long.sectors long.body.holds.chain.path in
+          let few =
+          path_short (fat_table file).entry (valid_below file) head.start long.sectors long.body.holds.chain.path in
           let cut = length-cut 512 512 file long.sectors stream.bytes _ (λ i below. let within = inside.inside i below in omega arith) long.body.joined in
           let most = whole.most in
           omega arith
     ]
 
 -- names come in the order of their entries
-comes-before : (file : List ℕ) (at other : ℕ) (name later : List ℕ) → IsNameOf file at name → IsNameOf file other later → EntryBefore file at other → ComesBefore name later
+comes-before : (file : List ℕ) (at other : ℕ) (name later : List ℕ) → IsNameOf file at name →
+    IsNameOf file other later → EntryBefore file at other → ComesBefore name later
 comes-before file at other name later is is_later before =
     let long = is.long in
     let long_later = is_later.long in
@@ -102,7 +110,9 @@ comes-before file at other name later is is_later before =
     ]
 
 -- the length of a stream's name in bytes, with its terminator
-stream-name : (file : List ℕ) (parts : Parts) (entry : ℕ) (stream : Stream) → Nowhere (BreaksName file parts.directory) → IsStreamOf file parts entry stream → (1 ≤ length stream.name) × (length stream.name ≤ 31)
+stream-name : (file : List ℕ) (parts : Parts) (entry : ℕ) (stream : Stream) →
+    Nowhere (BreaksName file parts.directory) → IsStreamOf file parts entry stream →
+    (1 ≤ length stream.name) × (length stream.name ≤ 31)
 stream-name file parts entry stream names is =
     let right = name_length file parts.directory entry names is.is_entry.reached in
     let most = name_short (entry_name_length file (entry_place parts.directory entry)) right in
@@ -110,13 +120,15 @@ stream-name file parts entry stream names is =
     let long = is.name.long in
     (omega arith, omega arith)
 
-pub contents-bounded : (file : List ℕ) (contents : Contents) → Hold (container_rules file) → HasContents file contents → AreWithinBounds contents
+pub contents-bounded : (file : List ℕ) (contents : Contents) → Hold (container_rules file) → HasContents file contents →
+    AreWithinBounds contents
 contents-bounded file contents holds has =
     let whole = whole_length file holds.0.0 in
     let directory = has.parts.directory in
     let entries = has.entries in
     let same = directory_unique file holds.1.1.1.0 directory holds.1.1.1.1.0 has.directory in
-    let names : Nowhere (BreaksName file has.parts.directory) = subst (λ sectors. Nowhere (BreaksName file sectors)) same holds.1.1.1.1.1.1.1.0 in
+    let names : Nowhere (BreaksName file has.parts.directory) =
+    subst (λ sectors. Nowhere (BreaksName file sectors)) same holds.1.1.1.1.1.1.1.0 in
     let count = has.streams.len in
     record {
       few = (let few = entries-few file directory entries has.directory.short has.lists in omega arith);

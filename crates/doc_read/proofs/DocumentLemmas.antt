@@ -4,11 +4,11 @@ use Rattle.prop_map.specs.Settings.{Settings}
 use Rattle.cfb_streams.specs.Contents.{Contents}
 use Rattle.plain_doc.specs.declared.item.Item.{Item}
 use Rattle.plain_doc.specs.declared.document.Document.{Document}
-use Rattle.doc_load.specs.declared.source.Story.TheVariants.{Main, Notes, Heads}
-use Rattle.doc_load.specs.declared.table_parts.TablePart.TheVariants.{PlcfHdd}
+use Rattle.fib_form.specs.declared.stories.StoryKind.TheVariants.{Main, Notes, Heads}
+use Rattle.fib_form.specs.declared.table_parts.TablePart.TheVariants.{PlcfHdd}
 use Rattle.doc_load.specs.Source.{DocSource, part_bytes, story_length, story_begin}
 use Rattle.doc_load.specs.FormatRules.{text_count}
-use Rattle.doc_load.specs.PartRules.{PartLists, HasParts}
+use Rattle.doc_load.specs.PartRules.{PartLists, HasPartLists}
 use Rattle.doc_load.specs.FileRules.{FileText, source_of}
 use Rattle.doc_read.specs.Sections.{AreSectionMaps}
 use Rattle.doc_read.specs.Items.{TextParts, HoldsItems}
@@ -18,17 +18,20 @@ use Rattle.doc_read.specs.Holds.{head_texts, IsDocumentFrom}
 use Rattle.doc_read.proofs.SliceLemmas.{holds_front, holds_texts, cuts_within, note_cuts_within}
 
 -- the notes are cut within the text
-pub notes_within : (source : DocSource) (lists : PartLists) (len : ℕ) → HasParts source lists → len ≡ text_count source → AreCutsWithin (story_begin source Notes) lists.notes len
-notes_within source lists len has e = note_cuts_within source (story_begin source Notes) len lists.notes has.has_notes (omega arith)
+pub notes_within : (source : DocSource) (lists : PartLists) (len : ℕ) → HasPartLists source lists →
+    len ≡ text_count source → AreCutsWithin (story_begin source Notes) lists.notes len
+notes_within source lists len has e =
+    note_cuts_within source (story_begin source Notes) len lists.notes has.has_notes (omega arith)
 
 -- and so are the header texts
-pub heads_within : (source : DocSource) (lists : PartLists) (len : ℕ) → HasParts source lists → len ≡ text_count source → AreCutsWithin (story_begin source Heads) lists.heads len
+pub heads_within : (source : DocSource) (lists : PartLists) (len : ℕ) → HasPartLists source lists →
+    len ≡ text_count source → AreCutsWithin (story_begin source Heads) lists.heads len
 heads_within source lists len has e =
     cuts_within (part_bytes source PlcfHdd) (story_length source Heads) (story_begin source Heads) len lists.heads has.has_heads (omega arith)
 
 -- the main text begins the text, and the others are cut out of it
 pub document-from : (contents : Contents) (text : FileText) (lists : PartLists) (sections : List Settings) (items : List Item) (document : Document) →
-    HasParts (source_of text) lists → AreSectionMaps text.wd lists.sections sections →
+    HasPartLists (source_of text) lists → AreSectionMaps text.wd lists.sections sections →
     HoldsItems (record { source = source_of text; pieces = text.pieces; lists = lists; sections = sections }) 0 (text_count (source_of text)) items →
     document.main ≡ take (story_length (source_of text) Main) items →
     AreCutFrom items (story_begin (source_of text) Notes) lists.notes (length lists.notes - 1) document.notes →

@@ -1,15 +1,17 @@
 -- What stands at a CP, where the CPs ascend.
-use Rattle.std.proofs.Common.{◌≡◌, ◌≢◌, ◌∙◌, refl, sym, ap, ℕ, zero, suc, ◌<◌, true, List, [], ◌∷◌, length, map, Some, None, slice_get, arith, inl, inr}
+use Rattle.std.proofs.Common.{◌≡◌, ◌≢◌, ◌∙◌, refl, sym, ap, ℕ, zero, suc, ◌<◌, true, List, [], ◌∷◌, length, map}
+use Rattle.std.proofs.Common.{Some, None, slice_get, arith, inl, inr}
 use Rattle.std.specs.Prelude.{slice_index, zip, is_some}
 use Rattle.std.proofs.lemmas.Bool.{cases_eq, eq-eqb, ne_eqb}
-use Rattle.doc_read.specs.Entries.{entry_at}
+use Rattle.plain_doc.specs.Entries.{entry_at}
 use Rattle.doc_read.specs.Passing.{AreUp, IsNotAmong}
 
 -- the first entry has the CP, or not
 entry_here : {A : Type 0} (c cp : ℕ) (v : A) (rest : List (ℕ × A)) → c ≡ cp → entry_at ((c, v) ∷ rest) cp ≡ Some v
 entry_here c cp v rest e = rw (eq-eqb c cp e) refl
 
-entry_later : {A : Type 0} (c cp : ℕ) (v : A) (rest : List (ℕ × A)) → c ≢ cp → entry_at ((c, v) ∷ rest) cp ≡ entry_at rest cp
+entry_later : {A : Type 0} (c cp : ℕ) (v : A) (rest : List (ℕ × A)) → c ≢ cp →
+    entry_at ((c, v) ∷ rest) cp ≡ entry_at rest cp
 entry_later c cp v rest other = rw (ne_eqb c cp other) refl
 
 -- the CPs behind the first one ascend too
@@ -17,7 +19,8 @@ pub up_tail : (c : ℕ) (cps : List ℕ) → AreUp (c ∷ cps) → AreUp cps
 up_tail c cps up i j lower below = up (suc i) (suc j) (omega arith) (omega arith)
 
 -- the entry whose CP it is
-pub entry_found : {A : Type 0} (cps : List ℕ) (values : List A) (cp k : ℕ) (x : A) → AreUp cps → k < length cps → slice_index cps k ≡ cp → slice_get values k ≡ Some x → entry_at (zip cps values) cp ≡ Some x
+pub entry_found : {A : Type 0} (cps : List ℕ) (values : List A) (cp k : ℕ) (x : A) → AreUp cps → k < length cps →
+    slice_index cps k ≡ cp → slice_get values k ≡ Some x → entry_at (zip cps values) cp ≡ Some x
 entry_found [] values cp k x up below here there = absurd (omega arith)
 entry_found (c ∷ cps) [] cp k x up below here there = absurd (cc (there))
 entry_found (c ∷ cps) (v ∷ values) cp zero x up below here there = entry_here c cp v (zip cps values) here ∙ there
@@ -28,14 +31,16 @@ entry_found (c ∷ cps) (v ∷ values) cp (suc k) x up below here there =
     entry_later c cp v (zip cps values) other ∙ entry_found cps values cp k x (up_tail c cps up) (omega arith) here there
 
 -- no entry has the CP
-pub entry_none : {A : Type 0} (cps : List ℕ) (values : List A) (cp : ℕ) → IsNotAmong cps cp → entry_at (zip cps values) cp ≡ None
+pub entry_none : {A : Type 0} (cps : List ℕ) (values : List A) (cp : ℕ) → IsNotAmong cps cp →
+    entry_at (zip cps values) cp ≡ None
 entry_none [] values cp none = refl
 entry_none (c ∷ cps) [] cp none = refl
 entry_none (c ∷ cps) (v ∷ values) cp none =
     entry_later c cp v (zip cps values) (none zero (omega arith)) ∙ entry_none cps values cp (λ k below. none (suc k) (omega arith))
 
 -- where something stands at a CP, the CP is among those of the entries
-pub entry_some : {A : Type 0} (cps : List ℕ) (values : List A) (cp : ℕ) → is_some (entry_at (zip cps values) cp) ≡ true → (k : ℕ) × ((k < length cps) × (slice_index cps k ≡ cp))
+pub entry_some : {A : Type 0} (cps : List ℕ) (values : List A) (cp : ℕ) →
+    is_some (entry_at (zip cps values) cp) ≡ true → (k : ℕ) × ((k < length cps) × (slice_index cps k ≡ cp))
 entry_some [] values cp e = absurd (cc (e))
 entry_some (c ∷ cps) [] cp e = absurd (cc (e))
 entry_some (c ∷ cps) (v ∷ values) cp e = elim (cases_eq c cp) [
@@ -47,10 +52,13 @@ entry_some (c ∷ cps) (v ∷ values) cp e = elim (cases_eq c cp) [
 ]
 
 -- entries are their CPs beside their values
-zip_parts : {A : Type 0} (entries : List (ℕ × A)) → zip (map (λ entry. entry.0) entries) (map (λ entry. entry.1) entries) ≡ entries
+zip_parts : {A : Type 0} (entries : List (ℕ × A)) →
+    zip (map (λ entry. entry.0) entries) (map (λ entry. entry.1) entries) ≡ entries
 zip_parts [] = refl
 zip_parts (entry ∷ entries) = ap (λ l. entry ∷ l) (zip_parts entries)
 
-pub entry_of_parts : {A : Type 0} (entries : List (ℕ × A)) (cps : List ℕ) (values : List A) (cp : ℕ) → cps ≡ map (λ entry. entry.0) entries → values ≡ map (λ entry. entry.1) entries → entry_at (zip cps values) cp ≡ entry_at entries cp
+pub entry_of_parts : {A : Type 0} (entries : List (ℕ × A)) (cps : List ℕ) (values : List A) (cp : ℕ) →
+    cps ≡ map (λ entry. entry.0) entries → values ≡ map (λ entry. entry.1) entries →
+    entry_at (zip cps values) cp ≡ entry_at entries cp
 entry_of_parts entries cps values cp cps_are values_are =
     ap (λ l. entry_at (zip l values) cp) cps_are ∙ (ap (λ l. entry_at (zip (map (λ entry. entry.0) entries) l) cp) values_are ∙ ap (λ l. entry_at l cp) (zip_parts entries))

@@ -1,5 +1,6 @@
 -- What holds of all values holds of that of a CP; field bytes and units are small.
-use Rattle.std.proofs.Common.{◌≡◌, refl, sym, subst, ℕ, ◌+◌, ◌*◌, ◌<◌, ◌==◌, Bool, true, false, cond, List, [], ◌∷◌, ◌++◌, Option, Some, None, option_map, arith}
+use Rattle.std.proofs.Common.{◌≡◌, refl, sym, subst, ℕ, ◌+◌, ◌*◌, ◌<◌, ◌==◌, Bool, true, false, cond, List, []}
+use Rattle.std.proofs.Common.{◌∷◌, ◌++◌, Option, Some, None, option_map, arith}
 use Rattle.std.specs.Prelude.{slice_index, zip}
 use Rattle.std.specs.List.{All, find, list_all}
 use Rattle.std.proofs.Math.Dec.{ltb}
@@ -9,41 +10,37 @@ use Rattle.std.proofs.lemmas.List.Elements.{All-nil, All-cons, All-head, All-tai
 use Rattle.std.proofs.lemmas.Option.{same_Some}
 use Rattle.doc_bits.specs.Number.{number_at}
 use Rattle.doc_bits.proofs.NumberLemmas.{number_at-bound}
-use Rattle.sprm_table.proofs.OperandLemmas.{AreBytes}
+use Rattle.doc_bits.proofs.ListLemmas.{found_has}
+use Rattle.doc_bits.specs.Number.{AreBytes}
 use Rattle.text_codes.specs.Compressed.{compressed_text, unit_by, unit_of}
 use Rattle.piece_table.specs.Piece.{UnitPlace}
 use Rattle.piece_table.proofs.NumberingLemmas.{All-from_slice_get}
 use Rattle.doc_parts.specs.declared.lists.Fld.{Fld}
 use Rattle.doc_parts.specs.Table.{table_of}
 use Rattle.doc_parts.specs.Fields.{AreFields}
-use Rattle.doc_load.specs.declared.source.Story.TheVariants.{Main, Notes, Heads}
+use Rattle.fib_form.specs.declared.stories.StoryKind.TheVariants.{Main, Notes, Heads}
 use Rattle.doc_load.specs.Units.{unit_at}
 use Rattle.doc_load.specs.Source.{DocSource, story_begin}
 use Rattle.doc_load.specs.PartRules.{PartLists}
-use Rattle.doc_read.specs.Entries.{entry_at}
+use Rattle.plain_doc.specs.Entries.{entry_at}
 use Rattle.doc_read.specs.Marked.{story_bytes, field_bytes}
 use Rattle.doc_read.proofs.ExistTables.{fld_byte}
-use Rattle.doc_read.proofs.ByteLists.{AreBytes-range}
+use Rattle.doc_bits.proofs.ByteListLemmas.{AreBytes-range}
 
 -- ---- what holds of all entries holds of that of a CP
 
-first_or_later : {A : Type 0} (P : A → Type 0) (b : Bool) (y x : A) (later : Option A) → P y → (later ≡ Some x → P x) → cond b (Some y) later ≡ Some x → P x
-first_or_later P true y x later here rest e = subst P (same_Some y x e) here
-first_or_later P false y x later here rest e = rest e
-
-found_has : {A : Type 0} (P : A → Type 0) (p : A → Bool) (xs : List A) (x : A) → All P xs → find p xs ≡ Some x → P x
-found_has P p [] x all e = absurd (cc (e))
-found_has P p (y ∷ ys) x all e = first_or_later P (p y) y x (find p ys) (All-head P y ys all) (found_has P p ys x (All-tail P y ys all)) e
-
-mapped_has : {A B : Type 0} (Q : B → Type 0) (f : A → B) (o : Option A) (x : B) → ((a : A) → o ≡ Some a → Q (f a)) → option_map f o ≡ Some x → Q x
+mapped_has : {A B : Type 0} (Q : B → Type 0) (f : A → B) (o : Option A) (x : B) → ((a : A) → o ≡ Some a → Q (f a)) →
+    option_map f o ≡ Some x → Q x
 mapped_has Q f None x has e = absurd (cc (e))
 mapped_has Q f (Some a) x has e = subst Q (same_Some (f a) x e) (has a refl)
 
-pub entry_has : {A : Type 0} (Q : A → Type 0) (entries : List (ℕ × A)) (cp : ℕ) (x : A) → All (λ (e : ℕ × A). Q e.1) entries → entry_at entries cp ≡ Some x → Q x
+pub entry_has : {A : Type 0} (Q : A → Type 0) (entries : List (ℕ × A)) (cp : ℕ) (x : A) →
+    All (λ (e : ℕ × A). Q e.1) entries → entry_at entries cp ≡ Some x → Q x
 entry_has {A = A} Q entries cp x all e =
     mapped_has Q (λ (e : ℕ × A). e.1) (find (λ e. e.0 == cp) entries) x (λ a is. found_has (λ (e : ℕ × A). Q e.1) (λ e. e.0 == cp) entries a all is) e
 
-pub zipped_has : {A : Type 0} (Q : A → Type 0) (cps : List ℕ) (values : List A) → All Q values → All (λ (e : ℕ × A). Q e.1) (zip cps values)
+pub zipped_has : {A : Type 0} (Q : A → Type 0) (cps : List ℕ) (values : List A) → All Q values →
+    All (λ (e : ℕ × A). Q e.1) (zip cps values)
 zipped_has {A = A} Q [] values all = All-nil (λ (e : ℕ × A). Q e.1)
 zipped_has {A = A} Q (c ∷ cps) [] all = All-nil (λ (e : ℕ × A). Q e.1)
 zipped_has {A = A} Q (c ∷ cps) (v ∷ values) all =
@@ -51,14 +48,16 @@ zipped_has {A = A} Q (c ∷ cps) (v ∷ values) all =
 
 -- ---- field bytes
 
-pub fields_are_bytes : (bytes : List ℕ) (story_len : ℕ) (list : List Fld) → AreBytes bytes → AreFields bytes story_len list → All (λ (fld : Fld). fld.byte < 256) list
+pub fields_are_bytes : (bytes : List ℕ) (story_len : ℕ) (list : List Fld) → AreBytes bytes →
+    AreFields bytes story_len list → All (λ (fld : Fld). fld.byte < 256) list
 fields_are_bytes bytes story_len list are fields =
     All-from_slice_get (λ (fld : Fld). fld.byte < 256) list (λ k fld here.
     let table = table_of 2 bytes in
     let from = 4 * (table.count + 1) + table.size * k in
     subst (λ n. n < 256) (sym (fld_byte bytes story_len k list fld fields here)) (AreBytes-range bytes from (from + table.size) are 1))
 
-story_has : (begin : ℕ) (list : List Fld) → All (λ (fld : Fld). fld.byte < 256) list → All (λ (e : ℕ × ℕ). e.1 < 256) (story_bytes begin list)
+story_has : (begin : ℕ) (list : List Fld) → All (λ (fld : Fld). fld.byte < 256) list →
+    All (λ (e : ℕ × ℕ). e.1 < 256) (story_bytes begin list)
 story_has begin list all = All-map (λ (e : ℕ × ℕ). e.1 < 256) (λ (fld : Fld). (begin + fld.cp, fld.byte)) list all
 
 -- the fields of the three stories have bytes
@@ -67,7 +66,8 @@ pub record AreByteFields (lists : PartLists) : Type 0 where
   pub notes : All (λ (fld : Fld). fld.byte < 256) lists.note_fields
   pub heads : All (λ (fld : Fld). fld.byte < 256) lists.head_fields
 
-pub all_bytes : (source : DocSource) (lists : PartLists) → AreByteFields lists → All (λ (e : ℕ × ℕ). e.1 < 256) (field_bytes source lists)
+pub all_bytes : (source : DocSource) (lists : PartLists) → AreByteFields lists →
+    All (λ (e : ℕ × ℕ). e.1 < 256) (field_bytes source lists)
 all_bytes source lists are =
     let P : ℕ × ℕ → Type 0 = λ e. e.1 < 256 in
     All-append P (story_bytes (story_begin source Main) lists.main_fields) (story_bytes (story_begin source Notes) lists.note_fields ++ story_bytes (story_begin source Heads) lists.head_fields)
@@ -77,7 +77,8 @@ all_bytes source lists are =
 
 -- ---- units
 
-unit_small : (rows : List (ℕ × ℕ)) (byte : ℕ) → All (λ (row : ℕ × ℕ). row.1 < 65536) rows → byte < 256 → unit_by rows byte < 65536
+unit_small : (rows : List (ℕ × ℕ)) (byte : ℕ) → All (λ (row : ℕ × ℕ). row.1 < 65536) rows → byte < 256 →
+    unit_by rows byte < 65536
 unit_small [] byte all small = omega arith
 unit_small (row ∷ rows) byte all small =
     let P : ℕ × ℕ → Type 0 = λ r. r.1 < 65536 in
@@ -88,8 +89,10 @@ unit_small (row ∷ rows) byte all small =
     pick false here later = later
 
 -- the units of a table of at most so many
-all_small : (rows : List (ℕ × ℕ)) → list_all (λ (row : ℕ × ℕ). ltb row.1 65536) rows ≡ true → All (λ (row : ℕ × ℕ). row.1 < 65536) rows
-all_small rows tested k d below = ltb-true _ _ (AllPass-from_list_all (λ (row : ℕ × ℕ). ltb row.1 65536) rows tested k d below)
+all_small : (rows : List (ℕ × ℕ)) → list_all (λ (row : ℕ × ℕ). ltb row.1 65536) rows ≡ true →
+    All (λ (row : ℕ × ℕ). row.1 < 65536) rows
+all_small rows tested k d below =
+    ltb-true _ _ (AllPass-from_list_all (λ (row : ℕ × ℕ). ltb row.1 65536) rows tested k d below)
 
 pub place_unit_small : (wd : List ℕ) (place : UnitPlace) → AreBytes wd → unit_at wd place < 65536
 place_unit_small wd place are = pick place.wide

@@ -1,10 +1,13 @@
 -- What a document carries along is there, and well formed.
-use Rattle.std.proofs.Common.{◌≡◌, refl, ap, ℕ, ◌+◌, ◌-◌, ◌<◌, ◌≤◌, ◌^◌, List, [], ◌∷◌, length, arith, length-take, length-drop}
-use Rattle.std.specs.Prelude.{slice_range}
+use Rattle.std.proofs.Common.{◌≡◌, refl, sym, ap, subst, ℕ, ◌+◌, ◌-◌, ◌<◌, ◌≤◌, ◌^◌, List, [], ◌∷◌, length}
+use Rattle.std.proofs.Common.{arith, length-take, length-drop}
+use Rattle.std.specs.Prelude.{slice_range, All}
+use Rattle.std.proofs.lemmas.List.Elements.{All-nil, All-cons}
 use Rattle.doc_bits.specs.Rules.{Hold}
 use Rattle.doc_bits.proofs.NumberLemmas.{number_at-bound}
-use Rattle.sprm_table.proofs.OperandLemmas.{AreBytes, length-range}
-use Rattle.cfb_streams.specs.Contents.{Contents}
+use Rattle.doc_bits.proofs.ListLemmas.{length-range}
+use Rattle.doc_bits.specs.Number.{AreBytes}
+use Rattle.cfb_streams.specs.Contents.{Contents, AreStored}
 use Rattle.cfb_streams.specs.Reach.{directory_head, entry_place}
 use Rattle.cfb_streams.specs.Container.{container_rules, HasContents}
 use Rattle.cfb_streams.proofs.ContentLemmas.{chain_inside}
@@ -15,15 +18,19 @@ use Rattle.fib_form.proofs.FlagLemmas.{kept_flags-kept}
 use Rattle.plain_doc.specs.declared.carried.Carried.{Carried}
 use Rattle.plain_doc.specs.Carried.{ArePartsShort, AreListsWithLevels}
 use Rattle.plain_doc.specs.Formed.{IsFormedCarried}
-use Rattle.doc_load.specs.declared.table_parts.TablePart.{TablePart}
-use Rattle.doc_load.specs.declared.table_parts.TablePart.TheVariants.{SttbfFfn, Dop, SttbfAssoc, PlfLst, PlfLfo}
-use Rattle.doc_load.specs.Source.{DocSource, part_bytes}
+use Rattle.fib_form.specs.declared.table_parts.TablePart.{TablePart}
+use Rattle.fib_form.specs.declared.table_parts.TablePart.TheVariants.{SttbfFfn, Dop, SttbfAssoc, PlfLst, PlfLfo}
+use Rattle.doc_load.specs.Source.{DocSource, part_bytes, part_place}
+use Rattle.doc_load.specs.ListRules.{HasLevels}
 use Rattle.doc_load.specs.FileRules.{FileText, HasText, source_of}
 use Rattle.doc_read.specs.CarriedParts.{carried_streams, AreWithinBounds, HoldsCarried}
+use Rattle.doc_bits.proofs.ByteListLemmas.{AreBytes-range}
+use Rattle.doc_read.proofs.ExistParts.{part_bytes_are}
 use Rattle.doc_read.proofs.PartLemmas.{short-cons}
 use Rattle.doc_read.proofs.StreamLemmas.{carried-are_streams, carried-fit}
 
-pub clsid_long : (file : List ℕ) (contents : Contents) → Hold (container_rules file) → HasContents file contents → length contents.clsid ≡ 16
+pub clsid_long : (file : List ℕ) (contents : Contents) → Hold (container_rules file) → HasContents file contents →
+    length contents.clsid ≡ 16
 clsid_long file contents holds has =
     let directory = has.parts.directory in
     let whole = whole_length file holds.0.0 in
@@ -31,7 +38,8 @@ clsid_long file contents holds has =
     let some = has.directory.holds.chain.path.some in
     let first = inside.inside 0 some in
     let at = entry_place directory 0 in
-    let long : length (slice_range file (at + 80) (at + 96)) ≡ at + 96 - (at + 80) = length-range file (at + 80) (at + 96) (omega arith) in
+    let long : length (slice_range file (at + 80) (at + 96)) ≡ at + 96 - (at + 80) =
+    length-range file (at + 80) (at + 96) (omega arith) in
     let same : length contents.clsid ≡ length (slice_range file (at + 80) (at + 96)) = ap length has.clsid in
     omega arith
 
@@ -40,11 +48,45 @@ pub record HasFormedCarried (contents : Contents) (source : DocSource) (levels :
   pub holds : HoldsCarried contents source levels carried
   pub formed : IsFormedCarried carried
 
-part_small : (source : DocSource) (part : TablePart) → length source.table ≤ 7143936 → length (part_bytes source part) < 2 ^ 32
+part_small : (source : DocSource) (part : TablePart) → length source.table ≤ 7143936 →
+    length (part_bytes source part) < 2 ^ 32
 part_small source part short = simp (length-take, length-drop) (omega arith)
 
-pub carried_there : (contents : Contents) (text : FileText) (levels : List ℕ) → AreWithinBounds contents → HasText contents text → AreBytes text.wd → length contents.clsid ≡ 16 → ArePartsShort (part_bytes (source_of text) SttbfFfn ∷ part_bytes (source_of text) Dop ∷ part_bytes (source_of text) SttbfAssoc ∷ part_bytes (source_of text) PlfLst ∷ levels ∷ part_bytes (source_of text) PlfLfo ∷ []) → AreListsWithLevels (part_bytes (source_of text) PlfLst) levels → HasFormedCarried contents (source_of text) levels
-carried_there contents text levels bounds has bytes long short lists =
+-- the CLSID and the parts of a file of bytes are bytes
+pub carried_bytes : (file : List ℕ) (contents : Contents) (source : DocSource) (levels : List ℕ) → AreBytes file →
+    HasContents file contents → AreBytes source.table → HasLevels source levels
+    → All AreBytes (contents.clsid ∷ part_bytes source SttbfFfn ∷ part_bytes source Dop ∷ part_bytes source SttbfAssoc ∷ part_bytes source PlfLst ∷ levels ∷ part_bytes source PlfLfo ∷ [])
+carried_bytes file contents source levels bytes has table has_levels =
+    let at = entry_place has.parts.directory 0 in
+    let clsid : AreBytes contents.clsid =
+    subst AreBytes (sym has.clsid) (AreBytes-range file (at + 80) (at + 96) bytes) in
+    let from = part_place source PlfLst + length (part_bytes source PlfLst) in
+    let of_levels : AreBytes levels =
+    subst AreBytes (sym has_levels.bytes_are) (AreBytes-range source.table from (from + has_levels.len) table) in
+    let none : List (List ℕ) = [] in
+    let one : TablePart → List ℕ = part_bytes source in
+    let is : (part : TablePart) → AreBytes (part_bytes source part) = λ part. part_bytes_are source part table in
+    let from_lfo : List (List ℕ) = one PlfLfo ∷ none in
+    let from_levels : List (List ℕ) = levels ∷ from_lfo in
+    let from_lst : List (List ℕ) = one PlfLst ∷ from_levels in
+    let from_assoc : List (List ℕ) = one SttbfAssoc ∷ from_lst in
+    let from_dop : List (List ℕ) = one Dop ∷ from_assoc in
+    let from_fonts : List (List ℕ) = one SttbfFfn ∷ from_dop in
+    All-cons AreBytes contents.clsid from_fonts clsid
+    (All-cons AreBytes (one SttbfFfn) from_dop (is SttbfFfn)
+    (All-cons AreBytes (one Dop) from_assoc (is Dop)
+    (All-cons AreBytes (one SttbfAssoc) from_lst (is SttbfAssoc)
+    (All-cons AreBytes (one PlfLst) from_levels (is PlfLst)
+    (All-cons AreBytes levels from_lfo of_levels
+    (All-cons AreBytes (one PlfLfo) none (is PlfLfo) (All-nil AreBytes)))))))
+
+pub carried_there : (contents : Contents) (text : FileText) (levels : List ℕ) → AreWithinBounds contents →
+    HasText contents text → AreBytes text.wd → length contents.clsid ≡ 16
+    → All AreBytes (contents.clsid ∷ part_bytes (source_of text) SttbfFfn ∷ part_bytes (source_of text) Dop ∷ part_bytes (source_of text) SttbfAssoc ∷ part_bytes (source_of text) PlfLst ∷ levels ∷ part_bytes (source_of text) PlfLfo ∷ [])
+    → ArePartsShort (part_bytes (source_of text) SttbfFfn ∷ part_bytes (source_of text) Dop ∷ part_bytes (source_of text) SttbfAssoc ∷ part_bytes (source_of text) PlfLst ∷ levels ∷ part_bytes (source_of text) PlfLfo ∷ []) →
+    AreListsWithLevels (part_bytes (source_of text) PlfLst) levels → AreStored (carried_streams contents.streams) →
+    HasFormedCarried contents (source_of text) levels
+carried_there contents text levels bounds has bytes long are short lists stored =
     let source = source_of text in
     let kept = (fib_fields text.wd).kept in
     let fit = carried-fit contents text bounds has in
@@ -70,16 +112,20 @@ carried_there contents text levels bounds has bytes long short lists =
       holds = record { fonts = refl; dop = refl; assoc = refl; lst = refl; levels_are = refl; lfo = refl; clsid = refl; lid = refl; lid_fe = refl; flags = refl; streams = refl };
       formed = record {
         parts = short;
+        bytes = are;
         lists = lists;
         clsid = long;
         languages = (number_at-bound text.wd _ 2 bytes, number_at-bound text.wd _ 2 bytes);
         flags = flags;
         ordered = carried-are_streams contents bounds;
+        stored = stored;
         streams = fit;
       };
     }
 
-pub all_short : (source : DocSource) (levels : List ℕ) → length source.table ≤ 7143936 → length levels ≤ length source.table → ArePartsShort (part_bytes source SttbfFfn ∷ part_bytes source Dop ∷ part_bytes source SttbfAssoc ∷ part_bytes source PlfLst ∷ levels ∷ part_bytes source PlfLfo ∷ [])
+pub all_short : (source : DocSource) (levels : List ℕ) → length source.table ≤ 7143936 →
+    length levels ≤ length source.table →
+    ArePartsShort (part_bytes source SttbfFfn ∷ part_bytes source Dop ∷ part_bytes source SttbfAssoc ∷ part_bytes source PlfLst ∷ levels ∷ part_bytes source PlfLfo ∷ [])
 all_short source levels short few =
     let none : List (List ℕ) = [] in
     let one : TablePart → List ℕ = part_bytes source in

@@ -1,5 +1,6 @@
 -- Texts that are cut out of well-formed items.
-use Rattle.std.proofs.Common.{◌≡◌, inl, inr, refl, ℕ, ◌+◌, ◌-◌, ◌<◌, ◌≤◌, ◌^◌, List, [], length, drop, arith, length-take, length-drop}
+use Rattle.std.proofs.Common.{◌≡◌, inl, inr, refl, ℕ, ◌+◌, ◌-◌, ◌<◌, ◌≤◌, ◌^◌, List, [], length, drop, arith}
+use Rattle.std.proofs.Common.{length-take, length-drop}
 use Rattle.std.specs.Prelude.{slice_index, slice_range}
 use Rattle.std.specs.List.{All}
 use Rattle.std.proofs.lemmas.Bool.{cases_lt}
@@ -8,7 +9,7 @@ use Rattle.plain_doc.specs.declared.item.Item.{Item}
 use Rattle.plain_doc.specs.Document.{IsFormedItem, IsFormedText, AreFormedTexts}
 use Rattle.piece_table.proofs.NumberingLemmas.{All-from_slice_get}
 use Rattle.doc_read.specs.Texts.{AreCutFrom}
-use Rattle.doc_read.proofs.ExistTables.{list_of}
+use Rattle.doc_parts.proofs.ExistLemmas.{list_of}
 
 record IsCut (items : List Item) (begin : ℕ) (cuts : List ℕ) (k : ℕ) (text : List Item) : Type 0 where
   there : k + 1 < length cuts → text ≡ slice_range items (begin + slice_index cuts k) (begin + slice_index cuts (k + 1))
@@ -20,7 +21,8 @@ pub record HasTexts (items : List Item) (begin : ℕ) (cuts : List ℕ) (count :
   pub cut : AreCutFrom items begin cuts count texts
   pub formed : AreFormedTexts texts
 
-cut_there : (items : List Item) (begin : ℕ) (cuts : List ℕ) (k : ℕ) → All IsFormedItem items → length items < 2 ^ 32 → (text : List Item) × IsCut items begin cuts k text
+cut_there : (items : List Item) (begin : ℕ) (cuts : List ℕ) (k : ℕ) → All IsFormedItem items → length items < 2 ^ 32 →
+    (text : List Item) × IsCut items begin cuts k text
 cut_there items begin cuts k all few = elim (cases_lt (k + 1) (length cuts)) [
   | inl there ↦
       let from = begin + slice_index cuts k in
@@ -38,7 +40,8 @@ cut_there items begin cuts k all few = elim (cases_lt (k + 1) (length cuts)) [
   | inr missing ↦ ([], record { there = λ more. absurd (omega arith); missing = λ over. refl; formed = record { few = omega arith; each = All-nil IsFormedItem } })
 ]
 
-pub texts_there : (items : List Item) (begin : ℕ) (cuts : List ℕ) (count : ℕ) → All IsFormedItem items → length items < 2 ^ 32 → count < 2 ^ 32 → HasTexts items begin cuts count
+pub texts_there : (items : List Item) (begin : ℕ) (cuts : List ℕ) (count : ℕ) → All IsFormedItem items →
+    length items < 2 ^ 32 → count < 2 ^ 32 → HasTexts items begin cuts count
 texts_there items begin cuts count all few small =
     let found = list_of count (IsCut items begin cuts) (λ k below. cut_there items begin cuts k all few) in
     let len = found.len in

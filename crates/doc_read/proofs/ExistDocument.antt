@@ -4,7 +4,7 @@ use Rattle.std.proofs.lemmas.List.{length-map}
 use Rattle.std.proofs.lemmas.List.Elements.{All-take}
 use Rattle.doc_bits.specs.declared.places.Where.TheVariants.{File, Wd}
 use Rattle.doc_bits.specs.Rules.{Hold}
-use Rattle.sprm_table.proofs.OperandLemmas.{AreBytes}
+use Rattle.doc_bits.specs.Number.{AreBytes}
 use Rattle.prop_map.specs.Settings.{Settings}
 use Rattle.cfb_streams.specs.Contents.{Contents}
 use Rattle.cfb_streams.specs.Container.{container_rules, HasContents}
@@ -14,14 +14,15 @@ use Rattle.piece_table.specs.Piece.{flat_pieces}
 use Rattle.plain_doc.specs.declared.document.Document.{Document}
 use Rattle.plain_doc.specs.Document.{IsFormedItem}
 use Rattle.plain_doc.specs.Formed.{IsFormed}
-use Rattle.doc_load.specs.declared.table_parts.TablePart.TheVariants.{Clx, PlcfBteChpx, PlcfBtePapx}
-use Rattle.doc_load.specs.declared.source.Story.TheVariants.{Main, Notes, Heads}
+use Rattle.fib_form.specs.declared.table_parts.TablePart.TheVariants.{Clx, PlcfBteChpx, PlcfBtePapx}
+use Rattle.fib_form.specs.declared.stories.StoryKind.TheVariants.{Main, Notes, Heads}
 use Rattle.doc_load.specs.Units.{unit_at}
 use Rattle.doc_load.specs.Source.{part_bytes, story_length, story_begin}
 use Rattle.doc_load.specs.FormatRules.{text_count, judged_places, paragraph_places, format_rules}
 use Rattle.doc_load.specs.SectionRules.{sed_rules}
-use Rattle.doc_load.specs.PartRules.{PartLists, HasParts, part_rules}
-use Rattle.doc_load.specs.FileRules.{FileText, HasText, source_of, wd_name, table_name, clx_of, text_rules}
+use Rattle.doc_load.specs.PartRules.{PartLists, HasPartLists, part_rules}
+use Rattle.doc_load.specs.FileRules.{FileText, HasText, source_of, table_stream_name, clx_of, loading_rules}
+use Rattle.cfb_streams.specs.Names.{wd_name}
 use Rattle.doc_load.proofs.OneLemmas.{sections_one}
 use Rattle.doc_load.proofs.RightPlaces.{hold_out}
 use Rattle.style_sheet.specs.Formed.{IsFormedSheet}
@@ -33,7 +34,7 @@ use Rattle.doc_read.proofs.DocumentLemmas.{document-from}
 use Rattle.doc_read.proofs.FewLemmas.{table-short, heads-few, notes-few}
 use Rattle.doc_read.proofs.LevelLemmas.{lists-with_levels, levels-short}
 use Rattle.doc_read.proofs.MarkListLemmas.{some_section, ends_up}
-use Rattle.doc_read.proofs.ExistLists.{right_of}
+use Rattle.direct_props.proofs.ExistLists.{right_of}
 use Rattle.doc_read.proofs.ExistSections.{section_maps_there}
 use Rattle.doc_read.proofs.ExistText.{named_bytes, right_modifiers, place_right}
 use Rattle.doc_read.proofs.ExistItems.{AreReady, HasItems, items_there}
@@ -41,7 +42,9 @@ use Rattle.doc_read.proofs.ExistParts.{part_bytes_are, part_lists_there}
 use Rattle.doc_read.proofs.EntryValues.{AreByteFields}
 use Rattle.doc_read.proofs.ExistFits.{text_held, TextFits, text_fits}
 use Rattle.doc_read.proofs.ExistCuts.{texts_there}
-use Rattle.doc_read.proofs.ExistCarried.{clsid_long, HasFormedCarried, carried_there, all_short}
+use Rattle.cfb_streams.proofs.StoredLemmas.{contents_stored}
+use Rattle.doc_read.proofs.StreamLemmas.{carried-stored}
+use Rattle.doc_read.proofs.ExistCarried.{clsid_long, HasFormedCarried, carried_there, carried_bytes, all_short}
 
 record HasFormedDocument (contents : Contents) (text : FileText) (lists : PartLists) : Type 0 where
   document : Document
@@ -49,7 +52,10 @@ record HasFormedDocument (contents : Contents) (text : FileText) (lists : PartLi
   formed : IsFormed document
 
 -- the parts of a document, put together
-document_of : (contents : Contents) (text : FileText) (lists : PartLists) (maps : List Settings) → HasParts (source_of text) lists → AreSectionMaps text.wd lists.sections maps → IsFormedSheet lists.sheet → length text.table ≤ 7143936 → text_count (source_of text) < 2 ^ 32 → HasItems text lists maps → HasFormedCarried contents (source_of text) lists.levels → HasFormedDocument contents text lists
+document_of : (contents : Contents) (text : FileText) (lists : PartLists) (maps : List Settings) →
+    HasPartLists (source_of text) lists → AreSectionMaps text.wd lists.sections maps → IsFormedSheet lists.sheet →
+    length text.table ≤ 7143936 → text_count (source_of text) < 2 ^ 32 → HasItems text lists maps →
+    HasFormedCarried contents (source_of text) lists.levels → HasFormedDocument contents text lists
 document_of contents text lists maps has made sheet short few items carried =
     let source = source_of text in
     let main_len = story_length source Main in
@@ -59,7 +65,8 @@ document_of contents text lists maps has made sheet short few items carried =
     let notes_small = notes-few source lists.notes short has.has_notes in
     let heads_small = heads-few source lists.sections short has.has_sections in
     let notes = texts_there items.items (story_begin source Notes) lists.notes (length lists.notes - 1) all small (omega arith) in
-    let heads = texts_there items.items (story_begin source Heads) lists.heads (head_texts lists) all small heads_small in
+    let heads =
+    texts_there items.items (story_begin source Heads) lists.heads (head_texts lists) all small heads_small in
     let document : Document = record { main = take main_len items.items; notes = notes.texts; heads = heads.texts; sheet = lists.sheet; carried = carried.carried } in
     record {
       document = document;
@@ -74,7 +81,10 @@ document_of contents text lists maps has made sheet short few items carried =
     }
 
 -- what the items are read from
-ready : (file : List ℕ) (contents : Contents) (text : FileText) (lists : PartLists) (maps : List Settings) → AreBytes text.wd → AreBytes text.table → TextFits text.wd text.pieces → HasText contents text → Hold (part_rules (source_of text)) → HasParts (source_of text) lists → AreByteFields lists → AreSectionMaps text.wd lists.sections maps → AreReady text lists maps
+pub ready : (file : List ℕ) (contents : Contents) (text : FileText) (lists : PartLists) (maps : List Settings) →
+    AreBytes text.wd → AreBytes text.table → TextFits text.wd text.pieces → HasText contents text →
+    Hold (part_rules (source_of text)) → HasPartLists (source_of text) lists → AreByteFields lists →
+    AreSectionMaps text.wd lists.sections maps → AreReady text lists maps
 ready file contents text lists maps wd table fits has_text hold has fields made =
     let source = source_of text in
     let main_len = story_length source Main in
@@ -95,11 +105,14 @@ ready file contents text lists maps wd table fits has_text hold has fields made 
     }
 
 -- the document of the text that a file has
-document_there : (file : List ℕ) (contents : Contents) (text : FileText) → AreBytes file → Hold (container_rules file) → HasContents file contents → Hold (text_rules contents) → HasText contents text → Hold (part_rules (source_of text)) → (lists : PartLists) × (HasParts (source_of text) lists × HasFormedDocument contents text lists)
+document_there : (file : List ℕ) (contents : Contents) (text : FileText) → AreBytes file → Hold (container_rules file) →
+    HasContents file contents → Hold (loading_rules contents) → HasText contents text →
+    Hold (part_rules (source_of text)) →
+    (lists : PartLists) × (HasPartLists (source_of text) lists × HasFormedDocument contents text lists)
 document_there file contents text bytes container has texts has_text hold =
     let source = source_of text in
     let wd = named_bytes file contents wd_name text.wd bytes has has_text.has_wd in
-    let table = named_bytes file contents (table_name text.wd) text.table bytes has has_text.has_table in
+    let table = named_bytes file contents (table_stream_name text.wd) text.table bytes has has_text.has_table in
     let fits = text_fits text.wd text.table text.pieces (part_bytes_are (source_of text) Clx table) (text_held file contents text texts has has_text) has_text.has_pieces in
     let bounds = contents-bounded file contents container has in
     let short = table-short contents text bounds has_text in
@@ -114,7 +127,9 @@ document_there file contents text bytes container has texts has_text hold =
     let few = fits.few in
     let levels = levels-short source lists.levels parts.has.has_levels in
     let carried = carried_there contents text lists.levels bounds has_text wd (clsid_long file contents container has)
-    (all_short source lists.levels short levels) (lists-with_levels source lists.levels hold.1.1.1.1.1.1.1 parts.has.has_levels) in
+    (carried_bytes file contents source lists.levels bytes has table parts.has.has_levels)
+    (all_short source lists.levels short levels) (lists-with_levels source lists.levels hold.1.1.1.1.1.1.1 parts.has.has_levels)
+    (carried-stored contents (contents_stored file contents bytes has)) in
     (lists, (parts.has, document_of contents text lists maps.0 parts.has maps.1 parts.sheet short (omega arith) (items_there text lists maps.0 is_ready) carried))
 
 pub files_hold : FilesHoldDocuments

@@ -3,43 +3,47 @@ use Rattle.std.proofs.Common.{◌≡◌, ◌∙◌, ap, subst, ℕ, ◌+◌, ◌
 use Rattle.doc_bits.specs.declared.places.Where.TheVariants.{Table}
 use Rattle.doc_bits.specs.Rules.{Hold}
 use Rattle.doc_bits.proofs.NumberLemmas.{number_at-bound}
-use Rattle.sprm_table.proofs.OperandLemmas.{AreBytes}
+use Rattle.doc_bits.specs.Number.{AreBytes}
 use Rattle.cfb_streams.specs.Contents.{Contents}
 use Rattle.cfb_streams.specs.Container.{HasContents}
 use Rattle.fib_form.specs.Fib.{fib_pair}
 use Rattle.fib_form.specs.FibFields.{fib_fields, text_length}
 use Rattle.piece_table.specs.Piece.{TextPiece, flat_pieces}
 use Rattle.piece_table.specs.Clx.{ClxParts, IsClx, clx_pieces, plc_place}
-use Rattle.piece_table.specs.ClxRules.{clx_rules}
+use Rattle.piece_table.specs.ClxRules.{clx_rules, early_bounds}
 use Rattle.piece_table.proofs.ClxLemmas.{parts_unique}
 use Rattle.piece_table.proofs.ClxRuleLemmas.{ascends_of}
 use Rattle.piece_table.proofs.PieceLemmas.{total_of_pieces, length-flat_pieces}
-use Rattle.doc_load.specs.declared.table_parts.TablePart.TheVariants.{Clx}
-use Rattle.doc_load.specs.PairRules.{pair_of}
-use Rattle.doc_load.specs.FileRules.{FileText, HasText, wd_name, table_name, clx_of, table_rules, wd_rules, text_rules}
+use Rattle.fib_form.specs.declared.table_parts.TablePart.TheVariants.{Clx}
+use Rattle.fib_form.specs.TableParts.{pair_of}
+use Rattle.doc_load.specs.FileRules.{FileText, HasText, table_stream_name, clx_of, table_rules, wd_rules, loading_rules}
+use Rattle.cfb_streams.specs.Names.{wd_name}
 use Rattle.doc_load.proofs.NameLemmas.{named_one}
 use Rattle.doc_load.proofs.RightPlaces.{hold_out}
 use Rattle.doc_read.proofs.ExistText.{plc_bytes}
 
 -- the rules on the pieces hold of the text that the file has
-pub text_held : (file : List ℕ) (contents : Contents) (text : FileText) → Hold (text_rules contents) → HasContents file contents → HasText contents text → Hold (table_rules text.wd text.table)
+pub text_held : (file : List ℕ) (contents : Contents) (text : FileText) → Hold (loading_rules contents) →
+    HasContents file contents → HasText contents text → Hold (table_rules text.wd text.table)
 text_held file contents text h has has_text =
     let wd : h.1.0 ≡ text.wd = named_one file contents wd_name h.1.0 text.wd has h.1.1.0 has_text.has_wd in
     let held : Hold (wd_rules contents text.wd) = subst (λ w. Hold (wd_rules contents w)) wd h.1.1.1 in
     let next = held.1.1 in
-    let table : next.0 ≡ text.table = named_one file contents (table_name text.wd) next.0 text.table has next.1.0 has_text.has_table in
+    let table : next.0 ≡ text.table =
+    named_one file contents (table_stream_name text.wd) next.0 text.table has next.1.0 has_text.has_table in
     subst (λ t. Hold (table_rules text.wd t)) table next.1.1
 
 pub record TextFits (wd : List ℕ) (pieces : List TextPiece) : Type 0 where
   pub total : length (flat_pieces pieces) ≡ text_length (fib_fields wd).ccps
   pub few : text_length (fib_fields wd).ccps < 2 ^ 32
 
-pub text_fits : (wd table : List ℕ) (pieces : List TextPiece) → AreBytes (clx_of wd table) → Hold (table_rules wd table) → IsClx (clx_of wd table) pieces → TextFits wd pieces
+pub text_fits : (wd table : List ℕ) (pieces : List TextPiece) → AreBytes (clx_of wd table) →
+    Hold (table_rules wd table) → IsClx (clx_of wd table) pieces → TextFits wd pieces
 text_fits wd table pieces are h is =
     let clx = clx_of wd table in
     let at = (fib_pair wd (pair_of Clx)).0 in
     let len = text_length (fib_fields wd).ccps in
-    let rules = hold_out Table (clx_rules clx at (length wd) len) h.1 in
+    let rules = hold_out Table (clx_rules clx at (early_bounds (length wd)) len) h.1 in
     let parts = rules.1.0 in
     let spelt = rules.1.1.0 in
     let same = parts_unique clx is.parts parts is.spelt spelt in

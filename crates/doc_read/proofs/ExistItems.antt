@@ -1,11 +1,12 @@
 -- Each CP of a text has its item, which is well formed.
-use Rattle.std.proofs.Common.{◌≡◌, ◌∙◌, refl, ap, subst, ℕ, ◌+◌, ◌<◌, ◌≤◌, ◌^◌, Bool, true, false, List, [], ◌∷◌, length, map, Option, Some, None, is_some, get_or, min, arith, length-take}
+use Rattle.std.proofs.Common.{◌≡◌, ◌∙◌, refl, ap, subst, ℕ, ◌+◌, ◌<◌, ◌≤◌, ◌^◌, Bool, true, false, List, []}
+use Rattle.std.proofs.Common.{◌∷◌, length, map, Option, Some, None, is_some, get_or, min, arith, length-take}
 use Rattle.std.specs.Prelude.{slice_get, slice_index}
 use Rattle.std.specs.List.{All}
 use Rattle.std.specs.Option.{ForSome}
 use Rattle.std.proofs.lemmas.List.{length-map}
 use Rattle.std.proofs.lemmas.Option.{same_Some, slice_get-get_or}
-use Rattle.sprm_table.proofs.OperandLemmas.{AreBytes}
+use Rattle.doc_bits.specs.Number.{AreBytes}
 use Rattle.prop_map.specs.Settings.{Settings}
 use Rattle.prop_map.specs.Formed.{IsPropertyMap, paragraph_groups, section_groups}
 use Rattle.fkp_pages.specs.declared.kind.PageKind.TheVariants.{Chpx, Papx}
@@ -14,23 +15,26 @@ use Rattle.piece_table.proofs.NumberingLemmas.{All-from_slice_get}
 use Rattle.plain_doc.specs.declared.item.Item.{Item}
 use Rattle.plain_doc.specs.declared.item.Mark.{Mark}
 use Rattle.plain_doc.specs.Document.{IsFormedItem}
-use Rattle.doc_load.specs.declared.table_parts.TablePart.TheVariants.{PlcfBteChpx, PlcfBtePapx}
-use Rattle.doc_load.specs.declared.source.Story.TheVariants.{Main}
+use Rattle.fib_form.specs.declared.table_parts.TablePart.TheVariants.{PlcfBteChpx, PlcfBtePapx}
+use Rattle.fib_form.specs.declared.stories.StoryKind.TheVariants.{Main}
 use Rattle.doc_load.specs.Units.{unit_at}
 use Rattle.doc_load.specs.Source.{DocSource, part_bytes, story_length}
-use Rattle.doc_load.specs.FormatRules.{text_count, judged_units, judged_places, section_ends, ends_section, is_paragraph_end, ends_paragraph, paragraph_places}
+use Rattle.doc_load.specs.FormatRules.{text_count, judged_units, judged_places, section_ends, ends_section}
+use Rattle.doc_load.specs.FormatRules.{ends_paragraph, paragraph_places}
+use Rattle.text_codes.specs.Paragraph.{is_paragraph_end}
 use Rattle.doc_load.specs.PartRules.{PartLists}
 use Rattle.doc_load.specs.FileRules.{FileText, source_of}
-use Rattle.doc_read.specs.Entries.{entry_at}
+use Rattle.plain_doc.specs.Entries.{entry_at}
 use Rattle.doc_read.specs.Sections.{section_lasts, section_marks}
 use Rattle.doc_read.specs.Marked.{field_bytes, note_kinds}
-use Rattle.doc_read.specs.Items.{TextParts, IsMarkOf, IsItemAt, HoldsItems}
+use Rattle.doc_read.specs.Items.{TextParts, IsMarkAt, IsItemAt, HoldsItems}
 use Rattle.doc_read.proofs.PlaceLemmas.{read_at_place}
 use Rattle.doc_read.proofs.UpLemmas.{IsUpWithin}
 use Rattle.doc_read.proofs.RightLemmas.{section_ends_there, ends_more}
-use Rattle.doc_read.proofs.ExistLists.{IsRight}
-use Rattle.doc_read.proofs.ExistDirect.{IsRightModifier, character_there, mark_there}
-use Rattle.doc_read.proofs.ExistTables.{list_of}
+use Rattle.direct_props.proofs.ExistLists.{IsRight}
+use Rattle.direct_props.specs.Laws.{IsRightModifier}
+use Rattle.direct_props.proofs.ExistDirect.{character_there, mark_there}
+use Rattle.doc_parts.proofs.ExistLemmas.{list_of}
 use Rattle.doc_read.proofs.EntryValues.{entry_has, zipped_has, AreByteFields, all_bytes, place_unit_small}
 use Rattle.doc_read.proofs.KeptPlaces.{paragraph_place}
 
@@ -51,14 +55,17 @@ get_there (x ∷ xs) k below = (get_or (x ∷ xs) k x, slice_get-get_or (x ∷ x
 
 record HasMarkOf (end : Bool) (source : DocSource) (place : UnitPlace) : Type 0 where
   mark : Option Mark
-  is : IsMarkOf end source place mark
+  is : IsMarkAt end source.wd (part_bytes source PlcfBtePapx) place.at place.modifier mark
   formed : ForSome mark (λ mark. IsPropertyMap paragraph_groups mark.pap)
   small : ForSome mark (λ mark. mark.istd < 2 ^ 16)
 
-mark_of : (end : Bool) (source : DocSource) (place : UnitPlace) → AreBytes source.wd → (end ≡ true → IsRight Papx source.wd (part_bytes source PlcfBtePapx) place.at) → IsRightModifier place.modifier → HasMarkOf end source place
+mark_of : (end : Bool) (source : DocSource) (place : UnitPlace) → AreBytes source.wd →
+    (end ≡ true → IsRight Papx source.wd (part_bytes source PlcfBtePapx) place.at) → IsRightModifier place.modifier →
+    HasMarkOf end source place
 mark_of false source place bytes right modifier = record { mark = None; is = tt; formed = λ m e. absurd (cc (e)); small = λ m e. absurd (cc (e)) }
 mark_of true source place bytes right modifier =
-    let has = mark_there source.wd (part_bytes source PlcfBtePapx) place.at place.modifier bytes (right refl) modifier in
+    let has =
+    mark_there source.wd (part_bytes source PlcfBtePapx) place.at place.modifier bytes (right refl) modifier in
     let here : Mark = record { istd = has.istd; pap = has.settings } in
     record {
       mark = Some here;
@@ -74,7 +81,8 @@ pub record IsRightItem (parts : TextParts) (cp : ℕ) (item : Item) : Type 0 whe
 abbrev pub parts_of : FileText → PartLists → List Settings → TextParts
 parts_of text lists maps = record { source = source_of text; pieces = text.pieces; lists = lists; sections = maps }
 
-item_there : (text : FileText) (lists : PartLists) (maps : List Settings) → AreReady text lists maps → (cp : ℕ) → cp < text_count (source_of text) → (item : Item) × IsRightItem (parts_of text lists maps) cp item
+item_there : (text : FileText) (lists : PartLists) (maps : List Settings) → AreReady text lists maps → (cp : ℕ) →
+    cp < text_count (source_of text) → (item : Item) × IsRightItem (parts_of text lists maps) cp item
 item_there text lists maps ready cp below =
     let source = source_of text in
     let main_len = story_length source Main in
@@ -86,10 +94,13 @@ item_there text lists maps ready cp below =
     let modifier = ready.modifiers cp place here in
     let unit = unit_at text.wd place in
     let sect = entry_at (section_marks lists.sections main_len maps) cp in
-    let place_is : slice_index (judged_places source) cp ≡ place.at = read_at_place (λ p. p.at) text.pieces cp (text_count source) place here below in
-    let unit_is : slice_index (judged_units source) cp ≡ unit = read_at_place (unit_at text.wd) text.pieces cp (text_count source) place here below in
+    let place_is : slice_index (judged_places source) cp ≡ place.at =
+    read_at_place (λ p. p.at) text.pieces cp (text_count source) place here below in
+    let unit_is : slice_index (judged_units source) cp ≡ unit =
+    read_at_place (unit_at text.wd) text.pieces cp (text_count source) place here below in
     let all_places : length (judged_places source) ≡ min (text_count source) (length (map (λ (p : UnitPlace). p.at) flat)) = length-take (text_count source) (map (λ (p : UnitPlace). p.at) flat) in
-    let all_units : length (judged_units source) ≡ min (text_count source) (length (map (unit_at text.wd) flat)) = length-take (text_count source) (map (unit_at text.wd) flat) in
+    let all_units : length (judged_units source) ≡ min (text_count source) (length (map (unit_at text.wd) flat)) =
+    length-take (text_count source) (map (unit_at text.wd) flat) in
     let places_len = length-map flat (λ (p : UnitPlace). p.at) in
     let units_len = length-map flat (unit_at text.wd) in
     let in_places : cp < length (judged_places source) = omega arith in
@@ -126,7 +137,8 @@ pub record HasItems (text : FileText) (lists : PartLists) (maps : List Settings)
   pub holds : HoldsItems (parts_of text lists maps) 0 (text_count (source_of text)) items
   pub formed : All IsFormedItem items
 
-pub items_there : (text : FileText) (lists : PartLists) (maps : List Settings) → AreReady text lists maps → HasItems text lists maps
+pub items_there : (text : FileText) (lists : PartLists) (maps : List Settings) → AreReady text lists maps →
+    HasItems text lists maps
 items_there text lists maps ready =
     let count = text_count (source_of text) in
     let found = list_of count (IsRightItem (parts_of text lists maps)) (item_there text lists maps ready) in

@@ -3,7 +3,8 @@ use Rattle.std.proofs.Common.{◌≡◌, inl, inr, refl, subst, ℕ, ◌+◌, �
 use Rattle.std.specs.List.{All, slice_range}
 use Rattle.doc_bits.specs.declared.places.Where.TheVariants.{Table}
 use Rattle.doc_bits.specs.Rules.{Nowhere, Hold}
-use Rattle.sprm_table.proofs.OperandLemmas.{AreBytes, length-range}
+use Rattle.doc_bits.proofs.ListLemmas.{length-range}
+use Rattle.doc_bits.specs.Number.{AreBytes}
 use Rattle.style_sheet.specs.Formed.{IsFormedSheet}
 use Rattle.style_sheet.specs.Stsh.{stsh_rules}
 use Rattle.doc_parts.specs.declared.lists.Fld.{Fld}
@@ -11,22 +12,22 @@ use Rattle.doc_parts.specs.Table.{table_of, IsRightEntry}
 use Rattle.doc_parts.specs.Fields.{fld_form, fld_cps}
 use Rattle.doc_parts.specs.Levels.{level_start, level_count, list_part}
 use Rattle.doc_parts.proofs.LevelLemmas.{level_start-zero, level_start-up}
-use Rattle.doc_load.specs.declared.table_parts.TablePart.{TablePart}
-use Rattle.doc_load.specs.declared.table_parts.TablePart.TheVariants.{Stshf, PlcffndRef, PlfLst}
-use Rattle.doc_load.specs.declared.source.Story.{Story}
-use Rattle.doc_load.specs.declared.source.Story.TheVariants.{Main, Notes, Heads}
+use Rattle.fib_form.specs.declared.table_parts.TablePart.{TablePart}
+use Rattle.fib_form.specs.declared.table_parts.TablePart.TheVariants.{Stshf, PlcffndRef, PlfLst}
+use Rattle.fib_form.specs.declared.stories.StoryKind.{StoryKind}
+use Rattle.fib_form.specs.declared.stories.StoryKind.TheVariants.{Main, Notes, Heads}
 use Rattle.doc_load.specs.Source.{DocSource, part_bytes, part_place, story_begin, story_length, story_units}
 use Rattle.doc_load.specs.FormatRules.{text_count}
 use Rattle.fib_form.specs.Fib.{fib_pair}
-use Rattle.doc_load.specs.PairRules.{pair_of}
+use Rattle.fib_form.specs.TableParts.{pair_of}
 use Rattle.doc_load.specs.FieldRules.{BreaksAllFields, BreaksStoryFields, field_part, HasFields}
 use Rattle.doc_load.specs.ListRules.{HasLevels}
-use Rattle.doc_load.specs.PartRules.{PartLists, HasParts, part_rules}
+use Rattle.doc_load.specs.PartRules.{PartLists, HasPartLists, part_rules}
 use Rattle.doc_load.proofs.RightPlaces.{hold_out}
 use Rattle.doc_read.proofs.ExistTables.{refs_there, fields_there}
-use Rattle.doc_read.proofs.ExistSheet.{sheet_there}
+use Rattle.style_sheet.proofs.ExistSheet.{sheet_there}
 use Rattle.doc_read.proofs.EntryValues.{AreByteFields, fields_are_bytes}
-use Rattle.doc_read.proofs.ByteLists.{AreBytes-range}
+use Rattle.doc_bits.proofs.ByteListLemmas.{AreBytes-range}
 
 pub part_bytes_are : (source : DocSource) (part : TablePart) → AreBytes source.table → AreBytes (part_bytes source part)
 part_bytes_are source part are =
@@ -34,7 +35,8 @@ part_bytes_are source part are =
     AreBytes-range source.table pair.0 (pair.0 + pair.1) are
 
 -- a story has its units, where the text is long enough
-story_fits : (source : DocSource) (story : Story) → text_count source ≤ length source.text.units → length (story_units source story) ≡ story_length source story
+story_fits : (source : DocSource) (story : StoryKind) → text_count source ≤ length source.text.units →
+    length (story_units source story) ≡ story_length source story
 story_fits source Main long =
     let from = story_begin source Main in
     let to = from + story_length source Main in
@@ -52,12 +54,13 @@ story_fits source Heads long =
     omega arith
 
 -- the field characters of a story, with their bytes
-record HasByteFields (source : DocSource) (story : Story) : Type 0 where
+record HasByteFields (source : DocSource) (story : StoryKind) : Type 0 where
   list : List Fld
   has : HasFields source story list
   bytes : All (λ (fld : Fld). fld.byte < 256) list
 
-story_fields : (source : DocSource) (story : Story) → AreBytes source.table → text_count source ≤ length source.text.units → Nowhere (BreaksStoryFields source story) → HasByteFields source story
+story_fields : (source : DocSource) (story : StoryKind) → AreBytes source.table →
+    text_count source ≤ length source.text.units → Nowhere (BreaksStoryFields source story) → HasByteFields source story
 story_fields source story are long none =
     let bytes = part_bytes source (field_part story) in
     let at = part_place source (field_part story) in
@@ -73,7 +76,8 @@ story_fields source story are long none =
     }))) in
     record { list = found.0; has = found.1; bytes = fields_are_bytes bytes (story_length source story) found.0 (part_bytes_are source (field_part story) are) found.1 }
 
-all_stories : (source : DocSource) → Nowhere (BreaksAllFields source) → (story : Story) → Nowhere (BreaksStoryFields source story)
+all_stories : (source : DocSource) → Nowhere (BreaksAllFields source) → (story : StoryKind) →
+    Nowhere (BreaksStoryFields source story)
 all_stories source none Main = λ place broken. none place (inl broken)
 all_stories source none Notes = λ place broken. none place (inr (inl broken))
 all_stories source none Heads = λ place broken. none place (inr (inr broken))
@@ -90,16 +94,18 @@ levels_there source =
     let len = end - (at + lcb) in
     (slice_range source.table (at + lcb) (at + lcb + len), record { len = len; have = omega arith; bytes_are = refl })
 
-pub record HasPartLists (source : DocSource) : Type 0 where
+pub record HasFormedLists (source : DocSource) : Type 0 where
   pub lists : PartLists
-  pub has : HasParts source lists
+  pub has : HasPartLists source lists
   pub sheet : IsFormedSheet lists.sheet
   pub fields : AreByteFields lists
 
-pub part_lists_there : (source : DocSource) → AreBytes source.table → text_count source ≤ length source.text.units → Hold (part_rules source) → HasPartLists source
+pub part_lists_there : (source : DocSource) → AreBytes source.table → text_count source ≤ length source.text.units →
+    Hold (part_rules source) → HasFormedLists source
 part_lists_there source are long hold =
     let story = hold.1.1.1 in
-    let none_fields : (s : Story) → Nowhere (BreaksStoryFields source s) = all_stories source (λ place broken. story.0 (Table, place) (refl, broken)) in
+    let none_fields : (s : StoryKind) → Nowhere (BreaksStoryFields source s) =
+    all_stories source (λ place broken. story.0 (Table, place) (refl, broken)) in
     let main = story_fields source Main are long (none_fields Main) in
     let notes = story_fields source Notes are long (none_fields Notes) in
     let heads = story_fields source Heads are long (none_fields Heads) in

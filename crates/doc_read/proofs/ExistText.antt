@@ -1,5 +1,7 @@
 -- The text of a file: its bytes, its places and their modifiers.
-use Rattle.std.proofs.Common.{◌≡◌, ◌∙◌, inl, inr, sym, subst, ℕ, zero, suc, ◌+◌, ◌*◌, ◌/◌, ◌%◌, ◌<◌, ◌==◌, Bool, true, false, cond, List, [], ◌∷◌, ◌++◌, length, take, get_or, map, flat_map, Some, arith, append_assoc}
+use Rattle.std.proofs.Common.{◌≡◌, ◌∙◌, inl, inr, sym, subst, ℕ, zero, suc, ◌+◌, ◌*◌, ◌/◌, ◌%◌, ◌<◌, ◌==◌, Bool}
+use Rattle.std.proofs.Common.{true, false, cond, List, [], ◌∷◌, ◌++◌, length, take, get_or, map, flat_map, Some}
+use Rattle.std.proofs.Common.{arith, append_assoc}
 use Rattle.std.specs.Prelude.{slice_get}
 use Rattle.std.specs.List.{All, range_with_len}
 use Rattle.std.specs.FinMap.{empty}
@@ -8,7 +10,7 @@ use Rattle.std.proofs.lemmas.List.Elements.{All-nil, All-cons, All-head, All-tai
 use Rattle.doc_bits.specs.Number.{number_bytes}
 use Rattle.doc_bits.proofs.NumberLemmas.{number_at-bound}
 use Rattle.sprm_table.specs.Sprm.{Prl}
-use Rattle.sprm_table.proofs.OperandLemmas.{AreBytes}
+use Rattle.doc_bits.specs.Number.{AreBytes}
 use Rattle.prop_map.specs.Formed.{character_groups, paragraph_groups}
 use Rattle.prop_map.specs.declared.modifiers.Modifier.{Modifier}
 use Rattle.prop_map.proofs.ActingLemmas.{IsPropertyMap-after, IsPropertyMap-empty}
@@ -20,23 +22,29 @@ use Rattle.piece_table.specs.Piece.{TextPiece, UnitPlace, unit_places, flat_piec
 use Rattle.piece_table.specs.Clx.{ClxParts, SpellsClx, IsClx, prc_bytes, pcdt_bytes, prm_word, pcd_prm}
 use Rattle.piece_table.specs.PrmLists.{NamesSprms}
 use Rattle.piece_table.proofs.NumberingLemmas.{All-from_slice_get}
-use Rattle.doc_read.proofs.ExistDirect.{HasBytes, list_bytes, style_small, IsRightModifier}
-use Rattle.doc_read.proofs.ByteLists.{AreBytes-take, AreBytes-range, front_bytes, back_bytes, no_bytes, joined_bytes, one_byte}
+use Rattle.prop_map.proofs.ActingLemmas.{HasByteValue}
+use Rattle.prop_map.proofs.ByteLemmas.{list_bytes, style_small}
+use Rattle.direct_props.specs.Laws.{IsRightModifier}
+use Rattle.doc_bits.proofs.ByteListLemmas.{AreBytes-take, AreBytes-range, front_bytes, back_bytes, no_bytes}
+use Rattle.doc_bits.proofs.ByteListLemmas.{joined_bytes, one_byte}
 use Rattle.doc_read.proofs.PrmEntries.{named_entries}
 
 -- ---- the bytes of streams
 
-sectors_bytes : (base unit : ℕ) (bytes sectors : List ℕ) → AreBytes bytes → AreBytes (flat_map (sector_bytes base unit bytes) sectors)
+sectors_bytes : (base unit : ℕ) (bytes sectors : List ℕ) → AreBytes bytes →
+    AreBytes (flat_map (sector_bytes base unit bytes) sectors)
 sectors_bytes base unit bytes [] are = no_bytes
 sectors_bytes base unit bytes (s ∷ ss) are =
     joined_bytes (sector_bytes base unit bytes s) (flat_map (sector_bytes base unit bytes) ss)
     (AreBytes-range bytes (base + s * unit) (base + s * unit + unit) are) (sectors_bytes base unit bytes ss are)
 
-body_bytes : (base unit size : ℕ) (bytes sectors body : List ℕ) → AreBytes bytes → body ≡ take size (flat_map (sector_bytes base unit bytes) sectors) → AreBytes body
+body_bytes : (base unit size : ℕ) (bytes sectors body : List ℕ) → AreBytes bytes →
+    body ≡ take size (flat_map (sector_bytes base unit bytes) sectors) → AreBytes body
 body_bytes base unit size bytes sectors body are e =
     subst AreBytes (sym e) (AreBytes-take size (flat_map (sector_bytes base unit bytes) sectors) (sectors_bytes base unit bytes sectors are))
 
-stream_bytes : (file : List ℕ) (contents : Contents) → AreBytes file → HasContents file contents → (i : ℕ) (stream : Stream) → slice_get contents.streams i ≡ Some stream → AreBytes stream.bytes
+stream_bytes : (file : List ℕ) (contents : Contents) → AreBytes file → HasContents file contents →
+    (i : ℕ) (stream : Stream) → slice_get contents.streams i ≡ Some stream → AreBytes stream.bytes
 stream_bytes file contents are has i stream here = elim (has.streams.each i stream here).holds [
   | inl none ↦ subst AreBytes (sym none.bytes) no_bytes
   | inr (inl short) ↦
@@ -44,24 +52,32 @@ stream_bytes file contents are has i stream here = elim (has.streams.each i stre
   | inr (inr long) ↦ body_bytes 512 512 _ file long.sectors stream.bytes are long.body.joined
 ]
 
-pub named_bytes : (file : List ℕ) (contents : Contents) (name bytes : List ℕ) → AreBytes file → HasContents file contents → HasNamed contents.streams name bytes → AreBytes bytes
-named_bytes file contents name bytes are has named = subst AreBytes (sym named.same) (stream_bytes file contents are has named.index named.stream named.here)
+pub named_bytes : (file : List ℕ) (contents : Contents) (name bytes : List ℕ) → AreBytes file →
+    HasContents file contents → HasNamed contents.streams name bytes → AreBytes bytes
+named_bytes file contents name bytes are has named =
+    subst AreBytes (sym named.same) (stream_bytes file contents are has named.index named.stream named.here)
 
 -- ---- the modifiers of pieces
 
 -- and their values are bytes
-prm_bytes : (prcs : List (List ℕ)) (a b : Bool) (n isprm operand : ℕ) (sprms : List Prl) → ((k : ℕ) (g : List ℕ) → slice_get prcs k ≡ Some g → AreBytes g) → operand < 256 → NamesSprms prcs (cond a (Prc n) (cond b Nothing (Sprm isprm operand))) sprms → All HasBytes sprms
-prm_bytes prcs true b n isprm operand sprms bytes small named = list_bytes named.0 sprms (bytes n named.0 named.1.0) named.1.1
-prm_bytes prcs false true n isprm operand sprms bytes small named = subst (All HasBytes) (sym named) (All-nil HasBytes)
+prm_bytes : (prcs : List (List ℕ)) (a b : Bool) (n isprm operand : ℕ) (sprms : List Prl) →
+    ((k : ℕ) (g : List ℕ) → slice_get prcs k ≡ Some g → AreBytes g) → operand < 256 →
+    NamesSprms prcs (cond a (Prc n) (cond b Nothing (Sprm isprm operand))) sprms → All HasByteValue sprms
+prm_bytes prcs true b n isprm operand sprms bytes small named =
+    list_bytes named.0 sprms (bytes n named.0 named.1.0) named.1.1
+prm_bytes prcs false true n isprm operand sprms bytes small named =
+    subst (All HasByteValue) (sym named) (All-nil HasByteValue)
 prm_bytes prcs false false n isprm operand sprms bytes small named =
-    subst (All HasBytes) (sym named.1.1) (All-cons HasBytes (named.0, operand ∷ []) [] (one_byte operand small) (All-nil HasBytes))
+    subst (All HasByteValue) (sym named.1.1) (All-cons HasByteValue (named.0, operand ∷ []) [] (one_byte operand small) (All-nil HasByteValue))
 
 -- the lists of the Prcs, and the Plc, are bytes where the Clx is
-sized_body : (clxt width : ℕ) (body more : List ℕ) → AreBytes ((clxt ∷ (number_bytes width (length body) ++ body)) ++ more) → AreBytes body
+sized_body : (clxt width : ℕ) (body more : List ℕ) →
+    AreBytes ((clxt ∷ (number_bytes width (length body) ++ body)) ++ more) → AreBytes body
 sized_body clxt width body more are =
     back_bytes (number_bytes width (length body)) body (λ i. front_bytes (clxt ∷ (number_bytes width (length body) ++ body)) more are (suc i))
 
-prcs_bytes : (prcs : List (List ℕ)) (more : List ℕ) → AreBytes (flat_map prc_bytes prcs ++ more) → (k : ℕ) (g : List ℕ) → slice_get prcs k ≡ Some g → AreBytes g
+prcs_bytes : (prcs : List (List ℕ)) (more : List ℕ) → AreBytes (flat_map prc_bytes prcs ++ more) →
+    (k : ℕ) (g : List ℕ) → slice_get prcs k ≡ Some g → AreBytes g
 prcs_bytes [] more are k g here = absurd (let within = slice_get_within [] k g here in omega arith)
 prcs_bytes (p ∷ ps) more are zero g here =
     subst AreBytes (same_Some p g here)
@@ -73,12 +89,14 @@ pub plc_bytes : (clx : List ℕ) (parts : ClxParts) → AreBytes clx → SpellsC
 plc_bytes clx parts are is =
     sized_body 2 4 parts.plc.bytes is.more (back_bytes (flat_map prc_bytes parts.prcs) (pcdt_bytes parts.plc.bytes ++ is.more) (subst AreBytes is.spelt are))
 
-pub right_modifiers : (clx : List ℕ) (pieces : List TextPiece) → AreBytes clx → IsClx clx pieces → All (λ piece. IsRightModifier piece.modifier) pieces
+pub right_modifiers : (clx : List ℕ) (pieces : List TextPiece) → AreBytes clx → IsClx clx pieces →
+    All (λ piece. IsRightModifier piece.modifier) pieces
 right_modifiers clx pieces are is =
     let prcs = is.parts.prcs in
     let plc = is.parts.plc in
     let spelt = subst AreBytes is.spelt.spelt are in
-    let prc_are : (k : ℕ) (g : List ℕ) → slice_get prcs k ≡ Some g → AreBytes g = prcs_bytes prcs (pcdt_bytes plc.bytes ++ is.spelt.more) spelt in
+    let prc_are : (k : ℕ) (g : List ℕ) → slice_get prcs k ≡ Some g → AreBytes g =
+    prcs_bytes prcs (pcdt_bytes plc.bytes ++ is.spelt.more) spelt in
     let plc_are : AreBytes plc.bytes = plc_bytes clx is.parts are is.spelt in
     All-from_slice_get (λ (piece : TextPiece). IsRightModifier piece.modifier) pieces (λ k piece here.
     let names = is.modifiers k piece here in
@@ -88,18 +106,20 @@ right_modifiers clx pieces are is =
     let bytes = prm_bytes prcs (word % 2 == 1) (word / 2 % 128 == 0) (word / 2) (word / 2 % 128) (word / 256) names.sprms prc_are (omega arith) names.named in
     record {
       formed = record {
-        chp = IsPropertyMap-after names.sprms character_groups empty piece.modifier.chp entries names.does.characters (IsPropertyMap-empty character_groups);
-        pap = IsPropertyMap-after names.sprms paragraph_groups empty piece.modifier.pap entries names.does.marks (IsPropertyMap-empty paragraph_groups);
+        chp = IsPropertyMap-after names.sprms character_groups empty piece.modifier.chp entries bytes names.does.characters (IsPropertyMap-empty character_groups);
+        pap = IsPropertyMap-after names.sprms paragraph_groups empty piece.modifier.pap entries bytes names.does.marks (IsPropertyMap-empty paragraph_groups);
       };
       small = λ n e. style_small names.sprms paragraph_groups n bytes (sym names.does.style ∙ e);
     })
 
 -- ---- the modifiers of places
 
-has_modifier : (P : Modifier → Type 0) (f : ℕ → UnitPlace) → ((j : ℕ) → P (f j).modifier) → (js : List ℕ) → All (λ (place : UnitPlace). P place.modifier) (map f js)
+has_modifier : (P : Modifier → Type 0) (f : ℕ → UnitPlace) → ((j : ℕ) → P (f j).modifier) → (js : List ℕ) →
+    All (λ (place : UnitPlace). P place.modifier) (map f js)
 has_modifier P f each js = All-map (λ (place : UnitPlace). P place.modifier) f js (λ k d below. each (get_or js k d))
 
-places_right : (pieces : List TextPiece) → All (λ (piece : TextPiece). IsRightModifier piece.modifier) pieces → All (λ (place : UnitPlace). IsRightModifier place.modifier) (flat_map unit_places pieces)
+places_right : (pieces : List TextPiece) → All (λ (piece : TextPiece). IsRightModifier piece.modifier) pieces →
+    All (λ (place : UnitPlace). IsRightModifier place.modifier) (flat_map unit_places pieces)
 places_right [] all = All-nil (λ (place : UnitPlace). IsRightModifier place.modifier)
 places_right (p ∷ ps) all =
     let P : TextPiece → Type 0 = λ piece. IsRightModifier piece.modifier in
@@ -107,7 +127,8 @@ places_right (p ∷ ps) all =
     All-append (λ (place : UnitPlace). IsRightModifier place.modifier) (unit_places p) (flat_map unit_places ps)
     (has_modifier IsRightModifier _ (λ j. first) (range_with_len 0 p.len)) (places_right ps (All-tail P p ps all))
 
-pub place_right : (pieces : List TextPiece) → All (λ (piece : TextPiece). IsRightModifier piece.modifier) pieces → (cp : ℕ) (place : UnitPlace) → place_of_cp pieces cp ≡ Some place → IsRightModifier place.modifier
+pub place_right : (pieces : List TextPiece) → All (λ (piece : TextPiece). IsRightModifier piece.modifier) pieces →
+    (cp : ℕ) (place : UnitPlace) → place_of_cp pieces cp ≡ Some place → IsRightModifier place.modifier
 unfolding flat_pieces
 place_right pieces all cp place here =
     let flat = flat_map unit_places pieces in

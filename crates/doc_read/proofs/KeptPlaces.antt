@@ -1,5 +1,6 @@
 -- The place of a unit that ends a paragraph is among theirs.
-use Rattle.std.proofs.Common.{◌≡◌, ◌∙◌, refl, ap, subst, ℕ, zero, suc, ◌<◌, Bool, true, false, List, [], ◌∷◌, length, filter, arith}
+use Rattle.std.proofs.Common.{◌≡◌, ◌∙◌, refl, ap, subst, ℕ, zero, suc, ◌<◌, Bool, true, false, List, [], ◌∷◌}
+use Rattle.std.proofs.Common.{length, filter, arith}
 use Rattle.std.specs.Prelude.{slice_index}
 use Rattle.std.specs.List.{range_with_len}
 use Rattle.std.proofs.lemmas.List.{length-map, get_or-map}
@@ -12,7 +13,8 @@ use Rattle.doc_load.specs.FormatRules.{judged_units, judged_places, ends_paragra
 IsKeptAt : (ℕ → Bool) → List ℕ → ℕ → ℕ → Type 0
 IsKeptAt p xs y k = (k < length (filter p xs)) × (slice_index (filter p xs) k ≡ y)
 
-kept_behind : (p : ℕ → Bool) (x : ℕ) (xs : List ℕ) (y k : ℕ) → IsKeptAt p xs y k → (b : Bool) → p x ≡ b → (n : ℕ) × IsKeptAt p (x ∷ xs) y n
+kept_behind : (p : ℕ → Bool) (x : ℕ) (xs : List ℕ) (y k : ℕ) → IsKeptAt p xs y k → (b : Bool) → p x ≡ b →
+    (n : ℕ) × IsKeptAt p (x ∷ xs) y n
 unfolding IsKeptAt
 kept_behind p x xs y k h true e =
     let kept : x ∷ filter p xs ≡ filter p (x ∷ xs) = rw e refl in
@@ -23,7 +25,8 @@ kept_behind p x xs y k h false e =
     let kept : filter p xs ≡ filter p (x ∷ xs) = rw e refl in
     (k, subst (λ l. (k < length l) × (slice_index l k ≡ y)) kept h)
 
-kept_at : (p : ℕ → Bool) (xs : List ℕ) (i : ℕ) → i < length xs → p (slice_index xs i) ≡ true → (k : ℕ) × IsKeptAt p xs (slice_index xs i) k
+kept_at : (p : ℕ → Bool) (xs : List ℕ) (i : ℕ) → i < length xs → p (slice_index xs i) ≡ true →
+    (k : ℕ) × IsKeptAt p xs (slice_index xs i) k
 unfolding IsKeptAt
 kept_at p [] i below e = absurd (omega arith)
 kept_at p (x ∷ xs) zero below e =
@@ -34,7 +37,9 @@ kept_at p (x ∷ xs) (suc i) below e =
     let next = kept_at p xs i (omega arith) e in kept_behind p x xs (slice_index xs i) next.0 next.1 (p x) refl
 
 -- the place of a unit that ends a paragraph is among theirs
-pub paragraph_place : (source : DocSource) (sections : List Sed) (cp : ℕ) → cp < length (judged_units source) → ends_paragraph source sections cp ≡ true → (k : ℕ) × ((k < length (paragraph_places source sections)) × (slice_index (paragraph_places source sections) k ≡ slice_index (judged_places source) cp))
+pub paragraph_place : (source : DocSource) (sections : List Sed) (cp : ℕ) → cp < length (judged_units source) →
+    ends_paragraph source sections cp ≡ true →
+    (k : ℕ) × ((k < length (paragraph_places source sections)) × (slice_index (paragraph_places source sections) k ≡ slice_index (judged_places source) cp))
 unfolding IsKeptAt
 paragraph_place source sections cp below ends =
     let n = length (judged_units source) in

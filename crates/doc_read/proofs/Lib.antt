@@ -1,4 +1,3 @@
-pub mod AcceptedLemmas
 pub mod ContentsBounds
 pub mod CarriedLemmas
 pub mod LevelLemmas
@@ -12,7 +11,6 @@ pub mod EntryLemmas
 pub mod UpLemmas
 pub mod MarkListLemmas
 pub mod PlaceLemmas
-pub mod ModifierLemmas
 pub mod AddLemmas
 pub mod RightLemmas
 pub mod ReadableLemmas
@@ -23,21 +21,13 @@ pub mod OpeningLemmas
 pub mod PartsOfOneFile
 pub mod OneItem
 pub mod OneDocument
-pub mod ExistMaps
-pub mod ExistLists
-pub mod ExistDirect
 pub mod ExistTables
 pub mod ExistSections
-pub mod ExistSheet
 pub mod ExistText
 pub mod ExistItems
 pub mod ExistParts
 pub mod ExistDocument
-pub mod ByteLists
-pub mod FirstOf
 pub mod PrmEntries
-pub mod StableStyles
-pub mod ExistStyles
 pub mod EntryValues
 pub mod KeptPlaces
 pub mod ExistFits

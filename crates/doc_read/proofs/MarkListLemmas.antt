@@ -1,9 +1,11 @@
 -- The CPs at which something stands ascend.
-use Rattle.std.proofs.Common.{◌≡◌, ◌∙◌, refl, sym, ap, subst, inl, inr, ℕ, ◌<◌, ◌≤◌, ◌+◌, ◌-◌, true, false, List, [], ◌∷◌, ◌++◌, length, map, drop, arith, length-append, length-drop}
+use Rattle.std.proofs.Common.{◌≡◌, ◌∙◌, refl, sym, ap, subst, inl, inr, ℕ, ◌<◌, ◌≤◌, ◌+◌, ◌-◌, true, false}
+use Rattle.std.proofs.Common.{List, [], ◌∷◌, ◌++◌, length, map, drop, arith, length-append, length-drop}
 use Rattle.std.proofs.lemmas.Bool.{cases_lt}
 use Rattle.std.proofs.lemmas.List.{length-map, map-append}
 use Rattle.doc_bits.specs.declared.places.Where.TheVariants.{Table}
 use Rattle.doc_bits.specs.Rules.{Hold}
+use Rattle.doc_bits.proofs.ListLemmas.{map-map}
 use Rattle.doc_parts.specs.declared.lists.Sed.{Sed}
 use Rattle.doc_parts.specs.declared.lists.Fld.{Fld}
 use Rattle.doc_parts.specs.declared.lists.NoteRef.{NoteRef}
@@ -11,36 +13,37 @@ use Rattle.doc_parts.specs.Cps.{AreCpsInOrder}
 use Rattle.doc_parts.specs.Table.{table_of}
 use Rattle.doc_parts.specs.Fields.{fld_cps}
 use Rattle.doc_parts.specs.Sections.{sed_cps, section_rules}
-use Rattle.doc_load.specs.declared.table_parts.TablePart.TheVariants.{PlcfSed}
-use Rattle.doc_load.specs.declared.source.Story.TheVariants.{Main, Notes, Heads}
+use Rattle.fib_form.specs.declared.table_parts.TablePart.TheVariants.{PlcfSed}
+use Rattle.fib_form.specs.declared.stories.StoryKind.TheVariants.{Main, Notes, Heads}
 use Rattle.doc_load.specs.Source.{DocSource, part_bytes, part_place, story_length}
 use Rattle.doc_load.specs.SectionRules.{HasSections, rules_of_sections}
 use Rattle.doc_load.specs.FormatRules.{section_ends}
-use Rattle.doc_load.specs.PartRules.{PartLists, HasParts}
+use Rattle.doc_load.specs.PartRules.{PartLists, HasPartLists}
 use Rattle.doc_load.proofs.RightPlaces.{hold_out}
 use Rattle.doc_read.specs.Sections.{section_lasts}
 use Rattle.doc_read.specs.Marked.{story_bytes, field_bytes, note_kind, note_kinds}
 use Rattle.doc_read.specs.Passing.{AreUp}
 use Rattle.doc_read.proofs.UpLemmas.{IsUpWithin, up_in_order, up_shift, up_join, up_one, up_rest}
 
-pub map_twice : {A B C : Type 0} (f : B → C) (g : A → B) (xs : List A) → map f (map g xs) ≡ map (λ x. f (g x)) xs
-map_twice f g [] = refl
-map_twice f g (x ∷ xs) = ap (λ l. f (g x) ∷ l) (map_twice f g xs)
-
 -- the CPs of the field characters of a story
-story_cps : (begin : ℕ) (fields : List Fld) → map (λ cp. begin + cp) (map (λ fld. fld.cp) fields) ≡ map (λ entry. entry.0) (story_bytes begin fields)
+story_cps : (begin : ℕ) (fields : List Fld) →
+    map (λ cp. begin + cp) (map (λ fld. fld.cp) fields) ≡ map (λ entry. entry.0) (story_bytes begin fields)
 story_cps begin fields =
-    map_twice (λ cp. begin + cp) (λ (fld : Fld). fld.cp) fields ∙ sym (map_twice {C = ℕ} (λ (entry : ℕ × ℕ). entry.0) (λ (fld : Fld). (begin + fld.cp, fld.byte)) fields)
+    map-map (λ cp. begin + cp) (λ (fld : Fld). fld.cp) fields ∙ sym (map-map {C = ℕ} (λ (entry : ℕ × ℕ). entry.0) (λ (fld : Fld). (begin + fld.cp, fld.byte)) fields)
 
-story_up : (begin len high : ℕ) (fields : List Fld) → begin + len ≤ high → AreCpsInOrder (fld_cps len) (map (λ fld. fld.cp) fields) → IsUpWithin begin high (map (λ entry. entry.0) (story_bytes begin fields))
+story_up : (begin len high : ℕ) (fields : List Fld) → begin + len ≤ high →
+    AreCpsInOrder (fld_cps len) (map (λ fld. fld.cp) fields) →
+    IsUpWithin begin high (map (λ entry. entry.0) (story_bytes begin fields))
 story_up begin len high fields enough in_order =
     subst (λ l. IsUpWithin begin high l) (story_cps begin fields) (up_shift begin len high (map (λ fld. fld.cp) fields) enough (up_in_order false len (map (λ fld. fld.cp) fields) in_order))
 
 -- the CPs of a list in three parts
-pub three_parts : (f : ℕ × ℕ → ℕ) (xs ys zs : List (ℕ × ℕ)) → map f (xs ++ (ys ++ zs)) ≡ map f xs ++ (map f ys ++ map f zs)
+pub three_parts : (f : ℕ × ℕ → ℕ) (xs ys zs : List (ℕ × ℕ)) →
+    map f (xs ++ (ys ++ zs)) ≡ map f xs ++ (map f ys ++ map f zs)
 three_parts f xs ys zs = map-append f xs (ys ++ zs) ∙ ap (λ l. map f xs ++ l) (map-append f ys zs)
 
-pub fields_up : (source : DocSource) (lists : PartLists) → HasParts source lists → AreUp (map (λ entry. entry.0) (field_bytes source lists))
+pub fields_up : (source : DocSource) (lists : PartLists) → HasPartLists source lists →
+    AreUp (map (λ entry. entry.0) (field_bytes source lists))
 fields_up source lists has =
     let one = story_length source Main in
     let two = story_length source Notes in
@@ -54,18 +57,22 @@ fields_up source lists has =
 
 -- those of the references to notes
 pub note_cps_are : (refs : List NoteRef) → map (λ ref. ref.cp) refs ≡ map (λ entry. entry.0) (note_kinds refs)
-note_cps_are refs = sym (map_twice (λ entry. entry.0) (λ (ref : NoteRef). (ref.cp, note_kind ref.auto)) refs)
+note_cps_are refs = sym (map-map (λ entry. entry.0) (λ (ref : NoteRef). (ref.cp, note_kind ref.auto)) refs)
 
-pub note_kinds_are : (refs : List NoteRef) → map (λ ref. note_kind ref.auto) refs ≡ map (λ entry. entry.1) (note_kinds refs)
-note_kinds_are refs = sym (map_twice (λ entry. entry.1) (λ (ref : NoteRef). (ref.cp, note_kind ref.auto)) refs)
+pub note_kinds_are : (refs : List NoteRef) →
+    map (λ ref. note_kind ref.auto) refs ≡ map (λ entry. entry.1) (note_kinds refs)
+note_kinds_are refs = sym (map-map (λ entry. entry.1) (λ (ref : NoteRef). (ref.cp, note_kind ref.auto)) refs)
 
-pub notes_up : (source : DocSource) (lists : PartLists) → HasParts source lists → AreUp (map (λ entry. entry.0) (note_kinds lists.refs))
+pub notes_up : (source : DocSource) (lists : PartLists) → HasPartLists source lists →
+    AreUp (map (λ entry. entry.0) (note_kinds lists.refs))
 notes_up source lists has =
-    let is = up_in_order false (story_length source Main) (map (λ ref. ref.cp) lists.refs) has.has_refs.leading.in_order in
+    let is =
+    up_in_order false (story_length source Main) (map (λ ref. ref.cp) lists.refs) has.has_refs.leading.in_order in
     subst AreUp (note_cps_are lists.refs) is.up
 
 -- a main text has a section
-pub some_section : (source : DocSource) (sections : List Sed) → Hold (rules_of_sections source) → HasSections source sections → 1 ≤ length sections
+pub some_section : (source : DocSource) (sections : List Sed) → Hold (rules_of_sections source) →
+    HasSections source sections → 1 ≤ length sections
 some_section source sections h has =
     let plc = part_bytes source PlcfSed in
     let at = part_place source PlcfSed in
@@ -77,7 +84,9 @@ some_section source sections h has =
     ]
 
 -- the CPs before which a section ends
-pub ends_up : (sections : List Sed) (main_len : ℕ) → 1 ≤ length sections → AreCpsInOrder (sed_cps main_len) (map (λ sed. sed.start) sections) → IsUpWithin 1 (main_len + 1) (section_ends sections main_len)
+pub ends_up : (sections : List Sed) (main_len : ℕ) → 1 ≤ length sections →
+    AreCpsInOrder (sed_cps main_len) (map (λ sed. sed.start) sections) →
+    IsUpWithin 1 (main_len + 1) (section_ends sections main_len)
 ends_up sections main_len some in_order =
     let starts = map (λ (sed : Sed). sed.start) sections in
     let is = up_in_order true main_len starts in_order in
@@ -85,7 +94,8 @@ ends_up sections main_len some in_order =
     let first = is.below 0 there in
     up_join 1 main_len (main_len + 1) (drop 1 starts) (main_len ∷ []) (omega (arith, first)) (omega arith) (up_rest main_len starts is) (up_one main_len)
 
-pub length-section_lasts : (sections : List Sed) (main_len : ℕ) → 1 ≤ length sections → length (section_lasts sections main_len) ≡ length sections
+pub length-section_lasts : (sections : List Sed) (main_len : ℕ) → 1 ≤ length sections →
+    length (section_lasts sections main_len) ≡ length sections
 length-section_lasts sections main_len some =
     let starts = map (λ (sed : Sed). sed.start) sections in
     let one = length-map (section_ends sections main_len) (λ end. end - 1) in

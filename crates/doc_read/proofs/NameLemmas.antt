@@ -1,59 +1,18 @@
--- Names that are compared: as a test and as a relation.
-use Rattle.std.proofs.Common.{◌≡◌, ◌↔◌, ℕ, zero, suc, ◌+◌, ◌<◌, Bool, true, false, not, ◌&&◌, ◌==◌, if◌then◌else◌, IsTrue, List, length, slice_index, codes, refl, sym, ◌∙◌, subst, arith, eq-eqb, eqb-true}
-use Rattle.std.specs.List.{list_all, range_with_len}
-use Rattle.std.proofs.lemmas.Bool.{and_from, and_parts, and_left, and_right, not_from_true, false_from_ne_true, true≢false}
-use Rattle.cfb_streams.specs.Directory.{upper_case, AreSameNames}
+-- The names of streams that are carried.
+use Rattle.std.proofs.Common.{◌≡◌, ℕ, Bool, true, false, not, ◌&&◌, if◌then◌else◌, List, sym, ◌∙◌}
+use Rattle.std.proofs.lemmas.Bool.{and_parts, and_left, and_right, not_from_true, true≢false}
+use Rattle.cfb_streams.specs.Directory.{AreSameNames}
+use Rattle.cfb_streams.specs.Names.{wd_name, first_table_name, second_table_name, is_same_name}
+use Rattle.cfb_streams.proofs.SameNameLemmas.{same_name-is}
 use Rattle.plain_doc.specs.Carried.{IsCarriedName}
-use Rattle.doc_read.specs.CarriedParts.{is_same_name, is_carried}
-
--- a test that all numbers of a range pass
-all-from : (test : ℕ → Bool) (from count : ℕ) → ((i : ℕ) → i < count → test (from + i) ≡ true) → list_all test (range_with_len from count) ≡ true
-all-from test from zero passes = refl
-all-from test from (suc count) passes =
-    and_from (test from) (list_all test (range_with_len (from + 1) count))
-    (subst (λ k. test k ≡ true) (let e : from + 0 ≡ from = omega arith in e) (passes 0 (omega arith)))
-    (all-from test (from + 1) count (λ i below. subst (λ k. test k ≡ true) (let e : from + suc i ≡ from + 1 + i = omega arith in e) (passes (suc i) (omega arith))))
-
-all-at : (test : ℕ → Bool) (from count : ℕ) → list_all test (range_with_len from count) ≡ true → (i : ℕ) → i < count → test (from + i) ≡ true
-all-at test from zero all i below = absurd (omega arith)
-all-at test from (suc count) all zero below =
-    subst (λ k. test k ≡ true) (let e : from ≡ from + 0 = omega arith in e) (and_parts (test from) (list_all test (range_with_len (from + 1) count)) all).0
-all-at test from (suc count) all (suc i) below =
-    subst (λ k. test k ≡ true) (let e : from + 1 + i ≡ from + suc i = omega arith in e)
-    (all-at test (from + 1) count (and_parts (test from) (list_all test (range_with_len (from + 1) count)) all).1 i (omega arith))
-
--- the test says what the relation says
-pub same_name-is : (name other : List ℕ) → IsTrue (is_same_name name other) ↔ AreSameNames name other
-same_name-is name other =
-    let test : ℕ → Bool = λ i. upper_case (slice_index name i) == upper_case (slice_index other i) in
-    let long : Bool = length name == length other in
-    let all : Bool = list_all test (range_with_len 0 (length name)) in (
-      (λ same.
-          let parts = and_parts long all same in
-          record {
-            long = eqb-true (length name) (length other) parts.0;
-            units = λ i below. eqb-true (upper_case (slice_index name i)) (upper_case (slice_index other i))
-                (subst (λ k. test k ≡ true) (let e : 0 + i ≡ i = omega arith in e) (all-at test 0 (length name) parts.1 i below));
-          }),
-      (λ are. and_from long all (eq-eqb (length name) (length other) are.long)
-          (all-from test 0 (length name)
-          (λ i below. subst (λ k. test k ≡ true) (let e : i ≡ 0 + i = omega arith in e)
-          (eq-eqb (upper_case (slice_index name i)) (upper_case (slice_index other i)) (are.units i below))))),
-    )
-
--- the test of a loop
-pub same_name-true : (name other : List ℕ) → length name ≡ length other → ((i : ℕ) → i < length name → upper_case (slice_index name i) ≡ upper_case (slice_index other i)) → true ≡ is_same_name name other
-same_name-true name other long units = sym ((same_name-is name other).1 (record { long = long; units = units }))
-
-pub same_name-false : (name other : List ℕ) → ¬ AreSameNames name other → false ≡ is_same_name name other
-same_name-false name other apart = sym (false_from_ne_true (is_same_name name other) (λ same. apart ((same_name-is name other).0 same)))
+use Rattle.doc_read.specs.CarriedParts.{is_carried}
 
 -- the three tests of a name
 three : (name : List ℕ) → is_carried name ≡ true
-    → (not (is_same_name name (codes "WordDocument")) ≡ true) × ((not (is_same_name name (codes "0Table")) ≡ true) × (not (is_same_name name (codes "1Table")) ≡ true))
+    → (not (is_same_name name wd_name) ≡ true) × ((not (is_same_name name first_table_name) ≡ true) × (not (is_same_name name second_table_name) ≡ true))
 three name carried =
-    let parts = and_parts (not (is_same_name name (codes "WordDocument"))) (not (is_same_name name (codes "0Table")) && not (is_same_name name (codes "1Table"))) carried in
-    (parts.0, and_parts (not (is_same_name name (codes "0Table"))) (not (is_same_name name (codes "1Table"))) parts.1)
+    let parts = and_parts (not (is_same_name name wd_name)) (not (is_same_name name first_table_name) && not (is_same_name name second_table_name)) carried in
+    (parts.0, and_parts (not (is_same_name name first_table_name)) (not (is_same_name name second_table_name)) parts.1)
 
 is_not : (name other : List ℕ) → AreSameNames name other → not (is_same_name name other) ≡ false
 is_not name other same = not_from_true (is_same_name name other) ((same_name-is name other).1 same)
@@ -66,21 +25,22 @@ pub carried_name : (name : List ℕ) → is_carried name ≡ true → IsCarriedN
 carried_name name carried =
     let all = three name carried in
     record {
-      no_wd = λ same. apart name (codes "WordDocument") all.0 same;
-      no_first_table = λ same. apart name (codes "0Table") all.1.0 same;
-      no_second_table = λ same. apart name (codes "1Table") all.1.1 same;
+      no_wd = λ same. apart name wd_name all.0 same;
+      no_first_table = λ same. apart name first_table_name all.1.0 same;
+      no_second_table = λ same. apart name second_table_name all.1.1 same;
     }
 
 -- one that has one of them is not carried
-pub wd-not_carried : (name : List ℕ) → AreSameNames name (codes "WordDocument") → is_carried name ≡ false
+pub wd-not_carried : (name : List ℕ) → AreSameNames name wd_name → is_carried name ≡ false
 wd-not_carried name same =
-    and_left (not (is_same_name name (codes "WordDocument"))) (not (is_same_name name (codes "0Table")) && not (is_same_name name (codes "1Table")))
-    (is_not name (codes "WordDocument") same)
+    and_left (not (is_same_name name wd_name)) (not (is_same_name name first_table_name) && not (is_same_name name second_table_name))
+    (is_not name wd_name same)
 
-pub table-not_carried : (name : List ℕ) (first : Bool) → AreSameNames name (if first then codes "1Table" else codes "0Table") → is_carried name ≡ false
+pub table-not_carried : (name : List ℕ) (first : Bool) →
+    AreSameNames name (if first then second_table_name else first_table_name) → is_carried name ≡ false
 table-not_carried name true same =
-    and_right (not (is_same_name name (codes "WordDocument"))) (not (is_same_name name (codes "0Table")) && not (is_same_name name (codes "1Table")))
-    (and_right (not (is_same_name name (codes "0Table"))) (not (is_same_name name (codes "1Table"))) (is_not name (codes "1Table") same))
+    and_right (not (is_same_name name wd_name)) (not (is_same_name name first_table_name) && not (is_same_name name second_table_name))
+    (and_right (not (is_same_name name first_table_name)) (not (is_same_name name second_table_name)) (is_not name second_table_name same))
 table-not_carried name false same =
-    and_right (not (is_same_name name (codes "WordDocument"))) (not (is_same_name name (codes "0Table")) && not (is_same_name name (codes "1Table")))
-    (and_left (not (is_same_name name (codes "0Table"))) (not (is_same_name name (codes "1Table"))) (is_not name (codes "0Table") same))
+    and_right (not (is_same_name name wd_name)) (not (is_same_name name first_table_name) && not (is_same_name name second_table_name))
+    (and_left (not (is_same_name name first_table_name)) (not (is_same_name name second_table_name)) (is_not name first_table_name same))

@@ -1,7 +1,8 @@
 -- A file holds one document, and names one first broken rule.
 use Rattle.std.proofs.Common.{◌≡◌, ◌∙◌, ◌-◌, ◌≤◌, arith, sym, subst, ap, ℕ, List, [], ◌∷◌, length, lit≤}
 use Rattle.std.proofs.Props.{props}
-use Rattle.doc_bits.specs.Rules.{Rules, rule, ◌then◌, given, Hold, IsSingle, Ascends}
+use Rattle.doc_bits.specs.Rules.{Hold, IsSingle, Ascends}
+use Rattle.doc_bits.proofs.RuleLemmas.{ascends_wider}
 use Rattle.cfb_streams.specs.Contents.{Contents, NamedBytes}
 use Rattle.fib_form.specs.FibFields.{IsKeptFlags}
 use Rattle.plain_doc.specs.declared.carried.Carried.{Carried}
@@ -9,7 +10,7 @@ use Rattle.plain_doc.specs.declared.document.Document.{Document}
 use Rattle.plain_doc.specs.Carried.{ArePartsShort, AreListsWithLevels, AreCarriedStreams}
 use Rattle.plain_doc.specs.Sound.{document_rules}
 use Rattle.plain_doc.proofs.SoundLemmas.{document_rules-IsSingle, document_rules-Ascends}
-use Rattle.doc_load.specs.declared.source.Story.TheVariants.{Main, Notes, Heads}
+use Rattle.fib_form.specs.declared.stories.StoryKind.TheVariants.{Main, Notes, Heads}
 use Rattle.doc_load.specs.Source.{DocSource, story_length, story_begin}
 use Rattle.doc_load.specs.PartRules.{part_rules}
 use Rattle.doc_load.specs.FileRules.{HasText, source_of, file_rules}
@@ -86,9 +87,11 @@ abbrev facts_of : (c : Carried) → CarriedFacts (data_of c)
 facts_of c = record { short = c.short; lists = c.lists; kept = c.kept; others = c.others }
 
 same_built : (d e : CarriedData) → d ≡ e → (p : CarriedFacts d) (q : CarriedFacts e) → carried_of d p ≡ carried_of e q
-same_built d e same p = subst (λ x. (q : CarriedFacts x) → carried_of d p ≡ carried_of x q) same (λ q. ap (carried_of d) (facts_prop d p q))
+same_built d e same p =
+    subst (λ x. (q : CarriedFacts x) → carried_of d p ≡ carried_of x q) same (λ q. ap (carried_of d) (facts_prop d p q))
 
-carried_one : (contents : Contents) (source : DocSource) (levels : List ℕ) (a b : Carried) → HoldsCarried contents source levels a → HoldsCarried contents source levels b → a ≡ b
+carried_one : (contents : Contents) (source : DocSource) (levels : List ℕ) (a b : Carried) →
+    HoldsCarried contents source levels a → HoldsCarried contents source levels b → a ≡ b
 carried_one contents source levels a b ha hb =
     let fonts : a.fonts ≡ b.fonts = ha.fonts ∙ sym hb.fonts in
     let dop : a.dop ≡ b.dop = ha.dop ∙ sym hb.dop in
@@ -119,11 +122,13 @@ carried_one contents source levels a b ha hb =
 -- ---- the document
 
 -- a document is the same where each part of it is
-same_document : (a b : Document) → a.main ≡ b.main → a.notes ≡ b.notes → a.heads ≡ b.heads → a.sheet ≡ b.sheet → a.carried ≡ b.carried → a ≡ b
+same_document : (a b : Document) → a.main ≡ b.main → a.notes ≡ b.notes → a.heads ≡ b.heads → a.sheet ≡ b.sheet →
+    a.carried ≡ b.carried → a ≡ b
 same_document a b e0 e1 e2 e3 e4 = λ i. record { main = e0 i; notes = e1 i; heads = e2 i; sheet = e3 i; carried = e4 i }
 
 -- the parts of a file make one document
-parts_make_one : (parts : FileParts) → HaveBins (source_of parts.text) → (a b : Document) → IsDocumentOf parts a → IsDocumentOf parts b → a ≡ b
+parts_make_one : (parts : FileParts) → HaveBins (source_of parts.text) → (a b : Document) → IsDocumentOf parts a →
+    IsDocumentOf parts b → a ≡ b
 parts_make_one parts bins a b ha hb =
     let source = source_of parts.text in
     let of = text_parts parts in
@@ -135,13 +140,16 @@ parts_make_one parts bins a b ha hb =
     (carried_one parts.contents source parts.lists.levels a.carried b.carried ha.carried hb.carried)
 
 -- the bin tables of a file that breaks no rule
-pub file_bins : (file : List ℕ) (parts : FileParts) → Hold (file_rules file) → HasFileParts file parts → HaveBins (source_of parts.text)
+pub file_bins : (file : List ℕ) (parts : FileParts) → Hold (file_rules file) → HasFileParts file parts →
+    HaveBins (source_of parts.text)
 file_bins file parts h has =
     let contents : h.1.0 ≡ parts.contents = contents_unique file h.1.0 parts.contents h.1.1.0 has.has_contents in
     let rest = h.1.1.1 in
     let text : HasText parts.contents rest.1.0 = subst (λ c. HasText c rest.1.0) contents rest.1.1.0 in
-    let same : rest.1.0 ≡ parts.text = text_one file parts.contents rest.1.0 parts.text has.has_contents text has.has_text in
-    let held : Hold (part_rules (source_of parts.text)) = subst (λ t. Hold (part_rules (source_of t))) same rest.1.1.1 in
+    let same : rest.1.0 ≡ parts.text =
+    text_one file parts.contents rest.1.0 parts.text has.has_contents text has.has_text in
+    let held : Hold (part_rules (source_of parts.text)) =
+    subst (λ t. Hold (part_rules (source_of t))) same rest.1.1.1 in
     let bins = bin_tables (source_of parts.text) held.0.1 in
     record { characters = bins.0; paragraphs = bins.1 }
 
@@ -153,17 +161,8 @@ document_one file a b ha hb =
 -- ---- all rules
 
 pub all_single : (file : List ℕ) → IsSingle (all_rules file)
-all_single file = (file_single file, ((λ a b ha hb. document_one file a b ha hb), λ document h. document_rules-IsSingle document))
-
--- numbers that ascend within a range do so within a wider one
-ascends_wider : {P : Type 0} (rules : Rules P) (low high from to : ℕ) → from ≤ low → high ≤ to → Ascends rules low high → Ascends rules from to
-ascends_wider (rule number breaks) low high from to below above up = let lo = up.0 in let hi = up.1 in (omega arith, omega arith)
-ascends_wider (first then next) low high from to below above up =
-    let lo = up.1.1.0 in
-    let hi = up.1.1.1 in
-    (up.0, (ascends_wider first low up.0 from up.0 below (omega arith) up.1.0, (omega arith, omega arith, ascends_wider next up.0 high up.0 to (omega arith) above up.1.1.2)))
-ascends_wider (given is rules) low high from to below above up =
-    let lo = up.0 in (omega arith, λ x h. ascends_wider (rules x) low high from to below above (up.1 x h))
+all_single file =
+    (file_single file, ((λ a b ha hb. document_one file a b ha hb), λ document h. document_rules-IsSingle document))
 
 pub all_ascend : (file : List ℕ) → Ascends (all_rules file) 1 72
 all_ascend file =

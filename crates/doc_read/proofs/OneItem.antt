@@ -1,5 +1,6 @@
 -- What stands at a CP, and in a text, is one thing.
-use Rattle.std.proofs.Common.{◌≡◌, ◌∙◌, inl, inr, sym, subst, ap, refl, ℕ, ◌+◌, ◌<◌, ◌≤◌, Bool, true, false, List, [], length, Option, Some, None, is_some, slice_index}
+use Rattle.std.proofs.Common.{◌≡◌, ◌∙◌, inl, inr, sym, subst, ap, refl, ℕ, ◌+◌, ◌<◌, ◌≤◌, Bool, true, false}
+use Rattle.std.proofs.Common.{List, [], length, Option, Some, None, is_some, slice_index}
 use Rattle.std.specs.Option.{unwrap_or}
 use Rattle.std.proofs.lemmas.Bool.{cases_lt}
 use Rattle.piece_table.specs.Piece.{UnitPlace}
@@ -8,11 +9,11 @@ use Rattle.direct_props.specs.Direct.{IsDirectCharacter}
 use Rattle.direct_props.proofs.LawLemmas.{character_one, mark_one}
 use Rattle.plain_doc.specs.declared.item.Item.{Item}
 use Rattle.plain_doc.specs.declared.item.Mark.{Mark}
-use Rattle.doc_load.specs.declared.table_parts.TablePart.TheVariants.{PlcfBteChpx, PlcfBtePapx}
+use Rattle.fib_form.specs.declared.table_parts.TablePart.TheVariants.{PlcfBteChpx, PlcfBtePapx}
 use Rattle.doc_load.specs.Units.{unit_at}
 use Rattle.doc_load.specs.Source.{DocSource, part_bytes}
-use Rattle.doc_load.specs.FormatRules.{is_paragraph_end}
-use Rattle.doc_read.specs.Items.{TextParts, IsMarkOf, IsItemAt, HoldsItems, HoldsTexts}
+use Rattle.text_codes.specs.Paragraph.{is_paragraph_end}
+use Rattle.doc_read.specs.Items.{TextParts, IsMarkAt, IsItemAt, HoldsItems, HoldsTexts}
 use Rattle.doc_read.proofs.PartsOfOneFile.{same_lists}
 
 -- the tables that name the pages are tables
@@ -20,7 +21,9 @@ pub record HaveBins (source : DocSource) : Type 0 where
   pub characters : IsBinTable (part_bytes source PlcfBteChpx)
   pub paragraphs : IsBinTable (part_bytes source PlcfBtePapx)
 
-mark_of_one : (end : Bool) (source : DocSource) (place : UnitPlace) (a b : Option Mark) → HaveBins source → IsMarkOf end source place a → IsMarkOf end source place b → a ≡ b
+mark_of_one : (end : Bool) (source : DocSource) (place : UnitPlace) (a b : Option Mark) → HaveBins source →
+    IsMarkAt end source.wd (part_bytes source PlcfBtePapx) place.at place.modifier a →
+    IsMarkAt end source.wd (part_bytes source PlcfBtePapx) place.at place.modifier b → a ≡ b
 mark_of_one true source place (Some a) (Some b) bins ha hb =
     let one = mark_one source.wd (part_bytes source PlcfBtePapx) place.at place.modifier a.istd b.istd a.pap b.pap bins.paragraphs ha hb in
     λ i. Some (record { istd = one.0 i; pap = one.1 i })
@@ -31,11 +34,14 @@ mark_of_one false source place None (Some b) bins ha hb = absurd hb
 mark_of_one false source place (Some a) b bins ha hb = absurd ha
 
 -- an item is the same where each part of it is
-same_item : (a b : Item) → a.unit ≡ b.unit → a.chp ≡ b.chp → a.mark ≡ b.mark → a.sect ≡ b.sect → a.fld ≡ b.fld → a.note ≡ b.note → a ≡ b
-same_item a b e0 e1 e2 e3 e4 e5 = λ i. record { unit = e0 i; chp = e1 i; mark = e2 i; sect = e3 i; fld = e4 i; note = e5 i }
+same_item : (a b : Item) → a.unit ≡ b.unit → a.chp ≡ b.chp → a.mark ≡ b.mark → a.sect ≡ b.sect → a.fld ≡ b.fld →
+    a.note ≡ b.note → a ≡ b
+same_item a b e0 e1 e2 e3 e4 e5 =
+    λ i. record { unit = e0 i; chp = e1 i; mark = e2 i; sect = e3 i; fld = e4 i; note = e5 i }
 
 -- a CP has one item
-pub item_one : (parts : TextParts) → HaveBins parts.source → (cp : ℕ) (a b : Item) → IsItemAt parts cp a → IsItemAt parts cp b → a ≡ b
+pub item_one : (parts : TextParts) → HaveBins parts.source → (cp : ℕ) (a b : Item) → IsItemAt parts cp a →
+    IsItemAt parts cp b → a ≡ b
 item_one parts bins cp a b ha hb =
     let source = parts.source in
     let place : ha.place ≡ hb.place = ap (λ o. unwrap_or o ha.place) (sym ha.here ∙ hb.here) in
@@ -43,14 +49,17 @@ item_one parts bins cp a b ha hb =
     let chp : a.chp ≡ b.chp = character_one source.wd (part_bytes source PlcfBteChpx) hb.place.at hb.place.modifier a.chp b.chp bins.characters
     (subst (λ p. IsDirectCharacter source.wd (part_bytes source PlcfBteChpx) p.at p.modifier a.chp) place ha.characters) hb.characters in
     let sect : a.sect ≡ b.sect = ha.section ∙ sym hb.section in
-    let end : is_paragraph_end a.unit (is_some a.sect) ≡ is_paragraph_end b.unit (is_some b.sect) = λ i. is_paragraph_end (unit i) (is_some (sect i)) in
-    let near : IsMarkOf (is_paragraph_end b.unit (is_some b.sect)) source ha.place a.mark = subst (λ e. IsMarkOf e source ha.place a.mark) end ha.mark in
-    let mark : a.mark ≡ b.mark = mark_of_one (is_paragraph_end b.unit (is_some b.sect)) source hb.place a.mark b.mark bins
-    (subst (λ p. IsMarkOf (is_paragraph_end b.unit (is_some b.sect)) source p a.mark) place near) hb.mark in
+    let end : is_paragraph_end a.unit (is_some a.sect) ≡ is_paragraph_end b.unit (is_some b.sect) =
+    λ i. is_paragraph_end (unit i) (is_some (sect i)) in
+    let near : IsMarkAt (is_paragraph_end b.unit (is_some b.sect)) source.wd (part_bytes source PlcfBtePapx) ha.place.at ha.place.modifier a.mark = subst (λ e. IsMarkAt e source.wd (part_bytes source PlcfBtePapx) ha.place.at ha.place.modifier a.mark) end ha.mark in
+    let mark : a.mark ≡ b.mark =
+    mark_of_one (is_paragraph_end b.unit (is_some b.sect)) source hb.place a.mark b.mark bins
+    (subst (λ p. IsMarkAt (is_paragraph_end b.unit (is_some b.sect)) source.wd (part_bytes source PlcfBtePapx) p.at p.modifier a.mark) place near) hb.mark in
     same_item a b unit chp mark sect (ha.field ∙ sym hb.field) (ha.note ∙ sym hb.note)
 
 -- a text has one list of items
-pub items_one : (parts : TextParts) → HaveBins parts.source → (from to : ℕ) (a b : List Item) → HoldsItems parts from to a → HoldsItems parts from to b → a ≡ b
+pub items_one : (parts : TextParts) → HaveBins parts.source → (from to : ℕ) (a b : List Item) →
+    HoldsItems parts from to a → HoldsItems parts from to b → a ≡ b
 items_one parts bins from to a b ha hb =
     same_lists (λ i. IsItemAt parts (from + i)) (λ i. item_one parts bins (from + i)) a b (ha.len ∙ sym hb.len) ha.each hb.each
 
@@ -59,14 +68,17 @@ record IsText (parts : TextParts) (begin : ℕ) (cuts : List ℕ) (k : ℕ) (tex
   there : k + 1 < length cuts → HoldsItems parts (begin + slice_index cuts k) (begin + slice_index cuts (k + 1)) text
   missing : length cuts ≤ k + 1 → text ≡ []
 
-text_one : (parts : TextParts) → HaveBins parts.source → (begin : ℕ) (cuts : List ℕ) (k : ℕ) (a b : List Item) → IsText parts begin cuts k a → IsText parts begin cuts k b → a ≡ b
+text_one : (parts : TextParts) → HaveBins parts.source → (begin : ℕ) (cuts : List ℕ) (k : ℕ) (a b : List Item) →
+    IsText parts begin cuts k a → IsText parts begin cuts k b → a ≡ b
 text_one parts bins begin cuts k a b ha hb = elim (cases_lt (k + 1) (length cuts)) [
   | inl there ↦ items_one parts bins (begin + slice_index cuts k) (begin + slice_index cuts (k + 1)) a b (ha.there there) (hb.there there)
   | inr missing ↦ ha.missing missing ∙ sym (hb.missing missing)
 ]
 
 -- a story has one list of texts
-pub texts_one : (parts : TextParts) → HaveBins parts.source → (begin : ℕ) (cuts : List ℕ) (count : ℕ) (a b : List (List Item)) → HoldsTexts parts begin cuts count a → HoldsTexts parts begin cuts count b → a ≡ b
+pub texts_one : (parts : TextParts) → HaveBins parts.source →
+    (begin : ℕ) (cuts : List ℕ) (count : ℕ) (a b : List (List Item)) → HoldsTexts parts begin cuts count a →
+    HoldsTexts parts begin cuts count b → a ≡ b
 texts_one parts bins begin cuts count a b ha hb =
     same_lists (IsText parts begin cuts) (text_one parts bins begin cuts) a b (ha.len ∙ sym hb.len)
     (λ k text here. record { there = ha.there k text here; missing = ha.missing k text here })

@@ -11,8 +11,9 @@ use Rattle.prop_map.proofs.LawLemmas.{acting_one}
 use Rattle.direct_props.specs.Direct.{MakesSettings}
 use Rattle.cfb_streams.proofs.UniqueLemmas.{contents_unique}
 use Rattle.doc_parts.specs.declared.lists.Sed.{Sed}
-use Rattle.doc_load.specs.SectionRules.{section_fc, section_groups, sepx_list}
-use Rattle.doc_load.specs.PartRules.{HasParts}
+use Rattle.doc_load.specs.SectionRules.{section_fc, sepx_list}
+use Rattle.prop_map.specs.Formed.{section_groups}
+use Rattle.doc_load.specs.PartRules.{HasPartLists}
 use Rattle.doc_load.specs.FileRules.{HasText, source_of}
 use Rattle.doc_load.proofs.OneLemmas.{parts_one}
 use Rattle.doc_load.proofs.TextLemmas.{text_one}
@@ -20,8 +21,10 @@ use Rattle.doc_read.specs.Sections.{IsSectionSettings, HaveSettings}
 use Rattle.doc_read.specs.Holds.{FileParts, HasFileParts}
 
 -- lists of one length, each of whose elements is the only one at its place, are the same
-pub same_lists : {A : Type 0} (Is : ℕ → A → Type 0) → ((i : ℕ) (x y : A) → Is i x → Is i y → x ≡ y) → (xs ys : List A) → length xs ≡ length ys
-    → ((i : ℕ) (x : A) → slice_get xs i ≡ Some x → Is i x) → ((i : ℕ) (y : A) → slice_get ys i ≡ Some y → Is i y) → xs ≡ ys
+pub same_lists : {A : Type 0} (Is : ℕ → A → Type 0) → ((i : ℕ) (x y : A) → Is i x → Is i y → x ≡ y) → (xs ys : List A) →
+    length xs ≡ length ys
+    → ((i : ℕ) (x : A) → slice_get xs i ≡ Some x → Is i x) → ((i : ℕ) (y : A) → slice_get ys i ≡ Some y → Is i y) →
+    xs ≡ ys
 same_lists Is one [] ys len ha hb = sym (nil_from_length ys (sym len))
 same_lists Is one (x ∷ xs) ys len ha hb =
     ext_get_or x (x ∷ xs) ys len (λ i below.
@@ -30,34 +33,43 @@ same_lists Is one (x ∷ xs) ys len ha hb =
     (hb i (get_or ys i x) (slice_get-get_or ys i x (omega (arith, len, below)))))
 
 -- a list of sprms makes one map
-pub settings_one : (list : List ℕ) (groups : ℕ) (one other : Settings) (style named : Option ℕ) → MakesSettings list groups one style → MakesSettings list groups other named → one ≡ other
+pub settings_one : (list : List ℕ) (groups : ℕ) (one other : Settings) (style named : Option ℕ) →
+    MakesSettings list groups one style → MakesSettings list groups other named → one ≡ other
 settings_one list groups one other style named a b =
     let prls = spelt_unique list a.prls b.prls a.spelt b.spelt in
     acting_one a.prls groups empty one other a.map (subst (λ ps. ArePropertiesAfter ps groups empty other) (sym prls) b.map)
 
 -- a section has one map of settings
-section_one : (wd : List ℕ) (fc : ℕ) (one other : Settings) → IsSectionSettings wd fc one → IsSectionSettings wd fc other → one ≡ other
+section_one : (wd : List ℕ) (fc : ℕ) (one other : Settings) → IsSectionSettings wd fc one →
+    IsSectionSettings wd fc other → one ≡ other
 section_one wd fc one other (inl a) (inl b) = a.1 ∙ sym b.1
 section_one wd fc one other (inl a) (inr b) = absurd (b.there a.0)
 section_one wd fc one other (inr a) (inl b) = absurd (a.there b.0)
-section_one wd fc one other (inr a) (inr b) = settings_one (sepx_list wd fc) section_groups one other a.style b.style a.makes b.makes
+section_one wd fc one other (inr a) (inr b) =
+    settings_one (sepx_list wd fc) section_groups one other a.style b.style a.makes b.makes
 
-pub section_maps_one : (wd : List ℕ) (sections : List Sed) (one other : List Settings) → HaveSettings wd sections one → HaveSettings wd sections other → one ≡ other
+pub section_maps_one : (wd : List ℕ) (sections : List Sed) (one other : List Settings) → HaveSettings wd sections one →
+    HaveSettings wd sections other → one ≡ other
 section_maps_one wd sections one other a b =
     same_lists (λ k. IsSectionSettings wd (section_fc sections k)) (λ k. section_one wd (section_fc sections k)) one other (a.len ∙ sym b.len) a.each b.each
 
 -- what a file has is the same where each part of it is
-same_parts : (a b : FileParts) → a.contents ≡ b.contents → a.text ≡ b.text → a.lists ≡ b.lists → a.sections ≡ b.sections → a ≡ b
+same_parts : (a b : FileParts) → a.contents ≡ b.contents → a.text ≡ b.text → a.lists ≡ b.lists →
+    a.sections ≡ b.sections → a ≡ b
 same_parts a b e0 e1 e2 e3 = λ i. record { contents = e0 i; text = e1 i; lists = e2 i; sections = e3 i }
 
 -- a file has one of each
 pub file_parts_one : (file : List ℕ) (a b : FileParts) → HasFileParts file a → HasFileParts file b → a ≡ b
 file_parts_one file a b ha hb =
-    let contents : a.contents ≡ b.contents = contents_unique file a.contents b.contents ha.has_contents hb.has_contents in
+    let contents : a.contents ≡ b.contents =
+    contents_unique file a.contents b.contents ha.has_contents hb.has_contents in
     let text_there : HasText b.contents a.text = subst (λ c. HasText c a.text) contents ha.has_text in
     let text : a.text ≡ b.text = text_one file b.contents a.text b.text hb.has_contents text_there hb.has_text in
-    let lists_there : HasParts (source_of b.text) a.lists = subst (λ t. HasParts (source_of t) a.lists) text ha.has_lists in
+    let lists_there : HasPartLists (source_of b.text) a.lists =
+    subst (λ t. HasPartLists (source_of t) a.lists) text ha.has_lists in
     let lists : a.lists ≡ b.lists = parts_one (source_of b.text) a.lists b.lists lists_there hb.has_lists in
-    let near : HaveSettings b.text.wd a.lists.sections a.sections = subst (λ t. HaveSettings t.wd a.lists.sections a.sections) text ha.has_sections in
-    let there : HaveSettings b.text.wd b.lists.sections a.sections = subst (λ l. HaveSettings b.text.wd l.sections a.sections) lists near in
+    let near : HaveSettings b.text.wd a.lists.sections a.sections =
+    subst (λ t. HaveSettings t.wd a.lists.sections a.sections) text ha.has_sections in
+    let there : HaveSettings b.text.wd b.lists.sections a.sections =
+    subst (λ l. HaveSettings b.text.wd l.sections a.sections) lists near in
     same_parts a b contents text lists (section_maps_one b.text.wd b.lists.sections a.sections b.sections there hb.has_sections)

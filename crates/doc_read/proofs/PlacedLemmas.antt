@@ -1,5 +1,6 @@
 -- The items that were read are those of the text.
-use Rattle.std.proofs.Common.{◌≡◌, ◌∙◌, sym, ap, subst, inl, inr, refl, zero-add, ℕ, ◌<◌, ◌≤◌, ◌+◌, ◌-◌, Bool, true, false, List, length, map, take, Option, Some, None, slice_get, min, arith}
+use Rattle.std.proofs.Common.{◌≡◌, ◌∙◌, sym, ap, subst, inl, inr, refl, zero-add, ℕ, ◌<◌, ◌≤◌, ◌+◌, ◌-◌, Bool}
+use Rattle.std.proofs.Common.{true, false, List, length, map, take, Option, Some, None, slice_get, min, arith}
 use Rattle.std.specs.Prelude.{slice_index, is_some}
 use Rattle.std.proofs.lemmas.Bool.{cases_lt}
 use Rattle.std.proofs.lemmas.List.{length-take}
@@ -11,29 +12,27 @@ use Rattle.direct_props.specs.Direct.{IsDirectCharacter}
 use Rattle.piece_table.specs.Piece.{TextPiece, UnitPlace, flat_pieces, total_length}
 use Rattle.plain_doc.specs.declared.item.Item.{Item}
 use Rattle.plain_doc.specs.declared.item.Mark.{Mark}
-use Rattle.doc_load.specs.declared.table_parts.TablePart.TheVariants.{PlcfBteChpx, PlcfBtePapx}
+use Rattle.fib_form.specs.declared.table_parts.TablePart.TheVariants.{PlcfBteChpx, PlcfBtePapx}
 use Rattle.doc_load.specs.Units.{unit_at}
 use Rattle.doc_load.specs.Source.{DocSource, part_bytes}
 use Rattle.doc_load.specs.FileRules.{FileText, source_of}
-use Rattle.doc_load.specs.FormatRules.{text_count, judged_units, judged_places, is_paragraph_end}
+use Rattle.doc_load.specs.FormatRules.{text_count, judged_units, judged_places}
+use Rattle.text_codes.specs.Paragraph.{is_paragraph_end}
 use Rattle.doc_load.specs.PartRules.{PartLists}
 use Rattle.doc_load.proofs.UnitLemmas.{total-more, length-text_units}
 use Rattle.doc_read.specs.Marked.{field_bytes, note_kinds}
-use Rattle.doc_read.specs.Items.{TextParts, IsMarkOf, IsItemAt, HoldsItems}
+use Rattle.doc_read.specs.Items.{TextParts, IsItemAt, HoldsItems, IsMarkAt}
 use Rattle.doc_read.specs.Passing.{AddsEach}
-use Rattle.doc_read.specs.Reading.{MarkLists, AreMarksOf, TextView, IsMarkAt, IsReadAt, IsPlacedItem, ArePlacedItems, section_at}
+use Rattle.doc_read.specs.Reading.{MarkLists, AreMarksOf, TextView, IsReadAt, IsPlacedItem, ArePlacedItems, section_at}
 use Rattle.doc_read.proofs.EntryLemmas.{entry_of_parts}
 use Rattle.doc_read.proofs.PlaceLemmas.{place_at, place_in_piece, read_at_place}
 use Rattle.doc_read.proofs.ReadableLemmas.{view_of}
 
-mark_of : (ends : Bool) (source : DocSource) (place : UnitPlace) (found : Option Mark) → IsMarkAt ends source.wd (part_bytes source PlcfBtePapx) place.at place.modifier found → IsMarkOf ends source place found
-mark_of true source place (Some mark) h = h
-mark_of true source place None h = h
-mark_of false source place (Some mark) h = h
-mark_of false source place None h = h
-
 -- the item of a CP
-pub item_of : (text : FileText) (source : DocSource) (lists : PartLists) (marks : MarkLists) (maps : List Settings) (cp : ℕ) (item : Item) → source ≡ source_of text → AreMarksOf source lists marks → cp < text_count source → IsPlacedItem (view_of source marks maps) text.pieces cp item → IsItemAt (record { source = source; pieces = text.pieces; lists = lists; sections = maps }) cp item
+pub item_of : (text : FileText) (source : DocSource) (lists : PartLists) (marks : MarkLists) (maps : List Settings) (cp : ℕ) (item : Item) →
+    source ≡ source_of text → AreMarksOf source lists marks → cp < text_count source →
+    IsPlacedItem (view_of source marks maps) text.pieces cp item →
+    IsItemAt (record { source = source; pieces = text.pieces; lists = lists; sections = maps }) cp item
 item_of text source lists marks maps cp item same is below placed =
     let pieces = text.pieces in
     let flat = flat_pieces pieces in
@@ -41,8 +40,10 @@ item_of text source lists marks maps cp item same is below placed =
     let place = placed.place in
     let read = placed.read in
     let wd_is : text.wd ≡ source.wd = ap (λ (s : DocSource). s.wd) (sym same) in
-    let units_are : source.text.units ≡ map (unit_at source.wd) flat = ap (λ (s : DocSource). s.text.units) same ∙ ap (λ wd. map (unit_at wd) flat) wd_is in
-    let places_are : source.text.places ≡ map (λ (place : UnitPlace). place.at) flat = ap (λ (s : DocSource). s.text.places) same in
+    let units_are : source.text.units ≡ map (unit_at source.wd) flat =
+    ap (λ (s : DocSource). s.text.units) same ∙ ap (λ wd. map (unit_at wd) flat) wd_is in
+    let places_are : source.text.places ≡ map (λ (place : UnitPlace). place.at) flat =
+    ap (λ (s : DocSource). s.text.places) same in
     let place_is : slice_index (judged_places source) cp ≡ place.at = ap (λ l. slice_index (take count l) cp) places_are ∙ read_at_place (λ (place : UnitPlace). place.at) pieces cp count place placed.here below in
     record {
       place = place;
@@ -50,14 +51,17 @@ item_of text source lists marks maps cp item same is below placed =
       unit = read.unit_is ∙ (ap (λ l. slice_index (take count l) cp) units_are ∙ read_at_place (unit_at source.wd) pieces cp count place placed.here below);
       characters = subst (λ fc. IsDirectCharacter source.wd (part_bytes source PlcfBteChpx) fc place.modifier item.chp) place_is read.characters;
       section = read.sect_is ∙ ap (λ l. section_at l maps cp) is.sections;
-      mark = mark_of (is_paragraph_end item.unit (is_some item.sect)) source place item.mark
+      mark =
           (subst (λ fc. IsMarkAt (is_paragraph_end item.unit (is_some item.sect)) source.wd (part_bytes source PlcfBtePapx) fc place.modifier item.mark) place_is read.mark_is);
       field = read.fld_is ∙ entry_of_parts (field_bytes source lists) marks.field_cps marks.field_bytes cp is.fields is.bytes;
       note = read.note_is ∙ entry_of_parts (note_kinds lists.refs) marks.note_cps marks.note_kinds cp is.notes is.kinds;
     }
 
 -- the items of one piece more
-pub placed_more : (view : TextView) (pieces : List TextPiece) (i added count : ℕ) (piece : TextPiece) (old new : List Item) → slice_get pieces i ≡ Some piece → length old ≡ min (total_length (take i pieces)) count → added ≡ min piece.len (count - length old) → ArePlacedItems view pieces old → AddsEach (IsReadAt view piece.modifier) added old new → ArePlacedItems view pieces new
+pub placed_more : (view : TextView) (pieces : List TextPiece) (i added count : ℕ) (piece : TextPiece) (old new : List Item) →
+    slice_get pieces i ≡ Some piece → length old ≡ min (total_length (take i pieces)) count →
+    added ≡ min piece.len (count - length old) → ArePlacedItems view pieces old →
+    AddsEach (IsReadAt view piece.modifier) added old new → ArePlacedItems view pieces new
 placed_more view pieces i added count piece old new here len added_is so_far adds cp item there =
     elim (cases_lt cp (length old)) [
       | inl lower ↦ so_far cp item (sym (adds.kept cp lower) ∙ there)
@@ -72,28 +76,30 @@ placed_more view pieces i added count piece old new here len added_is so_far add
     ]
 
 -- and their number
-pub length-more : (pieces : List TextPiece) (i added count : ℕ) (piece : TextPiece) (old new : ℕ) → slice_get pieces i ≡ Some piece → old ≡ min (total_length (take i pieces)) count → added ≡ min piece.len (count - old) → new ≡ old + added → new ≡ min (total_length (take (i + 1) pieces)) count
-length-more pieces i added count piece old new here len added_is new_is = let more = total-more pieces i piece here in omega (arith, more, len, added_is, new_is)
-
--- the modifier that is read is that of a piece
-pub modifier_read : (o : Option TextPiece) (modifier : Modifier) → option_map (λ piece. piece.modifier) o ≡ Some modifier → (piece : TextPiece) × ((o ≡ Some piece) × (piece.modifier ≡ modifier))
-modifier_read None modifier e = absurd (cc (e))
-modifier_read (Some piece) modifier e = let same : piece.modifier ≡ modifier = cc (e) in (piece, (refl, same))
+pub length-more : (pieces : List TextPiece) (i added count : ℕ) (piece : TextPiece) (old new : ℕ) →
+    slice_get pieces i ≡ Some piece → old ≡ min (total_length (take i pieces)) count →
+    added ≡ min piece.len (count - old) → new ≡ old + added → new ≡ min (total_length (take (i + 1) pieces)) count
+length-more pieces i added count piece old new here len added_is new_is =
+    let more = total-more pieces i piece here in omega (arith, more, len, added_is, new_is)
 
 take_within : (n : ℕ) (xs : List ℕ) → length (take n xs) ≤ length xs
 take_within n xs = omega (arith, length-take n xs)
 
 -- the pieces have a place for each unit
-pub enough_units : (text : FileText) (source : DocSource) (units : List ℕ) (pieces : List TextPiece) → units ≡ judged_units source → source ≡ source_of text → pieces ≡ text.pieces → length units ≤ total_length pieces
+pub enough_units : (text : FileText) (source : DocSource) (units : List ℕ) (pieces : List TextPiece) →
+    units ≡ judged_units source → source ≡ source_of text → pieces ≡ text.pieces → length units ≤ total_length pieces
 enough_units text source units pieces units_are same pieces_are =
     let some = take_within (text_count source) source.text.units in
     let one : length units ≡ length (judged_units source) = ap length units_are in
-    let two : length source.text.units ≡ total_length text.pieces = ap (λ (s : DocSource). length s.text.units) same ∙ length-text_units text.wd text.pieces in
+    let two : length source.text.units ≡ total_length text.pieces =
+    ap (λ (s : DocSource). length s.text.units) same ∙ length-text_units text.wd text.pieces in
     let three : total_length pieces ≡ total_length text.pieces = ap total_length pieces_are in
     omega (arith, some, one, two, three)
 
 -- all items
-pub held : (text : FileText) (source : DocSource) (lists : PartLists) (marks : MarkLists) (maps : List Settings) (items : List Item) → source ≡ source_of text → AreMarksOf source lists marks → length items ≡ text_count source → ArePlacedItems (view_of source marks maps) text.pieces items
+pub held : (text : FileText) (source : DocSource) (lists : PartLists) (marks : MarkLists) (maps : List Settings) (items : List Item) →
+    source ≡ source_of text → AreMarksOf source lists marks → length items ≡ text_count source →
+    ArePlacedItems (view_of source marks maps) text.pieces items
     → HoldsItems (record { source = source; pieces = text.pieces; lists = lists; sections = maps }) 0 (text_count source) items
 held text source lists marks maps items same is len placed =
     let parts : TextParts = record { source = source; pieces = text.pieces; lists = lists; sections = maps } in

@@ -15,14 +15,18 @@ AllRows : (ℕ → Type 0) → List (ℕ × ℕ) → Type 0
 AllRows P [] = Unit {0}
 AllRows P (row ∷ rows) = P row.1 × AllRows P rows
 
-row_of : (P : ℕ → Type 0) (isprm code : ℕ) (row : ℕ × ℕ) (rows : List (ℕ × ℕ)) (b : Bool) → (isprm == row.0) ≡ b → code_beside isprm (row ∷ rows) ≡ Some code → P row.1 → (code_beside isprm rows ≡ Some code → P code) → P code
-row_of P isprm code row rows true same e here later = let h : Some row.1 ≡ Some code = rw same at e in let k : row.1 ≡ code = cc in subst P k here
+row_of : (P : ℕ → Type 0) (isprm code : ℕ) (row : ℕ × ℕ) (rows : List (ℕ × ℕ)) (b : Bool) → (isprm == row.0) ≡ b →
+    code_beside isprm (row ∷ rows) ≡ Some code → P row.1 → (code_beside isprm rows ≡ Some code → P code) → P code
+row_of P isprm code row rows true same e here later =
+    let h : Some row.1 ≡ Some code = rw same at e in let k : row.1 ≡ code = cc in subst P k here
 row_of P isprm code row rows false other e here later = later (rw other at e)
 
-code_in_rows : (P : ℕ → Type 0) (isprm code : ℕ) (rows : List (ℕ × ℕ)) → AllRows P rows → code_beside isprm rows ≡ Some code → P code
+code_in_rows : (P : ℕ → Type 0) (isprm code : ℕ) (rows : List (ℕ × ℕ)) → AllRows P rows →
+    code_beside isprm rows ≡ Some code → P code
 unfolding AllRows
 code_in_rows P isprm code [] all e = absurd (cc (e))
-code_in_rows P isprm code (row ∷ rows) all e = row_of P isprm code row rows (isprm == row.0) refl e all.0 (code_in_rows P isprm code rows all.1)
+code_in_rows P isprm code (row ∷ rows) all e =
+    row_of P isprm code row rows (isprm == row.0) refl e all.0 (code_in_rows P isprm code rows all.1)
 
 -- a code that a Prm carries makes an entry with one byte
 TakesByte : ℕ → Type 0

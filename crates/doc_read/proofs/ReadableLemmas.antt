@@ -4,11 +4,11 @@ use Rattle.std.specs.Prelude.{slice_index, is_some}
 use Rattle.std.proofs.lemmas.List.{length-map}
 use Rattle.doc_bits.specs.Rules.{Hold}
 use Rattle.prop_map.specs.Settings.{Settings}
-use Rattle.doc_load.specs.declared.table_parts.TablePart.TheVariants.{PlcfBteChpx, PlcfBtePapx}
-use Rattle.doc_load.specs.declared.source.Story.TheVariants.{Main}
+use Rattle.fib_form.specs.declared.table_parts.TablePart.TheVariants.{PlcfBteChpx, PlcfBtePapx}
+use Rattle.fib_form.specs.declared.stories.StoryKind.TheVariants.{Main}
 use Rattle.doc_load.specs.Source.{DocSource, part_bytes, story_length}
 use Rattle.doc_load.specs.FormatRules.{judged_units, judged_places, ends_section}
-use Rattle.doc_load.specs.PartRules.{PartLists, HasParts, part_rules}
+use Rattle.doc_load.specs.PartRules.{PartLists, HasPartLists, part_rules}
 use Rattle.doc_load.proofs.RightPlaces.{bin_tables, right_characters, right_paragraphs}
 use Rattle.doc_read.specs.Sections.{AreSectionMaps}
 use Rattle.doc_read.specs.Marked.{field_bytes, note_kinds}
@@ -30,7 +30,10 @@ view_of source marks maps = record {
   maps = maps;
 }
 
-pub readable_of : (source : DocSource) (lists : PartLists) (marks : MarkLists) (maps : List Settings) → Hold (part_rules source) → HasParts source lists → AreSectionMaps source.wd lists.sections maps → AreMarksOf source lists marks → length source.wd < 2 ^ 32 → length (judged_units source) ≤ 500000 → length (judged_places source) ≡ length (judged_units source) → IsReadable (view_of source marks maps)
+pub readable_of : (source : DocSource) (lists : PartLists) (marks : MarkLists) (maps : List Settings) →
+    Hold (part_rules source) → HasPartLists source lists → AreSectionMaps source.wd lists.sections maps →
+    AreMarksOf source lists marks → length source.wd < 2 ^ 32 → length (judged_units source) ≤ 500000 →
+    length (judged_places source) ≡ length (judged_units source) → IsReadable (view_of source marks maps)
 readable_of source lists marks maps rules has are is small few same =
     let sections = lists.sections in
     let main_len = story_length source Main in
@@ -65,7 +68,9 @@ readable_of source lists marks maps rules has are is small few same =
     }
 
 -- the same by its lists
-pub view_same : (source : DocSource) (marks : MarkLists) (maps : List Settings) (wd characters paragraphs units places : List ℕ) → wd ≡ source.wd → characters ≡ part_bytes source PlcfBteChpx → paragraphs ≡ part_bytes source PlcfBtePapx → units ≡ judged_units source → places ≡ judged_places source
+pub view_same : (source : DocSource) (marks : MarkLists) (maps : List Settings) (wd characters paragraphs units places : List ℕ) →
+    wd ≡ source.wd → characters ≡ part_bytes source PlcfBteChpx → paragraphs ≡ part_bytes source PlcfBtePapx →
+    units ≡ judged_units source → places ≡ judged_places source
     → record { wd = wd; characters = characters; paragraphs = paragraphs; units = units; places = places; marks = marks; maps = maps } ≡ view_of source marks maps
 view_same source marks maps wd characters paragraphs units places wd_is characters_are paragraphs_are units_are places_are =
     λ i. record { wd = wd_is i; characters = characters_are i; paragraphs = paragraphs_are i; units = units_are i; places = places_are i; marks = marks; maps = maps }

@@ -1,5 +1,6 @@
 -- The settings of the sections, read one after the other.
-use Rattle.std.proofs.Common.{◌≡◌, ◌≢◌, ◌⊎◌, ◌∙◌, inl, inr, refl, sym, subst, ℕ, ◌+◌, ◌<◌, List, [], ◌∷◌, ◌++◌, length, Some, slice_get, arith, length-append}
+use Rattle.std.proofs.Common.{◌≡◌, ◌≢◌, ◌⊎◌, ◌∙◌, inl, inr, refl, sym, subst, ℕ, ◌+◌, ◌<◌, List, [], ◌∷◌, ◌++◌}
+use Rattle.std.proofs.Common.{length, Some, slice_get, arith, length-append}
 use Rattle.std.specs.Prelude.{All, slice_range}
 use Rattle.std.specs.FinMap.{empty}
 use Rattle.std.proofs.lemmas.Bool.{cases_lt}
@@ -17,35 +18,43 @@ use Rattle.direct_props.proofs.CharacterLemmas.{makes_settings}
 use Rattle.doc_parts.specs.declared.lists.Sed.{Sed}
 use Rattle.doc_parts.specs.Sections.{place_of_fc_sepx}
 use Rattle.doc_parts.proofs.TableLemmas.{slice_get_before, slice_get_push}
-use Rattle.doc_load.specs.declared.table_parts.TablePart.TheVariants.{PlcfSed}
+use Rattle.fib_form.specs.declared.table_parts.TablePart.TheVariants.{PlcfSed}
 use Rattle.doc_load.specs.Source.{DocSource, part_place}
-use Rattle.doc_load.specs.SectionRules.{section_fc, section_groups, sepx_list, LacksSepx, HasSepxFault, HasSections, sed_rules, rules_of_sections}
+use Rattle.doc_load.specs.SectionRules.{section_fc, sepx_list, LacksSepx, HasSepxFault, HasSections, sed_rules}
+use Rattle.doc_load.specs.SectionRules.{rules_of_sections}
+use Rattle.prop_map.specs.Formed.{section_groups}
 use Rattle.doc_load.proofs.OneLemmas.{sections_one}
 use Rattle.doc_read.specs.Sections.{IsSectionSettings, IsMadeBySepx}
 
 -- the rules on each section hold of those that the document has
-held_sections : (source : DocSource) (list : List Sed) → Hold (rules_of_sections source) → HasSections source list → Hold (sed_rules source list)
+held_sections : (source : DocSource) (list : List Sed) → Hold (rules_of_sections source) → HasSections source list →
+    Hold (sed_rules source list)
 held_sections source list h has =
     subst (λ sections. Hold (sed_rules source sections)) (sections_one source h.1.0 list h.1.1.0 has) h.1.1.1
 
 -- so the settings of each are there
-pub sepx-there : (source : DocSource) (list : List Sed) (k : ℕ) → Hold (rules_of_sections source) → HasSections source list → k < length list → ¬ (LacksSepx source.wd (section_fc list k))
+pub sepx-there : (source : DocSource) (list : List Sed) (k : ℕ) → Hold (rules_of_sections source) →
+    HasSections source list → k < length list → ¬ (LacksSepx source.wd (section_fc list k))
 sepx-there source list k h has below lacks =
     (held_sections source list h has).1.0 (Table, place_of_fc_sepx (part_place source PlcfSed) (length list) k)
     (refl, record { entry = k; below = below; broken = record { here = refl; broken = lacks } })
 
 -- and have no fault
-pub sepx-right : (source : DocSource) (list : List Sed) (k : ℕ) → Hold (rules_of_sections source) → HasSections source list → k < length list → Nowhere (HasSepxFault source.wd (section_fc list k))
+pub sepx-right : (source : DocSource) (list : List Sed) (k : ℕ) → Hold (rules_of_sections source) →
+    HasSections source list → k < length list → Nowhere (HasSepxFault source.wd (section_fc list k))
 sepx-right source list k h has below = λ place fault.
     (held_sections source list h has).1.1 (Wd, place) (refl, record { entry = k; below = below; broken = fault })
 
 -- the list of a Sepx without a fault has none
-pub list-right : (wd : List ℕ) (fc from to : ℕ) → fc ≢ 0xFFFFFFFF → from ≡ fc + 2 → to ≡ fc + 2 + u16_at wd fc → Nowhere (HasSepxFault wd fc) → Nowhere (HasSprmFaultAt (slice_range wd from to) section_groups)
+pub list-right : (wd : List ℕ) (fc from to : ℕ) → fc ≢ 0xFFFFFFFF → from ≡ fc + 2 → to ≡ fc + 2 + u16_at wd fc →
+    Nowhere (HasSepxFault wd fc) → Nowhere (HasSprmFaultAt (slice_range wd from to) section_groups)
 list-right wd fc from to settings begins ends right = λ offset fault.
     right (fc + 2 + offset) (record { settings = settings; fault = record { offset = offset; here = refl; broken = rw (begins, ends) at fault } })
 
 -- an accepted list makes the settings of its section
-pub is-made : (wd list : List ℕ) (fc : ℕ) (none : Settings) (acted : Acted) → fc ≢ 0xFFFFFFFF → list ≡ sepx_list wd fc → IsAcceptedList list section_groups → none ≡ empty → IsActedBy list section_groups none acted → IsMadeBySepx wd fc acted.map
+pub is-made : (wd list : List ℕ) (fc : ℕ) (none : Settings) (acted : Acted) → fc ≢ 0xFFFFFFFF → list ≡ sepx_list wd fc →
+    IsAcceptedList list section_groups → none ≡ empty → IsActedBy list section_groups none acted →
+    IsMadeBySepx wd fc acted.map
 is-made wd list fc none acted settings e accepted bare act = record {
   there = settings;
   style = acted.istd;
@@ -55,7 +64,8 @@ is-made wd list fc none acted settings e accepted bare act = record {
 }
 
 -- an element of a list with one more is one of the list, or the last
-pub pushed : {X : Type 0} (xs : List X) (x y : X) (j : ℕ) → slice_get (xs ++ x ∷ []) j ≡ Some y → (slice_get xs j ≡ Some y) ⊎ ((j ≡ length xs) × (y ≡ x))
+pub pushed : {X : Type 0} (xs : List X) (x y : X) (j : ℕ) → slice_get (xs ++ x ∷ []) j ≡ Some y →
+    (slice_get xs j ≡ Some y) ⊎ ((j ≡ length xs) × (y ≡ x))
 pushed xs x y j e =
     let within : j < length (xs ++ x ∷ []) = slice_get_within (xs ++ x ∷ []) j y e in
     let long = length-append xs (x ∷ []) in
@@ -63,7 +73,8 @@ pushed xs x y j e =
       | inl low ↦ inl (sym (slice_get_before xs (x ∷ []) j low) ∙ e)
       | inr high ↦
           let last : j ≡ length xs = omega arith in
-          let here : slice_get (xs ++ x ∷ []) (length xs) ≡ Some y = subst (λ n. slice_get (xs ++ x ∷ []) n ≡ Some y) last e in
+          let here : slice_get (xs ++ x ∷ []) (length xs) ≡ Some y =
+          subst (λ n. slice_get (xs ++ x ∷ []) n ≡ Some y) last e in
           let there = slice_get_push xs x in
           let same : y ≡ x = cc in
           inr (last, same)
@@ -83,14 +94,17 @@ maps_none wd list = record {
 }
 
 -- one more
-pub maps_more : (wd : List ℕ) (list : List Sed) (k fc : ℕ) (maps : List Settings) (map : Settings) → AreMapsUpTo wd list k maps → section_fc list k ≡ fc → IsSectionSettings wd fc map → IsPropertyMap section_groups map → AreMapsUpTo wd list (k + 1) (maps ++ map ∷ [])
+pub maps_more : (wd : List ℕ) (list : List Sed) (k fc : ℕ) (maps : List Settings) (map : Settings) →
+    AreMapsUpTo wd list k maps → section_fc list k ≡ fc → IsSectionSettings wd fc map →
+    IsPropertyMap section_groups map → AreMapsUpTo wd list (k + 1) (maps ++ map ∷ [])
 maps_more wd list k fc maps map are e settings formed = record {
   len = omega (arith, are.len, length-append maps (map ∷ []));
   each = λ j other g. elim (pushed maps map other j g) [
     | inl before ↦ are.each j other before
     | inr last ↦
         let same : j ≡ k = last.0 ∙ are.len in
-        let here : IsSectionSettings wd (section_fc list k) map = subst (λ n. IsSectionSettings wd n map) (sym e) settings in
+        let here : IsSectionSettings wd (section_fc list k) map =
+        subst (λ n. IsSectionSettings wd n map) (sym e) settings in
         subst (λ m. IsSectionSettings wd (section_fc list j) m) (sym last.1) (subst (λ n. IsSectionSettings wd (section_fc list n) map) (sym same) here)
   ];
   formed = All-push (IsPropertyMap section_groups) maps map are.formed formed;

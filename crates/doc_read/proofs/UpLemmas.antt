@@ -1,5 +1,6 @@
 -- CPs that ascend between two bounds.
-use Rattle.std.proofs.Common.{◌≡◌, ◌⊎◌, ◌∙◌, refl, ap, ℕ, zero, suc, ◌<◌, ◌≤◌, ◌+◌, ◌-◌, Bool, List, [], ◌∷◌, ◌++◌, length, map, drop, arith, inl, inr, length-append}
+use Rattle.std.proofs.Common.{◌≡◌, ◌⊎◌, ◌∙◌, refl, ap, ℕ, zero, suc, ◌<◌, ◌≤◌, ◌+◌, ◌-◌, Bool, List, [], ◌∷◌}
+use Rattle.std.proofs.Common.{◌++◌, length, map, drop, arith, inl, inr, length-append}
 use Rattle.std.specs.Prelude.{slice_index}
 use Rattle.std.proofs.lemmas.Bool.{cases_lt}
 use Rattle.std.proofs.lemmas.List.{length-map, get_or-map, get_or_append_left, get_or-append-add}
@@ -14,7 +15,8 @@ pub record IsUpWithin (low high : ℕ) (cps : List ℕ) : Type 0 where
   pub below : (k : ℕ) → k < length cps → slice_index cps k < high
 
 -- each CP is above the one before it
-up_from_steps : (cps : List ℕ) → ((j : ℕ) → j + 1 < length cps → slice_index cps j < slice_index cps (j + 1)) → AreUp cps
+up_from_steps : (cps : List ℕ) → ((j : ℕ) → j + 1 < length cps → slice_index cps j < slice_index cps (j + 1)) →
+    AreUp cps
 up_from_steps cps step i zero lower below = absurd (omega arith)
 up_from_steps cps step i (suc j) lower below =
     let next : j + 1 ≡ suc j = omega arith in
@@ -26,7 +28,8 @@ up_from_steps cps step i (suc j) lower below =
     ]
 
 -- the CPs of a table
-pub up_in_order : (from_zero : Bool) (len : ℕ) (cps : List ℕ) → AreCpsInOrder (record { order = Ascend; from_zero = from_zero; story_len = len }) cps → IsUpWithin 0 len cps
+pub up_in_order : (from_zero : Bool) (len : ℕ) (cps : List ℕ) →
+    AreCpsInOrder (record { order = Ascend; from_zero = from_zero; story_len = len }) cps → IsUpWithin 0 len cps
 up_in_order from_zero len cps in_order = record {
   up = up_from_steps cps (λ j below. (in_order (j + 1) below).after j refl);
   above = λ k below. omega arith;
@@ -34,11 +37,14 @@ up_in_order from_zero len cps in_order = record {
 }
 
 -- those of a story that begins at a CP
-shift_at : (begin : ℕ) (cps : List ℕ) (k : ℕ) → k < length (map (λ cp. begin + cp) cps) → (k < length cps) × (slice_index (map (λ cp. begin + cp) cps) k ≡ begin + slice_index cps k)
+shift_at : (begin : ℕ) (cps : List ℕ) (k : ℕ) → k < length (map (λ cp. begin + cp) cps) →
+    (k < length cps) × (slice_index (map (λ cp. begin + cp) cps) k ≡ begin + slice_index cps k)
 shift_at begin cps k h =
-    let below : k < length cps = omega (arith, length-map cps (λ cp. begin + cp)) in (below, get_or-map (λ cp. begin + cp) cps k 0 0 below)
+    let below : k < length cps =
+    omega (arith, length-map cps (λ cp. begin + cp)) in (below, get_or-map (λ cp. begin + cp) cps k 0 0 below)
 
-pub up_shift : (begin len high : ℕ) (cps : List ℕ) → begin + len ≤ high → IsUpWithin 0 len cps → IsUpWithin begin high (map (λ cp. begin + cp) cps)
+pub up_shift : (begin len high : ℕ) (cps : List ℕ) → begin + len ≤ high → IsUpWithin 0 len cps →
+    IsUpWithin begin high (map (λ cp. begin + cp) cps)
 up_shift begin len high cps enough is = record {
   up = λ i j lower below.
       let y = shift_at begin cps j below in
@@ -50,7 +56,8 @@ up_shift begin len high cps enough is = record {
 }
 
 -- an entry of a joined list is one of the first list, or one of the second
-either_side : (xs ys : List ℕ) (k : ℕ) → k < length (xs ++ ys) → ((k < length xs) × (slice_index (xs ++ ys) k ≡ slice_index xs k)) ⊎ ((n : ℕ) × ((k ≡ length xs + n) × ((n < length ys) × (slice_index (xs ++ ys) k ≡ slice_index ys n))))
+either_side : (xs ys : List ℕ) (k : ℕ) → k < length (xs ++ ys) →
+    ((k < length xs) × (slice_index (xs ++ ys) k ≡ slice_index xs k)) ⊎ ((n : ℕ) × ((k ≡ length xs + n) × ((n < length ys) × (slice_index (xs ++ ys) k ≡ slice_index ys n))))
 either_side xs ys k h = elim (cases_lt k (length xs)) [
   | inl lower ↦ inl (lower, get_or_append_left xs ys 0 k lower)
   | inr upper ↦
@@ -59,7 +66,8 @@ either_side xs ys k h = elim (cases_lt k (length xs)) [
       inr (n, (e, (omega (arith, length-append xs ys), ap (slice_index (xs ++ ys)) e ∙ get_or-append-add xs ys n 0)))
 ]
 
-pub up_join : (low mid high : ℕ) (xs ys : List ℕ) → low ≤ mid → mid ≤ high → IsUpWithin low mid xs → IsUpWithin mid high ys → IsUpWithin low high (xs ++ ys)
+pub up_join : (low mid high : ℕ) (xs ys : List ℕ) → low ≤ mid → mid ≤ high → IsUpWithin low mid xs →
+    IsUpWithin mid high ys → IsUpWithin low high (xs ++ ys)
 up_join low mid high xs ys lower upper first next = record {
   up = λ i j before below. elim (either_side xs ys j below) [
     | inl y ↦ elim (either_side xs ys i (omega arith)) [

@@ -1,15 +1,16 @@
 -- The document that a file holds, and all rules of a file.
-use Rattle.std.specs.Prelude.{◌≡◌, ℕ, ◌+◌, ◌*◌, ◌-◌, List, length}
+use Rattle.std.specs.Prelude.{◌≡◌, ℕ, ◌-◌, List, length}
 use Rattle.doc_bits.specs.Rules.{Rules, ◌then◌, given, Hold}
 use Rattle.doc_bits.specs.Places.{Place}
 use Rattle.prop_map.specs.Settings.{Settings}
 use Rattle.cfb_streams.specs.Contents.{Contents}
 use Rattle.cfb_streams.specs.Container.{HasContents}
 use Rattle.plain_doc.specs.declared.document.Document.{Document}
+use Rattle.plain_doc.specs.RulesOfSheet.{heads_of_sections}
 use Rattle.plain_doc.specs.Sound.{document_rules}
-use Rattle.doc_load.specs.declared.source.Story.TheVariants.{Main, Notes, Heads}
+use Rattle.fib_form.specs.declared.stories.StoryKind.TheVariants.{Main, Notes, Heads}
 use Rattle.doc_load.specs.Source.{story_length, story_begin}
-use Rattle.doc_load.specs.PartRules.{PartLists, HasParts}
+use Rattle.doc_load.specs.PartRules.{PartLists, HasPartLists}
 use Rattle.doc_load.specs.FileRules.{FileText, HasText, source_of, file_rules}
 use Rattle.doc_read.specs.Sections.{HaveSettings}
 use Rattle.doc_read.specs.Items.{TextParts, HoldsItems, HoldsTexts}
@@ -25,30 +26,40 @@ pub record FileParts : Type 0 where
 pub record HasFileParts (file : List ℕ) (parts : FileParts) : Type 0 where
   pub has_contents : HasContents file parts.contents
   pub has_text : HasText parts.contents parts.text
-  pub has_lists : HasParts (source_of parts.text) parts.lists
+  pub has_lists : HasPartLists (source_of parts.text) parts.lists
   pub has_sections : HaveSettings parts.text.wd parts.lists.sections parts.sections
 
 abbrev pub text_parts : FileParts → TextParts
-text_parts parts = record { source = source_of parts.text; pieces = parts.text.pieces; lists = parts.lists; sections = parts.sections }
+text_parts parts = record {
+  source = source_of parts.text;
+  pieces = parts.text.pieces;
+  lists = parts.lists;
+  sections = parts.sections;
+}
 
--- [MS-DOC] PlcfHdd: six texts for the separators of notes, and six header texts a section
+-- the number of header texts of a document with these sections
 abbrev pub head_texts : PartLists → ℕ
-head_texts lists = 6 + 6 * length lists.sections
+head_texts lists = heads_of_sections (length lists.sections)
 
 -- the document has the texts by CP, the styles, and what is carried
 pub record IsDocumentOf (parts : FileParts) (document : Document) : Type 0 where
   pub main : HoldsItems (text_parts parts) 0 (story_length (source_of parts.text) Main) document.main
   pub notes :
-      HoldsTexts (text_parts parts) (story_begin (source_of parts.text) Notes) parts.lists.notes (length parts.lists.notes - 1) document.notes
-  pub heads : HoldsTexts (text_parts parts) (story_begin (source_of parts.text) Heads) parts.lists.heads (head_texts parts.lists) document.heads
+      HoldsTexts (text_parts parts) (story_begin (source_of parts.text) Notes) parts.lists.notes
+      (length parts.lists.notes - 1) document.notes
+  pub heads :
+      HoldsTexts (text_parts parts) (story_begin (source_of parts.text) Heads) parts.lists.heads
+      (head_texts parts.lists) document.heads
   pub sheet : document.sheet ≡ parts.lists.sheet
   pub carried : HoldsCarried parts.contents (source_of parts.text) parts.lists.levels document.carried
 
 -- the document of these streams, this text and these lists, with the settings of the sections
-pub record IsDocumentFrom (contents : Contents) (text : FileText) (lists : PartLists) (document : Document) : Type 0 where
+pub record IsDocumentFrom (contents : Contents) (text : FileText) (lists : PartLists) (document : Document) :
+    Type 0 where
   pub sections : List Settings
   pub has_sections : HaveSettings text.wd lists.sections sections
-  pub document_is : IsDocumentOf (record { contents = contents; text = text; lists = lists; sections = sections }) document
+  pub document_is :
+      IsDocumentOf (record { contents = contents; text = text; lists = lists; sections = sections }) document
 
 -- the document that a file holds, which breaks none of the rules 1 to 56
 pub record HoldsDocument (file : List ℕ) (document : Document) : Type 0 where

@@ -1,21 +1,24 @@
 -- The items of a text, each by its CP. No piece is changed, no page is gone through.
-use Rattle.std.specs.Prelude.{◌≡◌, ℕ, ◌+◌, ◌-◌, ◌<◌, ◌≤◌, Bool, true, false, List, [], length, is_some, slice_get, slice_index, Option, Some, None, ⊤}
+use Rattle.std.specs.Prelude.{◌≡◌, ℕ, ◌+◌, ◌-◌, ◌<◌, ◌≤◌, Bool, true, false, List, [], length, is_some}
+use Rattle.std.specs.Prelude.{slice_get, slice_index, Option, Some, None, ⊤}
 use Rattle.prop_map.specs.Settings.{Settings}
+use Rattle.prop_map.specs.declared.modifiers.Modifier.{Modifier}
 use Rattle.piece_table.specs.Piece.{TextPiece, UnitPlace, place_of_cp}
 use Rattle.direct_props.specs.Direct.{IsDirectCharacter, IsDirectMark}
 use Rattle.plain_doc.specs.declared.item.Item.{Item}
 use Rattle.plain_doc.specs.declared.item.Mark.{Mark}
-use Rattle.doc_load.specs.declared.table_parts.TablePart.TheVariants.{PlcfBteChpx, PlcfBtePapx}
-use Rattle.doc_load.specs.declared.source.Story.TheVariants.{Main}
+use Rattle.fib_form.specs.declared.table_parts.TablePart.TheVariants.{PlcfBteChpx, PlcfBtePapx}
+use Rattle.fib_form.specs.declared.stories.StoryKind.TheVariants.{Main}
 use Rattle.doc_load.specs.Units.{unit_at}
 use Rattle.doc_load.specs.Source.{DocSource, part_bytes, story_length}
-use Rattle.doc_load.specs.FormatRules.{is_paragraph_end}
+use Rattle.text_codes.specs.Paragraph.{is_paragraph_end}
 use Rattle.doc_load.specs.PartRules.{PartLists}
-use Rattle.doc_read.specs.Entries.{entry_at}
+use Rattle.plain_doc.specs.Entries.{entry_at}
 use Rattle.doc_read.specs.Sections.{section_marks}
 use Rattle.doc_read.specs.Marked.{field_bytes, note_kinds}
 
--- what the items are read from: the streams and the text, the pieces, the lists of the parts, the settings of the sections
+-- what the items are read from: the streams and the text, the pieces, the lists of the parts, the settings of the
+-- sections
 pub record TextParts : Type 0 where
   pub source : DocSource
   pub pieces : List TextPiece
@@ -23,20 +26,24 @@ pub record TextParts : Type 0 where
   pub sections : List Settings
 
 -- a mark stands exactly where a paragraph ends, with the style and the settings of its place
-abbrev pub IsMarkOf : Bool → DocSource → UnitPlace → Option Mark → Type 0
-IsMarkOf true source place (Some mark) = IsDirectMark source.wd (part_bytes source PlcfBtePapx) place.at place.modifier mark.istd mark.pap
-IsMarkOf true source place None = ⊥
-IsMarkOf false source place (Some mark) = ⊥
-IsMarkOf false source place None = ⊤
+abbrev pub IsMarkAt : Bool → List ℕ → List ℕ → ℕ → Modifier → Option Mark → Type 0
+IsMarkAt true wd bin fc modifier (Some mark) = IsDirectMark wd bin fc modifier mark.istd mark.pap
+IsMarkAt true wd bin fc modifier None = ⊥
+IsMarkAt false wd bin fc modifier (Some mark) = ⊥
+IsMarkAt false wd bin fc modifier None = ⊤
 
 -- the item of a CP
 pub record IsItemAt (parts : TextParts) (cp : ℕ) (item : Item) : Type 0 where
   pub place : UnitPlace
   pub here : place_of_cp parts.pieces cp ≡ Some place
   pub unit : item.unit ≡ unit_at parts.source.wd place
-  pub characters : IsDirectCharacter parts.source.wd (part_bytes parts.source PlcfBteChpx) place.at place.modifier item.chp
-  pub section : item.sect ≡ entry_at (section_marks parts.lists.sections (story_length parts.source Main) parts.sections) cp
-  pub mark : IsMarkOf (is_paragraph_end item.unit (is_some item.sect)) parts.source place item.mark
+  pub characters :
+      IsDirectCharacter parts.source.wd (part_bytes parts.source PlcfBteChpx) place.at place.modifier item.chp
+  pub section :
+      item.sect ≡ entry_at (section_marks parts.lists.sections (story_length parts.source Main) parts.sections) cp
+  pub mark :
+      IsMarkAt (is_paragraph_end item.unit (is_some item.sect)) parts.source.wd (part_bytes parts.source PlcfBtePapx)
+      place.at place.modifier item.mark
   pub field : item.fld ≡ entry_at (field_bytes parts.source parts.lists) cp
   pub note : item.note ≡ entry_at (note_kinds parts.lists.refs) cp
 
@@ -46,7 +53,8 @@ pub record HoldsItems (parts : TextParts) (from to : ℕ) (text : List Item) : T
   pub each : (i : ℕ) (item : Item) → slice_get text i ≡ Some item → IsItemAt parts (from + i) item
 
 -- so many texts: number k has the items between the CPs k and k + 1 of its story, and is empty where these are missing
-pub record HoldsTexts (parts : TextParts) (begin : ℕ) (cuts : List ℕ) (count : ℕ) (texts : List (List Item)) : Type 0 where
+pub record HoldsTexts (parts : TextParts) (begin : ℕ) (cuts : List ℕ) (count : ℕ) (texts : List (List Item)) :
+    Type 0 where
   pub len : length texts ≡ count
   pub there :
       (k : ℕ) (text : List Item) → slice_get texts k ≡ Some text → k + 1 < length cuts →

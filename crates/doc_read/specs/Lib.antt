@@ -1,4 +1,3 @@
-pub mod Entries
 pub mod Sections
 pub mod Marked
 pub mod Passing

@@ -4,7 +4,7 @@ use Rattle.doc_parts.specs.declared.lists.Fld.{Fld}
 use Rattle.doc_parts.specs.declared.lists.NoteRef.{NoteRef}
 use Rattle.plain_doc.specs.declared.item.NoteKind.{NoteKind}
 use Rattle.plain_doc.specs.declared.item.NoteKind.TheVariants.{Auto, Custom}
-use Rattle.doc_load.specs.declared.source.Story.TheVariants.{Main, Notes, Heads}
+use Rattle.fib_form.specs.declared.stories.StoryKind.TheVariants.{Main, Notes, Heads}
 use Rattle.doc_load.specs.Source.{DocSource, story_begin}
 use Rattle.doc_load.specs.PartRules.{PartLists}
 
@@ -16,7 +16,8 @@ story_bytes begin fields = map (λ fld. (begin + fld.cp, fld.byte)) fields
 abbrev pub field_bytes : DocSource → PartLists → List (ℕ × ℕ)
 field_bytes source lists =
     story_bytes (story_begin source Main) lists.main_fields ++
-    (story_bytes (story_begin source Notes) lists.note_fields ++ story_bytes (story_begin source Heads) lists.head_fields)
+    (story_bytes (story_begin source Notes) lists.note_fields
+    ++ story_bytes (story_begin source Heads) lists.head_fields)
 
 -- how a note is numbered
 abbrev pub note_kind : Bool → NoteKind

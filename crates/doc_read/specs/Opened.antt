@@ -1,14 +1,13 @@
 -- What the reader hands out of an accepted file.
 use Rattle.std.specs.Prelude.{◌≡◌, ℕ, List}
 use Rattle.cfb_streams.specs.Contents.{Contents}
-use Rattle.cfb_streams.specs.Container.{HasContents}
 use Rattle.fib_form.specs.FibFields.{FibFields, fib_fields}
 use Rattle.piece_table.specs.Piece.{TextPiece}
 use Rattle.plain_doc.specs.declared.document.Document.{Document}
 use Rattle.plain_doc.specs.Sound.{IsSound}
-use Rattle.doc_load.specs.PartRules.{PartLists, HasParts}
+use Rattle.doc_load.specs.PartRules.{PartLists, HasPartLists}
 use Rattle.doc_load.specs.FileRules.{FileText, HasText, source_of}
-use Rattle.doc_read.specs.Holds.{IsDocumentFrom, HoldsDocument}
+use Rattle.doc_read.specs.Holds.{IsDocumentFrom, HoldsDocument, IsAccepted}
 
 pub record OpenedFile : Type 0 where
   pub document : Document
@@ -16,22 +15,24 @@ pub record OpenedFile : Type 0 where
   pub contents : Contents
   pub pieces : List TextPiece
 
--- the streams have a text, its FIB has these fields, and these are its pieces; and what the parts hold makes the document
-pub record IsFoundIn (contents : Contents) (document : Document) (fib : FibFields) (pieces : List TextPiece) : Type 0 where
+-- the streams have a text, its FIB has these fields, and these are its pieces; and what the parts hold makes the
+-- document
+pub record IsFoundIn
+    (contents : Contents) (document : Document) (fib : FibFields) (pieces : List TextPiece) : Type 0 where
   pub text : FileText
   pub has_text : HasText contents text
   pub lists : PartLists
-  pub has_lists : HasParts (source_of text) lists
+  pub has_lists : HasPartLists (source_of text) lists
   pub document_is : IsDocumentFrom contents text lists document
   pub fib_is : fib ≡ fib_fields text.wd
   pub pieces_are : pieces ≡ text.pieces
 
--- the document that the file holds, which is sound, the fields of its FIB, its streams with the CLSID, and the pieces of its text
+-- the file breaks no rule, and holds the document, which is sound; the streams with the CLSID, the fields of the FIB
+-- and the pieces are those of the parts that make this document
 pub record IsOpened (file : List ℕ) (opened : OpenedFile) : Type 0 where
+  pub accepted : IsAccepted file
   pub holds : HoldsDocument file opened.document
   pub sound : IsSound opened.document
-  pub has_contents : HasContents file opened.contents
-  pub text : FileText
-  pub has_text : HasText opened.contents text
-  pub fib : opened.fib ≡ fib_fields text.wd
-  pub pieces : opened.pieces ≡ text.pieces
+  pub contents : opened.contents ≡ holds.parts.contents
+  pub fib : opened.fib ≡ fib_fields holds.parts.text.wd
+  pub pieces : opened.pieces ≡ holds.parts.text.pieces

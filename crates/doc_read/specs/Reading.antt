@@ -1,28 +1,28 @@
 -- What the items of a text are read from, as lists by CP, and what is read at each CP.
-use Rattle.std.specs.Prelude.{◌≡◌, ℕ, ◌+◌, ◌<◌, ◌≤◌, ◌^◌, Bool, true, false, List, length, map, zip, All, is_some, slice_get, slice_index, Option, Some, None, ⊤, IsTrue}
+use Rattle.std.specs.Prelude.{◌≡◌, ℕ, ◌+◌, ◌<◌, ◌≤◌, ◌^◌, Bool, List, length, map, zip, All, is_some, slice_get}
+use Rattle.std.specs.Prelude.{slice_index, Option, Some, IsTrue}
 use Rattle.prop_map.specs.Settings.{Settings}
 use Rattle.prop_map.specs.declared.modifiers.Modifier.{Modifier}
-use Rattle.prop_map.specs.Formed.{IsPropertyMap, section_groups}
-use Rattle.prop_map.specs.Modifiers.{IsFormedModifier}
+use Rattle.prop_map.specs.Formed.{IsPropertyMap, character_groups, section_groups}
 use Rattle.fkp_pages.specs.declared.kind.PageKind.TheVariants.{Chpx, Papx}
 use Rattle.fkp_pages.specs.Bin.{IsBinTable}
-use Rattle.direct_props.specs.Direct.{IsDirectCharacter, IsDirectMark}
+use Rattle.direct_props.specs.Direct.{IsDirectCharacter}
 use Rattle.direct_props.specs.PageRules.{IsRightPlace, AreRightPlaces}
 use Rattle.piece_table.specs.Piece.{TextPiece, UnitPlace, place_of_cp}
 use Rattle.plain_doc.specs.declared.item.Item.{Item}
-use Rattle.plain_doc.specs.declared.item.Mark.{Mark}
 use Rattle.plain_doc.specs.declared.item.NoteKind.{NoteKind}
 use Rattle.plain_doc.specs.Document.{HasPropertyMaps}
-use Rattle.doc_load.specs.declared.source.Story.TheVariants.{Main}
+use Rattle.fib_form.specs.declared.stories.StoryKind.TheVariants.{Main}
 use Rattle.doc_load.specs.Source.{DocSource, story_length}
-use Rattle.doc_load.specs.FormatRules.{is_paragraph_end}
+use Rattle.text_codes.specs.Paragraph.{is_paragraph_end}
 use Rattle.doc_load.specs.PartRules.{PartLists}
 use Rattle.doc_read.specs.declared.marked.TextMarks.{TextMarks}
 use Rattle.doc_read.specs.declared.reading.TextSource.{TextSource}
 use Rattle.doc_read.specs.declared.reading.Passed.{Passed}
-use Rattle.doc_read.specs.Entries.{entry_at}
+use Rattle.plain_doc.specs.Entries.{entry_at}
 use Rattle.doc_read.specs.Sections.{section_lasts}
 use Rattle.doc_read.specs.Marked.{field_bytes as bytes_of_fields, note_kinds as kinds_of_notes}
+use Rattle.doc_read.specs.Items.{IsMarkAt}
 use Rattle.doc_read.specs.Passing.{IsPassed, AreListed}
 
 -- the CPs of what stands at CPs, and what stands there
@@ -83,7 +83,8 @@ section_at cps maps cp = entry_at (zip cps maps) cp
 
 -- the unit of a CP ends a paragraph
 abbrev pub ends_at : TextView → ℕ → Bool
-ends_at view cp = is_paragraph_end (slice_index view.units cp) (is_some (section_at view.marks.section_cps view.maps cp))
+ends_at view cp =
+    is_paragraph_end (slice_index view.units cp) (is_some (section_at view.marks.section_cps view.maps cp))
 
 -- each unit has its pages, and what stands at CPs ascends
 pub record IsReadable (view : TextView) : Type 0 where
@@ -94,7 +95,8 @@ pub record IsReadable (view : TextView) : Type 0 where
   pub same : length view.places ≡ length view.units
   pub right_characters : AreRightPlaces Chpx view.wd view.characters view.places
   pub right_paragraphs :
-      (cp : ℕ) → cp < length view.units → IsTrue (ends_at view cp) → IsRightPlace Papx view.wd view.paragraphs (slice_index view.places cp)
+      (cp : ℕ) → cp < length view.units → IsTrue (ends_at view cp) →
+      IsRightPlace Papx view.wd view.paragraphs (slice_index view.places cp)
   pub fields : AreListed view.marks.field_cps view.marks.field_bytes
   pub notes : AreListed view.marks.note_cps view.marks.note_kinds
   pub sections : AreListed view.marks.section_cps view.maps
@@ -106,18 +108,19 @@ pub record ArePassed (marks : MarkLists) (passed : Passed) (cp : ℕ) : Type 0 w
   pub notes : IsPassed marks.note_cps passed.note cp
   pub sections : IsPassed marks.section_cps passed.section cp
 
--- a mark stands exactly where a paragraph ends
-abbrev pub IsMarkAt : Bool → List ℕ → List ℕ → ℕ → Modifier → Option Mark → Type 0
-IsMarkAt true wd bin fc modifier (Some mark) = IsDirectMark wd bin fc modifier mark.istd mark.pap
-IsMarkAt true wd bin fc modifier None = ⊥
-IsMarkAt false wd bin fc modifier (Some mark) = ⊥
-IsMarkAt false wd bin fc modifier None = ⊤
+-- each CP from one on, up to the next where something stands, is passed as they are
+abbrev pub AreBareUntil : MarkLists → Passed → ℕ → Type 0
+AreBareUntil marks passed cp = (at : ℕ) → cp ≤ at → at ≤ passed.until → ArePassed marks passed at
 
--- the settings of the characters from a CP on
+-- the settings of the characters of a CP, in a piece with the modifier
+pub record IsReadCharacter (view : TextView) (modifier : Modifier) (cp : ℕ) (chp : Settings) : Type 0 where
+  pub is : IsDirectCharacter view.wd view.characters (slice_index view.places cp) modifier chp
+  pub formed : IsPropertyMap character_groups chp
+
+-- those from a CP on
 abbrev pub AreCharactersFrom : TextView → Modifier → ℕ → List Settings → Type 0
 AreCharactersFrom view modifier from chps =
-    (j : ℕ) (chp : Settings) → slice_get chps j ≡ Some chp →
-    IsDirectCharacter view.wd view.characters (slice_index view.places (from + j)) modifier chp
+    (j : ℕ) (chp : Settings) → slice_get chps j ≡ Some chp → IsReadCharacter view modifier (from + j) chp
 
 -- the item of a CP, in a piece with the modifier
 pub record IsReadAt (view : TextView) (modifier : Modifier) (cp : ℕ) (item : Item) : Type 0 where
@@ -125,7 +128,8 @@ pub record IsReadAt (view : TextView) (modifier : Modifier) (cp : ℕ) (item : I
   pub characters : IsDirectCharacter view.wd view.characters (slice_index view.places cp) modifier item.chp
   pub sect_is : item.sect ≡ section_at view.marks.section_cps view.maps cp
   pub mark_is :
-      IsMarkAt (is_paragraph_end item.unit (is_some item.sect)) view.wd view.paragraphs (slice_index view.places cp) modifier item.mark
+      IsMarkAt (is_paragraph_end item.unit (is_some item.sect)) view.wd view.paragraphs (slice_index view.places cp)
+      modifier item.mark
   pub fld_is : item.fld ≡ field_at view.marks cp
   pub note_is : item.note ≡ note_at view.marks cp
   pub maps : HasPropertyMaps item
@@ -137,8 +141,5 @@ pub record IsPlacedItem (view : TextView) (pieces : List TextPiece) (cp : ℕ) (
   pub read : IsReadAt view place.modifier cp item
 
 abbrev pub ArePlacedItems : TextView → List TextPiece → List Item → Type 0
-ArePlacedItems view pieces items = (cp : ℕ) (item : Item) → slice_get items cp ≡ Some item → IsPlacedItem view pieces cp item
-
--- the maps of the modifiers are property maps
-abbrev pub HaveFormedModifiers : List TextPiece → Type 0
-HaveFormedModifiers pieces = (k : ℕ) (piece : TextPiece) → slice_get pieces k ≡ Some piece → IsFormedModifier piece.modifier
+ArePlacedItems view pieces items =
+    (cp : ℕ) (item : Item) → slice_get items cp ≡ Some item → IsPlacedItem view pieces cp item

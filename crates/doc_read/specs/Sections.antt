@@ -5,7 +5,8 @@ use Rattle.prop_map.specs.Settings.{Settings}
 use Rattle.prop_map.specs.Formed.{IsPropertyMap}
 use Rattle.direct_props.specs.Direct.{MakesSettings}
 use Rattle.doc_parts.specs.declared.lists.Sed.{Sed}
-use Rattle.doc_load.specs.SectionRules.{sepx_list, section_fc, section_groups}
+use Rattle.doc_load.specs.SectionRules.{sepx_list, section_fc}
+use Rattle.prop_map.specs.Formed.{section_groups}
 use Rattle.doc_load.specs.FormatRules.{section_ends}
 
 -- [MS-DOC] Sepx: what its list makes of no settings
@@ -21,7 +22,8 @@ IsSectionSettings wd fc settings = ((fc ≡ 0xFFFFFFFF) × (settings ≡ empty))
 -- the settings of each section
 pub record HaveSettings (wd : List ℕ) (sections : List Sed) (settings : List Settings) : Type 0 where
   pub len : length settings ≡ length sections
-  pub each : (k : ℕ) (map : Settings) → slice_get settings k ≡ Some map → IsSectionSettings wd (section_fc sections k) map
+  pub each :
+      (k : ℕ) (map : Settings) → slice_get settings k ≡ Some map → IsSectionSettings wd (section_fc sections k) map
 
 -- the same, with the line on codes and values of a well-formed document
 pub record AreSectionMaps (wd : List ℕ) (sections : List Sed) (settings : List Settings) : Type 0 where

@@ -8,7 +8,8 @@ pub record AreCutsWithin (begin : ℕ) (cuts : List ℕ) (len : ℕ) : Type 0 wh
   pub within : (k : ℕ) → k < length cuts → begin + slice_index cuts k ≤ len
 
 -- text k has the items between cut k and the next, and is empty where these are missing
-pub record AreCutFrom (items : List Item) (begin : ℕ) (cuts : List ℕ) (count : ℕ) (texts : List (List Item)) : Type 0 where
+pub record AreCutFrom (items : List Item) (begin : ℕ) (cuts : List ℕ) (count : ℕ) (texts : List (List Item)) :
+    Type 0 where
   pub len : length texts ≡ count
   pub there :
       (k : ℕ) (text : List Item) → slice_get texts k ≡ Some text → k + 1 < length cuts →

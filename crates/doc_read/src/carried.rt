@@ -1,15 +1,15 @@
 // What a document carries along unread.
 ghost use Rattle.std.specs.Prelude.{◌≡◌, ◌<◌, ◌^◌, length, IfOk};
 ghost use Rattle.doc_bits.specs.Rules.{Hold};
-ghost use Rattle.cfb_streams.specs.Directory.{upper_case};
 ghost use Rattle.doc_load.specs.Source.{part_bytes};
-ghost use Rattle.doc_load.specs.PartRules.{part_rules, HasParts};
+ghost use Rattle.doc_load.specs.PartRules.{part_rules, HasPartLists};
 ghost use Rattle.doc_load.specs.FileRules.{HasText, source_of};
-ghost use Rattle.doc_read.specs.CarriedParts.{AreWithinBounds, HoldsCarried, carried_streams, is_carried as is_other, is_same_name};
+ghost use Rattle.doc_read.specs.CarriedParts.{AreWithinBounds, HoldsCarried, carried_streams, is_carried as is_other};
 
-use cfb_streams::{Container, Streams};
+use cfb_streams::{Container, Streams, TABLE_0, TABLE_1, WORD_DOCUMENT, equal_names};
 use doc_bits::{Bytes, Memory};
-use doc_load::{DocParts, LoadedText, Source, TablePart};
+use doc_load::{DocParts, LoadedText, Source};
+use fib_form::TablePart;
 use plain_doc::Carried;
 use std::alloc::Global;
 
@@ -18,24 +18,23 @@ pub(crate) fn read_carried(
     alloc: Global,
     container: &Container,
     text: &LoadedText<'_>,
-    source: &Source<'_>,
     parts: &DocParts<'_>,
 ) -> Result<Carried, Memory>
     requires bounds { AreWithinBounds container.now }
     requires text { HasText container.now text.now }
-    requires same { source.now ≡ source_of text.now }
-    requires rules { Hold (part_rules source.now) }
-    requires lists { HasParts source.now parts.now }
-    ensures { IfOk result (HoldsCarried container.now source.now parts.now.levels) }
+    requires rules { Hold (part_rules (source_of text.now)) }
+    requires lists { HasPartLists (source_of text.now) parts.now }
+    ensures { IfOk result (HoldsCarried container.now (source_of text.now) parts.now.levels) }
 {
     let fib = text.fib();
+    let source = text.source();
     Ok(Carried {
-        fonts: copy_part(alloc, source, TablePart::SttbfFfn)?,
-        dop: copy_part(alloc, source, TablePart::Dop)?,
-        assoc: copy_part(alloc, source, TablePart::SttbfAssoc)?,
-        lst: copy_part(alloc, source, TablePart::PlfLst)?,
+        fonts: copy_part(alloc, &source, TablePart::SttbfFfn)?,
+        dop: copy_part(alloc, &source, TablePart::Dop)?,
+        assoc: copy_part(alloc, &source, TablePart::SttbfAssoc)?,
+        lst: copy_part(alloc, &source, TablePart::PlfLst)?,
         levels: Bytes::from_slice(alloc, parts.levels)?,
-        lfo: copy_part(alloc, source, TablePart::PlfLfo)?,
+        lfo: copy_part(alloc, &source, TablePart::PlfLfo)?,
         clsid: container.clsid(),
         lid: fib.lid(),
         lid_fe: fib.lid_fe(),
@@ -73,33 +72,7 @@ fn copy_streams(alloc: Global, container: &Container) -> Result<Streams, Memory>
 fn is_carried(name: &[u16]) -> bool
     ensures { result ≡ is_other name.now }
 {
-    !is_named(name, b"WordDocument") && !is_named(name, b"0Table") && !is_named(name, b"1Table")
-}
-
-/// Whether a name is this one in ASCII. Letters are compared by their upper case.
-fn is_named(name: &[u16], wanted: &[u8]) -> bool
-    ensures { result ≡ is_same_name name.now wanted.now }
-{
-    if name.len() != wanted.len() {
-        return false;
-    }
-    for i in 0..name.len() {
-        if upper(name[i]) != upper(u16::from(wanted[i])) {
-            return false;
-        }
-    }
-    true
-}
-
-/// The upper case of a unit, of ASCII letters alone.
-fn upper(unit: u16) -> u16
-    ensures { result ≡ upper_case unit }
-{
-    if unit < 97 {
-        unit
-    } else if unit < 123 {
-        unit - 32
-    } else {
-        unit
-    }
+    !equal_names(name, &WORD_DOCUMENT)
+        && !equal_names(name, &TABLE_0)
+        && !equal_names(name, &TABLE_1)
 }

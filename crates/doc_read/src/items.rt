@@ -3,27 +3,27 @@ ghost use Rattle.std.specs.Prelude.{◌≡◌, ◌+◌, ◌<◌, ◌≤◌, ◌+
 ghost use Rattle.doc_bits.specs.Rules.{Hold};
 ghost use Rattle.prop_map.specs.Modifiers.{IsFormedModifier};
 ghost use Rattle.piece_table.specs.Piece.{total_length};
-ghost use Rattle.piece_table.specs.Clx.{IsClx};
-ghost use Rattle.direct_props.specs.Direct.{IsDirectCharacter};
 ghost use Rattle.plain_doc.specs.declared.item.Item.{Item as ItemType};
-ghost use Rattle.doc_load.specs.FileRules.{clx_of, source_of};
+ghost use Rattle.doc_load.specs.FileRules.{source_of};
 ghost use Rattle.doc_load.specs.FormatRules.{text_count};
-ghost use Rattle.doc_load.specs.PartRules.{part_rules, HasParts};
+ghost use Rattle.doc_load.specs.PartRules.{part_rules, HasPartLists};
 ghost use Rattle.doc_read.specs.Sections.{AreSectionMaps};
 ghost use Rattle.doc_read.specs.Items.{HoldsItems};
 ghost use Rattle.doc_read.specs.Passing.{AddsEach};
-ghost use Rattle.doc_read.specs.Reading.{AreCharactersFrom, ArePassed, ArePlacedItems, HaveFormedModifiers, IsReadable, IsReadAt, mark_lists, text_view};
+ghost use Rattle.doc_read.specs.Reading.{AreCharactersFrom, ArePassed, ArePlacedItems, IsReadable, IsReadAt, AreBareUntil, mark_lists, text_view, IsReadCharacter};
 
 use crate::SectionMaps;
 use crate::marked::read_marks;
-use crate::reading::{Passed, TextSource, ends_paragraph, item_at, next_marked};
+use crate::reading::{Passed, TextSource, item_at, next_marked};
 use direct_props::{CharacterSettings, push_characters};
 use doc_bits::Memory;
-use doc_load::{DocParts, LoadedText, Source, Story, TablePart};
+use doc_load::{DocParts, LoadedText, Source};
+use fib_form::{StoryKind, TablePart};
 use piece_table::PieceList;
 use plain_doc::{Item, Items};
 use prop_map::{Modifier, PropMap};
 use std::alloc::Global;
+use text_codes::ends_paragraph;
 
 /// Of so many units the settings are listed at a time.
 const UNITS_AT_ONCE: usize = 512;
@@ -32,21 +32,19 @@ const UNITS_AT_ONCE: usize = 512;
 pub(crate) fn read_items(
     alloc: Global,
     text: &LoadedText<'_>,
-    source: &Source<'_>,
     parts: &DocParts<'_>,
     sections: &SectionMaps,
 ) -> Result<Items, Memory>
-    requires same { source.now ≡ source_of text.now }
-    requires pieces { IsClx (clx_of text.now.wd text.now.table) text.now.pieces }
-    requires rules { Hold (part_rules source.now) }
-    requires lists { HasParts source.now parts.now }
-    requires sections { AreSectionMaps source.now.wd parts.now.sections sections.now }
+    requires rules { Hold (part_rules (source_of text.now)) }
+    requires lists { HasPartLists (source_of text.now) parts.now }
+    requires sections { AreSectionMaps text.now.wd parts.now.sections sections.now }
     ensures { IfOk result (HoldsItems
-        (record { source = source.now; pieces = text.now.pieces; lists = parts.now; sections = sections.now })
-        0 (text_count source.now)) }
+        (record { source = source_of text.now; pieces = text.now.pieces; lists = parts.now; sections = sections.now })
+        0 (text_count (source_of text.now))) }
 {
-    has_units(source);
-    let marks = read_marks(alloc, source, parts)?;
+    let source = text.source();
+    has_units(&source);
+    let marks = read_marks(alloc, &source, parts)?;
     let lists = TextSource {
         wd: source.wd(),
         characters: source.part(TablePart::PlcfBteChpx),
@@ -64,7 +62,7 @@ pub(crate) fn read_items(
 fn has_units(source: &Source<'_>)
     ensures { text_count source.now ≤ length source.now.text.units }
 {
-    let _begin = source.story_begin(Story::Heads);
+    let _begin = source.story_begin(StoryKind::Heads);
 }
 
 /// The items of all pieces, one after the other, as far as there are units.
@@ -74,7 +72,6 @@ fn items_of_pieces(
     pieces: &PieceList,
 ) -> Result<Vec<Item>, Memory>
     requires readable { IsReadable (text_view text.now) }
-    requires formed { HaveFormedModifiers pieces.now.pieces }
     requires enough { length text.now.units.now ≤ total_length pieces.now.pieces }
     ensures len { IfOk result (λ items. length items.items ≡ length text.now.units.now) }
     ensures each { IfOk result (λ items. ArePlacedItems (text_view text.now) pieces.now.pieces items.items) }
@@ -85,6 +82,7 @@ fn items_of_pieces(
         field: 0,
         note: 0,
         section: 0,
+        until: 0,
     };
     for i in 0..pieces.len() {
         // A piece may have one unit more than the stories.
@@ -115,7 +113,8 @@ fn push_piece(
     requires within { length items.old.items + len ≤ length text.now.units.now }
     requires passed { ArePassed (mark_lists text.now.marks.now) passed.old (length items.old.items) }
     ensures passed { OnOk result (ArePassed (mark_lists text.now.marks.now) passed.new (length items.new.items)) }
-    ensures items { OnOk result (AddsEach (IsReadAt (text_view text.now) modifier.now) len items.old.items items.new.items) }
+    ensures items { OnOk result (AddsEach (IsReadAt (text_view text.now) modifier.now) len
+        items.old.items items.new.items) }
 {
     let mut done = 0;
     while done < len {
@@ -141,7 +140,8 @@ fn push_chunk(
     requires within { length items.old.items + len ≤ length text.now.units.now }
     requires passed { ArePassed (mark_lists text.now.marks.now) passed.old (length items.old.items) }
     ensures passed { OnOk result (ArePassed (mark_lists text.now.marks.now) passed.new (length items.new.items)) }
-    ensures items { OnOk result (AddsEach (IsReadAt (text_view text.now) modifier.now) len items.old.items items.new.items) }
+    ensures items { OnOk result (AddsEach (IsReadAt (text_view text.now) modifier.now) len
+        items.old.items items.new.items) }
 {
     let from = items.len();
     let mut settings = CharacterSettings::new(alloc);
@@ -173,17 +173,17 @@ fn push_items(
     requires characters { AreCharactersFrom (text_view text.now) modifier.now (length items.old.items) chps.items }
     requires passed { ArePassed (mark_lists text.now.marks.now) passed.old (length items.old.items) }
     ensures passed { OnOk result (ArePassed (mark_lists text.now.marks.now) passed.new (length items.new.items)) }
-    ensures items { OnOk result (AddsEach (IsReadAt (text_view text.now) modifier.now) (length chps.items) items.old.items items.new.items) }
+    ensures items { OnOk result (AddsEach (IsReadAt (text_view text.now) modifier.now) (length chps.items)
+        items.old.items items.new.items) }
 {
-    let mut until = next_marked(text, passed);
+    passed.until = next_marked(text, passed);
     for chp in chps {
-        until = push_item(alloc, text, chp, modifier, items, passed, until)?;
+        push_item(alloc, text, chp, modifier, items, passed)?;
     }
     Ok(())
 }
 
-/// Appends the item of the next CP. Up to the CP `until` nothing stands at one, and the answer is the
-/// next such CP.
+/// Appends the item of the next CP.
 #[inline(always)]
 fn push_item(
     alloc: Global,
@@ -192,25 +192,26 @@ fn push_item(
     modifier: &Modifier,
     items: &mut Vec<Item>,
     passed: &mut Passed,
-    until: u32,
-) -> Result<u32, Memory>
+) -> Result<(), Memory>
     requires readable { IsReadable (text_view text.now) }
     requires formed { IsFormedModifier modifier.now }
     requires within { length items.old.items < length text.now.units.now }
-    requires characters { IsDirectCharacter text.now.wd.now text.now.characters.now (slice_index text.now.places.now (length items.old.items)) modifier.now chp }
+    requires characters { IsReadCharacter (text_view text.now) modifier.now (length items.old.items) chp }
     requires passed { ArePassed (mark_lists text.now.marks.now) passed.old (length items.old.items) }
-    requires bare { (at : ℕ) → length items.old.items ≤ at → at ≤ until → ArePassed (mark_lists text.now.marks.now) passed.old at }
-    ensures pushed { OnOk result ((item : ItemType) × (IsReadAt (text_view text.now) modifier.now (length items.old.items) item
+    requires bare { AreBareUntil (mark_lists text.now.marks.now) passed.old (length items.old.items) }
+    ensures pushed { OnOk result ((item : ItemType)
+        × (IsReadAt (text_view text.now) modifier.now (length items.old.items) item
         × (items.new.items ≡ items.old.items ++ item ∷ []))) }
     ensures passed { OnOk result (ArePassed (mark_lists text.now.marks.now) passed.new (length items.new.items)) }
-    ensures bare { IfOk result (λ next. (at : ℕ) → length items.new.items ≤ at → at ≤ next → ArePassed (mark_lists text.now.marks.now) passed.new at) }
+    ensures bare { OnOk result (AreBareUntil (mark_lists text.now.marks.now) passed.new (length items.new.items)) }
 {
     let cp = items.len();
     let unit = text.units[cp];
-    if cp as u32 >= until || ends_paragraph(unit, false) {
+    if cp as u32 >= passed.until || ends_paragraph(unit, false) {
         let item = item_at(alloc, text, cp as u32, chp, modifier, passed)?;
         items.push(item)?;
-        return Ok(next_marked(text, passed));
+        passed.until = next_marked(text, passed);
+        return Ok(());
     }
     items.push(Item {
         unit,
@@ -220,5 +221,5 @@ fn push_item(
         fld: None,
         note: None,
     })?;
-    Ok(until)
+    Ok(())
 }

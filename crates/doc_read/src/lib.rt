@@ -4,8 +4,6 @@
 mod carried;
 mod document;
 mod entries;
-#[cfg(test)]
-mod hello;
 mod items;
 mod laws;
 mod marked;
@@ -18,6 +16,3 @@ pub use doc_load::ReadFault;
 pub use laws::{document_is_one, files_hold_documents, first_fault_is_least};
 pub use opened::{Opened, read};
 pub(crate) use sections::SectionMaps;
-
-#[cfg(test)]
-mod tests;

@@ -1,8 +1,9 @@
 // What stands at CPs of the whole text: field bytes, references to notes, ends of sections.
-ghost use Rattle.std.specs.Prelude.{◌≡◌, ◌+◌, ◌<◌, ◌≤◌, ◌^◌, ◌++◌, ℕ, All, Some, length, map, slice_get, IfOk, OnOk, IfSome};
+ghost use Rattle.std.specs.Prelude.{◌≡◌, ◌+◌, ◌<◌, ◌≤◌, ◌^◌, ◌++◌, ℕ, All, Some, length, map, slice_get, IfOk};
+ghost use Rattle.std.specs.Prelude.{OnOk, IfSome};
 ghost use Rattle.prop_map.specs.Formed.{IsPropertyMap, section_groups};
 ghost use Rattle.doc_parts.specs.declared.lists.Fld.{Fld as FldType};
-ghost use Rattle.doc_load.specs.PartRules.{HasParts};
+ghost use Rattle.doc_load.specs.PartRules.{HasPartLists};
 ghost use Rattle.doc_read.specs.Sections.{section_lasts};
 ghost use Rattle.doc_read.specs.Marked.{note_kind};
 ghost use Rattle.doc_read.specs.Passing.{AreListed, IsPassed};
@@ -11,8 +12,9 @@ ghost use Rattle.doc_read.specs.Reading.{AreMarksOf, mark_lists, field_at, note_
 use crate::SectionMaps;
 use crate::entries::step;
 use doc_bits::Memory;
+use doc_load::{DocParts, Source};
 use doc_parts::{Flds, Refs, Seds};
-use doc_load::{DocParts, Source, Story};
+use fib_form::StoryKind;
 use plain_doc::NoteKind;
 use prop_map::PropMap;
 use std::alloc::Global;
@@ -83,12 +85,12 @@ pub(crate) fn read_marks(
     source: &Source<'_>,
     parts: &DocParts<'_>,
 ) -> Result<TextMarks, Memory>
-    requires { HasParts source.now parts.now }
+    requires { HasPartLists source.now parts.now }
     ensures { IfOk result (λ marks. AreMarksOf source.now parts.now (mark_lists marks)) }
 {
-    let main_len = source.story_len(Story::Main);
-    let notes_len = source.story_len(Story::Notes);
-    let heads_len = source.story_len(Story::Heads);
+    let main_len = source.story_len(StoryKind::Main);
+    let notes_len = source.story_len(StoryKind::Notes);
+    let heads_len = source.story_len(StoryKind::Heads);
     let mut field_cps = Vec::new(alloc);
     let mut field_bytes = Vec::new(alloc);
     push_fields(

@@ -39,28 +39,37 @@ impl Model for Opened {
 
     ghost coded = { Prim.hlevel (codes, whole.the_row.coded, piece_code) };
 
-    ghost view = { λ o. record { document = o.document; fib = o.fib; contents = o.container; pieces = o.pieces.pieces } };
+    ghost view = { λ o. record {
+      document = o.document;
+      fib = o.fib;
+      contents = o.container;
+      pieces = o.pieces.pieces;
+    } };
 }
 
 impl Opened {
+    /// The document of the file.
     pub fn document(&self) -> &Document
         ensures { result.now ≡ self.now.document }
     {
         &self.document
     }
 
+    /// The FIB of its `WordDocument`.
     pub fn fib(&self) -> &Fib
         ensures { result.now ≡ self.now.fib }
     {
         &self.fib
     }
 
+    /// Its streams, with the CLSID.
     pub fn container(&self) -> &Container
         ensures { result.now ≡ self.now.contents }
     {
         &self.container
     }
 
+    /// The pieces of its text.
     pub fn pieces(&self) -> &PieceList
         ensures { result.now.pieces ≡ self.now.pieces }
     {
@@ -80,9 +89,7 @@ impl Opened {
 
 /// Reads a file. A file that is refused breaks a rule, and the first is named, at its least place.
 pub fn read(alloc: Global, file: &[u8]) -> Result<Opened, ReadFault>
-    ensures { MatchResult result
-        (λ opened. Hold (all_rules file.now) × IsOpened file.now opened)
-        (IsReadFault (all_rules file.now)) }
+    ensures { MatchResult result (IsOpened file.now) (IsReadFault (all_rules file.now)) }
 {
     let container = load(alloc, file)?;
     let found = read_contents(alloc, &container)?;
@@ -98,7 +105,8 @@ pub fn read(alloc: Global, file: &[u8]) -> Result<Opened, ReadFault>
 /// The streams of a file.
 fn load(alloc: Global, file: &[u8]) -> Result<Container, ReadFault>
     ensures { MatchResult result
-        (λ container. Hold (rules_in File (container_rules file.now)) × HasContents file.now container × AreWithinBounds container)
+        (λ container. Hold (rules_in File (container_rules file.now)) × HasContents file.now container
+        × AreWithinBounds container)
         (IsReadFault (rules_in File (container_rules file.now))) }
 {
     match Container::load(alloc, file) {
@@ -119,13 +127,14 @@ struct Found {
 fn read_contents(alloc: Global, container: &Container) -> Result<Found, ReadFault>
     requires { AreWithinBounds container.now }
     ensures { MatchResult result
-        (λ found. Hold (contents_rules container.now) × IsFoundIn container.now found.document found.fib found.pieces.pieces)
+        (λ found. Hold (contents_rules container.now)
+        × IsFoundIn container.now found.document found.fib found.pieces.pieces)
         (IsReadFault (contents_rules container.now)) }
 {
     let text = load_text(alloc, container)?;
     let source = text.source();
     let parts = read_parts(alloc, &source)?;
-    let document = read_document(alloc, container, &text, &source, parts)?;
+    let document = read_document(alloc, container, &text, parts)?;
     let (fib, pieces) = text.into_parts();
     Ok(Found {
         document,

@@ -4,10 +4,9 @@ ghost use Rattle.prop_map.specs.Formed.{IsPropertyMap, paragraph_groups};
 ghost use Rattle.prop_map.specs.Modifiers.{IsFormedModifier};
 ghost use Rattle.fkp_pages.specs.declared.kind.PageKind.TheVariants.{Papx};
 ghost use Rattle.fkp_pages.specs.Bin.{IsBinTable};
-ghost use Rattle.direct_props.specs.Direct.{IsDirectCharacter};
 ghost use Rattle.direct_props.specs.PageRules.{IsRightPlace};
-ghost use Rattle.doc_load.specs.FormatRules.{is_paragraph_end};
-ghost use Rattle.doc_read.specs.Reading.{IsMarkAt, IsReadable, IsReadAt, ArePassed, mark_lists, text_view};
+ghost use Rattle.doc_read.specs.Items.{IsMarkAt};
+ghost use Rattle.doc_read.specs.Reading.{IsReadable, IsReadAt, IsReadCharacter, ArePassed, mark_lists, text_view};
 
 use crate::SectionMaps;
 use crate::entries::next_cp;
@@ -17,7 +16,7 @@ use doc_bits::Memory;
 use plain_doc::{Item, Mark};
 use prop_map::{Modifier, PropMap};
 use std::alloc::Global;
-use text_codes::{CELL_MARK, PARAGRAPH_MARK, SECTION_MARK};
+use text_codes::ends_paragraph;
 
 /// What the items of a text are read from: `WordDocument` with its bin tables, the units and their
 /// places by CP, and what stands at CPs.
@@ -32,12 +31,13 @@ pub(crate) struct TextSource<'a> {
     pub(crate) maps: &'a SectionMaps,
 }
 
-/// How many CPs of each list are passed.
+/// How many CPs of each list are passed, and a CP up to which nothing more stands at one.
 #[derive(Clone, Copy)]
 pub(crate) struct Passed {
     pub(crate) field: usize,
     pub(crate) note: usize,
     pub(crate) section: usize,
+    pub(crate) until: u32,
 }
 
 /// Reads the item of a CP, which has these settings of characters and stands in a piece with the
@@ -53,7 +53,7 @@ pub(crate) fn item_at(
     requires readable { IsReadable (text_view text.now) }
     requires within { cp < length text.now.units.now }
     requires formed { IsFormedModifier modifier.now }
-    requires characters { IsDirectCharacter text.now.wd.now text.now.characters.now (slice_index text.now.places.now cp) modifier.now chp }
+    requires characters { IsReadCharacter (text_view text.now) modifier.now cp chp }
     requires passed { ArePassed (mark_lists text.now.marks.now) passed.old cp }
     ensures passed { OnOk result (ArePassed (mark_lists text.now.marks.now) passed.new (cp + 1)) }
     ensures item { IfOk result (IsReadAt (text_view text.now) modifier.now cp) }
@@ -87,13 +87,6 @@ pub(crate) fn next_marked(text: &TextSource<'_>, passed: &Passed) -> u32
     let note = next_cp(&text.marks.note_cps, passed.note);
     let section = next_cp(&text.marks.section_cps, passed.section);
     field.min(note).min(section)
-}
-
-/// Whether a unit ends a paragraph. `section_end` says that a section ends with it.
-pub(crate) fn ends_paragraph(unit: u16, section_end: bool) -> bool
-    ensures { result ≡ is_paragraph_end unit section_end }
-{
-    unit == PARAGRAPH_MARK || (unit == CELL_MARK || (unit == SECTION_MARK && section_end))
 }
 
 /// Reads the mark of a unit that ends a paragraph.

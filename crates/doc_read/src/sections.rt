@@ -3,18 +3,17 @@ ghost use Rattle.std.specs.Prelude.{◌≡◌, ◌≢◌, ◌<◌, length, slice
 ghost use Rattle.doc_bits.specs.Rules.{Hold, Nowhere};
 ghost use Rattle.sprm_table.specs.Sprm.{IsAcceptedList};
 ghost use Rattle.prop_map.specs.Formed.{IsPropertyMap};
-ghost use Rattle.doc_load.specs.SectionRules.{HasSections, HasSepxFault, LacksSepx, rules_of_sections, section_groups, sepx_list};
+ghost use Rattle.doc_load.specs.FileRules.{source_of};
+ghost use Rattle.doc_load.specs.SectionRules.{HasSections, HasSepxFault, LacksSepx, rules_of_sections, sepx_list};
+ghost use Rattle.prop_map.specs.Formed.{section_groups};
 ghost use Rattle.doc_read.specs.Sections.{AreSectionMaps, IsSectionSettings};
 
 use doc_bits::Memory;
+use doc_load::LoadedText;
 use doc_parts::{NO_SEPX, Seds, sepx};
-use doc_load::Source;
-use prop_map::{PropMap, act};
+use prop_map::{PropMap, SECTION_GROUPS, act};
 use std::alloc::Global;
 use std::marker::Model;
-
-/// A Sepx holds the sprms of sections.
-const SECTION_GROUPS: u8 = 1 << 4;
 
 /// The settings of each section. A map may be shared.
 #[derive(Drop)]
@@ -46,13 +45,14 @@ impl SectionMaps {
 /// Reads the settings of the sections.
 pub(crate) fn read_section_maps(
     alloc: Global,
-    source: &Source<'_>,
+    text: &LoadedText<'_>,
     sections: &Seds,
 ) -> Result<SectionMaps, Memory>
-    requires rules { Hold (rules_of_sections source.now) }
-    requires sections { HasSections source.now sections.now }
-    ensures { IfOk result (AreSectionMaps source.now.wd sections.now) }
+    requires rules { Hold (rules_of_sections (source_of text.now)) }
+    requires sections { HasSections (source_of text.now) sections.now }
+    ensures { IfOk result (AreSectionMaps text.now.wd sections.now) }
 {
+    let source = text.source();
     let wd = source.wd();
     let mut maps = Vec::with_capacity(alloc, sections.len())?;
     for k in 0..sections.len() {

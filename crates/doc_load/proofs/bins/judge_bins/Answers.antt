@@ -1,6 +1,6 @@
 use Rattle.std.proofs.Common.{inl, inr}
 use Rattle.doc_bits.specs.declared.places.Where.TheVariants.{Table}
-use Rattle.doc_load.specs.declared.table_parts.TablePart.TheVariants.{PlcfBteChpx, PlcfBtePapx}
+use Rattle.fib_form.specs.declared.table_parts.TablePart.TheVariants.{PlcfBteChpx, PlcfBtePapx}
 use Rattle.doc_load.specs.Source.{part_place, part_bytes}
 use Rattle.doc_load.specs.BinRules.{BreaksBinTable}
 use Rattle.doc_load.proofs.RefusalLemmas.{refused-rule, holds-rule}

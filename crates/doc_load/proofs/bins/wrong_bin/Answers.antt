@@ -3,7 +3,7 @@ use Rattle.doc_bits.specs.Plc.{PlcPart, IsPlcOf}
 use Rattle.doc_bits.specs.Rules.{LeastOrNone}
 use Rattle.doc_parts.specs.Table.{table_of, IsWhole}
 use Rattle.doc_parts.proofs.TableLemmas.{table_of_plc, count_of_whole}
-use Rattle.doc_load.specs.BinRules.{IsBinTable, HasNoAscent}
+use Rattle.doc_load.specs.BinRules.{IsPlcBte, HasNoAscent}
 use Rattle.doc_load.proofs.RowLemmas.{wrong_part, right_part}
 use Rattle.doc_load.proofs.bins.wrong_bin.Goals as goal
 
@@ -14,15 +14,15 @@ after_part table at p w = let here = w.broken.here in omega arith
 pub returns-in_default : goal.returns-in_default
 returns-in_default c =
     let bytes = c.args.bytes.now in
-    wrong_part (IsBinTable (table_of 4 bytes)) c.args.at (HasNoAscent (table_of 4 bytes) c.args.at) (λ formed. c.in_default.ensures (table_of 4 bytes).count formed.0) (after_part (table_of 4 bytes) c.args.at)
+    wrong_part (IsPlcBte (table_of 4 bytes)) c.args.at (HasNoAscent (table_of 4 bytes) c.args.at) (λ formed. c.in_default.ensures (table_of 4 bytes).count formed.0) (after_part (table_of 4 bytes) c.args.at)
 
 pub returns-then-len-eq0 : goal.returns-then-len-eq0
 returns-then-len-eq0 c =
     let bytes = c.args.bytes.now in
     let same : c.in-Ok.table ≡ table_of 4 bytes = table_of_plc c.in-Ok.table bytes 4 c.in-Ok.ensures.0 c.in-Ok.ensures.1 in
     let count : c.in-Ok.table.count ≡ (table_of 4 bytes).count = ap (λ (t : PlcPart). t.count) same in
-    let none : ¬ (IsBinTable (table_of 4 bytes)) = λ formed. let some = formed.1 in omega (arith, c.len.ensures, c.if-len-eq0.true) in
-    wrong_part (IsBinTable (table_of 4 bytes)) c.args.at (HasNoAscent (table_of 4 bytes) c.args.at) none (after_part (table_of 4 bytes) c.args.at)
+    let none : ¬ (IsPlcBte (table_of 4 bytes)) = λ formed. let some = formed.1 in omega (arith, c.len.ensures, c.if-len-eq0.true) in
+    wrong_part (IsPlcBte (table_of 4 bytes)) c.args.at (HasNoAscent (table_of 4 bytes) c.args.at) none (after_part (table_of 4 bytes) c.args.at)
 
 whole_table : (bytes : List ℕ) (count : ℕ) → IsPlcOf bytes 4 count → IsWhole (table_of 4 bytes)
 whole_table bytes count h = rw (count_of_whole bytes 4 count h) h
@@ -41,6 +41,6 @@ returns c =
     let bytes = c.args.bytes.now in
     let same : c.in-Ok.table ≡ table_of 4 bytes = table_of_plc c.in-Ok.table bytes 4 c.in-Ok.ensures.0 c.in-Ok.ensures.1 in
     let count : c.in-Ok.table.count ≡ (table_of 4 bytes).count = ap (λ (t : PlcPart). t.count) same in
-    let formed : IsBinTable (table_of 4 bytes) = (whole_table bytes c.in-Ok.table.count c.in-Ok.ensures.1, omega (arith, c.len.ensures, c.if-len-eq0.false)) in
+    let formed : IsPlcBte (table_of 4 bytes) = (whole_table bytes c.in-Ok.table.count c.in-Ok.ensures.1, omega (arith, c.len.ensures, c.if-len-eq0.false)) in
     let rows = subst (λ (t : PlcPart). LeastOrNone (HasNoAscent t c.args.at) c.no_ascent.result) same c.no_ascent.ensures in
-    right_part (IsBinTable (table_of 4 bytes)) c.args.at (HasNoAscent (table_of 4 bytes) c.args.at) c.no_ascent.result formed rows
+    right_part (IsPlcBte (table_of 4 bytes)) c.args.at (HasNoAscent (table_of 4 bytes) c.args.at) c.no_ascent.result formed rows

@@ -4,7 +4,7 @@ use Rattle.doc_bits.specs.Places.{rules_in}
 use Rattle.doc_bits.proofs.RuleLemmas.{hold_in}
 use Rattle.fkp_pages.specs.declared.kind.PageKind.TheVariants.{Chpx, Papx}
 use Rattle.direct_props.specs.PageRules.{page_rules}
-use Rattle.doc_load.specs.declared.table_parts.TablePart.TheVariants.{PlcfBteChpx, PlcfBtePapx}
+use Rattle.fib_form.specs.declared.table_parts.TablePart.TheVariants.{PlcfBteChpx, PlcfBtePapx}
 use Rattle.doc_load.specs.Source.{part_bytes}
 use Rattle.doc_load.specs.Faults.{page_refusal}
 use Rattle.doc_load.specs.FormatRules.{judged_places, paragraph_places}

@@ -2,11 +2,12 @@ use Rattle.std.proofs.Common.{◌≡◌, ◌∙◌, ap, sym, ◌+◌, ◌<◌, �
 use Rattle.std.specs.Prelude.{slice_index}
 use Rattle.std.proofs.lemmas.Bool.{lt-ltb, le-ltb}
 use Rattle.std.proofs.lemmas.List.{get_or_default}
-use Rattle.doc_load.specs.declared.source.Story.TheVariants.{Main}
+use Rattle.fib_form.specs.declared.stories.StoryKind.TheVariants.{Main}
 use Rattle.doc_load.specs.Source.{story_length}
-use Rattle.doc_load.specs.FormatRules.{is_end, section_ends, ends_section, ends_paragraph, is_paragraph_end, judged_places}
+use Rattle.doc_load.specs.FormatRules.{is_end, section_ends, ends_section, ends_paragraph, judged_places}
+use Rattle.text_codes.specs.Paragraph.{is_paragraph_end}
 use Rattle.doc_load.proofs.FormatLemmas.{one-added, none-added}
-use Rattle.doc_load.proofs.formats.paragraph_places.Goals.{then-cp-main_len, else-cp-main_len, then-ends_at+in_ok-push, else-ends_at}
+use Rattle.doc_load.proofs.formats.paragraph_places.Goals.{then-cp-main_len, else-cp-main_len, then-ends_paragraph+in_ok-push, else-ends_paragraph}
 use Rattle.doc_load.proofs.formats.paragraph_places.Goals as goal
 
 pub loop-cp-preserved : goal.loop-cp-preserved
@@ -30,13 +31,13 @@ loop-cp-preserved c =
     ] in
     let ends : c.if-cp-main_len.ends ≡ ends_section sections main cp = ends_in ∙ ap (λ n. ends_section sections n cp) main_is in
     let units = c.judged_units-units.result.now in
-    let tested : c.ends_at.result ≡ ends_paragraph source sections cp =
-    c.ends_at.ensures ∙ (ap (λ e. is_paragraph_end (slice_index units cp) e) ends ∙ ap (λ us. is_paragraph_end (slice_index us cp) (ends_section sections main cp)) c.judged_units-units.ensures.units) in
-    elim c.if-ends_at.branch [
-      | then-ends_at+in_ok-push w ↦
-          one-added (ends_paragraph source sections) (slice_index (judged_places source)) cp (slice_index c.judged_places-all.result.now cp) c.loop-cp.places.items c.if-ends_at.places.items
-          (sym tested ∙ w.if-ends_at.true) (ap (λ ps. slice_index ps cp) c.judged_places-all.ensures.places) (ap (λ v. v.items) w.places-is ∙ w.in_ok-push.ensures.items) c.loop-cp.invariant
-      | else-ends_at w ↦
-          none-added (ends_paragraph source sections) (slice_index (judged_places source)) cp c.loop-cp.places.items c.if-ends_at.places.items
-          (sym tested ∙ w.if-ends_at.false) (ap (λ v. v.items) w.places-is) c.loop-cp.invariant
+    let tested : c.ends_paragraph.result ≡ ends_paragraph source sections cp =
+    c.ends_paragraph.ensures ∙ (ap (λ e. is_paragraph_end (slice_index units cp) e) ends ∙ ap (λ us. is_paragraph_end (slice_index us cp) (ends_section sections main cp)) c.judged_units-units.ensures.units) in
+    elim c.if-ends_paragraph.branch [
+      | then-ends_paragraph+in_ok-push w ↦
+          one-added (ends_paragraph source sections) (slice_index (judged_places source)) cp (slice_index c.judged_places-all.result.now cp) c.loop-cp.places.items c.if-ends_paragraph.places.items
+          (sym tested ∙ w.if-ends_paragraph.true) (ap (λ ps. slice_index ps cp) c.judged_places-all.ensures.places) (ap (λ v. v.items) w.places-is ∙ w.in_ok-push.ensures.items) c.loop-cp.invariant
+      | else-ends_paragraph w ↦
+          none-added (ends_paragraph source sections) (slice_index (judged_places source)) cp c.loop-cp.places.items c.if-ends_paragraph.places.items
+          (sym tested ∙ w.if-ends_paragraph.false) (ap (λ v. v.items) w.places-is) c.loop-cp.invariant
     ]

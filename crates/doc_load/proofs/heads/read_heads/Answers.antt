@@ -3,10 +3,10 @@ use Rattle.std.proofs.lemmas.Bool.{cases_lt}
 use Rattle.std.specs.Prelude.{IsTrue}
 use Rattle.doc_bits.specs.declared.places.Where.TheVariants.{Table}
 use Rattle.doc_bits.specs.Rules.{LeastOrNone}
-use Rattle.doc_load.specs.declared.table_parts.TablePart.TheVariants.{PlcfSed, PlcfHdd}
-use Rattle.doc_load.specs.declared.source.Story.TheVariants.{Main, Heads}
+use Rattle.fib_form.specs.declared.table_parts.TablePart.TheVariants.{PlcfSed, PlcfHdd}
+use Rattle.fib_form.specs.declared.stories.StoryKind.TheVariants.{Main, Heads}
 use Rattle.doc_load.specs.Source.{part_bytes, part_place, story_length}
-use Rattle.doc_load.specs.PairRules.{pair_of}
+use Rattle.fib_form.specs.TableParts.{pair_of}
 use Rattle.doc_load.specs.TextCuts.{BreaksCuts}
 use Rattle.doc_load.specs.HeadRules.{IsHeadTable, BreaksHeads}
 use Rattle.doc_load.proofs.CutLemmas.{cuts_same, whole_heads}

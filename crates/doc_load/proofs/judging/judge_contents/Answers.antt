@@ -1,6 +1,6 @@
 use Rattle.doc_bits.specs.Rules.{given}
 use Rattle.doc_load.specs.PartRules.{part_rules}
-use Rattle.doc_load.specs.FileRules.{FileText, HasText, source_of, text_rules}
+use Rattle.doc_load.specs.FileRules.{FileText, HasText, source_of, loading_rules}
 use Rattle.doc_load.proofs.RefusalLemmas.{refused-next, refused-given}
 use Rattle.doc_load.proofs.judging.judge_contents.Goals as goal
 
@@ -17,4 +17,4 @@ returns c =
     let read = c.in_ok-text.ensures in
     let parts = λ (text : FileText). part_rules (source_of text) in
     let refused = rw c.source-source.ensures at c.in-Err.ensures in
-    refused-next (text_rules contents) (given (HasText contents) parts) fault read.0 (refused-given (HasText contents) parts c.in_ok-text.text fault read.1 refused)
+    refused-next (loading_rules contents) (given (HasText contents) parts) fault read.0 (refused-given (HasText contents) parts c.in_ok-text.text fault read.1 refused)

@@ -4,7 +4,7 @@ use Rattle.doc_bits.specs.declared.places.Where.TheVariants.{Table}
 use Rattle.doc_bits.specs.Rules.{Hold}
 use Rattle.doc_bits.proofs.RuleLemmas.{hold_in, first_in}
 use Rattle.doc_parts.specs.Levels.{level_rules, HaveLength}
-use Rattle.doc_load.specs.declared.table_parts.TablePart.TheVariants.{PlfLst}
+use Rattle.fib_form.specs.declared.table_parts.TablePart.TheVariants.{PlfLst}
 use Rattle.doc_load.specs.Source.{part_bytes, part_place}
 use Rattle.doc_load.proofs.ListLemmas.{levels_within, levels_empty}
 use Rattle.doc_load.proofs.levels.read_levels.Goals as goal

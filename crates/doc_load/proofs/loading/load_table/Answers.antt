@@ -6,27 +6,30 @@ use Rattle.doc_bits.proofs.RuleLemmas.{hold_in}
 use Rattle.fib_form.specs.Fib.{fib_pair}
 use Rattle.fib_form.specs.FibFields.{FibFields, fib_fields, text_length}
 use Rattle.piece_table.specs.Piece.{total_length}
-use Rattle.piece_table.specs.ClxRules.{clx_rules}
-use Rattle.doc_load.specs.declared.table_parts.TablePart.TheVariants.{Clx}
-use Rattle.doc_load.specs.PairRules.{pair_of, BreaksPairs}
+use Rattle.piece_table.specs.ClxRules.{clx_rules, early_bounds}
+use Rattle.fib_form.specs.declared.table_parts.TablePart.TheVariants.{Clx}
+use Rattle.doc_load.specs.PairRules.{BreaksPairs}
+use Rattle.fib_form.specs.TableParts.{pair_of}
 use Rattle.doc_load.specs.Faults.{clx_refusal}
 use Rattle.doc_load.specs.FileRules.{clx_of}
 use Rattle.doc_load.proofs.RefusalLemmas.{refused-rule, holds-rule, refused-next, refused-clx}
+use Rattle.doc_load.proofs.PartLemmas.{clx_pair}
 use Rattle.doc_load.proofs.UnitLemmas.{length-text_units, length-text_places}
 use Rattle.doc_load.proofs.loading.load_table.Goals as goal
 
 pub returns-in-Some : goal.returns-in-Some
-returns-in-Some c = inl (refused-rule Wd 26 (BreaksPairs c.args.wd.now (length c.args.table.now)) c.in-Some.offset c.in-Some.ensures)
+returns-in-Some c = inl (refused-rule Wd 26 (BreaksPairs c.args.wd.now (length c.args.table.now)) c.in-Some.offset (c.in-Some.ensures c.args.wd.now c.requires.fields))
 
 pub returns-in-Err : goal.returns-in-Err
 returns-in-Err c =
     let wd = c.args.wd.now in
     let table = c.args.table.now in
     let len : c.text_len.result ≡ text_length (fib_fields wd).ccps = c.text_len.ensures.value ∙ ap (λ (f : FibFields). text_length f.ccps) c.requires.fields in
-    let rules = clx_rules (clx_of wd table) (fib_pair wd (pair_of Clx)).0 (length wd) (text_length (fib_fields wd).ccps) in
-    let first = rw (len, c.pair_in-fc.ensures, c.part_in-clx.ensures.bytes) at c.in-Err.ensures.read in
+    let rules = clx_rules (clx_of wd table) (fib_pair wd (pair_of Clx)).0 (early_bounds (length wd)) (text_length (fib_fields wd).ccps) in
+    let pair : c.pair-pair.result ≡ fib_pair wd (pair_of Clx) = clx_pair c.pair.result wd c.args.fib c.pair-pair.result c.pair.ensures.number c.pair-pair.ensures c.requires.fields in
+    let first = rw (len, c.part_at-clx.ensures.bytes, pair) at c.in-Err.ensures.read in
     let pairs = BreaksPairs wd (length table) in
-    rw c.refused_clx.ensures (refused-next (rules_in Wd (rule 26 pairs)) (rules_in Table rules) (clx_refusal c.in-Err.fault) (holds-rule Wd 26 pairs c.in_default.ensures) (refused-clx rules c.in-Err.fault first))
+    rw c.refused_clx.ensures (refused-next (rules_in Wd (rule 26 pairs)) (rules_in Table rules) (clx_refusal c.in-Err.fault) (holds-rule Wd 26 pairs (c.in_default.ensures wd c.requires.fields)) (refused-clx rules c.in-Err.fault first))
 
 pub invariant_of-result : goal.invariant_of-result
 invariant_of-result c =
@@ -39,7 +42,6 @@ invariant_of-result c =
         fields = c.requires.fields;
         wd_small = c.requires.small;
         table_small = c.requires.table_small;
-        parts = c.in_default.ensures;
         units = length-text_units wd pieces ∙ total;
         places = length-text_places wd pieces ∙ total;
       };
@@ -51,6 +53,7 @@ returns c =
     let wd = c.args.wd.now in
     let table = c.args.table.now in
     let len : c.text_len.result ≡ text_length (fib_fields wd).ccps = c.text_len.ensures.value ∙ ap (λ (f : FibFields). text_length f.ccps) c.requires.fields in
-    let rules = clx_rules (clx_of wd table) (fib_pair wd (pair_of Clx)).0 (length wd) (text_length (fib_fields wd).ccps) in
-    let read = rw (len, c.pair_in-fc.ensures, c.part_in-clx.ensures.bytes) at c.in-Ok.ensures.read in
-    ((holds-rule Wd 26 (BreaksPairs wd (length table)) c.in_default.ensures, hold_in Table rules read.0), refl, refl, read.1)
+    let rules = clx_rules (clx_of wd table) (fib_pair wd (pair_of Clx)).0 (early_bounds (length wd)) (text_length (fib_fields wd).ccps) in
+    let pair : c.pair-pair.result ≡ fib_pair wd (pair_of Clx) = clx_pair c.pair.result wd c.args.fib c.pair-pair.result c.pair.ensures.number c.pair-pair.ensures c.requires.fields in
+    let read = rw (len, c.part_at-clx.ensures.bytes, pair) at c.in-Ok.ensures.read in
+    ((holds-rule Wd 26 (BreaksPairs wd (length table)) (c.in_default.ensures wd c.requires.fields), hold_in Table rules read.0), refl, refl, read.1)

@@ -3,7 +3,8 @@ use Rattle.doc_bits.specs.declared.places.Where.TheVariants.{File}
 use Rattle.doc_bits.specs.Rules.{rule, given}
 use Rattle.doc_bits.specs.Places.{rules_in}
 use Rattle.cfb_streams.specs.Contents.{HasNamed}
-use Rattle.doc_load.specs.FileRules.{HasNoStream, wd_rules, wd_name}
+use Rattle.doc_load.specs.FileRules.{HasNoStream, wd_rules}
+use Rattle.cfb_streams.specs.Names.{wd_name}
 use Rattle.doc_load.proofs.RefusalLemmas.{refused-next, refused-given, stream-there}
 use Rattle.doc_load.proofs.TextLemmas.{has-text}
 use Rattle.doc_load.proofs.loading.load_text.Goals as goal

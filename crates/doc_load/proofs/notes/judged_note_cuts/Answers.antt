@@ -1,6 +1,6 @@
 use Rattle.std.proofs.Common.{◌≡◌, inl}
 use Rattle.std.proofs.lemmas.Result.{IfOk-weaker}
-use Rattle.doc_load.specs.declared.table_parts.TablePart.TheVariants.{PlcffndRef}
+use Rattle.fib_form.specs.declared.table_parts.TablePart.TheVariants.{PlcffndRef}
 use Rattle.doc_load.specs.Source.{part_bytes}
 use Rattle.doc_load.specs.NoteRules.{HasEntries, ref_count}
 use Rattle.doc_load.proofs.CutLemmas.{note_cuts_judged}

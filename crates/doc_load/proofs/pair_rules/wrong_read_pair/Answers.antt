@@ -1,9 +1,8 @@
-use Rattle.std.proofs.Common.{◌≡◌, ◌<◌, ◌∙◌, ap, refl, arith, slice_index, ℕ, zero, suc, List, [], ◌∷◌, lit<}
+use Rattle.std.proofs.Common.{◌≡◌, ◌<◌, ◌∙◌, refl, arith, slice_index, ℕ, zero, suc, List, [], ◌∷◌, lit<}
 use Rattle.std.proofs.lemmas.Bool.{false≢true}
 use Rattle.fib_form.specs.Fib.{fib_pair}
-use Rattle.fib_form.specs.FibFields.{pair_at, FibFields}
-use Rattle.fib_form.proofs.PairLemmas.{pair_at-fib_pairs}
 use Rattle.doc_load.specs.PairRules.{read_pairs}
+use Rattle.doc_load.proofs.PartLemmas.{pair-read}
 use Rattle.doc_load.proofs.pair_rules.wrong_read_pair.Goals as goal
 
 -- all numbers are those of pairs
@@ -24,16 +23,16 @@ read_pairs-below k =
     below_at read_pairs k (lit< tt, (lit< tt, (lit< tt, (lit< tt, (lit< tt, (lit< tt, (lit< tt, (lit< tt, (lit< tt, (lit< tt, (lit< tt, (lit< tt, (lit< tt, (lit< tt, (lit< tt, (lit< tt, tt))))))))))))))))
 
 pub returns-then-is_wrong_part : goal.returns-then-is_wrong_part
-returns-then-is_wrong_part c =
+returns-then-is_wrong_part c = λ wd fields.
     let n = slice_index read_pairs c.args.k in
-    let pair : c.pair.result ≡ fib_pair c.args.wd.now n = c.pair.ensures ∙ (ap (λ (f : FibFields). pair_at f.pairs n) c.requires.fields ∙ pair_at-fib_pairs c.args.wd.now n (read_pairs-below c.args.k)) in
+    let pair : c.pair.result ≡ fib_pair wd n = c.pair.ensures ∙ pair-read wd c.args.fib.now n (read_pairs-below c.args.k) fields in
     record {
       broken = (refl, rw pair at (c.if-is_wrong_part.ensures.0 refl));
       least = λ q b. let here = b.0 in omega arith;
     }
 
 pub returns-else-is_wrong_part : goal.returns-else-is_wrong_part
-returns-else-is_wrong_part c =
+returns-else-is_wrong_part c = λ wd fields q b.
     let n = slice_index read_pairs c.args.k in
-    let pair : c.pair.result ≡ fib_pair c.args.wd.now n = c.pair.ensures ∙ (ap (λ (f : FibFields). pair_at f.pairs n) c.requires.fields ∙ pair_at-fib_pairs c.args.wd.now n (read_pairs-below c.args.k)) in
-    λ q b. false≢true (c.if-is_wrong_part.ensures.1 (rw pair b.1))
+    let pair : c.pair.result ≡ fib_pair wd n = c.pair.ensures ∙ pair-read wd c.args.fib.now n (read_pairs-below c.args.k) fields in
+    false≢true (c.if-is_wrong_part.ensures.1 (rw pair b.1))

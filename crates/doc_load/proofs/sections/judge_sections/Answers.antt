@@ -1,7 +1,7 @@
 use Rattle.std.proofs.Common.{inl, inr}
 use Rattle.doc_bits.specs.declared.places.Where.TheVariants.{Wd, Table}
-use Rattle.doc_load.specs.declared.table_parts.TablePart.TheVariants.{PlcfSed}
-use Rattle.doc_load.specs.declared.source.Story.TheVariants.{Main}
+use Rattle.fib_form.specs.declared.table_parts.TablePart.TheVariants.{PlcfSed}
+use Rattle.fib_form.specs.declared.stories.StoryKind.TheVariants.{Main}
 use Rattle.doc_load.specs.Source.{part_place, story_units}
 use Rattle.doc_load.specs.SectionRules.{BreaksSectionMarks, BreaksSepxs, BreaksSepxLists}
 use Rattle.doc_load.proofs.RefusalLemmas.{refused-rule, holds-rule}

@@ -2,8 +2,8 @@ use Rattle.std.proofs.Common.{◌≡◌, ◌<◌, refl, length, below_more, arit
 use Rattle.std.proofs.lemmas.Bool.{false≢true}
 use Rattle.doc_parts.specs.declared.lists.Sed.{Sed}
 use Rattle.doc_parts.specs.Sections.{place_of_fc_sepx}
-use Rattle.doc_load.specs.declared.table_parts.TablePart.TheVariants.{PlcfSed}
-use Rattle.doc_load.specs.declared.source.Story.TheVariants.{Main}
+use Rattle.fib_form.specs.declared.table_parts.TablePart.TheVariants.{PlcfSed}
+use Rattle.fib_form.specs.declared.stories.StoryKind.TheVariants.{Main}
 use Rattle.doc_load.specs.Source.{part_place, part_bytes, story_length}
 use Rattle.doc_load.specs.SectionRules.{section_fc, LacksSepx}
 use Rattle.doc_load.proofs.RowLemmas.{first_row, index_of_get}

@@ -1,7 +1,7 @@
 use Rattle.std.proofs.Common.{◌≡◌, ◌+◌, ◌*◌, length, below_more, arith}
 use Rattle.doc_parts.specs.declared.lists.Sed.{Sed}
-use Rattle.doc_load.specs.declared.table_parts.TablePart.TheVariants.{PlcfSed}
-use Rattle.doc_load.specs.declared.source.Story.TheVariants.{Main}
+use Rattle.fib_form.specs.declared.table_parts.TablePart.TheVariants.{PlcfSed}
+use Rattle.fib_form.specs.declared.stories.StoryKind.TheVariants.{Main}
 use Rattle.doc_load.specs.Source.{part_place, part_bytes, story_length, story_units}
 use Rattle.doc_load.specs.SectionRules.{section_begin, BeginsElsewhere}
 use Rattle.doc_load.proofs.RowLemmas.{first_row, index_of_get}

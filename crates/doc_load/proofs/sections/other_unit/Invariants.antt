@@ -1,5 +1,5 @@
 use Rattle.std.proofs.Common.{ℕ, ◌<◌}
-use Rattle.doc_load.specs.declared.source.Story.TheVariants.{Main}
+use Rattle.fib_form.specs.declared.stories.StoryKind.TheVariants.{Main}
 use Rattle.doc_load.specs.Source.{story_units}
 use Rattle.doc_load.specs.SectionRules.{BeginsElsewhere}
 use Rattle.doc_load.proofs.sections.other_unit.Given as goal

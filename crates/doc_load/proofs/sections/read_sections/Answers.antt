@@ -3,8 +3,8 @@ use Rattle.doc_bits.specs.Rules.{Hold, given}
 use Rattle.doc_bits.specs.Places.{rules_in}
 use Rattle.doc_bits.proofs.RuleLemmas.{hold_in}
 use Rattle.doc_parts.specs.Sections.{section_rules}
-use Rattle.doc_load.specs.declared.table_parts.TablePart.TheVariants.{PlcfSed}
-use Rattle.doc_load.specs.declared.source.Story.TheVariants.{Main}
+use Rattle.fib_form.specs.declared.table_parts.TablePart.TheVariants.{PlcfSed}
+use Rattle.fib_form.specs.declared.stories.StoryKind.TheVariants.{Main}
 use Rattle.doc_load.specs.Source.{part_bytes, part_place, story_length}
 use Rattle.doc_load.specs.Faults.{part_refusal}
 use Rattle.doc_load.specs.SectionRules.{HasSections, sed_rules}

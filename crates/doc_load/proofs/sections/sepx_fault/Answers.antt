@@ -3,7 +3,7 @@ use Rattle.doc_bits.specs.Rules.{LeastOrNone, Among}
 use Rattle.doc_bits.proofs.RuleLemmas.{least_step}
 use Rattle.doc_parts.specs.declared.lists.Sed.{Sed}
 use Rattle.doc_parts.specs.Sections.{place_of_fc_sepx}
-use Rattle.doc_load.specs.declared.table_parts.TablePart.TheVariants.{PlcfSed}
+use Rattle.fib_form.specs.declared.table_parts.TablePart.TheVariants.{PlcfSed}
 use Rattle.doc_load.specs.Source.{part_place}
 use Rattle.doc_load.specs.SectionRules.{section_fc, LacksSepx, HasSepxFault}
 use Rattle.doc_load.proofs.RowLemmas.{index_of_get}

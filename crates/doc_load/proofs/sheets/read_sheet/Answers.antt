@@ -1,7 +1,7 @@
 use Rattle.doc_bits.specs.declared.places.Where.TheVariants.{Table}
 use Rattle.doc_bits.proofs.RuleLemmas.{hold_in}
 use Rattle.style_sheet.specs.Stsh.{stsh_rules}
-use Rattle.doc_load.specs.declared.table_parts.TablePart.TheVariants.{Stshf}
+use Rattle.fib_form.specs.declared.table_parts.TablePart.TheVariants.{Stshf}
 use Rattle.doc_load.specs.Source.{part_bytes, part_place}
 use Rattle.doc_load.proofs.RefusalLemmas.{refused-sheet}
 use Rattle.doc_load.proofs.sheets.read_sheet.Goals as goal

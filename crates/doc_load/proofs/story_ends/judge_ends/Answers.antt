@@ -2,7 +2,7 @@ use Rattle.std.proofs.Common.{◌≡◌, ◌∙◌, Option, Some, None, ℕ, Lis
 use Rattle.doc_bits.specs.declared.places.Where.TheVariants.{Wd}
 use Rattle.doc_bits.specs.Rules.{LeastOrNone, lesser_of}
 use Rattle.doc_bits.proofs.RuleLemmas.{least_either}
-use Rattle.doc_load.specs.declared.source.Story.TheVariants.{Notes, Heads}
+use Rattle.fib_form.specs.declared.stories.StoryKind.TheVariants.{Notes, Heads}
 use Rattle.doc_load.specs.Source.{DocSource}
 use Rattle.doc_load.specs.EndRules.{BreaksEnd, BreaksEnds}
 use Rattle.doc_load.proofs.RefusalLemmas.{refused-rule, holds-rule}

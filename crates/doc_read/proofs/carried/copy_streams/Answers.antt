@@ -6,14 +6,16 @@ use Rattle.doc_read.proofs.carried.copy_streams.Goals.{then-is_carried+in_ok-add
 
 pub add-requires : goal.add-requires
 add-requires c =
-    let within : c.loop-i.i < length c.args.container.now.streams = omega (arith, c.loop-i-test.true, c.count-count.ensures) in
+    let within : c.loop-i.i < length c.args.container.now.streams =
+    omega (arith, c.loop-i-test.true, c.count-count.ensures) in
     next-are_streams c.args.container.now c.loop-i.streams c.loop-i.i c.name-name.result.now c.bytes.result.now c.requires c.loop-i.invariant within c.name-name.ensures c.bytes.ensures (sym c.if-is_carried.ensures)
 
 pub loop-i-preserved : goal.loop-i-preserved
 loop-i-preserved c =
     let streams = c.args.container.now.streams in
     let name = c.name-name.result.now in
-    let within : c.loop-i.i < length c.args.container.now.streams = omega (arith, c.loop-i-test.true, c.count-count.ensures) in
+    let within : c.loop-i.i < length c.args.container.now.streams =
+    omega (arith, c.loop-i-test.true, c.count-count.ensures) in
     elim c.if-is_carried.branch [
       | then-is_carried+in_ok-add w ↦
           w.streams-is

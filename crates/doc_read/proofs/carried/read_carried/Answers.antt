@@ -2,6 +2,7 @@
 use Rattle.std.proofs.Common.{◌<◌, ◌^◌, ℕ, List, [], ◌∷◌, length, refl, sym, ap, ◌∙◌, subst, arith}
 use Rattle.plain_doc.specs.Carried.{AreCarriedStreams}
 use Rattle.doc_load.specs.PartRules.{PartLists}
+use Rattle.doc_load.specs.FileRules.{source_of}
 use Rattle.doc_read.proofs.LevelLemmas.{lists-with_levels, levels-short}
 use Rattle.doc_read.proofs.PartLemmas.{short-cons}
 use Rattle.doc_read.proofs.StreamLemmas.{carried-fit}
@@ -10,8 +11,10 @@ use Rattle.doc_read.proofs.carried.read_carried.Goals as goal
 pub invariant_of-result-clause-short : goal.invariant_of-result-clause-short
 invariant_of-result-clause-short c =
     let levels = c.in_ok-from_slice.ensures ∙ ap (λ (p : PartLists). p.levels) c.parts.view_is in
-    let few = levels-short c.args.source.now c.args.parts.now.levels c.requires.lists.has_levels in
-    let levels_few : length c.args.parts.now.levels < 2 ^ 32 = omega (arith, few, c.in_ok-copy_part.ensures.small) in
+    let source = source_of c.args.text.now in
+    let few = levels-short source c.args.parts.now.levels c.requires.lists.has_levels in
+    let small : length source.table < 2 ^ 32 = rw c.source-source.ensures at c.in_ok-copy_part.ensures.small in
+    let levels_few : length c.args.parts.now.levels < 2 ^ 32 = omega (arith, few, small) in
     let none : List (List ℕ) = [] in
     let from_lfo : List (List ℕ) = c.in_ok-copy_part-5.field-0 ∷ none in
     let from_levels : List (List ℕ) = c.in_ok-from_slice.field-0 ∷ from_lfo in
@@ -27,8 +30,8 @@ invariant_of-result-clause-short c =
 
 pub invariant_of-result-clause-lists : goal.invariant_of-result-clause-lists
 invariant_of-result-clause-lists c =
-    rw (c.in_ok-copy_part-4.ensures.bytes, c.in_ok-from_slice.ensures, ap (λ (p : PartLists). p.levels) c.parts.view_is)
-    (lists-with_levels c.args.source.now c.args.parts.now.levels c.requires.rules.1.1.1.1.1.1.1 c.requires.lists.has_levels)
+    rw (c.in_ok-copy_part-4.ensures.bytes, c.source-source.ensures, c.in_ok-from_slice.ensures, ap (λ (p : PartLists). p.levels) c.parts.view_is)
+    (lists-with_levels (source_of c.args.text.now) c.args.parts.now.levels c.requires.rules.1.1.1.1.1.1.1 c.requires.lists.has_levels)
 
 pub invariant_of-result-clause-others : goal.invariant_of-result-clause-others
 invariant_of-result-clause-others c =

@@ -1,18 +1,12 @@
 use Rattle.std.proofs.Common.{◌≡◌, ◌∙◌, sym, ap, subst, ◌-◌, length, min, slice_get, Some, arith}
 use Rattle.std.specs.Option.{option_map}
-use Rattle.prop_map.specs.Modifiers.{IsFormedModifier}
 use Rattle.piece_table.specs.declared.pieces.Piece.{Piece}
 use Rattle.piece_table.specs.Piece.{TextPiece}
 use Rattle.doc_load.proofs.UnitLemmas.{piece_read}
 use Rattle.doc_read.specs.Passing.{AddsEach}
 use Rattle.doc_read.specs.Reading.{IsReadAt, text_view}
-use Rattle.doc_read.proofs.PlacedLemmas.{modifier_read, placed_more, length-more}
+use Rattle.doc_read.proofs.PlacedLemmas.{placed_more, length-more}
 use Rattle.doc_read.proofs.items.items_of_pieces.Goals as goal
-
-pub push_piece-requires-clause-formed : goal.push_piece-requires-clause-formed
-push_piece-requires-clause-formed c =
-    let read = modifier_read (slice_get c.args.pieces.now.pieces c.loop-i.i) c.modifier.result.now c.modifier.ensures in
-    subst IsFormedModifier read.1.1 (c.requires.formed c.loop-i.i read.0 read.1.0)
 
 pub loop-i-preserved : goal.loop-i-preserved
 loop-i-preserved c =
@@ -27,7 +21,8 @@ loop-i-preserved c =
     let piece = read.0 in
     let here = read.1.0 in
     let len_is : piece.len ≡ c.piece.result.len = ap (λ (p : Piece). p.len) read.1.1 in
-    let modifier : Some piece.modifier ≡ Some c.modifier.result.now = ap (option_map (λ (p : TextPiece). p.modifier)) (sym here) ∙ c.modifier.ensures in
+    let modifier : Some piece.modifier ≡ Some c.modifier.result.now =
+    ap (option_map (λ (p : TextPiece). p.modifier)) (sym here) ∙ c.modifier.ensures.value in
     let modifier_is : piece.modifier ≡ c.modifier.result.now = cc (modifier) in
     let old_is : c.len.result ≡ length old = omega (arith, c.len.ensures, c.loop-i.items.ok.0) in
     let added_is : added ≡ min piece.len (count - length old) = c.min-len.ensures ∙ (ap (λ n. min n (count - c.len.result)) (sym len_is) ∙ ap (λ n. min piece.len (count - n)) old_is) in

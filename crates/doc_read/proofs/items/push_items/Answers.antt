@@ -1,7 +1,8 @@
 use Rattle.std.proofs.Common.{rules, ◌≡◌, ◌∙◌, refl, ap, ◌+◌, [], ◌∷◌, ◌++◌, length, append_assoc, length-append, arith}
 use Rattle.std.specs.Vec.Iter.{into_iter_items}
-use Rattle.doc_read.specs.Reading.{IsReadAt, text_view}
+use Rattle.doc_read.specs.Reading.{IsReadAt, mark_lists, text_view}
 use Rattle.doc_read.proofs.AddLemmas.{adds_none, adds_one, slice_get_middle}
+use Rattle.doc_read.proofs.BareLemmas.{same_passed}
 use Rattle.doc_read.proofs.items.push_items.Goals as goal
 
 pub loop-chp-init : goal.loop-chp-init
@@ -9,14 +10,17 @@ loop-chp-init c = record {
   whole = search rules;
   left = search rules;
   added = adds_none (IsReadAt (text_view c.args.text.now) c.args.modifier.now) c.args.items.now.items;
-  passed = c.requires.passed;
-  bare = λ at upper lower. c.next_marked-until.ensures (length c.args.items.now.items) at c.requires.passed upper lower;
+  passed = same_passed (mark_lists c.args.text.now.marks.now) c.args.passed.now _ (length c.args.items.now.items) refl refl refl c.requires.passed;
+  bare = λ at upper lower.
+      same_passed (mark_lists c.args.text.now.marks.now) c.args.passed.now _ at refl refl refl
+      (c.next_marked-passed.ensures (length c.args.items.now.items) at c.requires.passed upper lower);
 }
 
 pub push_item-requires-clause-characters : goal.push_item-requires-clause-characters
 push_item-requires-clause-characters c =
     let at = c.loop-chp in
-    let steps : into_iter_items at.chp-iterator ≡ c.in-Some.chp ∷ into_iter_items c.next.new.self = c.in-Some.ensures.steps.0 in
+    let steps : into_iter_items at.chp-iterator ≡ c.in-Some.chp ∷ into_iter_items c.next.new.self =
+    c.in-Some.ensures.steps.0 in
     let there = slice_get_middle at.yielded c.in-Some.chp (into_iter_items c.next.new.self) (c.args.chps.items) (rw (← steps) (at.invariant.whole ∙ c.into_iter-chp-iterator.ensures.into_iter_gives.0)) in
     rw (at.invariant.added.len) (c.requires.characters (length at.yielded) c.in-Some.chp there)
 
@@ -28,12 +32,13 @@ loop-chp-preserved c =
     let steps : into_iter_items at.chp-iterator ≡ chp ∷ into_iter_items c.next.new.self = c.in-Some.ensures.steps.0 in
     let gone = c.in-Some.ensures.steps.1 in
     let short = ap length steps in
-    let count : length (at.yielded ++ chp ∷ []) ≡ length at.yielded + 1 = omega (arith, length-append at.yielded (chp ∷ [])) in
-    let pushed = c.in_ok-until.ensures.pushed in
+    let count : length (at.yielded ++ chp ∷ []) ≡ length at.yielded + 1 =
+    omega (arith, length-append at.yielded (chp ∷ [])) in
+    let pushed = c.in_ok-push_item.ensures.pushed in
     record {
       whole = append_assoc at.yielded (chp ∷ []) _ ∙ rw (← steps) at.invariant.whole;
       left = omega (arith, gone, short, at.invariant.left);
       added = adds_one (IsReadAt (text_view text) c.args.modifier.now) (length at.yielded) _ (length at.items.items) c.args.items.now.items at.items.items c.push_item.new.items.items pushed.0 at.invariant.added count refl pushed.1.0 pushed.1.1;
-      passed = c.in_ok-until.ensures.passed;
-      bare = c.in_ok-until.ensures.bare;
+      passed = c.in_ok-push_item.ensures.passed;
+      bare = c.in_ok-push_item.ensures.bare;
     }

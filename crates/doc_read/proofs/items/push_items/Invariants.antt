@@ -1,7 +1,7 @@
-use Rattle.std.proofs.Common.{◌≡◌, ◌≤◌, ◌++◌, ℕ, length}
+use Rattle.std.proofs.Common.{◌≡◌, ◌++◌, length}
 use Rattle.std.specs.Vec.Iter.{into_iter_items, into_iter_len}
 use Rattle.doc_read.specs.Passing.{AddsEach}
-use Rattle.doc_read.specs.Reading.{ArePassed, IsReadAt, mark_lists, text_view}
+use Rattle.doc_read.specs.Reading.{ArePassed, AreBareUntil, IsReadAt, mark_lists, text_view}
 use Rattle.doc_read.proofs.items.push_items.Given as goal
 
 -- an item for each of the settings so far
@@ -11,5 +11,5 @@ invariant-loop-chp l = record {
   left : into_iter_len l.chp-iterator ≡ length (into_iter_items l.chp-iterator);
   added : AddsEach (IsReadAt (text_view l.text) l.modifier) (length l.yielded) l.fn.items.items l.items.items;
   passed : ArePassed (mark_lists l.text.marks.now) l.passed (length l.items.items);
-  bare : (at : ℕ) → length l.items.items ≤ at → at ≤ l.until → ArePassed (mark_lists l.text.marks.now) l.passed at;
+  bare : AreBareUntil (mark_lists l.text.marks.now) l.passed (length l.items.items);
 }

@@ -1,6 +1,6 @@
 use Rattle.std.proofs.Common.{◌∙◌, sym, ap, ◌++◌, map, slice_get, ℕ, arith}
 use Rattle.doc_parts.specs.declared.lists.NoteRef.{NoteRef}
-use Rattle.doc_load.specs.declared.source.Story.TheVariants.{Main, Notes, Heads}
+use Rattle.fib_form.specs.declared.stories.StoryKind.TheVariants.{Main, Notes, Heads}
 use Rattle.doc_load.specs.Source.{story_length}
 use Rattle.doc_load.specs.PartRules.{PartLists}
 use Rattle.doc_read.specs.Sections.{section_lasts}

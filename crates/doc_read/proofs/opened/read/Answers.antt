@@ -20,6 +20,6 @@ returns c =
     let container = c.in_ok-container.container in
     let streams = c.in_ok-container.ensures in
     let read = c.in_ok-found.ensures in
-    let holds = holds-found file container found.document found.fib found.pieces.pieces streams.0 streams.1 read.0 read.1 in
-    let opened : OpenedFile = record { document = found.document; fib = found.fib; contents = container; pieces = found.pieces.pieces } in
-    ((holds.rules, (found.document, (holds, c.in_ok-judge.ensures))), opened-found file opened holds c.in_ok-judge.ensures streams.1 read.1)
+    let opened : OpenedFile =
+    record { document = found.document; fib = found.fib; contents = container; pieces = found.pieces.pieces } in
+    opened-found file opened streams.0 streams.1 read.0 read.1 c.in_ok-judge.ensures

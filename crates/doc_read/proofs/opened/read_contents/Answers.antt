@@ -1,7 +1,7 @@
 use Rattle.std.proofs.lemmas.Result.{err_from_is_err_and}
 use Rattle.doc_bits.specs.Rules.{given}
 use Rattle.doc_load.specs.PartRules.{part_rules}
-use Rattle.doc_load.specs.FileRules.{FileText, HasText, source_of, text_rules}
+use Rattle.doc_load.specs.FileRules.{FileText, HasText, source_of, loading_rules}
 use Rattle.doc_load.proofs.RefusalLemmas.{refused-next, refused-given}
 use Rattle.doc_read.proofs.opened.read_contents.Goals as goal
 
@@ -13,7 +13,13 @@ returns-in_err-parts c =
     let text = c.in_ok-text.ensures in
     let parts = λ (text : FileText). part_rules (source_of text) in
     let refused = rw c.source-source.ensures at c.in_err-parts.ensures in
-    rw (p.1, p.2) (refused-next (text_rules contents) (given (HasText contents) parts) fault text.0 (refused-given (HasText contents) parts c.in_ok-text.text fault text.1 refused))
+    rw (p.1, p.2) (refused-next (loading_rules contents) (given (HasText contents) parts) fault text.0 (refused-given (HasText contents) parts c.in_ok-text.text fault text.1 refused))
+
+pub read_document-requires-clause-rules : goal.read_document-requires-clause-rules
+read_document-requires-clause-rules c = rw c.source-source.ensures at c.in_ok-parts.ensures.0
+
+pub read_document-requires-clause-lists : goal.read_document-requires-clause-lists
+read_document-requires-clause-lists c = rw c.source-source.ensures at c.in_ok-parts.ensures.1
 
 pub returns : goal.returns
 returns c =

@@ -1,6 +1,8 @@
-use Rattle.std.proofs.Common.{◌≡◌, arith}
+use Rattle.std.proofs.Common.{◌≡◌, ◌∙◌, ap, arith}
 use Rattle.doc_parts.specs.declared.lists.Sed.{Sed}
+use Rattle.doc_load.specs.Source.{DocSource}
 use Rattle.doc_load.specs.SectionRules.{section_fc}
+use Rattle.doc_load.specs.FileRules.{source_of}
 use Rattle.doc_load.proofs.RowLemmas.{index_of_get}
 use Rattle.doc_read.specs.Sections.{IsSectionSettings}
 use Rattle.doc_read.proofs.SettingsLemmas.{sepx-there, sepx-right, maps_more}
@@ -8,24 +10,31 @@ use Rattle.doc_read.proofs.sections.read_section_maps.Goals as goal
 
 pub read_section-requires-clause-there : goal.read_section-requires-clause-there
 read_section-requires-clause-there c =
-    let source = c.args.source.now in
+    let source = source_of c.args.text.now in
+    let wd : c.wd-wd.result.now ≡ source.wd = c.wd-wd.ensures.bytes ∙ ap (λ (s : DocSource). s.wd) c.source-source.ensures in
     let list = c.args.sections.now in
-    let fc : section_fc list c.loop-k.k ≡ c.get-fc.result.1 = index_of_get (λ (sed : Sed). sed.sepx) list c.loop-k.k _ c.get-fc.ensures in
-    rw (c.wd-wd.ensures.bytes, ← fc) (sepx-there source list c.loop-k.k c.requires.rules c.requires.sections (omega (arith, c.len-k-end.ensures)))
+    let fc : section_fc list c.loop-k.k ≡ c.get-fc.result.1 =
+    index_of_get (λ (sed : Sed). sed.sepx) list c.loop-k.k _ c.get-fc.ensures in
+    rw (wd, ← fc) (sepx-there source list c.loop-k.k c.requires.rules c.requires.sections (omega (arith, c.len-k-end.ensures)))
 
 pub read_section-requires-clause-right : goal.read_section-requires-clause-right
 read_section-requires-clause-right c =
-    let source = c.args.source.now in
+    let source = source_of c.args.text.now in
+    let wd : c.wd-wd.result.now ≡ source.wd = c.wd-wd.ensures.bytes ∙ ap (λ (s : DocSource). s.wd) c.source-source.ensures in
     let list = c.args.sections.now in
-    let fc : section_fc list c.loop-k.k ≡ c.get-fc.result.1 = index_of_get (λ (sed : Sed). sed.sepx) list c.loop-k.k _ c.get-fc.ensures in
-    rw (c.wd-wd.ensures.bytes, ← fc) (sepx-right source list c.loop-k.k c.requires.rules c.requires.sections (omega (arith, c.len-k-end.ensures)))
+    let fc : section_fc list c.loop-k.k ≡ c.get-fc.result.1 =
+    index_of_get (λ (sed : Sed). sed.sepx) list c.loop-k.k _ c.get-fc.ensures in
+    rw (wd, ← fc) (sepx-right source list c.loop-k.k c.requires.rules c.requires.sections (omega (arith, c.len-k-end.ensures)))
 
 pub loop-k-preserved : goal.loop-k-preserved
 loop-k-preserved c =
-    let source = c.args.source.now in
+    let source = source_of c.args.text.now in
+    let wd : c.wd-wd.result.now ≡ source.wd = c.wd-wd.ensures.bytes ∙ ap (λ (s : DocSource). s.wd) c.source-source.ensures in
     let list = c.args.sections.now in
-    let fc : section_fc list c.loop-k.k ≡ c.get-fc.result.1 = index_of_get (λ (sed : Sed). sed.sepx) list c.loop-k.k _ c.get-fc.ensures in
+    let fc : section_fc list c.loop-k.k ≡ c.get-fc.result.1 =
+    index_of_get (λ (sed : Sed). sed.sepx) list c.loop-k.k _ c.get-fc.ensures in
     let map = c.in_ok-read_section.field-0 in
-    let settings : IsSectionSettings source.wd c.get-fc.result.1 map = rw (← c.wd-wd.ensures.bytes) c.in_ok-read_section.ensures.settings in
+    let settings : IsSectionSettings source.wd c.get-fc.result.1 map =
+    rw (← wd) c.in_ok-read_section.ensures.settings in
     rw c.in_ok-push.ensures.items
     (maps_more source.wd list c.loop-k.k c.get-fc.result.1 c.loop-k.maps.items map c.loop-k.invariant fc settings c.in_ok-read_section.ensures.formed)

@@ -3,4 +3,4 @@ use Rattle.doc_read.proofs.sections.read_section_maps.Given as goal
 
 -- the sections so far have their settings
 abbrev pub invariant-loop-k : goal.invariant-loop-k
-invariant-loop-k l = AreMapsUpTo l.source.wd l.sections l.k l.maps.items
+invariant-loop-k l = AreMapsUpTo l.text.wd l.sections l.k l.maps.items
