@@ -1,4 +1,6 @@
 pub mod EndingLemmas
 pub mod ListingLemmas
 pub mod PositionLemmas
+pub mod CommandLemmas
 pub mod OneLemmas
+pub mod CompleteLemmas

@@ -5,7 +5,8 @@ use Rattle.std.proofs.lemmas.Option.{none-some, slice_get_within, get_or_from_sl
 use Rattle.std.proofs.lemmas.List.{drop_more}
 use Rattle.text_codes.specs.Shown.{shown}
 use Rattle.cfb_streams.specs.Contents.{Stream}
-use Rattle.doc_run.specs.Lines.{line, stream_lines}
+use Rattle.doc_show.specs.Story.{line}
+use Rattle.doc_run.specs.Lines.{stream_lines}
 
 -- the value, where there is one
 value_of : Option (List ℕ) → List ℕ

@@ -1,33 +1,28 @@
--- A file has one verdict.
-use Rattle.std.proofs.Common.{◌≡◌, ◌<◌, ◌≤◌, ◌∙◌, inl, inr, refl, sym, ap, subst, ℕ, zero, suc, List, length, arith}
+-- A run has one ending.
+use Rattle.std.proofs.Common.{◌≡◌, ◌≢◌, ◌<◌, ◌≤◌, ◌∙◌, inl, inr, refl, sym, ap, subst, ℕ, zero, suc, List, Option, Some, None, length, arith}
 use Rattle.doc_bits.specs.declared.places.Where.{Where}
 use Rattle.doc_bits.specs.declared.places.Where.TheVariants.{File, Wd, Table, Sheet, Main, Note, Head}
-use Rattle.doc_bits.specs.Rules.{Rules, IsSingle}
-use Rattle.doc_bits.specs.Places.{Place, Upto, rank, inner}
-use Rattle.doc_bits.proofs.RuleLemmas.{hold_or_first, first_agrees}
+use Rattle.doc_bits.specs.Rules.{Rules, Hold, IsSingle, IsFirst}
+use Rattle.doc_bits.specs.Places.{Place, Upto, IsFirstPlace, rank, inner}
+use Rattle.doc_bits.proofs.RuleLemmas.{hold_or_first, first_agrees, first_in}
+use Rattle.doc_outer.specs.Held.{Files, IsLonger, file_at}
 use Rattle.cfb_streams.specs.Contents.{Contents}
 use Rattle.cfb_streams.specs.Container.{container_rules}
 use Rattle.cfb_streams.proofs.SingleLemmas.{container_single}
 use Rattle.cfb_streams.proofs.UniqueLemmas.{contents_unique}
 use Rattle.plain_doc.specs.declared.document.Document.{Document}
 use Rattle.doc_load.proofs.RefusalLemmas.{single_in}
+use Rattle.doc_read.specs.Holds.{all_rules}
 use Rattle.doc_read.proofs.OneDocument.{document_one, all_single}
 use Rattle.doc_show.proofs.OneTextLemmas.{lines_one}
-use Rattle.doc_run.specs.declared.request.Action.{Action}
-use Rattle.doc_run.specs.declared.request.Action.TheVariants.{Streams, Look}
-use Rattle.doc_run.specs.declared.request.View.{View}
-use Rattle.doc_run.specs.declared.request.View.TheVariants.{Text, Check, Show, Props}
-use Rattle.doc_run.specs.Lines.{rule_line, stream_lines}
-use Rattle.doc_run.specs.Endings.{judged_rules, IsRefused, IsAnswer, IsVerdict, IsListingOf, ShowsItem, HasNoPosition, Shows, ShowsFile}
-
-judged_single : (action : Action) (file : List ℕ) → IsSingle (judged_rules action file)
-judged_single Streams file = single_in File (container_rules file) (container_single file)
-judged_single (Look view) file = all_single file
-
--- one listing of streams
-listing_one : (file text said : List ℕ) → IsListingOf file text → IsListingOf file said → text ≡ said
-listing_one file text said a b =
-    a.lines ∙ (ap (λ (c : Contents). stream_lines c.streams) (contents_unique file a.contents b.contents a.has b.has) ∙ sym b.lines)
+use Rattle.doc_run.specs.declared.command.View.{View}
+use Rattle.doc_run.specs.declared.command.View.TheVariants.{Text, Check, Show, Props}
+use Rattle.doc_run.specs.Commands.{Request, streams, look}
+use Rattle.doc_run.specs.Lines.{rule_line, missing_line, stream_lines}
+use Rattle.doc_run.specs.Outcomes.{Outcome, says}
+use Rattle.doc_run.specs.Stages.{IsRefused, Judges, ReadsFile}
+use Rattle.doc_run.specs.Endings.{stream_rules, IsListingOf, ListsStreams, ShowsItem, HasNoPosition, Shows, ShowsFile, Ends, IsServed, IsEnding}
+use Rattle.doc_run.proofs.CommandLemmas.{command_one}
 
 -- the place that a kind and a number name
 where_of : ℕ → ℕ → Where
@@ -65,45 +60,119 @@ place_one p q a b =
     λ i. (parts i, offsets i)
 
 -- one refusal
-refused_one : (rules : Rules Place) (name : List ℕ) (status other : ℕ) (text said : List ℕ) → IsSingle rules → IsRefused rules name status text → IsRefused rules name other said → (status ≡ other) × (text ≡ said)
-refused_one rules name status other text said single a b =
-    let ab = first_agrees Upto rules a.rule b.rule a.place b.place single a.first b.first in
-    let ba = first_agrees Upto rules b.rule a.rule b.place a.place single b.first a.first in
-    let places : a.place ≡ b.place = place_one a.place b.place ab.1 ba.1 in
-    (a.is_status ∙ sym b.is_status, a.line ∙ (ap (λ r. rule_line name r a.place) ab.0 ∙ (ap (λ p. rule_line name b.rule p) places ∙ sym b.line)))
+refused_one : (rules : Rules Place) (name : List ℕ) (a b : Outcome) → IsSingle rules → IsRefused rules name a → IsRefused rules name b → a ≡ b
+refused_one rules name a b single x y =
+    let xy = first_agrees Upto rules x.rule y.rule x.place y.place single x.first y.first in
+    let yx = first_agrees Upto rules y.rule x.rule y.place x.place single y.first x.first in
+    let places : x.place ≡ y.place = place_one x.place y.place xy.1 yx.1 in
+    x.ends ∙ (ap (λ r. says 1 (rule_line name r x.place)) xy.0 ∙ (ap (λ p. says 1 (rule_line name y.rule p)) places ∙ sym y.ends))
+
+-- one answer of a stage that judges, where the next stage has one
+judges_one : (rules : Rules Place) (name : List ℕ) (next : Outcome → Type 0) (a b : Outcome) → IsSingle rules → ((a b : Outcome) → next a → next b → a ≡ b) → Judges rules name next a → Judges rules name next b → a ≡ b
+judges_one rules name next a b single one (inl x) (inl y) = refused_one rules name a b single x y
+judges_one rules name next a b single one (inl x) (inr y) = absurd (hold_or_first Upto rules x.rule x.place single y.0 x.first)
+judges_one rules name next a b single one (inr x) (inl y) = absurd (hold_or_first Upto rules y.rule y.place single x.0 y.first)
+judges_one rules name next a b single one (inr x) (inr y) = one a b x.1 y.1
+
+-- what a stage that reads and judges says of what the name holds
+abbrev pub Says : (name : List ℕ) → (List ℕ → Rules Place) → (List ℕ → Outcome → Type 0) → Option (List ℕ) → Outcome → Type 0
+Says name rules next None outcome = outcome ≡ says 3 (missing_line name)
+Says name rules next (Some bytes) outcome = Judges (rules bytes) name (next bytes) outcome
+
+-- rules that a file which is overlong breaks first
+abbrev pub BreakFirst : (List ℕ → Rules Place) → Type 0
+BreakFirst rules = (bytes : List ℕ) → 7143936 < length bytes → IsFirstPlace (rules bytes) 1 (File, 7143937)
+
+longer_says : (name : List ℕ) (rules : List ℕ → Rules Place) (next : List ℕ → Outcome → Type 0) (there : Option (List ℕ)) (outcome : Outcome) → BreakFirst rules → IsLonger 7143936 there → outcome ≡ says 1 (rule_line name 1 (File, 7143937)) → Says name rules next there outcome
+longer_says name rules next None outcome breaks long ends = absurd long
+longer_says name rules next (Some bytes) outcome breaks long ends =
+    inl (record { rule = 1; place = (File, 7143937); first = breaks bytes long; ends = ends })
+
+-- where what the name holds is told, the stage says that, unless the shelf failed
+pub settled : (name : List ℕ) (files : Files) (rules : List ℕ → Rules Place) (next : List ℕ → Outcome → Type 0) (outcome : Outcome) → BreakFirst rules → ReadsFile name (Some files) rules next outcome → outcome.status ≢ 4 → Says name rules next (file_at files name) outcome
+settled name files rules next outcome breaks (inl missing) calm =
+    subst (λ t. Says name rules next t outcome) (sym missing.absent) missing.ends
+settled name files rules next outcome breaks (inr (inl fault)) calm = absurd (calm (ap (λ (o : Outcome). o.status) fault))
+settled name files rules next outcome breaks (inr (inr (inl over))) calm =
+    longer_says name rules next (file_at files name) outcome breaks over.longer over.ends
+settled name files rules next outcome breaks (inr (inr (inr read))) calm =
+    subst (λ t. Says name rules next t outcome) (sym read.told) read.goes_on
+
+says_one : (name : List ℕ) (rules : List ℕ → Rules Place) (next : List ℕ → Outcome → Type 0) (there : Option (List ℕ)) (a b : Outcome) → ((bytes : List ℕ) → IsSingle (rules bytes)) → ((bytes : List ℕ) (a b : Outcome) → next bytes a → next bytes b → a ≡ b) → Says name rules next there a → Says name rules next there b → a ≡ b
+says_one name rules next None a b single one x y = x ∙ sym y
+says_one name rules next (Some bytes) a b single one x y = judges_one (rules bytes) name (next bytes) a b (single bytes) (one bytes) x y
+
+-- a file that is too long breaks rule 1
+long_breaks : (file : List ℕ) → 7143936 < length file → IsFirst (container_rules file) 1 7143937
+long_breaks file h =
+    inl (inl (
+      refl,
+      record {
+        broken = record { here = omega arith; wrong = inr (inr h) };
+        least = λ p b. let here = b.here in omega arith;
+      },
+    ))
+
+pub streams_break : BreakFirst stream_rules
+streams_break file h = first_in File (container_rules file) 1 7143937 (long_breaks file h)
+
+pub all_break : BreakFirst all_rules
+all_break file h = inl (inl (first_in File (container_rules file) 1 7143937 (long_breaks file h)))
+
+pub streams_single : (file : List ℕ) → IsSingle (stream_rules file)
+streams_single file = single_in File (container_rules file) (container_single file)
+
+-- one list of streams
+listing_one : (file text said : List ℕ) → IsListingOf file text → IsListingOf file said → text ≡ said
+listing_one file text said a b =
+    a.lines ∙ (ap (λ (c : Contents). stream_lines c.streams) (contents_unique file a.contents b.contents a.has b.has) ∙ sym b.lines)
+
+lists_one : (file : List ℕ) (a b : Outcome) → ListsStreams file a → ListsStreams file b → a ≡ b
+lists_one file a b x y = x.ends ∙ (ap (says 0) (listing_one file x.text y.text x.listing y.listing) ∙ sym y.ends)
 
 -- a position is in the main text or beyond it
-item_or_none : (document : Document) (pos status other : ℕ) (text said : List ℕ) → ShowsItem document pos status text → HasNoPosition document pos other said → ⊥
-item_or_none document pos status other text said a b =
-    let within = a.within in
-    let beyond = b.beyond in
+item_or_none : (document : Document) (pos : ℕ) (a b : Outcome) → ShowsItem document pos a → HasNoPosition document pos b → ⊥
+item_or_none document pos a b x y =
+    let within = x.within in
+    let beyond = y.beyond in
     omega arith
 
 -- one view of a document
-shows_one : (view : View) (document : Document) (status other : ℕ) (text said : List ℕ) → Shows view document status text → Shows view document other said → (status ≡ other) × (text ≡ said)
-shows_one Text document status other text said a b = (a.0 ∙ sym b.0, a.1 ∙ sym b.1)
-shows_one Check document status other text said a b = (a.0 ∙ sym b.0, a.1 ∙ sym b.1)
-shows_one Show document status other text said a b = (a.0 ∙ sym b.0, a.1 ∙ sym b.1)
-shows_one (Props pos) document status other text said (inl a) (inl b) =
-    (a.is_status ∙ sym b.is_status, lines_one document pos text said a.lines b.lines)
-shows_one (Props pos) document status other text said (inl a) (inr b) = absurd (item_or_none document pos status other text said a b)
-shows_one (Props pos) document status other text said (inr a) (inl b) = absurd (item_or_none document pos other status said text b a)
-shows_one (Props pos) document status other text said (inr a) (inr b) = (a.is_status ∙ sym b.is_status, a.line ∙ sym b.line)
+shows_one : (view : View) (document : Document) (a b : Outcome) → Shows view document a → Shows view document b → a ≡ b
+shows_one Text document a b x y = x ∙ sym y
+shows_one Check document a b x y = x ∙ sym y
+shows_one Show document a b x y = x ∙ sym y
+shows_one (Props pos) document a b (inl x) (inl y) =
+    x.ends ∙ (ap (says 0) (lines_one document pos x.text y.text x.lines y.lines) ∙ sym y.ends)
+shows_one (Props pos) document a b (inl x) (inr y) = absurd (item_or_none document pos a b x y)
+shows_one (Props pos) document a b (inr x) (inl y) = absurd (item_or_none document pos b a y x)
+shows_one (Props pos) document a b (inr x) (inr y) = x.ends ∙ sym y.ends
 
 -- one view of a file
-shows_file_one : (view : View) (file : List ℕ) (status other : ℕ) (text said : List ℕ) → ShowsFile view file status text → ShowsFile view file other said → (status ≡ other) × (text ≡ said)
-shows_file_one view file status other text said a b =
-    let e : a.document ≡ b.document = document_one file a.document b.document a.holds b.holds in
-    shows_one view b.document status other text said (subst (λ d. Shows view d status text) e a.shows) b.shows
+file_one : (view : View) (file : List ℕ) (a b : Outcome) → ShowsFile view file a → ShowsFile view file b → a ≡ b
+file_one view file a b x y =
+    let e : x.document ≡ y.document = document_one file x.document y.document x.holds y.holds in
+    shows_one view y.document a b (subst (λ d. Shows view d a) e x.shows) y.shows
 
--- one answer
-answer_one : (action : Action) (file : List ℕ) (status other : ℕ) (text said : List ℕ) → IsAnswer action file status text → IsAnswer action file other said → (status ≡ other) × (text ≡ said)
-answer_one Streams file status other text said a b = (a.0 ∙ sym b.0, listing_one file text said a.1 b.1)
-answer_one (Look view) file status other text said a b = shows_file_one view file status other text said a b
+-- one ending of a command
+ends_one : (command : Request) (files : Files) (a b : Outcome) → Ends command (Some files) a → Ends command (Some files) b → a.status ≢ 4 → b.status ≢ 4 → a ≡ b
+ends_one (streams file) files a b x y ca cb =
+    says_one file stream_rules ListsStreams (file_at files file) a b streams_single lists_one
+    (settled file files stream_rules ListsStreams a streams_break x ca) (settled file files stream_rules ListsStreams b streams_break y cb)
+ends_one (look view file) files a b x y ca cb =
+    says_one file all_rules (ShowsFile view) (file_at files file) a b all_single (file_one view)
+    (settled file files all_rules (ShowsFile view) a all_break x ca) (settled file files all_rules (ShowsFile view) b all_break y cb)
 
--- one verdict
-pub verdict_one : (action : Action) (name file : List ℕ) (status other : ℕ) (text said : List ℕ) → IsVerdict action name file status text → IsVerdict action name file other said → (status ≡ other) × (text ≡ said)
-verdict_one action name file status other text said (inl a) (inl b) = refused_one (judged_rules action file) name status other text said (judged_single action file) a b
-verdict_one action name file status other text said (inl a) (inr b) = absurd (hold_or_first Upto (judged_rules action file) a.rule a.place (judged_single action file) b.0 a.first)
-verdict_one action name file status other text said (inr a) (inl b) = absurd (hold_or_first Upto (judged_rules action file) b.rule b.place (judged_single action file) a.0 b.first)
-verdict_one action name file status other text said (inr a) (inr b) = answer_one action file status other text said a.1 b.1
+-- one ending of a run
+run_one : (words : List (List ℕ)) (files : Files) (a b : Outcome) → IsEnding words (Some files) a → IsEnding words (Some files) b → a.status ≢ 4 → b.status ≢ 4 → a ≡ b
+run_one words files a b (inl x) (inl y) ca cb = x.ends ∙ sym y.ends
+run_one words files a b (inl x) (inr y) ca cb = absurd (x.none y.command y.asked)
+run_one words files a b (inr x) (inl y) ca cb = absurd (y.none x.command x.asked)
+run_one words files a b (inr x) (inr y) ca cb =
+    let e : x.command ≡ y.command = command_one words x.command y.command x.asked y.asked in
+    ends_one y.command files a b (subst (λ c. Ends c (Some files) a) e x.ends) y.ends ca cb
+
+pub ending_one : (words : List (List ℕ)) (files : Files) (a b : Outcome) → IsEnding words (Some files) a → IsEnding words (Some files) b → a.status ≢ 4 → b.status ≢ 4 → (a.status ≡ b.status) × (a.text ≡ b.text)
+ending_one words files a b x y ca cb =
+    let e = run_one words files a b x y ca cb in
+    (ap (λ (o : Outcome). o.status) e, ap (λ (o : Outcome). o.text) e)

@@ -5,7 +5,7 @@ use Rattle.std.specs.Str.Parse.{AllDigits, digits_value, ParsesUnsigned}
 use Rattle.std.proofs.lemmas.Str.Parse.{parse_digits, numerals_by_value, tells_digits}
 use Rattle.std.proofs.lemmas.Int.Digits.{digits_value-lt}
 use Rattle.std.proofs.Math.Nat.{pow-le-pow_right}
-use Rattle.doc_run.specs.Requests.{IsPosition}
+use Rattle.doc_run.specs.Commands.{IsPosition}
 
 -- so it is parsed
 pub position-parsed : {E : Type 0} (word : List ℕ) (pos : ℕ) (parsed : Result ℕ E) (error : E) → ParsesUnsigned 32 10 word parsed → parsed ≡ Err error → IsPosition word pos → ⊥

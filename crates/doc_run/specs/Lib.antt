@@ -1,3 +1,7 @@
-pub mod Requests
+pub mod Commands
 pub mod Lines
+pub mod Outcomes
+pub mod Stages
+pub mod Reading
 pub mod Endings
+pub mod Completeness

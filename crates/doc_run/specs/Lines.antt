@@ -7,10 +7,7 @@ use Rattle.doc_bits.specs.declared.places.Where.TheVariants.{File, Wd, Table, Sh
 use Rattle.doc_bits.specs.Places.{Place}
 use Rattle.text_codes.specs.Shown.{shown}
 use Rattle.cfb_streams.specs.Contents.{Stream}
-
--- a line ends with a line feed
-abbrev pub line : List ℕ → List ℕ
-line text = text ++ 10 ∷ []
+use Rattle.doc_show.specs.Story.{line}
 
 -- the commands that are built
 abbrev pub usage_line : List ℕ

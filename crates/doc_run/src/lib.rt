@@ -2,13 +2,17 @@
 //! printed.
 #![tactic(auto)]
 
+mod command;
+mod ending;
 mod lines;
 mod listing;
-mod request;
+mod look;
 mod run;
+mod stage;
 
-pub use request::{Action, View};
-pub use run::{
+pub use command::{Command, View};
+pub use ending::{
     STATUS_DONE, STATUS_MEMORY, STATUS_MISSING, STATUS_POSITION, STATUS_REFUSED,
-    STATUS_SHELF_FAULT, STATUS_SINK_FAULT, STATUS_USAGE, docbin_run,
+    STATUS_SHELF_FAULT, STATUS_SINK_FAULT, STATUS_USAGE,
 };
+pub use run::docbin_run;

@@ -7,7 +7,7 @@ use doc_bits::{Memory, Text, Where};
 use std::alloc::Global;
 
 /// The line that names the commands.
-pub fn usage_line(alloc: Global) -> Result<Text, Memory>
+pub(crate) fn usage_line(alloc: Global) -> Result<Text, Memory>
     ensures { IfOk result (λ text. text ≡ usage_of) }
 {
     let line = String::from_str(
@@ -18,7 +18,7 @@ pub fn usage_line(alloc: Global) -> Result<Text, Memory>
 }
 
 /// The line that names a broken rule and its place.
-pub fn rule_line(
+pub(crate) fn rule_line(
     alloc: Global,
     name: &str,
     rule: u8,
@@ -49,7 +49,7 @@ fn part_name(alloc: Global, part: Where) -> Result<String, Memory>
 }
 
 /// The line for a name that is not there.
-pub fn missing_line(alloc: Global, name: &str) -> Result<Text, Memory>
+pub(crate) fn missing_line(alloc: Global, name: &str) -> Result<Text, Memory>
     ensures { IfOk result (λ text. text ≡ missing_of name.now) }
 {
     let line = format!(in alloc; "{name}: missing\n")?;
@@ -57,7 +57,7 @@ pub fn missing_line(alloc: Global, name: &str) -> Result<Text, Memory>
 }
 
 /// The line for a position beyond the main text of `len` items.
-pub fn position_line(alloc: Global, pos: u32, len: usize) -> Result<Text, Memory>
+pub(crate) fn position_line(alloc: Global, pos: u32, len: usize) -> Result<Text, Memory>
     ensures { IfOk result (λ text. text ≡ position_of pos len) }
 {
     let line = format!(in alloc; "position {pos} of {len}\n")?;
@@ -65,7 +65,7 @@ pub fn position_line(alloc: Global, pos: u32, len: usize) -> Result<Text, Memory
 }
 
 /// The line for a failing outside.
-pub fn shelf_fault_line(alloc: Global) -> Result<Text, Memory>
+pub(crate) fn shelf_fault_line(alloc: Global) -> Result<Text, Memory>
     ensures { IfOk result (λ text. text ≡ shelf_fault_of) }
 {
     let line = String::from_str(alloc, "shelf fault\n")?;

@@ -15,7 +15,7 @@ use std::alloc::Global;
 use text_codes::show_units;
 
 /// A line for each stream of a file, in the order of their names.
-pub fn listing(alloc: Global, file: &[u8]) -> Result<Text, ReadFault>
+pub(crate) fn listing(alloc: Global, file: &[u8]) -> Result<Text, ReadFault>
     ensures { MatchResult result
         (λ text. Hold (rules_in File (container_rules file.now)) × IsListingOf file.now text)
         (IsReadFault (rules_in File (container_rules file.now))) }

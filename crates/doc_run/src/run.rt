@@ -1,48 +1,22 @@
 // One run of the program: what it prints is made first, and then put.
-ghost use Rattle.std.specs.Prelude.{◌≡◌, ◌≢◌, ℕ, List, map, IfOk};
+ghost use Rattle.std.specs.Prelude.{◌≡◌, ◌≢◌, ◌⊎◌, ℕ, List, Some, map, IfOk};
 ghost use Rattle.std.specs.String.{string_bytes};
 ghost use Rattle.doc_outer.specs.Counts.{Rose};
+ghost use Rattle.doc_outer.specs.Held.{Files};
 ghost use Rattle.doc_outer.specs.Written.{Appends, AppendsPrefix};
-ghost use Rattle.plain_doc.specs.Sound.{IsSound};
-ghost use Rattle.doc_run.specs.Endings.{IsEnding, IsVerdict, NamesRule, Shows, VerdictIsOne};
-ghost use Rattle.doc_run.specs.declared.request.Action.TheVariants as Action;
-ghost use Rattle.doc_run.specs.declared.request.View.TheVariants as View;
+ghost use Rattle.doc_run.specs.Commands.{Request, streams, look, IsCommand, CommandIsOne, PutsUnder};
+ghost use Rattle.doc_run.specs.Outcomes.{Outcome, says, HasCause, held_after, StaysAt};
+ghost use Rattle.doc_run.specs.Endings.{Ends, IsEnding, EndingIsOne};
+ghost use Rattle.doc_run.specs.Completeness.{CanServe};
 
-use crate::lines::{missing_line, position_line, rule_line, shelf_fault_line, usage_line};
-use crate::listing::listing;
-use crate::request::{Action, View, request_of};
-use doc_bits::{Memory, Text, Where};
-use doc_outer::{MAX_FILE_LEN, ReadFail, Shelf, Sink, read_whole, write_all};
-use doc_read::{ReadFault, read};
-use doc_show::{accepted_line, main_text, props_lines};
-use plain_doc::Document;
+use crate::command::{Command, View, command_of};
+use crate::ending::{Ending, STATUS_MEMORY, STATUS_SINK_FAULT, STATUS_USAGE};
+use crate::lines::usage_line;
+use crate::look::{list_streams, look_at_file};
+use crate::stage::{Taken, overlong, take_whole};
+use doc_bits::Memory;
+use doc_outer::{Shelf, Sink, write_all};
 use std::alloc::Global;
-
-/// The statuses of a run.
-pub const STATUS_DONE: u8 = 0;
-
-pub const STATUS_REFUSED: u8 = 1;
-
-pub const STATUS_USAGE: u8 = 2;
-
-pub const STATUS_MISSING: u8 = 3;
-
-pub const STATUS_SHELF_FAULT: u8 = 4;
-
-pub const STATUS_SINK_FAULT: u8 = 5;
-
-pub const STATUS_MEMORY: u8 = 6;
-
-pub const STATUS_POSITION: u8 = 8;
-
-const RULE_LENGTH: u8 = 1;
-
-/// How a run ends where the sink takes all: its status and what is printed.
-#[derive(Drop)]
-struct Ending {
-    status: u8,
-    text: Text,
-}
 
 /// Runs the words of a command over the files of a shelf, and answers the status.
 pub fn docbin_run<S: Shelf, K: Sink>(
@@ -51,27 +25,48 @@ pub fn docbin_run<S: Shelf, K: Sink>(
     shelf: &mut S,
     out: &mut K,
 ) -> u8
-    // The shelf stays as it was.
-    ensures kept { S.held shelf.new ≡ S.held shelf.old }
+    // A name that the words put nothing under holds what it held.
+    ensures kept { (name : List ℕ)
+        → ((command : Request) → IsCommand (map string_bytes words.now) command → ¬ (PutsUnder command name))
+        → StaysAt name (S.held shelf.old) (S.held shelf.new) }
 
-    // What is printed is the text of one of the ways to end, which the words and the shelf decide.
-    ensures ending { result ≢ STATUS_SINK_FAULT → result ≢ STATUS_MEMORY → (text : List ℕ)
-        × IsEnding (map string_bytes words.now) (S.held shelf.old) result text
-        × Appends (K.written out.old) (K.written out.new) text }
+    // The shelf changes at the statuses 0, 4 and 5 alone.
+    ensures unchanged { result ≢ 0 → result ≢ 4 → result ≢ 5 → S.held shelf.new ≡ S.held shelf.old }
 
-    // The words and the bytes of a file have one verdict.
-    ensures only { VerdictIsOne }
+    // A run ends in one of the ways that the words and the shelf decide: with its status, its text printed
+    // and its file put.
+    ensures ending { result ≢ 5 → result ≢ 6 → (outcome : Outcome)
+        × ((outcome.status ≡ result)
+        × (IsEnding (map string_bytes words.now) (S.held shelf.old) outcome
+        × (Appends (K.written out.old) (K.written out.new) outcome.text
+        × (S.held shelf.new ≡ held_after outcome.put (S.held shelf.old))))) }
+
+    // Words are one command; words and told files have one status and one text.
+    ensures one_command { CommandIsOne }
+    ensures only { EndingIsOne }
+
+    // A command in whose way nothing stands is served, unless a fault rose or memory was refused.
+    ensures complete { (command : Request) (files : Files)
+        → IsCommand (map string_bytes words.now) command
+        → S.held shelf.old ≡ Some files → CanServe command files
+        → ¬ (Rose (S.faults shelf.old) (S.faults shelf.new))
+        → ¬ (Rose (K.faults out.old) (K.faults out.new)) → result ≢ 6 → result ≡ 0 }
 
     // A status for what failed outside shows in a count of this run.
-    ensures missing { result ≡ STATUS_MISSING → Rose (S.missed shelf.old) (S.missed shelf.new) }
-    ensures shelf_fault { result ≡ STATUS_SHELF_FAULT → Rose (S.faults shelf.old) (S.faults shelf.new) }
-    ensures sink_fault { result ≡ STATUS_SINK_FAULT → Rose (K.faults out.old) (K.faults out.new) }
+    ensures missing { result ≡ 3 → Rose (S.missed shelf.old) (S.missed shelf.new) }
+    ensures shelf_fault { result ≡ 4 → Rose (S.faults shelf.old) (S.faults shelf.new) }
+    ensures sink_fault { result ≡ 5 → Rose (K.faults out.old) (K.faults out.new) }
 
-    // A sink that fails has taken a prefix of such a text; without memory nothing is put.
-    ensures prefix { result ≡ STATUS_SINK_FAULT → (status : ℕ) × (text : List ℕ)
-        × IsEnding (map string_bytes words.now) (S.held shelf.old) status text
-        × AppendsPrefix (K.written out.old) (K.written out.new) text }
-    ensures nothing { result ≡ STATUS_MEMORY → K.written out.new ≡ K.written out.old }
+    // A sink that fails has taken a prefix of the text of such an outcome, which has its cause; its file was put
+    // or nothing was.
+    ensures prefix { result ≡ 5 → (outcome : Outcome)
+        × (IsEnding (map string_bytes words.now) (S.held shelf.old) outcome
+        × (HasCause outcome.status (S.missed shelf.old) (S.missed shelf.new) (S.faults shelf.old) (S.faults shelf.new)
+        × (AppendsPrefix (K.written out.old) (K.written out.new) outcome.text
+        × ((S.held shelf.new ≡ S.held shelf.old) ⊎ (S.held shelf.new ≡ held_after outcome.put (S.held shelf.old)))))) }
+
+    // Without memory nothing is printed.
+    ensures nothing { result ≡ 6 → K.written out.new ≡ K.written out.old }
 {
     let Ok(ending) = ending_of(alloc, words, shelf) else {
         return STATUS_MEMORY;
@@ -85,147 +80,56 @@ pub fn docbin_run<S: Shelf, K: Sink>(
 /// The ending of a run, before anything is printed.
 fn ending_of<S: Shelf>(alloc: Global, words: &[String], shelf: &mut S) -> Result<Ending, Memory>
     ensures kept { S.held shelf.new ≡ S.held shelf.old }
-    ensures ending { IfOk result (λ e. IsEnding (map string_bytes words.now) (S.held shelf.old) e.status e.text) }
-    ensures status { IfOk result (λ e. (e.status ≢ STATUS_SINK_FAULT) × (e.status ≢ STATUS_MEMORY)) }
-    ensures missing { IfOk result (λ e. e.status ≡ STATUS_MISSING → Rose (S.missed shelf.old) (S.missed shelf.new)) }
-    ensures fault { IfOk result (λ e. e.status ≡ STATUS_SHELF_FAULT → Rose (S.faults shelf.old) (S.faults shelf.new)) }
+    ensures ending { IfOk result (λ e.
+        IsEnding (map string_bytes words.now) (S.held shelf.old) (says e.status e.text)) }
+    ensures status { IfOk result (λ e. (e.status ≢ 5) × (e.status ≢ 6)) }
+    ensures cause { IfOk result (λ e.
+        HasCause e.status (S.missed shelf.old) (S.missed shelf.new) (S.faults shelf.old) (S.faults shelf.new)) }
 {
-    let Some(request) = request_of(words) else {
-        let text = usage_line(alloc)?;
-        return Ok(Ending {
-            status: STATUS_USAGE,
-            text,
-        });
-    };
-    let name = request.name;
-    match read_whole(alloc, shelf, name) {
-        Ok(file) => {
-            let ending = judged(alloc, request.action, name, file.as_slice())?;
-            Ok(ending)
-        }
-        Err(ReadFail::TooLong) => {
-            let text = rule_line(
-                alloc,
-                name,
-                RULE_LENGTH,
-                Where::File,
-                MAX_FILE_LEN as u32 + 1,
-            )?;
+    match command_of(words) {
+        Some(Command::Streams { file }) => serve_streams(alloc, shelf, file),
+        Some(Command::Look { view, file }) => serve_view(alloc, shelf, view, file),
+        None => {
+            let text = usage_line(alloc)?;
             Ok(Ending {
-                status: STATUS_REFUSED,
+                status: STATUS_USAGE,
                 text,
             })
         }
-        Err(ReadFail::Missing) => {
-            let text = missing_line(alloc, name)?;
-            Ok(Ending {
-                status: STATUS_MISSING,
-                text,
-            })
-        }
-        Err(ReadFail::Failed) => {
-            let text = shelf_fault_line(alloc)?;
-            Ok(Ending {
-                status: STATUS_SHELF_FAULT,
-                text,
-            })
-        }
-        Err(ReadFail::Memory) => Err(Memory),
-    }
-}
-
-/// The ending of an action on a file that was read whole.
-fn judged(alloc: Global, action: Action, name: &str, file: &[u8]) -> Result<Ending, Memory>
-    ensures { IfOk result (λ e. IsVerdict action name.now file.now e.status e.text) }
-{
-    match action {
-        Action::Streams => shown_streams(alloc, name, file),
-        Action::Look(view) => shown_document(alloc, view, name, file),
     }
 }
 
 /// The ending where the streams of a file are asked for.
-fn shown_streams(alloc: Global, name: &str, file: &[u8]) -> Result<Ending, Memory>
-    ensures { IfOk result (λ e. IsVerdict Action.Streams name.now file.now e.status e.text) }
+fn serve_streams<S: Shelf>(alloc: Global, shelf: &mut S, file: &str) -> Result<Ending, Memory>
+    ensures kept { S.held shelf.new ≡ S.held shelf.old }
+    ensures ends { IfOk result (λ e. Ends (streams file.now) (S.held shelf.old) (says e.status e.text)) }
+    ensures status { IfOk result (λ e. (e.status ≢ 5) × (e.status ≢ 6)) }
+    ensures cause { IfOk result (λ e.
+        HasCause e.status (S.missed shelf.old) (S.missed shelf.new) (S.faults shelf.old) (S.faults shelf.new)) }
 {
-    match listing(alloc, file) {
-        Ok(text) => Ok(Ending {
-            status: STATUS_DONE,
-            text,
-        }),
-        Err(fault) => refused(alloc, name, fault),
+    match take_whole(alloc, shelf, file)? {
+        Taken::Whole(bytes) => list_streams(alloc, file, bytes.as_slice()),
+        Taken::Overlong => overlong(alloc, file),
+        Taken::Stopped(ending) => Ok(ending),
     }
 }
 
-/// The ending where a document is looked at.
-fn shown_document(alloc: Global, view: View, name: &str, file: &[u8]) -> Result<Ending, Memory>
-    ensures { IfOk result (λ e. IsVerdict (Action.Look view) name.now file.now e.status e.text) }
+/// The ending where the document of a file is looked at.
+fn serve_view<S: Shelf>(
+    alloc: Global,
+    shelf: &mut S,
+    view: View,
+    file: &str,
+) -> Result<Ending, Memory>
+    ensures kept { S.held shelf.new ≡ S.held shelf.old }
+    ensures ends { IfOk result (λ e. Ends (look view file.now) (S.held shelf.old) (says e.status e.text)) }
+    ensures status { IfOk result (λ e. (e.status ≢ 5) × (e.status ≢ 6)) }
+    ensures cause { IfOk result (λ e.
+        HasCause e.status (S.missed shelf.old) (S.missed shelf.new) (S.faults shelf.old) (S.faults shelf.new)) }
 {
-    match read(alloc, file) {
-        Ok(opened) => look_at(alloc, view, opened.document()),
-        Err(fault) => refused(alloc, name, fault),
-    }
-}
-
-/// The ending where a sound document is looked at.
-fn look_at(alloc: Global, view: View, document: &Document) -> Result<Ending, Memory>
-    requires { IsSound document.now }
-    ensures { IfOk result (λ e. Shows view document.now e.status e.text) }
-{
-    match view {
-        View::Text => done(main_text(alloc, document)?),
-        View::Check => done(accepted_line(alloc, document)?),
-        View::Show => done(doc_show::listing(alloc, document)?),
-        View::Props(pos) => item_at(alloc, document, pos),
-    }
-}
-
-/// The ending where an item is looked at.
-fn item_at(alloc: Global, document: &Document, pos: u32) -> Result<Ending, Memory>
-    requires { IsSound document.now }
-    ensures { IfOk result (λ e. Shows (View.Props pos) document.now e.status e.text) }
-{
-    let len = document.main.len();
-    if pos as usize >= len {
-        let text = position_line(alloc, pos, len)?;
-        return Ok(Ending {
-            status: STATUS_POSITION,
-            text,
-        });
-    }
-    let text = props_lines(alloc, document, pos as usize)?;
-    Ok(Ending {
-        status: STATUS_DONE,
-        text,
-    })
-}
-
-/// The ending of a run that printed what was asked for.
-fn done(text: Text) -> Result<Ending, Memory>
-    ensures { IfOk result (λ e. (e.status ≡ 0) × (e.text ≡ text)) }
-{
-    Ok(Ending {
-        status: STATUS_DONE,
-        text,
-    })
-}
-
-/// The ending of a file that is refused.
-fn refused(alloc: Global, name: &str, fault: ReadFault) -> Result<Ending, Memory>
-    ensures { IfOk result (λ e. NamesRule fault name.now e.status e.text) }
-{
-    match fault {
-        ReadFault::Refused {
-            rule,
-            place,
-            offset,
-        } => {
-            let text = rule_line(alloc, name, rule, place, offset)?;
-            Ok(Ending {
-                status: STATUS_REFUSED,
-                text,
-            })
-        }
-        ReadFault::Memory => Err(Memory),
+    match take_whole(alloc, shelf, file)? {
+        Taken::Whole(bytes) => look_at_file(alloc, view, file, bytes.as_slice()),
+        Taken::Overlong => overlong(alloc, file),
+        Taken::Stopped(ending) => Ok(ending),
     }
 }

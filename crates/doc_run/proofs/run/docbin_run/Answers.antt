@@ -1,11 +1,23 @@
-use Rattle.doc_run.proofs.OneLemmas.{verdict_one}
+use Rattle.std.proofs.Common.{subst, map}
+use Rattle.std.specs.String.{string_bytes}
+use Rattle.doc_run.specs.Outcomes.{says}
+use Rattle.doc_run.specs.Endings.{IsEnding}
+use Rattle.doc_run.proofs.OneLemmas.{ending_one}
+use Rattle.doc_run.proofs.CompleteLemmas.{complete}
 use Rattle.doc_run.proofs.run.docbin_run.Goals as goal
 
 pub returns-in_default-clause-only : goal.returns-in_default-clause-only
-returns-in_default-clause-only g c = verdict_one
+returns-in_default-clause-only g c = ending_one
 
 pub returns-in-Ok-write_all-clause-only : goal.returns-in-Ok-write_all-clause-only
-returns-in-Ok-write_all-clause-only g c = verdict_one
+returns-in-Ok-write_all-clause-only g c = ending_one
 
 pub returns-clause-only : goal.returns-clause-only
-returns-clause-only g c = verdict_one
+returns-clause-only g c = ending_one
+
+pub returns-in-Ok-write_all-clause-complete : goal.returns-in-Ok-write_all-clause-complete
+returns-in-Ok-write_all-clause-complete g c command files asked told can no_fault no_sink_fault memory =
+    let status = c.in-Ok.ending.status in
+    let ending = says status c.in-Ok.ending.text in
+    let is = subst (λ held. IsEnding (map string_bytes c.args.words.now) held ending) told c.in-Ok.ensures.ending in
+    complete (map string_bytes c.args.words.now) command files ending asked can is (λ e. no_fault (c.in-Ok.ensures.cause.shelf_fault e))

@@ -1,0 +1,8 @@
+# fish completion for docbin: the commands, then the names of files.
+complete -c docbin -f
+complete -c docbin -n '__fish_is_first_arg' -a text -d 'the main text'
+complete -c docbin -n '__fish_is_first_arg' -a streams -d 'a line for each stream of the container'
+complete -c docbin -n '__fish_is_first_arg' -a check -d 'whether the file is accepted, and how much it has'
+complete -c docbin -n '__fish_is_first_arg' -a show -d 'the styles and texts, line by line'
+complete -c docbin -n '__fish_is_first_arg' -a props -d 'what is in effect at an item of the main text'
+complete -c docbin -n '__fish_seen_subcommand_from text streams check show props; and test (count (commandline -opc)) -eq 2' -F

@@ -1,0 +1,56 @@
+-- What the words of a run ask for.
+use Rattle.std.specs.Prelude.{◌≡◌, ◌≤◌, List, [], ◌∷◌, ℕ, length, codes}
+use Rattle.std.specs.Str.Parse.{IsNumeral, digits_value}
+use Rattle.doc_run.specs.declared.command.View.{View}
+use Rattle.doc_run.specs.declared.command.View.TheVariants.{Text, Check, Show, Props}
+use Rattle.doc_run.specs.declared.command.Command as asked
+use Rattle.doc_run.specs.declared.command.Command.TheVariants as asked_for
+
+-- a command, with the names that it is given
+pub data Request : Type 0 where
+  -- list the streams of a file
+  streams : (file : List ℕ) → Request
+  -- look at the document of a file
+  look : (view : View) → (file : List ℕ) → Request
+
+-- the command that the program keeps
+abbrev pub request_of : asked.Command → Request
+request_of (asked_for.Streams file) = streams file.now
+request_of (asked_for.Look view file) = look view file.now
+
+-- the number of a word of one to nine decimal digits
+pub record IsPosition (word : List ℕ) (pos : ℕ) : Type 0 where
+  pub short : length word ≤ 9
+  pub digits : IsNumeral 10 word
+  pub value : pos ≡ digits_value 10 word
+
+-- the words ask for the properties at a position of the file
+pub record AsksAtPosition (words : List (List ℕ)) (pos : ℕ) (file : List ℕ) : Type 0 where
+  pub position : List ℕ
+  pub number : IsPosition position pos
+  pub spelt : words ≡ codes "props" ∷ file ∷ position ∷ []
+
+-- the words ask for a view of the document of a file
+abbrev pub AsksForView : List (List ℕ) → View → (file : List ℕ) → Type 0
+AsksForView words Text file = words ≡ codes "text" ∷ file ∷ []
+AsksForView words Check file = words ≡ codes "check" ∷ file ∷ []
+AsksForView words Show file = words ≡ codes "show" ∷ file ∷ []
+AsksForView words (Props pos) file = AsksAtPosition words pos file
+
+-- the words are the command
+abbrev pub IsCommand : List (List ℕ) → Request → Type 0
+IsCommand words (streams file) = words ≡ codes "streams" ∷ file ∷ []
+IsCommand words (look view file) = AsksForView words view file
+
+-- the words are no command
+abbrev pub IsNoCommand : List (List ℕ) → Type 0
+IsNoCommand words = (command : Request) → ¬ (IsCommand words command)
+
+-- words are one command at most
+abbrev pub CommandIsOne : Type 0
+CommandIsOne = (words : List (List ℕ)) (a b : Request) → IsCommand words a → IsCommand words b → a ≡ b
+
+-- the command puts bytes under the name; none does yet
+abbrev pub PutsUnder : Request → List ℕ → Type 0
+PutsUnder (streams file) name = ⊥
+PutsUnder (look view file) name = ⊥

@@ -1,0 +1,34 @@
+-- When a run is to give the defined output.
+use Rattle.std.specs.Prelude.{◌≡◌, ◌<◌, ℕ, List, Option, Some, length, ⊤}
+use Rattle.doc_bits.specs.Rules.{Rules, Hold}
+use Rattle.doc_bits.specs.Places.{Place}
+use Rattle.doc_outer.specs.Held.{Files, file_at}
+use Rattle.plain_doc.specs.declared.document.Document.{Document}
+use Rattle.doc_read.specs.Holds.{HoldsDocument, all_rules}
+use Rattle.doc_run.specs.declared.command.View.{View}
+use Rattle.doc_run.specs.declared.command.View.TheVariants.{Text, Check, Show, Props}
+use Rattle.doc_run.specs.Commands.{Request, streams, look}
+use Rattle.doc_run.specs.Endings.{stream_rules}
+
+-- the name holds bytes that break none of the rules
+pub record HoldsRight (rules : List ℕ → Rules Place) (files : Files) (name : List ℕ) : Type 0 where
+  pub bytes : List ℕ
+  pub there : file_at files name ≡ Some bytes
+  pub hold : Hold (rules bytes)
+
+-- the view has what it asks for
+abbrev pub HasPosition : View → Document → Type 0
+HasPosition Text document = ⊤
+HasPosition Check document = ⊤
+HasPosition Show document = ⊤
+HasPosition (Props pos) document = pos < length document.main
+
+-- the document of the name is accepted, and has what the view asks for
+pub record IsViewable (view : View) (files : Files) (name : List ℕ) : Type 0 where
+  pub right : HoldsRight all_rules files name
+  pub has : (document : Document) → HoldsDocument right.bytes document → HasPosition view document
+
+-- nothing that the command names stands in its way
+abbrev pub CanServe : Request → Files → Type 0
+CanServe (streams file) files = HoldsRight stream_rules files file
+CanServe (look view file) files = IsViewable view files file

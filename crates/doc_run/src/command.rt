@@ -1,0 +1,106 @@
+// What the words of a run ask for.
+ghost use Rattle.std.specs.Prelude.{◌≡◌, ℕ, List, [], ◌∷◌, MatchOption, map, codes};
+ghost use Rattle.std.specs.String.{string_bytes};
+ghost use Rattle.doc_run.specs.Commands.{request_of, AsksForView, IsCommand, IsNoCommand, IsPosition};
+
+/// What is looked at in a document.
+#[derive(Clone, Copy, Debug, PartialEq, Eq)]
+pub enum View {
+    /// The main text.
+    Text,
+    /// How much it has.
+    Check,
+    /// Its styles and texts.
+    Show,
+    /// An item of the main text, by its position.
+    Props(u32),
+}
+
+/// A command, with the names that it is given.
+#[derive(Clone, Copy)]
+pub enum Command<'a> {
+    /// List the streams of the root.
+    Streams { file: &'a str },
+    /// Look at the document of a file.
+    Look { view: View, file: &'a str },
+}
+
+/// The most digits of a position.
+const MOST_DIGITS: usize = 9;
+
+/// The command that the words are, where they are one.
+pub(crate) fn command_of(words: &[String]) -> Option<Command<'_>>
+    ensures { MatchOption result
+        (IsNoCommand (map string_bytes words.now))
+        (λ command. IsCommand (map string_bytes words.now) (request_of command)) }
+{
+    match words {
+        [word, file] => command_on(word.as_str(), file.as_str()),
+        [word, file, position] => {
+            let pos = props_position(word.as_str(), position.as_str())?;
+            Some(Command::Look {
+                view: View::Props(pos),
+                file: file.as_str(),
+            })
+        }
+        _ => None,
+    }
+}
+
+/// The command that a word names, where it asks for a file alone.
+fn command_on<'a>(word: &str, file: &'a str) -> Option<Command<'a>>
+    ensures { MatchOption result
+        (IsNoCommand (word.now ∷ file.now ∷ []))
+        (λ command. IsCommand (word.now ∷ file.now ∷ []) (request_of command)) }
+{
+    if word == "streams" {
+        return Some(Command::Streams { file });
+    }
+    let view = view_of(word)?;
+    Some(Command::Look { view, file })
+}
+
+/// The view that a word names, where it asks for no more than a file.
+fn view_of(word: &str) -> Option<View>
+    ensures { MatchOption result
+        ((view : View) (file : List ℕ) → ¬ (AsksForView (word.now ∷ file ∷ []) view file))
+        (λ view. (file : List ℕ) → AsksForView (word.now ∷ file ∷ []) view file) }
+{
+    if word == "text" {
+        Some(View::Text)
+    } else if word == "check" {
+        Some(View::Check)
+    } else if word == "show" {
+        Some(View::Show)
+    } else {
+        None
+    }
+}
+
+/// The position where the properties are asked for.
+fn props_position(word: &str, position: &str) -> Option<u32>
+    ensures { MatchOption result
+        ((pos : ℕ) → word.now ≡ codes "props" → ¬ IsPosition position.now pos)
+        (λ pos. (word.now ≡ codes "props") × IsPosition position.now pos) }
+{
+    if word == "props" {
+        position_of(position)
+    } else {
+        None
+    }
+}
+
+/// The number of a word of at most nine digits.
+fn position_of(word: &str) -> Option<u32>
+    ensures { MatchOption result
+        ((pos : ℕ) → ¬ IsPosition word.now pos)
+        (λ pos. IsPosition word.now pos) }
+{
+    if word.len() > MOST_DIGITS || word.starts_with('+') {
+        return None;
+    }
+    match word.parse::<u32>() {
+        Ok(pos) => Some(pos),
+        Err(_) => None,
+    }
+}
