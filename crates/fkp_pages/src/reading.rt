@@ -134,7 +134,7 @@ fn list_range(kind: PageKind, page: &[u8], at: usize) -> Option<(usize, usize)>
     requires place { at < 511 }
     ensures { MatchOption result (¬ (IsListWithin kind page.now at))
         (λ range. IsListWithin kind page.now at ×
-            ((range.0 ≡ list_from kind page.now at) × (range.1 ≡ list_to kind page.now at))) }
+        ((range.0 ≡ list_from kind page.now at) × (range.1 ≡ list_to kind page.now at))) }
 {
     let (from, to) = list_bounds(kind, page, at);
     if from + kind.least_list() <= to && to <= COUNT_AT {
