@@ -1,0 +1,24 @@
+-- The text and the sections of a file as it was read, in the words of saves: what a session begins with.
+use Rattle.std.specs.Prelude.{◌≡◌}
+use Rattle.fib_form.specs.FibFields.{fib_fields}
+use Rattle.fib_form.specs.declared.table_parts.TablePart.TheVariants.{PlcfBteChpx, PlcfBtePapx}
+use Rattle.plain_doc.specs.declared.document.Document.{Document}
+use Rattle.doc_load.specs.Source.{DocSource, part_bytes}
+use Rattle.doc_load.specs.FileRules.{FileText, source_of}
+use Rattle.save_laws.specs.Places.{PagedStream}
+use Rattle.save_laws.specs.Slots.{StoryEnds, story_counts}
+use Rattle.save_laws.specs.Saves.{StandsForText}
+
+-- WordDocument and the bin tables of a file
+abbrev pub stream_of : DocSource → PagedStream
+stream_of source = record {
+  wd = source.wd;
+  characters = part_bytes source PlcfBteChpx;
+  paragraphs = part_bytes source PlcfBtePapx;
+}
+
+-- the places of the text stand for the document, with the marks that the file has behind its stories
+pub record StandsTogether (text : FileText) (document : Document) : Type 0 where
+  pub ends : StoryEnds
+  pub counts : (fib_fields text.wd).ccps ≡ story_counts document ends
+  pub together : StandsForText (stream_of (source_of text)) text.pieces document ends

@@ -1,0 +1,90 @@
+-- The laws of saves.
+use Rattle.std.specs.Prelude.{◌≡◌, ℕ, ◌≤◌, List, ◌++◌, Bool, slice_index}
+use Rattle.doc_bits.specs.Number.{AreBytes}
+use Rattle.prop_map.specs.Settings.{Settings}
+use Rattle.cfb_streams.specs.Contents.{Contents}
+use Rattle.fkp_pages.specs.declared.kind.PageKind.{PageKind}
+use Rattle.fkp_pages.specs.declared.lists.Bin.{Bin}
+use Rattle.fkp_pages.specs.declared.lists.Run.{Run}
+use Rattle.fkp_pages.specs.Bin.{bin_fcs, ArePrintableBins, printed_bin}
+use Rattle.fkp_pages.specs.PageBytes.{last_fc}
+use Rattle.plain_doc.specs.declared.document.Document.{Document}
+use Rattle.plain_doc.specs.Collected.{sections_of}
+use Rattle.plain_doc.specs.Formed.{IsFormed}
+use Rattle.plain_doc.specs.Sound.{IsSound}
+use Rattle.doc_read.specs.Holds.{HoldsDocument, IsAccepted}
+use Rattle.save_laws.specs.Places.{PagedStream, Given, GivesAt}
+use Rattle.save_laws.specs.Plans.{Plan, IsPlanned, IsWrittenPlan, IsRow, row_bins}
+use Rattle.save_laws.specs.KeptPages.{KeepsBytes, KeepsPages, AreRangesBefore, NamesBoth}
+use Rattle.save_laws.specs.FastSaves.{IsFastSaved}
+use Rattle.save_laws.specs.GivenFiles.{StandsTogether}
+use Rattle.save_laws.specs.Saves.{SavedText, HasSettingsAt, AreSavedSections, IsSavedAs, IsHeldBy, IsFileOf}
+use Rattle.save_laws.specs.Saves.{file_text}
+
+-- a well-formed sound document that is saved is held by the contents, which break none of the rules 15 to 56
+abbrev pub SavedDocumentsAreHeld : Type 0
+SavedDocumentsAreHeld =
+    (document : Document) (saved : SavedText) (table : List ℕ) (contents : Contents) → IsFormed document →
+    IsSound document → IsSavedAs document saved table contents → IsHeldBy document (file_text saved table) contents
+
+-- a file with these contents is accepted and holds the document, by the text that was saved
+pub record IsSavedIn (file : List ℕ) (document : Document) (saved : SavedText) (table : List ℕ) (contents : Contents) :
+    Type 0 where
+  pub accepted : IsAccepted file
+  pub holds : HoldsDocument file document
+  pub contents_are : holds.parts.contents ≡ contents
+  pub text_is : holds.parts.text ≡ file_text saved table
+
+abbrev pub SavedFilesHold : Type 0
+SavedFilesHold =
+    (file : List ℕ) (document : Document) (saved : SavedText) (table : List ℕ) (contents : Contents) →
+    IsFormed document → IsSound document → IsSavedAs document saved table contents → IsFileOf file contents →
+    IsSavedIn file document saved table contents
+
+-- added text whose units and pages stand in the stream is given there as it was planned
+abbrev pub PlansGive : Type 0
+PlansGive =
+    (plan : Plan) (written : PagedStream) (at : ℕ) (wide : Bool) (given : Given) → IsWrittenPlan plan written →
+    IsPlanned plan at wide given → GivesAt written at wide given
+
+-- what a session writes behind an old stream is a save of its document
+abbrev pub FastSavesAreSaves : Type 0
+FastSavesAreSaves =
+    (document : Document) (old : PagedStream) (plan : Plan) (saved : SavedText) (table : List ℕ)
+    (contents : Contents) → IsFastSaved document old plan saved table contents →
+    IsSavedAs document saved table contents
+
+-- the settings of a section that stand in a stream stand in one that keeps its bytes
+abbrev pub KeptSettingsAreThere : Type 0
+KeptSettingsAreThere =
+    (old new : List ℕ) (fc : ℕ) (settings : Settings) → KeepsBytes old new → HasSettingsAt old fc settings →
+    HasSettingsAt new fc settings
+
+-- what a stream gives at a place one gives that keeps its pages
+abbrev pub KeptPlacesGive : Type 0
+KeptPlacesGive =
+    (old new : PagedStream) (before at : ℕ) (wide : Bool) (given : Given) → KeepsPages old new before →
+    GivesAt old at wide given → GivesAt new at wide given
+
+-- a table of the ranges of an old table that begin before a place, and then of those of a row that begins there or
+-- behind it, names both
+abbrev pub LongerTablesNameBoth : Type 0
+LongerTablesNameBoth =
+    (kind : PageKind) (wd : List ℕ) (runs : List Run) (first before : ℕ) (old : List ℕ) (bins : List Bin)
+    (row : IsRow kind wd runs first) →
+    AreRangesBefore old before bins →
+    ArePrintableBins (bins ++ row_bins row) (last_fc runs) →
+    before ≤ slice_index (bin_fcs (row_bins row) (last_fc runs)) 0 →
+    NamesBoth row old (printed_bin (bins ++ row_bins row) (last_fc runs)) before
+
+-- the places of the text of a file that holds a document stand together with the document's slots
+abbrev pub GivenFilesStand : Type 0
+GivenFilesStand =
+    (file : List ℕ) (document : Document) → AreBytes file → (held : HoldsDocument file document) →
+    StandsTogether held.parts.text document
+
+-- and its sections are saved sections of the document
+abbrev pub GivenSectionsAreSaved : Type 0
+GivenSectionsAreSaved =
+    (file : List ℕ) (document : Document) → AreBytes file → (held : HoldsDocument file document) →
+    AreSavedSections (sections_of document.main) held.parts.text.wd held.parts.lists.sections

@@ -1,0 +1,12 @@
+pub mod Together
+pub mod TextLists
+pub mod TableEntries
+pub mod TableText
+pub mod Places
+pub mod Slots
+pub mod Saves
+pub mod Plans
+pub mod KeptPages
+pub mod FastSaves
+pub mod GivenFiles
+pub mod Laws

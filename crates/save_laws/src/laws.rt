@@ -1,0 +1,49 @@
+// Laws over the definitions alone.
+ghost use Rattle.save_laws.specs.Laws.{SavedDocumentsAreHeld, SavedFilesHold, PlansGive, FastSavesAreSaves};
+ghost use Rattle.save_laws.specs.Laws.{KeptSettingsAreThere};
+ghost use Rattle.save_laws.specs.Laws.{KeptPlacesGive, LongerTablesNameBoth, GivenFilesStand, GivenSectionsAreSaved};
+
+/// A well-formed sound document that is saved is held by the contents, which break none of the rules 15 to 56.
+pub fn saved_documents_are_held()
+    ensures { SavedDocumentsAreHeld }
+{}
+
+/// A file with these contents is accepted and holds the document, by the text that was saved.
+pub fn saved_files_hold()
+    ensures { SavedFilesHold }
+{}
+
+/// Added text whose units and pages stand in the stream is given there as it was planned.
+pub fn plans_give()
+    ensures { PlansGive }
+{}
+
+/// What a stream gives at a place, one gives that keeps its bytes and pages.
+pub fn kept_places_give()
+    ensures { KeptPlacesGive }
+{}
+
+/// The settings of a section that stand in a stream stand in one that keeps its bytes.
+pub fn kept_settings_are_there()
+    ensures { KeptSettingsAreThere }
+{}
+
+/// A table of the ranges of an old table and then of those of a row names both.
+pub fn longer_tables_name_both()
+    ensures { LongerTablesNameBoth }
+{}
+
+/// What a session writes behind an old stream is a save of its document.
+pub fn fast_saves_are_saves()
+    ensures { FastSavesAreSaves }
+{}
+
+/// The places of the text of a file that holds a document stand together with the document's slots.
+pub fn given_files_stand()
+    ensures { GivenFilesStand }
+{}
+
+/// The sections of a file that holds a document are saved sections of it.
+pub fn given_sections_are_saved()
+    ensures { GivenSectionsAreSaved }
+{}

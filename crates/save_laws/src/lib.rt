@@ -1,0 +1,10 @@
+//! Laws of saves: a document that is saved, in full or fast, is read back. There is no code here but laws.
+#![tactic(auto)]
+
+mod laws;
+
+pub use laws::{
+    fast_saves_are_saves, given_files_stand, given_sections_are_saved, kept_places_give,
+    kept_settings_are_there, longer_tables_name_both, plans_give, saved_documents_are_held,
+    saved_files_hold,
+};
