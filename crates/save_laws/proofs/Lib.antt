@@ -23,3 +23,4 @@ pub mod GivenLemmas
 pub mod GivenTexts
 pub mod GivenSections
 pub mod GivenFiles
+pub mod SessionLemmas

@@ -9,4 +9,5 @@ pub mod Plans
 pub mod KeptPages
 pub mod FastSaves
 pub mod GivenFiles
+pub mod Sessions
 pub mod Laws

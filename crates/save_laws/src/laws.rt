@@ -2,6 +2,7 @@
 ghost use Rattle.save_laws.specs.Laws.{SavedDocumentsAreHeld, SavedFilesHold, PlansGive, FastSavesAreSaves};
 ghost use Rattle.save_laws.specs.Laws.{KeptSettingsAreThere};
 ghost use Rattle.save_laws.specs.Laws.{KeptPlacesGive, LongerTablesNameBoth, GivenFilesStand, GivenSectionsAreSaved};
+ghost use Rattle.save_laws.specs.Sessions.{SplicesStayTogether, ModifiedStayTogether, LongerPlansKeep, MainSplices};
 
 /// A well-formed sound document that is saved is held by the contents, which break none of the rules 15 to 56.
 pub fn saved_documents_are_held()
@@ -46,4 +47,24 @@ pub fn given_files_stand()
 /// The sections of a file that holds a document are saved sections of it.
 pub fn given_sections_are_saved()
     ensures { GivenSectionsAreSaved }
+{}
+
+/// Places and slots of a session that are spliced alike stand together as before.
+pub fn splices_stay_together()
+    ensures { SplicesStayTogether }
+{}
+
+/// Places and slots of a session on which a modifier acts stand together as before.
+pub fn modified_stay_together()
+    ensures { ModifiedStayTogether }
+{}
+
+/// What stands in the old stream or in the added text stands there where more text is added.
+pub fn longer_plans_keep()
+    ensures { LongerPlansKeep }
+{}
+
+/// A splice of the main text is one of the whole text.
+pub fn main_splices()
+    ensures { MainSplices }
 {}
