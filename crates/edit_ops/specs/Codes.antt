@@ -1,0 +1,50 @@
+-- Which texts, settings and rows a command may have.
+use Rattle.std.specs.Prelude.{◌≡◌, ◌⊎◌, ℕ, ◌+◌, ◌*◌, ◌<◌, ◌≤◌, List, length, All, ⊤}
+use Rattle.std.specs.List.{sum_by}
+use Rattle.prop_map.specs.Formed.{IsPropertyMap, character_groups, paragraph_groups, section_groups}
+use Rattle.edit_script.specs.declared.commands.Command.{Command}
+use Rattle.edit_script.specs.declared.commands.Command.TheVariants.{Insert, Erase, Char, Plain, Para, Style, Field, Note, Split, Merge, Sect, Row, StyleChar, StylePara, Save}
+
+-- a character that may be put: none below U+0020 but a tab and a line break
+abbrev pub IsPutUnit : ℕ → Type 0
+IsPutUnit unit = (0x20 ≤ unit) ⊎ ((unit ≡ 0x09) ⊎ (unit ≡ 0x0B))
+
+-- Profile: the most units that a command's texts have together
+abbrev pub most_units : ℕ
+most_units = 4000000000
+
+abbrev pub IsPutText : List ℕ → Type 0
+IsPutText text = All IsPutUnit text × (length text ≤ most_units)
+
+-- the texts of a field
+pub record IsPutField (code result : List ℕ) : Type 0 where
+  pub instruction : All IsPutUnit code
+  pub shown : All IsPutUnit result
+  pub few : length code + length result ≤ most_units
+
+-- [MS-DOC] sprmTDefTable: 1 to 63 cells, which end at 32,767 twips at most
+pub record IsPutRow (width : ℕ) (cells : List (List ℕ)) : Type 0 where
+  pub some : 0 < length cells
+  pub few : length cells ≤ 63
+  pub wide : 0 < width
+  pub within : length cells * width ≤ 32767
+  pub texts : All (All IsPutUnit) cells
+  pub units : sum_by length cells ≤ most_units
+
+-- the command has texts that may be put, and settings that its place may hold
+abbrev pub HasRightCodes : Command → Type 0
+HasRightCodes (Insert story at text) = IsPutText text
+HasRightCodes (Erase story from to) = ⊤
+HasRightCodes (Char story from to set) = IsPropertyMap character_groups set
+HasRightCodes (Plain story from to) = ⊤
+HasRightCodes (Para story at set) = IsPropertyMap paragraph_groups set
+HasRightCodes (Style story at istd) = ⊤
+HasRightCodes (Field story at type code result) = IsPutField code result
+HasRightCodes (Note at text) = IsPutText text
+HasRightCodes (Split story at) = ⊤
+HasRightCodes (Merge story at) = ⊤
+HasRightCodes (Sect at new set) = IsPropertyMap section_groups set
+HasRightCodes (Row story at width cells) = IsPutRow width cells
+HasRightCodes (StyleChar istd set) = IsPropertyMap character_groups set
+HasRightCodes (StylePara istd set) = IsPropertyMap paragraph_groups set
+HasRightCodes (Save full) = ⊤

@@ -1,0 +1,86 @@
+-- What an edit does, as guards are told.
+use Rattle.std.specs.Prelude.{ℕ, ◌-◌, List, Option, Some, None, length, slice_range}
+use Rattle.std.specs.List.{sum_by}
+use Rattle.edit_guards.specs.declared.facts.Facts.{Facts}
+use Rattle.plain_doc.specs.declared.item.Item.{Item}
+use Rattle.plain_doc.specs.declared.item.Mark.{Mark}
+use Rattle.plain_doc.specs.declared.document.Document.{Document}
+use Rattle.edit_script.specs.declared.commands.Command.{Command}
+use Rattle.edit_script.specs.declared.commands.Command.TheVariants.{Insert, Erase, Char, Plain, Para, Style, Field, Note, Split, Merge, Sect, Row, StyleChar, StylePara, Save}
+use Rattle.edit_ops.specs.declared.changes.Change.{Change}
+use Rattle.edit_ops.specs.declared.changes.Change.TheVariants.{SpliceText, ModifyItems, SetSection, SpliceNotes, SpliceHeads, SetStyleCharacters, SetStyleParagraphs}
+use Rattle.edit_ops.specs.Places.{items_at, mark_at}
+use Rattle.edit_ops.specs.Edits.{changes_of}
+
+-- how many items a change adds
+abbrev pub items_added : Change → ℕ
+items_added (SpliceText story from to fresh) = length fresh
+items_added (ModifyItems story from to modifier) = 0
+items_added (SetSection at set) = 0
+items_added (SpliceNotes from to fresh) = sum_by length fresh
+items_added (SpliceHeads from to fresh) = sum_by length fresh
+items_added (SetStyleCharacters istd set) = 0
+items_added (SetStyleParagraphs istd set) = 0
+
+-- how many items of the document it removes
+abbrev pub items_removed : Document → Change → ℕ
+items_removed document (SpliceText story from to fresh) = to - from
+items_removed document (ModifyItems story from to modifier) = 0
+items_removed document (SetSection at set) = 0
+items_removed document (SpliceNotes from to fresh) = sum_by length (slice_range document.notes from to)
+items_removed document (SpliceHeads from to fresh) = sum_by length (slice_range document.heads from to)
+items_removed document (SetStyleCharacters istd set) = 0
+items_removed document (SetStyleParagraphs istd set) = 0
+
+abbrev pub style_in : Option Mark → ℕ
+style_in None = 0
+style_in (Some mark) = mark.istd
+
+-- the style of the paragraph that holds the place; 0 where there is none
+abbrev pub style_before : List Item → ℕ → ℕ
+style_before text at = style_in (mark_at text at)
+
+-- the number of the kind of a command; 0 for a save, which is no edit
+abbrev pub kind_of : Command → ℕ
+kind_of (Insert story at text) = 1
+kind_of (Erase story from to) = 2
+kind_of (Char story from to set) = 3
+kind_of (Plain story from to) = 4
+kind_of (Para story at set) = 5
+kind_of (Style story at istd) = 6
+kind_of (Field story at type code result) = 7
+kind_of (Note at text) = 8
+kind_of (Split story at) = 9
+kind_of (Merge story at) = 10
+kind_of (Sect at new set) = 11
+kind_of (Row story at width cells) = 12
+kind_of (StyleChar istd set) = 13
+kind_of (StylePara istd set) = 14
+kind_of (Save full) = 0
+
+-- the style of the paragraph that the command begins in, before it; the style that it changes
+abbrev pub style_of : Document → Command → ℕ
+style_of document (Insert story at text) = style_before (items_at document story) at
+style_of document (Erase story from to) = style_before (items_at document story) from
+style_of document (Char story from to set) = style_before (items_at document story) from
+style_of document (Plain story from to) = style_before (items_at document story) from
+style_of document (Para story at set) = style_before (items_at document story) at
+style_of document (Style story at istd) = style_before (items_at document story) at
+style_of document (Field story at type code result) = style_before (items_at document story) at
+style_of document (Note at text) = style_before document.main at
+style_of document (Split story at) = style_before (items_at document story) at
+style_of document (Merge story at) = style_before (items_at document story) at
+style_of document (Sect at new set) = style_before document.main at
+style_of document (Row story at width cells) = style_before (items_at document story) at
+style_of document (StyleChar istd set) = istd
+style_of document (StylePara istd set) = istd
+style_of document (Save full) = 0
+
+-- the kind of the command, the items that its changes add and remove in all texts, and that style
+abbrev pub edit_facts : Document → Command → Facts
+edit_facts document command = record {
+  kind = kind_of command;
+  units_in = sum_by items_added (changes_of document command);
+  units_out = sum_by (items_removed document) (changes_of document command);
+  style = style_of document command;
+}

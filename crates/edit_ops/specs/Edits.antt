@@ -1,0 +1,84 @@
+-- What each command does: its changes, of which there are three at most, and the document after them. All numbers are
+-- of the document before the command; the changes of one command concern different parts.
+use Rattle.std.specs.Prelude.{ℕ, ◌+◌, Bool, true, false, List, [], ◌∷◌, Some, None}
+use Rattle.std.specs.Prelude.{replicate}
+use Rattle.doc_bits.specs.declared.places.Story.{Story}
+use Rattle.doc_bits.specs.declared.places.Story.TheVariants.{Main, Note as NoteText, Head as HeadText}
+use Rattle.prop_map.specs.declared.modifiers.Modifier.{Modifier}
+use Rattle.prop_map.specs.Settings.{Settings}
+use Rattle.prop_map.specs.Modifiers.{no_modifier}
+use Rattle.plain_doc.specs.declared.item.Item.{Item}
+use Rattle.plain_doc.specs.declared.document.Document.{Document}
+use Rattle.edit_script.specs.declared.commands.Command.{Command}
+use Rattle.edit_script.specs.declared.commands.Command.TheVariants.{Insert, Erase, Char, Plain, Para, Style, Field, Note, Split, Merge, Sect, Row, StyleChar, StylePara, Save}
+use Rattle.edit_ops.specs.declared.changes.Change.{Change}
+use Rattle.edit_ops.specs.declared.changes.Change.TheVariants.{SpliceText, ModifyItems, SetSection, SpliceNotes, SpliceHeads, SetStyleCharacters, SetStyleParagraphs}
+use Rattle.edit_ops.specs.Places.{items_at, mark_place, section_place, note_number, head_number}
+use Rattle.edit_ops.specs.Fresh.{base_settings, inserted_items, field_items, note_reference, note_items, split_item, section_item, row_items}
+use Rattle.edit_ops.specs.Changes.{all_changed}
+
+-- items put before a place of a text
+abbrev pub put_in : Story → ℕ → List Item → List Change
+put_in story at items = SpliceText story at at items ∷ []
+
+-- the items of a range taken away; the notes of references and the header texts of sections go with them
+abbrev pub erased : Document → Story → ℕ → ℕ → List Change
+erased document Main from to =
+    SpliceText Main from to []
+    ∷ SpliceNotes (note_number document.main from) (note_number document.main to) []
+    ∷ SpliceHeads (head_number document.main from) (head_number document.main to) []
+    ∷ []
+erased document (NoteText number) from to = SpliceText (NoteText number) from to [] ∷ []
+erased document (HeadText number) from to = SpliceText (HeadText number) from to [] ∷ []
+
+-- the modifier on the mark of the paragraph that holds the place
+abbrev pub modified_at_mark : Document → Story → ℕ → Modifier → List Change
+modified_at_mark document story at modifier =
+    ModifyItems story (mark_place (items_at document story) at) (mark_place (items_at document story) at + 1) modifier ∷ []
+
+-- the modifiers that set characters, clear them, set paragraphs, and name a style
+abbrev pub setting_characters : Settings → Modifier
+setting_characters set = record { istd = None; clear = false; chp = set; pap = no_modifier.pap }
+
+abbrev pub clearing : Modifier
+clearing = record { istd = None; clear = true; chp = no_modifier.chp; pap = no_modifier.pap }
+
+abbrev pub setting_paragraphs : Settings → Modifier
+setting_paragraphs set = record { istd = None; clear = false; chp = no_modifier.chp; pap = set }
+
+abbrev pub naming_style : ℕ → Modifier
+naming_style istd = record { istd = Some istd; clear = false; chp = no_modifier.chp; pap = no_modifier.pap }
+
+-- the settings of a section changed, or a new section before the place, with six empty header texts
+abbrev pub section_changes : List Item → ℕ → Bool → Settings → List Change
+section_changes main at false set = SetSection (section_place main at) set ∷ []
+section_changes main at true set =
+    SpliceText Main at at (section_item main at set ∷ [])
+    ∷ SpliceHeads (head_number main at) (head_number main at) (replicate 6 [])
+    ∷ []
+
+abbrev pub changes_of : Document → Command → List Change
+changes_of document (Insert story at text) = put_in story at (inserted_items (items_at document story) at text)
+changes_of document (Erase story from to) = erased document story from to
+changes_of document (Char story from to set) = ModifyItems story from to (setting_characters set) ∷ []
+changes_of document (Plain story from to) = ModifyItems story from to clearing ∷ []
+changes_of document (Para story at set) = modified_at_mark document story at (setting_paragraphs set)
+changes_of document (Style story at istd) = modified_at_mark document story at (naming_style istd)
+changes_of document (Field story at type code result) =
+    put_in story at (field_items (base_settings (items_at document story) at) type code result)
+changes_of document (Note at text) =
+    SpliceText Main at at (note_reference (base_settings document.main at) ∷ [])
+    ∷ SpliceNotes (note_number document.main at) (note_number document.main at) (note_items text ∷ [])
+    ∷ []
+changes_of document (Split story at) = put_in story at (split_item (items_at document story) at ∷ [])
+changes_of document (Merge story at) =
+    erased document story (mark_place (items_at document story) at) (mark_place (items_at document story) at + 1)
+changes_of document (Sect at new set) = section_changes document.main at new set
+changes_of document (Row story at width cells) = put_in story at (row_items width cells)
+changes_of document (StyleChar istd set) = SetStyleCharacters istd set ∷ []
+changes_of document (StylePara istd set) = SetStyleParagraphs istd set ∷ []
+changes_of document (Save full) = []
+
+-- the document after a command; a save changes nothing
+abbrev pub document_after : Document → Command → Document
+document_after document command = all_changed (changes_of document command) document

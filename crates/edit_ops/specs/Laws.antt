@@ -1,0 +1,53 @@
+-- What the definitions imply.
+use Rattle.std.specs.Prelude.{◌≡◌, ◌≤◌, length, ⊤}
+use Rattle.plain_doc.specs.declared.document.Document.{Document}
+use Rattle.edit_script.specs.declared.commands.Command.{Command}
+use Rattle.edit_ops.specs.declared.faults.EditFault.{EditFault}
+use Rattle.edit_ops.specs.declared.faults.EditFault.TheVariants.{Range, Code, Rule, Limit, Memory}
+use Rattle.edit_script.specs.declared.commands.Command.TheVariants.{Insert, Erase, Char, Plain, Para, Style, Field, Note, Split, Merge, Sect, Row, StyleChar, StylePara, Save}
+use Rattle.edit_ops.specs.Edits.{changes_of}
+use Rattle.edit_ops.specs.EditFacts.{edit_facts}
+use Rattle.edit_ops.specs.Causes.{IsEditFault, IsAcceptedEdit}
+
+-- a fault for another cause than memory
+abbrev pub IsCause : EditFault → Type 0
+IsCause Range = ⊤
+IsCause Code = ⊤
+IsCause (Rule rule place at) = ⊤
+IsCause (Limit rule place at) = ⊤
+IsCause Memory = ⊥
+
+-- an edit has one fault at most, and none where it is accepted
+pub record EditHasOneOutcome : Type 0 where
+  pub one : (document : Document) (command : Command) (one other : EditFault) → IsCause one → IsCause other → IsEditFault document command one → IsEditFault document command other → one ≡ other
+  pub none : (document : Document) (command : Command) (fault : EditFault) → IsCause fault → IsAcceptedEdit document command → ¬ (IsEditFault document command fault)
+
+-- a command makes three changes at most
+abbrev pub ChangesAreFew : Type 0
+ChangesAreFew = (document : Document) (command : Command) → length (changes_of document command) ≤ 3
+
+-- a command that sets codes, clears them or names a style
+abbrev pub IsFormatting : Command → Type 0
+IsFormatting (Insert story at text) = ⊥
+IsFormatting (Erase story from to) = ⊥
+IsFormatting (Char story from to set) = ⊤
+IsFormatting (Plain story from to) = ⊤
+IsFormatting (Para story at set) = ⊤
+IsFormatting (Style story at istd) = ⊤
+IsFormatting (Field story at type code shown) = ⊥
+IsFormatting (Note at text) = ⊥
+IsFormatting (Split story at) = ⊥
+IsFormatting (Merge story at) = ⊥
+IsFormatting (Sect at new set) = ⊥
+IsFormatting (Row story at width cells) = ⊥
+IsFormatting (StyleChar istd set) = ⊤
+IsFormatting (StylePara istd set) = ⊤
+IsFormatting (Save full) = ⊥
+
+-- by its facts no item comes and none goes
+pub record MovesNoItems (document : Document) (command : Command) : Type 0 where
+  pub added : (edit_facts document command).units_in ≡ 0
+  pub removed : (edit_facts document command).units_out ≡ 0
+
+abbrev pub FormattingMovesNoItems : Type 0
+FormattingMovesNoItems = (document : Document) (command : Command) → IsFormatting command → MovesNoItems document command

@@ -1,0 +1,9 @@
+pub mod Places
+pub mod Fresh
+pub mod Changes
+pub mod Edits
+pub mod Ranges
+pub mod Codes
+pub mod Causes
+pub mod EditFacts
+pub mod Laws

@@ -1,0 +1,57 @@
+-- Which places of a document a command may name.
+use Rattle.std.specs.Prelude.{◌≡◌, ◌⊎◌, ℕ, ◌-◌, ◌<◌, ◌≤◌, List, [], Option, Some, None, length, slice_get, IsSome, MatchOption, ⊤}
+use Rattle.std.specs.Option.{option_and_then}
+use Rattle.doc_bits.specs.declared.places.Story.{Story}
+use Rattle.doc_bits.specs.declared.places.Story.TheVariants.{Main, Note as NoteText, Head as HeadText}
+use Rattle.text_codes.specs.Paragraph.{paragraph_mark}
+use Rattle.style_sheet.specs.Chain.{kind_at}
+use Rattle.plain_doc.specs.declared.item.Item.{Item}
+use Rattle.plain_doc.specs.declared.document.Document.{Document}
+use Rattle.edit_script.specs.declared.commands.Command.{Command}
+use Rattle.edit_script.specs.declared.commands.Command.TheVariants.{Insert, Erase, Char, Plain, Para, Style, Field, Note, Split, Merge, Sect, Row, StyleChar, StylePara, Save}
+use Rattle.edit_ops.specs.Places.{text_at, mark_unit}
+
+-- the text is there, and it is such
+abbrev pub HasText : Document → Story → (List Item → Type 0) → Type 0
+HasText document story such = MatchOption (text_at document story) ⊥ such
+
+-- the place is that of an item
+abbrev pub HasPlace : ℕ → List Item → Type 0
+HasPlace at text = at < length text
+
+-- items may be put before the place: an item is there, or the text is an empty header text and the place is its begin
+abbrev pub TakesText : Story → ℕ → List Item → Type 0
+TakesText Main at text = at < length text
+TakesText (NoteText number) at text = at < length text
+TakesText (HeadText number) at text = (at < length text) ⊎ ((at ≡ 0) × (length text ≡ 0))
+
+-- there is an item at the range's begin, and its end is no further than the text's
+abbrev pub HasRange : ℕ → ℕ → List Item → Type 0
+HasRange from to text = (from < to) × (to ≤ length text)
+
+-- the paragraph that holds the place ends with a paragraph mark
+abbrev pub EndsWithMark : ℕ → List Item → Type 0
+EndsWithMark at text = (at < length text) × (mark_unit text at ≡ Some paragraph_mark)
+
+-- a paragraph begins at the place
+abbrev pub BeginsParagraph : ℕ → List Item → Type 0
+BeginsParagraph at text =
+    (at < length text) × ((at ≡ 0) ⊎ IsSome (option_and_then (λ item. item.mark) (slice_get text (at - 1))))
+
+-- the command names places that are there
+abbrev pub IsInRange : Document → Command → Type 0
+IsInRange document (Insert story at text) = HasText document story (TakesText story at)
+IsInRange document (Erase story from to) = HasText document story (HasRange from to)
+IsInRange document (Char story from to set) = HasText document story (HasRange from to)
+IsInRange document (Plain story from to) = HasText document story (HasRange from to)
+IsInRange document (Para story at set) = HasText document story (HasPlace at)
+IsInRange document (Style story at istd) = HasText document story (HasPlace at)
+IsInRange document (Field story at type code result) = HasText document story (HasPlace at)
+IsInRange document (Note at text) = HasPlace at document.main
+IsInRange document (Split story at) = HasText document story (HasPlace at)
+IsInRange document (Merge story at) = HasText document story (EndsWithMark at)
+IsInRange document (Sect at new set) = HasPlace at document.main
+IsInRange document (Row story at width cells) = HasText document story (BeginsParagraph at)
+IsInRange document (StyleChar istd set) = 0 < kind_at document.sheet istd
+IsInRange document (StylePara istd set) = kind_at document.sheet istd ≡ 1
+IsInRange document (Save full) = ⊤

@@ -1,0 +1,17 @@
+// Laws over the definitions alone.
+ghost use Rattle.edit_ops.specs.Laws.{EditHasOneOutcome, ChangesAreFew, FormattingMovesNoItems};
+
+/// An edit has one fault at most, and none where it is accepted.
+pub fn edit_has_one_outcome()
+    ensures { EditHasOneOutcome }
+{}
+
+/// A command makes three changes at most.
+pub fn changes_are_few()
+    ensures { ChangesAreFew }
+{}
+
+/// By its facts a command that sets codes, clears them or names a style adds and removes no item.
+pub fn formatting_moves_no_items()
+    ensures { FormattingMovesNoItems }
+{}

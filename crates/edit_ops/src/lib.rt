@@ -1,0 +1,17 @@
+//! Edits of a document: what a command changes, whether it may, and the document after it.
+#![tactic(auto)]
+
+mod changes;
+mod codes;
+mod faults;
+mod laws;
+mod places;
+mod ranges;
+
+pub use changes::{Change, Changes};
+pub use codes::has_right_codes;
+pub use edit_guards::Facts;
+pub use edit_script::{Cells, Command, Script, ScriptFault, read_script};
+pub use faults::EditFault;
+pub use laws::{changes_are_few, edit_has_one_outcome, formatting_moves_no_items};
+pub use ranges::is_in_range;

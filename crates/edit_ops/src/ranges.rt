@@ -1,0 +1,135 @@
+// Which places of a document a command may name. No call takes memory.
+ghost use Rattle.std.specs.Prelude.{◌≡◌, ◌<◌, ◌↔◌, IsTrue, None, Some, IsSome, length, slice_get, MatchOption};
+ghost use Rattle.std.specs.Option.{option_and_then};
+ghost use Rattle.style_sheet.specs.Chain.{kind_at};
+ghost use Rattle.text_codes.specs.Paragraph.{paragraph_mark};
+ghost use Rattle.edit_ops.specs.Places.{text_at, mark_unit};
+ghost use Rattle.edit_ops.specs.Ranges.{IsInRange, TakesText, HasPlace, HasRange, EndsWithMark, BeginsParagraph, HasText};
+
+use crate::Command;
+use crate::places::{mark_place, text_of};
+use doc_bits::Story;
+use plain_doc::{Document, Item};
+use style_sheet::{Kind, StyleSheet};
+use text_codes::PARAGRAPH_MARK;
+
+/// Whether the places that a command names are there.
+pub fn is_in_range(document: &Document, command: &Command) -> bool
+    ensures { IsTrue result ↔ IsInRange document.now command.now }
+{
+    match command {
+        Command::Insert(story, at, _) => takes_text(document, *story, *at),
+        Command::Erase(story, from, to) => has_range(document, *story, *from, *to),
+        Command::Char(story, from, to, _) => has_range(document, *story, *from, *to),
+        Command::Plain(story, from, to) => has_range(document, *story, *from, *to),
+        Command::Para(story, at, _) => has_place(document, *story, *at),
+        Command::Style(story, at, _) => has_place(document, *story, *at),
+        Command::Field(story, at, _, _, _) => has_place(document, *story, *at),
+        Command::Note(at, _) => (*at as usize) < document.main.len(),
+        Command::Split(story, at) => has_place(document, *story, *at),
+        Command::Merge(story, at) => ends_with_mark(document, *story, *at),
+        Command::Sect(at, _, _) => (*at as usize) < document.main.len(),
+        Command::Row(story, at, _, _) => begins_paragraph(document, *story, *at),
+        Command::StyleChar(istd, _) => kind_of(&document.sheet, *istd) > 0,
+        Command::StylePara(istd, _) => kind_of(&document.sheet, *istd) == 1,
+        Command::Save(_) => true,
+    }
+}
+
+/// Whether items may be put before the place of the text.
+fn takes_text(document: &Document, story: Story, at: u32) -> bool
+    ensures { IsTrue result ↔ HasText document.now story (TakesText story at) }
+{
+    match text_of(document, story) {
+        None => false,
+        Some(text) => takes_units(story, at as usize, text.as_slice()),
+    }
+}
+
+/// Whether items may be put before the place.
+fn takes_units(story: Story, at: usize, text: &[Item]) -> bool
+    ensures { IsTrue result ↔ TakesText story at text.now }
+{
+    match story {
+        Story::Main => at < text.len(),
+        Story::Note(_) => at < text.len(),
+        Story::Head(_) => at < text.len() || (at == 0 && text.is_empty()),
+    }
+}
+
+/// Whether the text has an item at the place.
+fn has_place(document: &Document, story: Story, at: u32) -> bool
+    ensures { IsTrue result ↔ HasText document.now story (HasPlace at) }
+{
+    match text_of(document, story) {
+        None => false,
+        Some(text) => (at as usize) < text.len(),
+    }
+}
+
+/// Whether the text has the range.
+fn has_range(document: &Document, story: Story, from: u32, to: u32) -> bool
+    ensures { IsTrue result ↔ HasText document.now story (HasRange from to) }
+{
+    match text_of(document, story) {
+        None => false,
+        Some(text) => from < to && to as usize <= text.len(),
+    }
+}
+
+/// Whether the paragraph that holds the place ends with a paragraph mark.
+fn ends_with_mark(document: &Document, story: Story, at: u32) -> bool
+    ensures { IsTrue result ↔ HasText document.now story (EndsWithMark at) }
+{
+    match text_of(document, story) {
+        None => false,
+        Some(text) => has_mark_at(text.as_slice(), at as usize),
+    }
+}
+
+/// The same of a text.
+fn has_mark_at(text: &[Item], at: usize) -> bool
+    ensures { IsTrue result ↔ EndsWithMark at text.now }
+{
+    if at >= text.len() {
+        return false;
+    }
+    match text.get(mark_place(text, at)) {
+        None => false,
+        Some(item) => item.unit == PARAGRAPH_MARK,
+    }
+}
+
+/// Whether a paragraph begins at the place of the text.
+fn begins_paragraph(document: &Document, story: Story, at: u32) -> bool
+    ensures { IsTrue result ↔ HasText document.now story (BeginsParagraph at) }
+{
+    match text_of(document, story) {
+        None => false,
+        Some(text) => begins_at(text.as_slice(), at as usize),
+    }
+}
+
+/// The same of a text.
+fn begins_at(text: &[Item], at: usize) -> bool
+    ensures { IsTrue result ↔ BeginsParagraph at text.now }
+{
+    if at >= text.len() {
+        return false;
+    }
+    at == 0 || text[at - 1].mark.is_some()
+}
+
+/// The number of the kind of a style: 1 of paragraphs, 2 of characters, 0 of another kind or no style.
+fn kind_of(sheet: &StyleSheet, istd: u16) -> u8
+    ensures { result ≡ kind_at sheet.now istd }
+{
+    match sheet.get(istd) {
+        None => 0,
+        Some(style) => match &style.kind {
+            Kind::Para { .. } => 1,
+            Kind::Char { .. } => 2,
+            Kind::Other { .. } => 0,
+        },
+    }
+}
