@@ -1,31 +1,30 @@
 -- The places and the slots of a session stand together after each edit.
-use Rattle.std.proofs.Common.{◌≡◌, ◌∙◌, ◌++◌, ◌∷◌, ◌+◌, ◌-◌, ◌≤◌, [], refl, sym, ap, subst, inl, inr, zero, suc, Bool, Option, Some, None, length, map, take, drop, arith}
-use Rattle.std.specs.Prelude.{slice_get, slice_range}
+use Rattle.std.specs.Prelude.{slice_get, slice_range, ℕ, List}
+use Rattle.std.specs.List.{AllZip, splice, drop-map, take-map}
+use Rattle.std.specs.FinMap.{get}
+use Rattle.std.proofs.Common.{◌≡◌, ◌∙◌, ◌++◌, ◌∷◌, ◌+◌, ◌-◌, ◌≤◌, [], refl, sym, ap, subst, inl, inr, zero, suc, Bool}
+use Rattle.std.proofs.Common.{Option, Some, None, length, map, take, drop, arith}
 use Rattle.std.proofs.lemmas.Bool.{cases_lt}
 use Rattle.std.proofs.lemmas.Option.{slice_get_within, same_Some, none-some}
-use Rattle.std.proofs.lemmas.List.{length-map, length-append, length-take, length-drop}
+use Rattle.std.proofs.lemmas.List.{length-map, length-append, length-take, length-drop, take-append-drop, map-append}
+use Rattle.std.proofs.lemmas.List.{take-append-le, drop-append-le, drop-drop, append_assoc}
 use Rattle.doc_bits.proofs.ListLemmas.{slice_get_before}
+use Rattle.prop_map.specs.Modifiers.{character_value, mark_value, IsComposed, IsCharacterAfter, IsMarkAfter}
+use Rattle.prop_map.specs.Modifiers.{mark_style}
+use Rattle.prop_map.specs.declared.modifiers.Modifier.{Modifier}
+use Rattle.prop_map.proofs.ModifierLemmas.{acts_in_turn}
+use Rattle.piece_table.specs.Piece.{UnitPlace}
+use Rattle.piece_table.specs.Changes.{IsModifiedPlace, AreModified}
 use Rattle.plain_doc.specs.declared.item.Item.{Item}
 use Rattle.plain_doc.specs.declared.item.Mark.{Mark}
+use Rattle.plain_doc.proofs.StreamLemmas.{slice_get-take}
 use Rattle.save_laws.specs.Slots.{shown, loose, last, Slot, note_slots, head_slots, last_slots, whole_text, IsPlaced}
 use Rattle.save_laws.specs.FastSaves.{StandsInEither, IsGivenBy}
 use Rattle.save_laws.specs.Together.{AreTogether}
 use Rattle.save_laws.specs.Places.{PagedStream, Given, given_of, IsMarkedAfter, IsGivenAfter}
-use Rattle.save_laws.proofs.TogetherLemmas.{in_front, from_behind, in_back, Beside}
-use Rattle.std.specs.Prelude.{ℕ, List}
-use Rattle.std.specs.List.{AllZip, splice}
-use Rattle.std.proofs.lemmas.List.{take-append-drop, map-append, take-append-le, drop-append-le, drop-drop, append_assoc}
-use Rattle.std.specs.List.{drop-map, take-map}
-use Rattle.plain_doc.proofs.StreamLemmas.{slice_get-take}
-use Rattle.prop_map.specs.Modifiers.{character_value, mark_value}
-use Rattle.std.specs.FinMap.{get}
-use Rattle.prop_map.specs.declared.modifiers.Modifier.{Modifier}
-use Rattle.prop_map.specs.Modifiers.{IsComposed, IsCharacterAfter, IsMarkAfter, mark_style}
-use Rattle.prop_map.proofs.ModifierLemmas.{acts_in_turn}
-use Rattle.piece_table.specs.Piece.{UnitPlace}
-use Rattle.piece_table.specs.Changes.{IsModifiedPlace, AreModified}
 use Rattle.save_laws.specs.Sessions.{IsSlotAfter, AreSlotsAfter, StandInSession, SplicesStayTogether}
 use Rattle.save_laws.specs.Sessions.{ModifiedStayTogether, LongerPlansKeep, MainSplices}
+use Rattle.save_laws.proofs.TogetherLemmas.{in_front, from_behind, in_back, Beside}
 
 -- ---- lists that stand together
 
@@ -78,7 +77,8 @@ splices_stay_together old plan places fresh slots fresh_slots from to order with
     let P : UnitPlace → Slot → Type 0 = IsPlaced (StandsInEither old plan) (IsGivenBy old plan) in
     together_joined P (take from places) (take from slots) (fresh ++ drop to places) (fresh_slots ++ drop to slots)
     (together_take P from places slots together)
-    (together_joined P fresh fresh_slots (drop to places) (drop to slots) more (together_drop P to places slots together))
+    (together_joined P fresh fresh_slots (drop to places) (drop to slots) more
+    (together_drop P to places slots together))
 
 -- ---- a modifier more
 
@@ -118,7 +118,8 @@ slot_after Stands Gives by place made (shown old) (shown new) placed is changed 
       before = placed.before;
       gives = gives;
       after =
-          given_after place.modifier by made.modifier placed.before (given_of old) (given_of new) is.modifier placed.after
+          given_after place.modifier by made.modifier placed.before (given_of old)
+          (given_of new) is.modifier placed.after
           changed;
     }
 slot_after Stands Gives by place made (shown old) loose placed is changed = absurd changed
@@ -160,11 +161,13 @@ zip_before R (x ∷ xs) (z ∷ ys) (suc k) y zipped here =
 pub zipped_together : (P : UnitPlace → Slot → Type 0) (by : Modifier) (places made : List UnitPlace)
     (slots after : List Slot) →
     ((place new : UnitPlace) (slot changed : Slot) → P place slot → IsModifiedPlace by place new →
-    IsSlotAfter by slot changed → P new changed) → AreTogether P places slots → AllZip (IsModifiedPlace by) places made →
+    IsSlotAfter by slot changed → P new changed) → AreTogether P places slots →
+    AllZip (IsModifiedPlace by) places made →
     AllZip (IsSlotAfter by) slots after → AreTogether P made after
 zipped_together P by places made slots after step together one other = record {
   len =
-      omega (arith, together.len, zip_len (IsModifiedPlace by) places made one, zip_len (IsSlotAfter by) slots after other);
+      omega
+      (arith, together.len, zip_len (IsModifiedPlace by) places made one, zip_len (IsSlotAfter by) slots after other);
   each = λ k new changed here there.
       let a = zip_before (IsModifiedPlace by) places made k new one here in
       let b = zip_before (IsSlotAfter by) slots after k changed other there in
@@ -176,7 +179,8 @@ in_parts : {A : Type 0} (xs : List A) (from to : ℕ) → from ≤ to →
     take from xs ++ (slice_range xs from to ++ drop to xs) ≡ xs
 in_parts xs from to order =
     let width : from + (to - from) ≡ to = omega arith in
-    let rest : drop to xs ≡ drop (to - from) (drop from xs) = sym (drop-drop (to - from) from xs ∙ ap (λ n. drop n xs) width) in
+    let rest : drop to xs ≡ drop (to - from) (drop from xs) =
+    sym (drop-drop (to - from) from xs ∙ ap (λ n. drop n xs) width) in
     ap (λ l. take from xs ++ (slice_range xs from to ++ l)) rest
     ∙ (ap (λ l. take from xs ++ l) (take-append-drop (to - from) (drop from xs)) ∙ take-append-drop from xs)
 
@@ -199,9 +203,11 @@ modified_stay_together old plan by from to places made slots after order within 
     let joined =
     together_joined P (take from made) (take from after) (slice_range made from to ++ drop to made)
     (slice_range after from to ++ drop to after) front
-    (together_joined P (slice_range made from to) (slice_range after from to) (drop to made) (drop to after) moved back) in
+    (together_joined P (slice_range made from to) (slice_range after from to) (drop to made)
+    (drop to after) moved back) in
     subst (λ l. AreTogether P l after) (in_parts made from to order)
-    (subst (AreTogether P (take from made ++ (slice_range made from to ++ drop to made))) (in_parts after from to order) joined)
+    (subst (AreTogether P (take from made ++ (slice_range made from to ++ drop to made)))
+    (in_parts after from to order) joined)
 
 -- ---- a longer plan
 
@@ -251,7 +257,8 @@ longer_placed old base added more place last placed = longer_stands old base add
 pub longer_plans_keep : LongerPlansKeep
 longer_plans_keep old base added more places slots together = record {
   len = together.len;
-  each = λ k place slot here there. longer_placed old base added more place slot (together.each k place slot here there);
+  each =
+      λ k place slot here there. longer_placed old base added more place slot (together.each k place slot here there);
 }
 
 -- ---- the main text
