@@ -1,4 +1,3 @@
-pub mod TableText
 pub mod Places
 pub mod Slots
 pub mod Saves

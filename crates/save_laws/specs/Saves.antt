@@ -26,7 +26,7 @@ use Rattle.doc_read.specs.Holds.{IsDocumentFrom}
 use Rattle.doc_bits.specs.Together.{AreTogether}
 use Rattle.plain_doc.specs.TextLists.{starts_from}
 use Rattle.fib_form.specs.TableEntries.{TableEntry, IsPartAt}
-use Rattle.save_laws.specs.TableText.{table_entries}
+use Rattle.full_save.specs.TableText.{table_entries}
 use Rattle.save_laws.specs.Places.{PagedStream, StandsInside, GivesAt}
 use Rattle.save_laws.specs.Slots.{StoryEnds, IsPlaced, whole_text, story_counts}
 

@@ -12,17 +12,9 @@ use Rattle.doc_parts.specs.Stories.{printed_refs, printed_texts}
 use Rattle.style_sheet.specs.Written.{written_sheet}
 use Rattle.plain_doc.specs.declared.document.Document.{Document}
 use Rattle.plain_doc.specs.Collected.{joined_texts, fields_of, refs_of}
+use Rattle.full_save.specs.declared.table_text.TableText.{TableText}
 use Rattle.plain_doc.specs.TextLists.{cuts_of}
 use Rattle.fib_form.specs.TableEntries.{TableEntry, entry}
-
--- what the table stream has beside the document: the counts of the three stories, the sections' places, the two bin
--- tables and the Clx
-pub record TableText : Type 0 where
-  pub counts : List ℕ
-  pub seds : List Sed
-  pub characters : List ℕ
-  pub paragraphs : List ℕ
-  pub clx : List ℕ
 
 -- the parts in the order of their pairs; each table of CPs ends with the count of its story, and the levels stand right
 -- behind their lists

@@ -1,0 +1,34 @@
+-- [MS-DOC] Sepx and Sed of the sections of a text.
+use Rattle.std.specs.Prelude.{ℕ, ◌+◌, ◌==◌, Bool, List, [], ◌∷◌, length, if◌then◌else◌}
+use Rattle.std.specs.List.{flat_map}
+use Rattle.std.specs.FinMap.{entries}
+use Rattle.prop_map.specs.Settings.{Settings}
+use Rattle.prop_map.specs.Printing.{printed_list}
+use Rattle.style_sheet.specs.Counted.{written_counted}
+use Rattle.doc_parts.specs.declared.lists.Sed.{Sed}
+
+-- a section without settings
+abbrev pub is_plain_section : Settings → Bool
+is_plain_section settings = length (entries settings) == 0
+
+-- the Sepx of a section, and a zero where its list is odd; none where it has no settings
+abbrev pub sepx_bytes : Settings → List ℕ
+sepx_bytes settings = if is_plain_section settings then [] else written_counted (printed_list settings)
+
+-- the Sepxes of sections, one after the other
+abbrev pub sepxes : List (ℕ × Settings) → List ℕ
+sepxes sections = flat_map (λ section. sepx_bytes section.1) sections
+
+-- [MS-DOC] fcSepx: no place where the section has no settings
+abbrev pub no_sepx : ℕ
+no_sepx = 0xFFFFFFFF
+
+abbrev pub fc_sepx : ℕ → Settings → ℕ
+fc_sepx place settings = if is_plain_section settings then no_sepx else place
+
+-- the Seds of sections, which are given by their last CPs: the first one begins at a CP, and the Sepxes stand from a place on
+unfoldable pub seds_from : ℕ → ℕ → List (ℕ × Settings) → List Sed
+seds_from start place [] = []
+seds_from start place (section ∷ sections) =
+    record { start = start; sepx = fc_sepx place section.1 }
+    ∷ seds_from (section.0 + 1) (place + length (sepx_bytes section.1)) sections

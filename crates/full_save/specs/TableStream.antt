@@ -1,0 +1,26 @@
+-- The table stream: its parts in the order of their pairs, each right after the last, and the pairs that name them.
+use Rattle.std.specs.Prelude.{ℕ, ◌+◌, ◌==◌, List, [], ◌∷◌, ◌++◌, length, slice_set, if◌then◌else◌}
+use Rattle.std.specs.List.{flat_map}
+use Rattle.fib_form.specs.FibFields.{empty_pairs}
+use Rattle.fib_form.specs.TableEntries.{TableEntry}
+
+-- the bytes of a part, and those that its pair does not count
+abbrev pub entry_bytes : TableEntry → List ℕ
+entry_bytes part = part.bytes ++ part.behind
+
+-- the parts one after the other
+abbrev pub entries_bytes : List TableEntry → List ℕ
+entries_bytes parts = flat_map entry_bytes parts
+
+-- fc and lcb of a part that stands at a place; an empty part has no place
+abbrev pub put_pair : ℕ → TableEntry → List (ℕ × ℕ) → List (ℕ × ℕ)
+put_pair at part pairs = if length part.bytes == 0 then pairs else slice_set pairs part.number (at, length part.bytes)
+
+-- the pairs of parts that stand one after the other from a place on, over other pairs
+unfoldable pub pairs_from : ℕ → List (ℕ × ℕ) → List TableEntry → List (ℕ × ℕ)
+pairs_from at pairs [] = pairs
+pairs_from at pairs (part ∷ parts) = pairs_from (at + length (entry_bytes part)) (put_pair at part pairs) parts
+
+-- the pairs of the parts of a table stream
+abbrev pub entries_pairs : List TableEntry → List (ℕ × ℕ)
+entries_pairs parts = pairs_from 0 empty_pairs parts
