@@ -1,7 +1,7 @@
 -- The canonical container of streams among which two were put has the two and carries the others.
 use Rattle.std.specs.Prelude.{slice_get, slice_index, slice_index_or, filter}
 use Rattle.std.specs.List.{range_with_len}
-use Rattle.std.proofs.Common.{◌≡◌, inl, inr, ℕ, zero, suc, ◌+◌, ◌<◌, ◌≤◌, true, false, List, [], ◌∷◌, map, length, Some, refl}
+use Rattle.std.proofs.Common.{◌≡◌, inl, inr, ℕ, zero, suc, ◌+◌, ◌<◌, ◌≤◌, Bool, true, false, List, [], ◌∷◌, map, length, Some, refl}
 use Rattle.std.proofs.Common.{sym, ap, ◌∙◌, subst, arith}
 use Rattle.std.proofs.lemmas.Bool.{cases_lt}
 use Rattle.std.proofs.lemmas.Option.{slice_get_within, get_or_from_slice_get}
@@ -16,8 +16,8 @@ use Rattle.cfb_layout.proofs.PartLemmas.{large_is}
 use Rattle.cfb_layout.specs.Sectors.{units_for}
 use Rattle.doc_read.specs.CarriedParts.{is_carried, carried_streams}
 use Rattle.doc_read.proofs.CarriedLemmas.{without_chain}
-use Rattle.fast_save.proofs.NameLemmas.{same_as_itself}
-use Rattle.fast_save.proofs.PutLemmas.{filter-map}
+use Rattle.full_save.proofs.NameOrder.{same_as_itself}
+use Rattle.full_save.proofs.PutStreams.{filter-map}
 
 -- what stands at the places of a list in their order is the list
 all_at : (streams : List NamedBytes) (from : ℕ) (all : List NamedBytes) →

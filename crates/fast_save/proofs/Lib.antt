@@ -1,3 +1,2 @@
-pub mod NameLemmas
-pub mod PutLemmas
 pub mod ContainerLemmas
+pub mod FullFileLemmas

@@ -1,0 +1,5 @@
+pub mod StretchRuns
+pub mod EntriesFound
+pub mod LaidOut
+pub mod NameOrder
+pub mod PutStreams

@@ -1,32 +1,29 @@
 -- The layout of a full save is a save of its document.
-use Rattle.std.specs.Prelude.{slice_get, slice_index, slice_index_or, is_some, ⊤, All}
-use Rattle.std.specs.List.{range_with_len, list_all}
-use Rattle.std.specs.Option.{ForSome, option_or}
-use Rattle.std.specs.FinMap.{get, empty, get-empty}
-use Rattle.std.proofs.Common.{◌≡◌, inl, inr, ℕ, zero, suc, ◌+◌, ◌-◌, ◌*◌, ◌^◌, ◌<◌, ◌≤◌, Bool, true, false, ltb, ltb-true}
-use Rattle.std.proofs.Common.{List, [], ◌∷◌, ◌++◌, length, map, take, Some, None, Option, refl, sym, ap, ◌∙◌, subst, arith}
-use Rattle.std.proofs.Common.{append_assoc, length-append}
-use Rattle.std.proofs.lemmas.Bool.{and_parts}
+use Rattle.std.specs.Prelude.{slice_get, slice_index_or}
+use Rattle.std.specs.Option.{option_or}
+use Rattle.std.specs.FinMap.{get, get-empty}
+use Rattle.std.proofs.Common.{◌≡◌, inl, ℕ, zero, suc, ◌+◌, ◌*◌, ◌<◌, true}
+use Rattle.std.proofs.Common.{List, [], ◌∷◌, ◌++◌, length, map, Some, None, Option, refl, sym, ap, ◌∙◌, subst, arith}
+use Rattle.std.proofs.Common.{append_assoc}
 use Rattle.std.proofs.lemmas.List.{length-map, map-append, append-nil, nil_from_length}
-use Rattle.std.proofs.lemmas.List.Elements.{All-nil, All-cons}
-use Rattle.std.proofs.lemmas.List.FromFn.{length-range_with_len}
+use Rattle.std.proofs.lemmas.List.Elements.{All-nil}
 use Rattle.std.proofs.lemmas.Option.{slice_get_within, same_Some, none-some, get_or_from_slice_get}
 use Rattle.doc_bits.specs.Number.{number_at}
-use Rattle.doc_bits.proofs.ListLemmas.{there_is, get-map, from_map, All_at}
+use Rattle.doc_bits.specs.declared.places.Where.TheVariants.{Main}
+use Rattle.doc_bits.proofs.ListLemmas.{get-map, from_map, All_at}
 use Rattle.prop_map.specs.Settings.{Settings}
-use Rattle.prop_map.specs.Modifiers.{no_modifier, IsCharacterAfter, IsMarkAfter}
+use Rattle.prop_map.specs.Modifiers.{no_modifier, IsCharacterAfter}
 use Rattle.cfb_streams.specs.Contents.{Contents, HasNamed}
 use Rattle.cfb_streams.specs.Names.{table_name, second_table_name}
 use Rattle.fib_form.specs.Fib.{fib_pair, fib_which_table}
-use Rattle.fib_form.specs.FibFields.{FibFields, fib_fields, pair_at}
+use Rattle.fib_form.specs.FibFields.{FibFields, pair_at}
 use Rattle.fib_form.proofs.PairLemmas.{pair_at-fib_pairs}
 use Rattle.fkp_pages.specs.declared.kind.PageKind.{PageKind}
 use Rattle.fkp_pages.specs.declared.kind.PageKind.TheVariants.{Chpx, Papx}
 use Rattle.fkp_pages.specs.declared.lists.Run.{Run}
-use Rattle.fkp_pages.proofs.RowLemmas.{length-numbered_bins}
 use Rattle.piece_table.specs.Piece.{TextPiece, UnitPlace, unit_places, flat_pieces, total_length, one_piece}
 use Rattle.piece_table.specs.Printing.{IsPrintedPrc, IsPrintedPcd, IsPrintedClx, pcd_bytes}
-use Rattle.piece_table.proofs.PieceLemmas.{one_sound, length-flat_pieces, get_or-unit_places}
+use Rattle.piece_table.proofs.PieceLemmas.{one_sound, length-flat_pieces, length-unit_places, get_or-unit_places}
 use Rattle.piece_table.proofs.FitLemmas.{one_printable}
 use Rattle.doc_parts.specs.Levels.{levels_before, level_start, AreLevelsFrom, level_count}
 use Rattle.plain_doc.specs.declared.item.Mark.{Mark}
@@ -37,27 +34,27 @@ use Rattle.plain_doc.specs.Collected.{joined_texts, sections_of}
 use Rattle.plain_doc.specs.Document.{IsFormedItem}
 use Rattle.plain_doc.proofs.RightLemmas.{sound_is_right}
 use Rattle.full_save.specs.Text.{extra_mark, with_mark, note_story, head_story, text_items, text_counts}
-use Rattle.fib_form.specs.TableEntries.{TableEntry, entry, IsPartAt}
+use Rattle.fib_form.specs.TableEntries.{TableEntry, IsPartAt}
 use Rattle.full_save.specs.TableText.{table_entries}
 use Rattle.full_save.specs.TableStream.{entries_bytes, entries_pairs}
 use Rattle.full_save.specs.WordDocument.{text_at, document_runs, full_text, full_entries, table_stream, full_fib, wd_stream}
-use Rattle.full_save.specs.WordDocument.{first_character_page, first_paragraph_page, pages_end}
 use Rattle.full_save.specs.Sections.{seds_from}
 use Rattle.save_laws.specs.Places.{PagedStream, Given, given_of, StandsInside, GivesAt, IsMarkedAfter, IsGivenAfter}
-use Rattle.save_laws.specs.Slots.{Slot, shown, loose, last, StoryEnds, loose_if, story_slots, note_slots, head_slots}
+use Rattle.save_laws.specs.Slots.{Slot, shown, loose, last, StoryEnds, loose_if, note_slots, head_slots}
 use Rattle.save_laws.specs.Slots.{last_slots, whole_text, story_counts, IsPlaced}
 use Rattle.save_laws.specs.Saves.{saved_entries, HasRanges, AreSavedSections, StandsForText, IsSavedAs}
 use Rattle.doc_load.specs.FileRules.{table_stream_name}
-use Rattle.fkp_pages.specs.Rows.{IsRow, row_table}
+use Rattle.fkp_pages.specs.Bin.{IsBinPage}
+use Rattle.fkp_pages.specs.Rows.{IsRow, NamesRow}
 use Rattle.save_laws.specs.Plans.{Plan, IsPlanned, AreRunsOf, IsWrittenPlan}
-use Rattle.save_laws.specs.FullSaves.{has_items, full_saved_text, AreShortStreams, HasLayout, FullSavesAreSaves}
+use Rattle.save_laws.specs.FullSaves.{has_items, full_saved_text, HasLayout, FullSavesAreSaves}
 use Rattle.plain_doc.proofs.TextListLemmas.{collected_from}
 use Rattle.fkp_pages.proofs.RowTableLemmas.{table_of_row}
 use Rattle.save_laws.proofs.PlanLemmas.{plans_give}
-use Rattle.save_laws.proofs.StretchRuns.{IsWritableItem, character_run, paragraph_run}
-use Rattle.save_laws.proofs.EntriesFound.{AscendFrom, IsWholePart, entry_stands}
-use Rattle.save_laws.proofs.FullLayout.{LaidOut, body_of, body_cut, wd_is, few_items, fib_read, unit_there, character_row}
-use Rattle.save_laws.proofs.FullLayout.{paragraph_row, text_within, length-before}
+use Rattle.full_save.proofs.StretchRuns.{character_run, paragraph_run}
+use Rattle.full_save.proofs.EntriesFound.{AreNumbered, entry_stands}
+use Rattle.full_save.proofs.LaidOut.{LaidOut, few_items, fib_read, unit_there, text_within, HasRowTable}
+use Rattle.full_save.proofs.LaidOut.{character_table, paragraph_table, stand_sepxes}
 use Rattle.save_laws.proofs.FullSections.{FitsSepx, sections_saved}
 
 -- ---- slots and items
@@ -139,6 +136,12 @@ runs_of document =
           paragraph_run text_at items k found.0 mark found.1.0 (ap (λ (g : Given). g.mark) found.1.1 ∙ marked);
     }
 
+-- a row's own table names its pages
+names_own : (kind : PageKind) (wd : List ℕ) (runs : List Run) (table : List ℕ) → HasRowTable kind wd runs table →
+    (first : ℕ) × ((row : IsRow kind wd runs first) × NamesRow row table)
+names_own kind wd runs table has =
+    (has.first, (has.row, λ fc number is. subst (λ bin. IsBinPage bin fc number) has.table_is is))
+
 written : (s : LaidOut) → IsWrittenPlan (the_plan s.document) (the_stream s.document)
 written s =
     let d = s.document in
@@ -154,8 +157,8 @@ written s =
       characters = document_runs Chpx d;
       paragraphs = document_runs Papx d;
       runs = runs_of d;
-      character_row = λ some. (first_character_page d, (character_row s, λ fc number is. is));
-      paragraph_row = λ some. (first_paragraph_page d, (paragraph_row s, λ fc number is. is));
+      character_row = λ some. names_own Chpx (wd_stream d) (document_runs Chpx d) (the_stream d).characters (character_table s);
+      paragraph_row = λ some. names_own Papx (wd_stream d) (document_runs Papx d) (the_stream d).paragraphs (paragraph_table s);
     }
 
 -- what a modifier that does nothing leaves
@@ -191,9 +194,8 @@ place_is len k place here =
     let there : slice_get (unit_places (the_piece len)) k ≡ Some place =
     subst (λ (places : List UnitPlace). slice_get places k ≡ Some place) all here in
     let within = slice_get_within (unit_places (the_piece len)) k place there in
-    let count = length-map (range_with_len 0 len) (λ j. record { at = text_at + j * 2; wide = true; modifier = no_modifier }) in
-    let many = length-range_with_len 0 len in
-    let below : k < len = omega (arith, within, count, many) in
+    let count = length-unit_places (the_piece len) in
+    let below : k < len = omega (arith, within, count) in
     let got = get_or-unit_places (the_piece len) k place below in
     let e : text_at + k * 2 ≡ text_at + 2 * k = omega arith in
     sym (get_or_from_slice_get (unit_places (the_piece len)) k place place there)
@@ -251,27 +253,25 @@ one_printed document = record {
 
 -- ---- tables, sections and parts
 
-has_ranges : (kind : PageKind) (wd : List ℕ) (runs : List Run) (first : ℕ) (row : IsRow kind wd runs first) →
-    HasRanges (row_table row)
-has_ranges kind wd runs first row =
-    let is = table_of_row kind wd runs first row in
+has_ranges : (kind : PageKind) (wd : List ℕ) (runs : List Run) (table : List ℕ) → HasRowTable kind wd runs table →
+    HasRanges table
+has_ranges kind wd runs table has =
+    let is = table_of_row kind wd runs has.first has.row in
     let some = is.printable.some in
-    record { table = is.table.table; some = omega (arith, is.table.count, some) }
+    subst HasRanges has.table_is (record { table = is.table.table; some = omega (arith, is.table.count, some) })
 
 full_sections : (s : LaidOut) →
     AreSavedSections (sections_of s.document.main) (wd_stream s.document) (full_saved_text s.document).seds
 full_sections s =
     let d = s.document in
-    let b = body_of d in
-    let before = b.front ++ (b.text ++ (b.fill ++ (b.chp ++ b.pap))) in
-    let len = length-before s in
+    let stand = stand_sepxes s in
     let fit : (k : ℕ) (section : ℕ × Settings) → slice_get (sections_of d.main) k ≡ Some section → FitsSepx section.1 = λ k section here.
     let from = collected_from (λ (item : Item). item.sect) 0 d.main k section here in
     let formed = All_at IsFormedItem d.main from.index from.item s.formed.main.each from.here in
     let right = (s.right.texts Main d.main refl).short from.index from.item from.here in
     record { formed = formed.maps.sect section.1 from.has; short = right.sect section.1 from.has } in
-    let saved = sections_saved (wd_stream d) before b.tail (sections_of d.main) fit (wd_is d ∙ (body_cut b).1.1) (omega (arith, len)) s.short.wd in
-    subst (λ n. AreSavedSections (sections_of d.main) (wd_stream d) (seds_from 0 n (sections_of d.main))) len saved
+    let saved = sections_saved (wd_stream d) stand.before stand.after (sections_of d.main) fit stand.there stand.low s.short.wd in
+    subst (λ n. AreSavedSections (sections_of d.main) (wd_stream d) (seds_from 0 n (sections_of d.main))) stand.place saved
 
 -- a document without lists has no levels
 no_levels : (lst levels : List ℕ) → AreListsWithLevels lst levels → length lst ≡ 0 → length levels ≡ 0
@@ -281,77 +281,20 @@ no_levels lst levels are none =
     subst (λ l. AreLevelsFrom levels 0 (level_count l) (length levels)) (nil_from_length lst none) are.whole in
     whole.ends
 
-ascend : (document : Document) → AscendFrom 0 (full_entries document)
-ascend document = (
-  omega arith,
-  (
-    omega arith,
-    (
-      omega arith,
-      (
-        omega arith,
-        (
-          omega arith,
-          (
-            omega arith,
-            (
-              omega arith,
-              (
-                omega arith,
-                (
-                  omega arith,
-                  (
-                    omega arith,
-                    (
-                      omega arith,
-                      (omega arith, (omega arith, (omega arith, (omega arith, (omega arith, tt))))),
-                    ),
-                  ),
-                ),
-              ),
-            ),
-          ),
-        ),
-      ),
-    ),
-  ),
-)
-
--- each part has one of the 93 pairs, and only the lists have something behind them
-record IsPlainPart (document : Document) (part : TableEntry) : Type 0 where
-  below : part.number < 93
-  whole : IsWholePart part
-
-plain_entry : (document : Document) (number : ℕ) (bytes : List ℕ) → number < 93 →
-    IsPlainPart document (entry number bytes)
-plain_entry document number bytes below = record { below = below; whole = λ none. refl }
-
-parts_plain : (document : Document) → AreListsWithLevels document.carried.lst document.carried.levels →
-    All (IsPlainPart document) (full_entries document)
-parts_plain document lists =
-    let P = IsPlainPart document in
-    let one : (number : ℕ) (bytes : List ℕ) (parts : List TableEntry) → number < 93 → All P parts → All P (entry number bytes ∷ parts) =
-    λ number bytes parts below all. All-cons P (entry number bytes) parts (plain_entry document number bytes below) all in
-    one 1 _ _ (omega arith) (one 2 _ _ (omega arith) (one 3 _ _ (omega arith) (one 6 _ _ (omega arith)
-    (one 11 _ _ (omega arith) (one 12 _ _ (omega arith) (one 13 _ _ (omega arith) (one 15 _ _ (omega arith)
-    (one 16 _ _ (omega arith) (one 17 _ _ (omega arith) (one 18 _ _ (omega arith) (one 31 _ _ (omega arith)
-    (one 32 _ _ (omega arith) (one 33 _ _ (omega arith)
-    (All-cons P (record { number = 73; bytes = document.carried.lst; behind = document.carried.levels }) (entry 74 document.carried.lfo ∷ [])
-    (record { below = omega arith; whole = no_levels document.carried.lst document.carried.levels lists })
-    (one 74 document.carried.lfo [] (omega arith) (All-nil P))))))))))))))))
+numbered : (document : Document) → AreListsWithLevels document.carried.lst document.carried.levels →
+    AreNumbered 0 (full_entries document)
+numbered document lists = (omega arith, (omega arith, (λ none. refl, (omega arith, (omega arith, (λ none. refl, (omega arith, (omega arith, (λ none. refl, (omega arith, (omega arith, (λ none. refl, (omega arith, (omega arith, (λ none. refl, (omega arith, (omega arith, (λ none. refl, (omega arith, (omega arith, (λ none. refl, (omega arith, (omega arith, (λ none. refl, (omega arith, (omega arith, (λ none. refl, (omega arith, (omega arith, (λ none. refl, (omega arith, (omega arith, (λ none. refl, (omega arith, (omega arith, (λ none. refl, (omega arith, (omega arith, (λ none. refl, (omega arith, (omega arith, (λ none. refl, (omega arith, (omega arith, (no_levels document.carried.lst document.carried.levels lists, (omega arith, (omega arith, (λ none. refl, tt))))))))))))))))))))))))))))))))))))))))))))))))
 
 full_part : (s : LaidOut) (k : ℕ) (part : TableEntry) → slice_get (full_entries s.document) k ≡ Some part →
     IsPartAt (table_stream s.document) (fib_pair (wd_stream s.document) part.number) part
 unfolding table_stream full_fib
 full_part s k part here =
     let d = s.document in
-    let plain = All_at (IsPlainPart d) (full_entries d) k part (parts_plain d s.formed.carried.lists) here in
-    let below = plain.below in
-    let stands = entry_stands (full_entries d) k part (ascend d) here below plain.whole in
+    let stands = entry_stands (full_entries d) k part (numbered d s.formed.carried.lists) here in
     let pairs : pair_at (entries_pairs (full_entries d)) part.number ≡ fib_pair (wd_stream d) part.number =
     ap (λ (fib : FibFields). pair_at fib.pairs part.number) (sym (fib_read s).fields)
-    ∙ pair_at-fib_pairs (wd_stream d) part.number below in
-    subst (λ pair. IsPartAt (entries_bytes (full_entries d)) pair part) pairs stands
+    ∙ pair_at-fib_pairs (wd_stream d) part.number stands.below in
+    subst (λ pair. IsPartAt (entries_bytes (full_entries d)) pair part) pairs stands.there
 
 -- the parts of the saved text are those of the layout
 entries_same : (document : Document) → saved_entries document (full_saved_text document) ≡ full_entries document
@@ -381,8 +324,8 @@ saved_of s contents has =
       printable = one_printable text_at (length (text_items d)) (omega arith);
       clx = one_printed d;
       text = full_placed s;
-      characters = has_ranges Chpx (wd_stream d) (document_runs Chpx d) (first_character_page d) (character_row s);
-      paragraphs = has_ranges Papx (wd_stream d) (document_runs Papx d) (first_paragraph_page d) (paragraph_row s);
+      characters = has_ranges Chpx (wd_stream d) (document_runs Chpx d) (the_stream d).characters (character_table s);
+      paragraphs = has_ranges Papx (wd_stream d) (document_runs Papx d) (the_stream d).paragraphs (paragraph_table s);
       sections = full_sections s;
       fib = read.rules;
       counts = ap (λ (fib : FibFields). fib.ccps) read.fields ∙ sym (counts_by d);

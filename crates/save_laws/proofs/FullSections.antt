@@ -1,14 +1,14 @@
 -- The Sepxes of a full save: each section has its settings where its Sed says.
-use Rattle.std.specs.Prelude.{slice_get, slice_range, ◌==◌, if◌then◌else◌}
+use Rattle.std.specs.Prelude.{slice_get, ◌==◌, if◌then◌else◌}
 use Rattle.std.specs.FinMap.{empty, entries, same_entries_map}
-use Rattle.std.proofs.Common.{◌≡◌, ◌≢◌, inl, inr, ℕ, zero, suc, ◌+◌, ◌%◌, ◌^◌, ◌<◌, ◌≤◌, Bool, true, false, eqb, eqb-true}
-use Rattle.std.proofs.Common.{cond, List, [], ◌∷◌, ◌++◌, length, map, take, drop, Some, None, Option, refl, sym, ap, ◌∙◌, subst}
+use Rattle.std.proofs.Common.{◌≡◌, ◌≢◌, inl, inr, ℕ, zero, suc, ◌+◌, ◌%◌, ◌^◌, ◌<◌, ◌≤◌, true, eqb-true}
+use Rattle.std.proofs.Common.{cond, List, [], ◌∷◌, ◌++◌, length, map, take, drop, Some, None, refl, sym, ap, ◌∙◌, subst}
 use Rattle.std.proofs.Common.{arith, append_assoc, length-append}
 use Rattle.std.proofs.lemmas.Bool.{cases_Bool}
 use Rattle.std.proofs.lemmas.List.{nil_from_length}
-use Rattle.std.proofs.lemmas.Option.{slice_get_within, same_Some, none-some}
+use Rattle.std.proofs.lemmas.Option.{same_Some, none-some}
 use Rattle.doc_bits.specs.Number.{u16_at, number_bytes}
-use Rattle.doc_bits.proofs.ListLemmas.{All_at, range_mid, there_is}
+use Rattle.doc_bits.proofs.ListLemmas.{range_mid}
 use Rattle.doc_bits.proofs.NumberLemmas.{number_at-read_back, length-number_bytes}
 use Rattle.sprm_table.specs.Sprm.{IsAcceptedList}
 use Rattle.prop_map.specs.Settings.{Settings}
@@ -19,8 +19,6 @@ use Rattle.prop_map.proofs.PrintLemmas.{print_is}
 use Rattle.direct_props.specs.Direct.{MakesSettings}
 use Rattle.style_sheet.specs.Counted.{written_counted}
 use Rattle.doc_parts.specs.declared.lists.Sed.{Sed}
-use Rattle.plain_doc.specs.declared.item.Item.{Item}
-use Rattle.plain_doc.specs.Collected.{sections_of}
 use Rattle.doc_load.specs.SectionRules.{sepx_list}
 use Rattle.plain_doc.specs.TextLists.{starts_from}
 use Rattle.full_save.specs.Sections.{is_plain_section, sepx_bytes, sepxes, no_sepx, fc_sepx, seds_from}
@@ -47,12 +45,11 @@ plain_at wd settings plain =
       accepted = λ some. absurd (some refl);
     }
 
-
 listed_at : (wd before after : List ℕ) (settings : Settings) → FitsSepx settings →
     StandsBetween wd before (written_counted (printed_list settings)) after → HasSettingsAt wd (length before) settings
 listed_at wd before after settings fits stands =
     let list = printed_list settings in
-    let pad = if length list % 2 == 0 then [] else 0 ∷ [] in
+    let pad : List ℕ = if length list % 2 == 0 then [] else 0 ∷ [] in
     let count = number_bytes 2 (length list) in
     let fc = length before in
     let cut : wd ≡ before ++ (count ++ ((list ++ pad) ++ after)) =

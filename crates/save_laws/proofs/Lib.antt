@@ -21,8 +21,5 @@ pub mod GivenTexts
 pub mod GivenSections
 pub mod GivenFiles
 pub mod SessionLemmas
-pub mod StretchRuns
-pub mod EntriesFound
-pub mod FullLayout
 pub mod FullSections
 pub mod FullSavedLemmas

@@ -1,5 +1,5 @@
 -- The full save of a document as a saved text: its layout, which is a function of the document.
-use Rattle.std.specs.Prelude.{◌≡◌, ℕ, ◌^◌, ◌<◌, List, [], ◌∷◌, length, Bool, true, false}
+use Rattle.std.specs.Prelude.{◌≡◌, ◌^◌, ◌<◌, List, [], ◌∷◌, length, Bool, true, false}
 use Rattle.cfb_streams.specs.Contents.{Contents, HasNamed}
 use Rattle.cfb_streams.specs.Names.{wd_name, second_table_name}
 use Rattle.piece_table.specs.Piece.{one_piece}
@@ -10,6 +10,7 @@ use Rattle.plain_doc.specs.Formed.{IsFormed}
 use Rattle.plain_doc.specs.Sound.{IsSound}
 use Rattle.full_save.specs.Text.{text_items}
 use Rattle.full_save.specs.WordDocument.{text_at, full_text, wd_stream, table_stream}
+use Rattle.full_save.specs.ShortStreams.{AreShortStreams}
 use Rattle.doc_read.specs.CarriedParts.{carried_streams}
 use Rattle.save_laws.specs.Saves.{SavedText, IsSavedAs}
 
@@ -34,11 +35,6 @@ full_saved_text document = record {
     heads = has_items (joined_texts document.heads);
   };
 }
-
--- the two streams are short enough for the numbers of the FIB and of pages
-pub record AreShortStreams (document : Document) : Type 0 where
-  pub wd : length (wd_stream document) < 2 ^ 31
-  pub table : length (table_stream document) < 2 ^ 32
 
 -- the contents have the two streams of the layout, and what the document carries
 pub record HasLayout (document : Document) (contents : Contents) : Type 0 where

@@ -1,37 +1,29 @@
 -- The layout of a full save: what stands where in WordDocument, and what can be written of the document's items.
-use Rattle.std.specs.Prelude.{slice_get, slice_index, slice_range, All, min, replicate, ⊤}
-use Rattle.std.specs.List.{flat_map, sum_by}
-use Rattle.std.specs.FinMap.{empty, entries, same_entries_map}
-use Rattle.std.proofs.Common.{◌≡◌, ◌≢◌, inl, inr, ℕ, zero, suc, ◌+◌, ◌-◌, ◌*◌, ◌/◌, ◌%◌, ◌^◌, ◌<◌, ◌≤◌, Bool, true, false}
-use Rattle.std.proofs.Common.{eqb, cond, List, [], ◌∷◌, ◌++◌, length, map, take, drop, sum, Some, None, Option, refl, sym, ap}
+use Rattle.std.specs.Prelude.{slice_get, slice_index, All, min, replicate}
+use Rattle.std.specs.FinMap.{empty}
+use Rattle.std.proofs.Common.{◌≡◌, ℕ, ◌+◌, ◌-◌, ◌*◌, ◌/◌, ◌≤◌}
+use Rattle.std.proofs.Common.{List, [], ◌∷◌, ◌++◌, length, map, Some, refl, sym, ap}
 use Rattle.std.proofs.Common.{◌∙◌, subst, arith, append_assoc, length-append}
-use Rattle.std.proofs.lemmas.Bool.{cases_eq}
-use Rattle.std.proofs.lemmas.List.{length-map, length-replicate, nil_from_length}
+use Rattle.std.proofs.lemmas.List.{length-map, length-replicate}
 use Rattle.std.proofs.lemmas.List.Concat.{length-flat_map}
 use Rattle.std.proofs.lemmas.List.Elements.{All-nil, All-cons, All-append}
-use Rattle.std.proofs.lemmas.Option.{slice_get_within, same_Some, none-some, get_or_from_slice_get}
-use Rattle.doc_bits.specs.Number.{number_at, u16_at, number_bytes}
+use Rattle.std.proofs.lemmas.Option.{slice_get_within, same_Some, get_or_from_slice_get}
+use Rattle.doc_bits.specs.Number.{u16_at}
 use Rattle.doc_bits.specs.Rules.{Hold}
-use Rattle.doc_bits.specs.declared.places.Where.{Where}
 use Rattle.doc_bits.specs.declared.places.Where.TheVariants.{Main, Note, Head}
-use Rattle.doc_bits.proofs.ListLemmas.{All_at, All-from_slice_get, get-map, range_mid}
-use Rattle.doc_bits.proofs.NumberLemmas.{number_at-after, number_at-before, number_at-read_back, length-number_bytes}
-use Rattle.prop_map.specs.Settings.{Settings}
-use Rattle.prop_map.specs.Formed.{section_groups, IsPropertyMap}
+use Rattle.doc_bits.proofs.ListLemmas.{All_at, All-from_slice_get, get-map}
+use Rattle.doc_bits.proofs.NumberLemmas.{number_at-after, number_at-before}
 use Rattle.prop_map.specs.Printing.{printed_list}
 use Rattle.prop_map.proofs.ActingLemmas.{IsPropertyMap-empty}
 use Rattle.prop_map.proofs.EntriesLemmas.{entries-empty}
-use Rattle.prop_map.proofs.PrintLemmas.{print_is}
-use Rattle.fib_form.specs.Fib.{fib_pair, early_form}
-use Rattle.fib_form.specs.FibFields.{FibFields, fib_fields, pair_at, AreCounts, IsFib, empty_pairs}
+use Rattle.fib_form.specs.Fib.{early_form}
+use Rattle.fib_form.specs.FibFields.{fib_fields, AreCounts, IsFib}
 use Rattle.fib_form.specs.FibRules.{fib_rules}
 use Rattle.fib_form.specs.FibBytes.{written_fib}
 use Rattle.fib_form.proofs.FibLemmas.{sum-three, read_back}
-use Rattle.fib_form.proofs.PairLemmas.{pair_at-fib_pairs}
 use Rattle.fib_form.proofs.WriteLemmas.{length-written_fib}
 use Rattle.fkp_pages.specs.declared.kind.PageKind.{PageKind}
 use Rattle.fkp_pages.specs.declared.kind.PageKind.TheVariants.{Chpx, Papx}
-use Rattle.fkp_pages.specs.Packed.{pages_of}
 use Rattle.fkp_pages.specs.Pages.{ArePagesOf}
 use Rattle.fkp_pages.proofs.PackedLemmas.{runs_have_pages}
 use Rattle.fkp_pages.proofs.WholePages.{pages_are_whole}
@@ -47,16 +39,16 @@ use Rattle.plain_doc.specs.RulesOfItems.{HasShortSettings}
 use Rattle.plain_doc.specs.RightDocument.{IsRightDocument}
 use Rattle.plain_doc.proofs.MainLemmas.{main_ends}
 use Rattle.full_save.specs.Text.{extra_mark, with_mark, note_story, head_story, text_items, text_counts}
-use Rattle.full_save.specs.TableStream.{entries_bytes, entries_pairs}
-use Rattle.full_save.specs.WordDocument.{text_at, units_bytes, text_bytes, text_end, document_runs, document_pages}
+use Rattle.full_save.specs.WordDocument.{text_at, text_bytes, document_runs, document_pages}
 use Rattle.full_save.specs.WordDocument.{first_character_page, first_paragraph_page, pages_end, wd_body, full_text}
 use Rattle.full_save.specs.WordDocument.{full_entries, table_stream, full_fib, wd_stream}
-use Rattle.full_save.specs.Sections.{sepxes, sepx_bytes, seds_from, is_plain_section, fc_sepx, no_sepx}
-use Rattle.save_laws.specs.FullSaves.{AreShortStreams}
-use Rattle.fkp_pages.specs.Rows.{IsRow}
+use Rattle.full_save.specs.Sections.{sepxes}
+use Rattle.full_save.specs.ShortStreams.{AreShortStreams}
+use Rattle.fkp_pages.specs.declared.lists.Run.{Run}
+use Rattle.fkp_pages.specs.Rows.{IsRow, row_table}
 use Rattle.plain_doc.proofs.TextListLemmas.{joined_all}
-use Rattle.save_laws.proofs.StretchRuns.{IsWritableItem, IsWritableMark, AreTextRuns, text_runs_right}
-use Rattle.save_laws.proofs.EntriesFound.{AreAllowed, entries_are_pairs, entries_are_wide}
+use Rattle.full_save.proofs.StretchRuns.{IsWritableItem, IsWritableMark, AreTextRuns, text_runs_right}
+use Rattle.full_save.proofs.EntriesFound.{AreAllowed, entries_are_pairs, entries_are_wide}
 
 -- a well-formed right document whose streams are short
 pub record LaidOut : Type 0 where
@@ -227,7 +219,7 @@ length-wd_body : (document : Document) → length (front_bytes document) + lengt
 unfolding wd_stream filled
 length-wd_body document =
     let all = front_bytes document ++ wd_body document in
-    let zeros = replicate (4096 - length all) 0 in
+    let zeros : List ℕ = replicate (4096 - length all) 0 in
     omega (arith, length-append all zeros, length-append (front_bytes document) (wd_body document))
 
 counts_are : (s : LaidOut) → AreCounts (text_counts s.document)
@@ -312,7 +304,7 @@ sizes : (s : LaidOut) → Sizes s
 sizes s =
     let b = body_of s.document in
     let text = length-text s.document in
-    let zeros = length-replicate (units_for 512 (length (text_bytes s.document)) * 512 - length (text_bytes s.document)) 0 in
+    let zeros = length-replicate {A = ℕ} (units_for 512 (length (text_bytes s.document)) * 512 - length (text_bytes s.document)) 0 in
     let whole = ap length (wd_is s.document) in
     let a1 = length-append b.front (b.text ++ (b.fill ++ (b.chp ++ (b.pap ++ (b.sepx ++ b.tail))))) in
     let a2 = length-append b.text (b.fill ++ (b.chp ++ (b.pap ++ (b.sepx ++ b.tail)))) in
@@ -353,7 +345,7 @@ unit_there s k item here =
 
 -- ---- rows of pages
 
-pub character_row : (s : LaidOut) →
+character_row : (s : LaidOut) →
     IsRow Chpx (wd_stream s.document) (document_runs Chpx s.document) (first_character_page s.document)
 character_row s =
     let b = body_of s.document in
@@ -376,7 +368,7 @@ character_row s =
       there = wd_is s.document ∙ (body_cut b).0;
     }
 
-pub paragraph_row : (s : LaidOut) →
+paragraph_row : (s : LaidOut) →
     IsRow Papx (wd_stream s.document) (document_runs Papx s.document) (first_paragraph_page s.document)
 paragraph_row s =
     let b = body_of s.document in
@@ -407,14 +399,46 @@ text_within s =
     let size = sizes s in
     omega (arith, size.text, size.all)
 
-pub length-before : (s : LaidOut) →
-    length ((body_of s.document).front ++ ((body_of s.document).text ++ ((body_of s.document).fill ++ ((body_of s.document).chp ++ (body_of s.document).pap))))
-    ≡ pages_end s.document
-length-before s =
+-- the Sepxes stand behind the pages
+pub record StandSepxes (s : LaidOut) : Type 0 where
+  pub before : List ℕ
+  pub after : List ℕ
+  pub there : wd_stream s.document ≡ before ++ (sepxes (sections_of s.document.main) ++ after)
+  pub place : length before ≡ pages_end s.document
+  pub low : 1024 ≤ length before
+
+pub stand_sepxes : (s : LaidOut) → StandSepxes s
+stand_sepxes s =
     let b = body_of s.document in
     let size = sizes s in
     let a1 = length-append b.front (b.text ++ (b.fill ++ (b.chp ++ b.pap))) in
     let a2 = length-append b.text (b.fill ++ (b.chp ++ b.pap)) in
     let a3 = length-append b.fill (b.chp ++ b.pap) in
     let a4 = length-append b.chp b.pap in
-    omega (arith, a1, a2, a3, a4, size.front, size.fill, size.chp, size.pap)
+    record {
+      before = b.front ++ (b.text ++ (b.fill ++ (b.chp ++ b.pap)));
+      after = b.tail;
+      there = wd_is s.document ∙ (body_cut b).1.1;
+      place = omega (arith, a1, a2, a3, a4, size.front, size.fill, size.chp, size.pap);
+      low = omega (arith, a1, size.front);
+    }
+
+-- ---- the tables of the rows
+
+-- a row of pages whose own table this is
+pub record HasRowTable (kind : PageKind) (wd : List ℕ) (runs : List Run) (table : List ℕ) : Type 0 where
+  pub first : ℕ
+  pub row : IsRow kind wd runs first
+  pub table_is : row_table row ≡ table
+
+pub character_table : (s : LaidOut) →
+    HasRowTable Chpx (wd_stream s.document) (document_runs Chpx s.document) (full_text s.document).characters
+unfolding character_row
+character_table s =
+    record { first = first_character_page s.document; row = character_row s; table_is = refl }
+
+pub paragraph_table : (s : LaidOut) →
+    HasRowTable Papx (wd_stream s.document) (document_runs Papx s.document) (full_text s.document).paragraphs
+unfolding paragraph_row
+paragraph_table s =
+    record { first = first_paragraph_page s.document; row = paragraph_row s; table_is = refl }

@@ -1,6 +1,6 @@
 -- Parts of a table stream that stand one after the other are found by their pairs.
-use Rattle.std.specs.Prelude.{replicate, slice_get, slice_set, slice_range, slice_index_or, ⊤, All, ◌^◌}
-use Rattle.std.specs.List.{flat_map, list_all}
+use Rattle.std.specs.Prelude.{replicate, slice_get, slice_set, slice_range, ⊤, All, ◌^◌}
+use Rattle.std.specs.List.{list_all}
 use Rattle.std.proofs.Common.{◌≡◌, ◌≢◌, inl, inr, ℕ, zero, suc, ◌+◌, ◌<◌, ◌≤◌, Bool, true, false, eqb, cond, List, [], ◌∷◌, ◌++◌}
 use Rattle.std.proofs.Common.{length, take, drop, Some, refl, sym, ap, ◌∙◌, subst, arith, append_assoc, length-append, not, eq-eqb}
 use Rattle.std.proofs.lemmas.Bool.{cases_eq, cases_lt, ne_eqb, and_parts, true≢false}
@@ -13,10 +13,22 @@ use Rattle.fib_form.proofs.PairLemmas.{empty-ArePairs}
 use Rattle.fib_form.specs.TableEntries.{TableEntry, IsPartAt}
 use Rattle.full_save.specs.TableStream.{entry_bytes, entries_bytes, put_pair, pairs_from}
 
--- the numbers of parts ascend from one on
-abbrev pub AscendFrom : ℕ → List TableEntry → Type 0
-AscendFrom low [] = ⊤
-AscendFrom low (part ∷ parts) = (low ≤ part.number) × AscendFrom (part.number + 1) parts
+-- a part that is empty has nothing behind it
+abbrev pub IsWholePart : TableEntry → Type 0
+IsWholePart part = length part.bytes ≡ 0 → length part.behind ≡ 0
+
+-- the numbers of parts ascend from one on, each is that of a pair, and each part is whole
+abbrev pub AreNumbered : ℕ → List TableEntry → Type 0
+AreNumbered low [] = ⊤
+AreNumbered low (part ∷ parts) =
+    (low ≤ part.number) × ((part.number < 93) × (IsWholePart part × AreNumbered (part.number + 1) parts))
+
+numbered_at : (low : ℕ) (parts : List TableEntry) (k : ℕ) (part : TableEntry) → AreNumbered low parts →
+    slice_get parts k ≡ Some part → (part.number < 93) × IsWholePart part
+numbered_at low [] k part are here = absurd (none-some part here)
+numbered_at low (first ∷ parts) zero part are here =
+    subst (λ (p : TableEntry). (p.number < 93) × IsWholePart p) (same_Some first part here) (are.1.0, are.1.1.0)
+numbered_at low (first ∷ parts) (suc k) part are here = numbered_at (first.number + 1) parts k part are.1.1.1 here
 
 -- ---- one pair
 
@@ -50,21 +62,21 @@ put_here at part pairs below none =
 -- ---- all pairs
 
 -- a pair of a lower number stays
-lower_kept : (low n at : ℕ) (pairs : List (ℕ × ℕ)) (parts : List TableEntry) → AscendFrom low parts → n < low →
+lower_kept : (low n at : ℕ) (pairs : List (ℕ × ℕ)) (parts : List TableEntry) → AreNumbered low parts → n < low →
     pair_at (pairs_from at pairs parts) n ≡ pair_at pairs n
 unfolding pairs_from
 lower_kept low n at pairs [] ascend below = refl
 lower_kept low n at pairs (part ∷ parts) ascend below =
     let first = ascend.0 in
     let other : n ≢ part.number = λ same. omega (arith, first, below, same) in
-    lower_kept (part.number + 1) n (at + length (entry_bytes part)) (put_pair at part pairs) parts ascend.1 (omega (arith, first, below))
+    lower_kept (part.number + 1) n (at + length (entry_bytes part)) (put_pair at part pairs) parts ascend.1.1.1 (omega (arith, first, below))
     ∙ put_elsewhere at n part pairs other
 
 abbrev IsClear : ℕ → List (ℕ × ℕ) → Type 0
 IsClear low pairs = (n : ℕ) → low ≤ n → pair_at pairs n ≡ (0, 0)
 
 pair_found : (low at place : ℕ) (pairs : List (ℕ × ℕ)) (parts : List TableEntry) (k : ℕ) (part : TableEntry) →
-    AscendFrom low parts → IsClear low pairs → slice_get parts k ≡ Some part → part.number < length pairs →
+    AreNumbered low parts → IsClear low pairs → slice_get parts k ≡ Some part → part.number < length pairs →
     place ≡ at + length (entries_bytes (take k parts)) →
     pair_at (pairs_from at pairs parts) part.number ≡ placed_pair place part
 unfolding pairs_from
@@ -75,7 +87,7 @@ pair_found low at place pairs (first ∷ parts) zero part ascend clear here belo
     let next : part.number < first.number + 1 = omega (arith, number) in
     let there : at ≡ place = omega (arith, e) in
     let low_is = ascend.0 in
-    lower_kept (first.number + 1) part.number (at + length (entry_bytes first)) (put_pair at first pairs) parts ascend.1 next
+    lower_kept (first.number + 1) part.number (at + length (entry_bytes first)) (put_pair at first pairs) parts ascend.1.1.1 next
     ∙ (ap (pair_at (put_pair at first pairs)) (sym number)
     ∙ (put_here at first pairs (omega (arith, number, below)) (clear first.number low_is)
     ∙ (λ i. placed_pair (there i) (same i))))
@@ -86,7 +98,7 @@ pair_found low at place pairs (first ∷ parts) (suc k) part ascend clear here b
     let other : n ≢ first.number = λ same. omega (arith, high, same) in
     put_elsewhere at n first pairs other ∙ clear n (omega (arith, high, first_is)) in
     let many = length-put_pair at first pairs in
-    pair_found (first.number + 1) (at + length (entry_bytes first)) place (put_pair at first pairs) parts k part ascend.1
+    pair_found (first.number + 1) (at + length (entry_bytes first)) place (put_pair at first pairs) parts k part ascend.1.1.1
     still here (omega (arith, below, many)) (omega (arith, e, len))
 
 -- ---- the bytes
@@ -103,10 +115,6 @@ cut_at_entry (first ∷ parts) zero part here =
 cut_at_entry (first ∷ parts) (suc k) part here =
     ap (λ rest. entry_bytes first ++ rest) (cut_at_entry parts k part here)
     ∙ sym (append_assoc (entry_bytes first) (entries_bytes (take k parts)) (part.bytes ++ (part.behind ++ entries_bytes (drop (suc k) parts))))
-
--- a part that is empty has nothing behind it
-abbrev pub IsWholePart : TableEntry → Type 0
-IsWholePart part = length part.bytes ≡ 0 → length part.behind ≡ 0
 
 empty_there : (table : List ℕ) (part : TableEntry) → length part.bytes ≡ 0 → IsWholePart part →
     IsPartAt table (0, 0) part
@@ -159,8 +167,8 @@ placed_there table parts k place part is here at whole = elim (cases_eq (length 
 ]
 
 -- each part stands where its pair says
-pub entry_found : (table : List ℕ) (pairs : List (ℕ × ℕ)) (parts : List TableEntry) (k : ℕ) (part : TableEntry) →
-    table ≡ entries_bytes parts → AscendFrom 0 parts → ((n : ℕ) → pair_at pairs n ≡ (0, 0)) →
+entry_found : (table : List ℕ) (pairs : List (ℕ × ℕ)) (parts : List TableEntry) (k : ℕ) (part : TableEntry) →
+    table ≡ entries_bytes parts → AreNumbered 0 parts → ((n : ℕ) → pair_at pairs n ≡ (0, 0)) →
     slice_get parts k ≡ Some part → part.number < length pairs → IsWholePart part →
     IsPartAt table (pair_at (pairs_from 0 pairs parts) part.number) part
 entry_found table pairs parts k part is ascend clear here below whole =
@@ -251,9 +259,18 @@ pub entries_are_wide : (parts : List TableEntry) → length (entries_bytes parts
 entries_are_wide parts small = wide_from 0 empty_pairs parts empty_wide (omega (arith, small))
 
 -- each part of a table stream stands where its pair says
-pub entry_stands : (parts : List TableEntry) (k : ℕ) (part : TableEntry) → AscendFrom 0 parts →
-    slice_get parts k ≡ Some part → part.number < 93 → IsWholePart part →
-    IsPartAt (entries_bytes parts) (pair_at (pairs_from 0 empty_pairs parts) part.number) part
-entry_stands parts k part ascend here below whole =
+pub record Stands (parts : List TableEntry) (part : TableEntry) : Type 0 where
+  pub below : part.number < 93
+  pub there : IsPartAt (entries_bytes parts) (pair_at (pairs_from 0 empty_pairs parts) part.number) part
+
+pub entry_stands : (parts : List TableEntry) (k : ℕ) (part : TableEntry) → AreNumbered 0 parts →
+    slice_get parts k ≡ Some part → Stands parts part
+entry_stands parts k part are here =
     let count = empty-ArePairs.count in
-    entry_found (entries_bytes parts) empty_pairs parts k part refl ascend no_pair here (omega (arith, below, count)) whole
+    let is = numbered_at 0 parts k part are here in
+    record {
+      below = is.0;
+      there =
+          entry_found (entries_bytes parts) empty_pairs parts k part refl are no_pair here (omega (arith, is.0, count))
+          is.1;
+    }

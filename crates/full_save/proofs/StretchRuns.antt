@@ -1,6 +1,5 @@
 -- The runs of a text: each item is in one with its settings, and pages can be written of them.
 use Rattle.std.specs.Prelude.{slice_get, is_some, All}
-use Rattle.std.specs.List.{flat_map}
 use Rattle.std.specs.Option.{ForSome}
 use Rattle.std.specs.FinMap.{empty}
 use Rattle.std.proofs.Common.{◌≡◌, ◌⊎◌, inl, inr, ℕ, zero, suc, ◌+◌, ◌-◌, ◌*◌, ◌^◌, ◌<◌, ◌≤◌, Bool, true, false, not, List, []}
@@ -21,8 +20,8 @@ use Rattle.fkp_pages.specs.Runs.{run_groups, most_printed, IsWritableRun, AreRun
 use Rattle.plain_doc.specs.declared.item.Mark.{Mark}
 use Rattle.plain_doc.specs.declared.item.Item.{Item}
 use Rattle.plain_doc.specs.Collected.{joined_texts}
-use Rattle.plain_doc.specs.Stretches.{stretches, joins_next, joins_at, IsJoined, AreStretches}
-use Rattle.plain_doc.specs.Settings.{is_alike, is_inside, same_settings}
+use Rattle.plain_doc.specs.Stretches.{stretches, joins_next, IsJoined}
+use Rattle.plain_doc.specs.Settings.{is_alike, is_inside}
 use Rattle.plain_doc.proofs.CutLemmas.{are_stretches}
 use Rattle.plain_doc.proofs.SettingsLemmas.{same_settings-Decides}
 use Rattle.full_save.specs.Runs.{joins_run, mark_settings, item_settings, run_at, runs_from, text_runs}
@@ -144,8 +143,7 @@ character_run at items i item here =
     let there : slice_get found.part (found.offset + (length found.part - 1 - found.offset)) ≡ Some last.0 =
     subst (λ m. slice_get found.part m ≡ Some last.0) e last.1 in
     let same = alike_later found.part found.offset (length found.part - 1 - found.offset) item last.0 joined found.here there in
-    let run = run_at Chpx (at + 2 * length (joined_texts (take found.number parts))) found.part in
-    (
+    let run = run_at Chpx (at + 2 * length (joined_texts (take found.number parts))) found.part in (
       run,
       (in_run Chpx at parts i item found, ap (λ o. (item_settings Chpx o).1) last.1 ∙ sym same),
     )
@@ -179,8 +177,7 @@ paragraph_run at items i item mark here marked =
     subst (λ n. slice_get found.part n ≡ Some item) e found.here in
     let settings : item_settings Papx (slice_get found.part (length found.part - 1)) ≡ (mark.istd, mark.pap) =
     ap (item_settings Papx) there ∙ ap mark_settings marked in
-    let run = run_at Papx (at + 2 * length (joined_texts (take found.number parts))) found.part in
-    (
+    let run = run_at Papx (at + 2 * length (joined_texts (take found.number parts))) found.part in (
       run,
       (
         in_run Papx at parts i item found,
@@ -247,10 +244,10 @@ parts_writable kind items writable =
     All-from_slice_get (IsWritablePart kind) parts (λ n part there.
     part_writable kind part (All_at (λ (p : List Item). 0 < length p) parts n part cut.some there)
     (λ k item here.
-        let i : ℕ = length (joined_texts (take n parts)) + k in
-        let at : slice_get items i ≡ Some item =
-        subst (λ xs. slice_get xs i ≡ Some item) cut.whole (in_joined parts n part k item there here) in
-        All_at IsWritableItem items i item writable at))
+    let i : ℕ = length (joined_texts (take n parts)) + k in
+    let at : slice_get items i ≡ Some item =
+    subst (λ xs. slice_get xs i ≡ Some item) cut.whole (in_joined parts n part k item there here) in
+    All_at IsWritableItem items i item writable at))
 
 -- ---- the runs
 

@@ -5,10 +5,15 @@ use Rattle.std.proofs.Common.{◌≡◌, ◌⊎◌, inl, inr, ℕ, zero, suc, �
 use Rattle.std.proofs.Common.{length, Some, refl, sym, ap, ◌∙◌, subst, arith, length-append, cond, map}
 use Rattle.std.proofs.lemmas.List.Elements.{filter-append}
 use Rattle.std.proofs.lemmas.List.Sums.{sum_by-append, sum_by-cons}
-use Rattle.std.proofs.lemmas.Option.{slice_get_within, same_Some}
-use Rattle.cfb_streams.specs.Directory.{ComesBefore}
-use Rattle.cfb_streams.specs.Contents.{NamedBytes, AreStreams, IsStored, AreStored}
+use Rattle.std.proofs.lemmas.Option.{slice_get_within, same_Some, none-some}
+use Rattle.std.proofs.lemmas.Bool.{cases_Bool}
+use Rattle.cfb_streams.specs.Directory.{AreSameNames, ComesBefore}
+use Rattle.cfb_streams.proofs.AddLemmas.{comes_before-trans}
+use Rattle.cfb_streams.specs.Contents.{NamedBytes, AreStreams}
 use Rattle.doc_bits.proofs.TogetherLemmas.{in_front, in_back}
+use Rattle.full_save.specs.Streams.{is_name_before, put_stream}
+use Rattle.full_save.proofs.StretchRuns.{at_seam}
+use Rattle.full_save.proofs.NameOrder.{before_is, behind_is}
 
 -- ---- where one stands in a list with one more
 
@@ -29,21 +34,13 @@ at_put (first ∷ front) put back (suc i) x here = elim (at_put front put back i
   | inr (inr behind) ↦ let e = behind.1.0 in inr (inr (behind.0, (omega (arith, e), behind.1.1)))
 ]
 
--- it stands in front or behind
-abbrev pub IsAtSeam : {A : Type 0} → List A → List A → ℕ → A → Type 0
-IsAtSeam front back i x =
-    (slice_get front i ≡ Some x) ⊎ ((k : ℕ) × ((i ≡ length front + k) × (slice_get back k ≡ Some x)))
-
-pub at_seam : {A : Type 0} (front back : List A) (i : ℕ) (x : A) → slice_get (front ++ back) i ≡ Some x →
-    IsAtSeam front back i x
-at_seam [] back i x here = let e : i ≡ 0 + i = omega arith in inr (i, (e, here))
-at_seam (first ∷ front) back zero x here = inl here
-at_seam (first ∷ front) back (suc i) x here = elim (at_seam front back i x here) [
-  | inl before ↦ inl before
-  | inr behind ↦ let e = behind.1.0 in inr (behind.0, (omega (arith, e), behind.1.1))
-]
-
 -- ---- a stream among others
+
+-- each name comes before all later ones
+abbrev pub Ascend : List NamedBytes → Type 0
+Ascend streams =
+    (i j : ℕ) (stream later : NamedBytes) → i < j → slice_get streams i ≡ Some stream →
+    slice_get streams j ≡ Some later → ComesBefore stream.name later.name
 
 -- the names of those in front come before its own, and its own comes before those behind
 pub record IsPutAmong (put : NamedBytes) (old new : List NamedBytes) : Type 0 where
@@ -95,6 +92,15 @@ old_or_put P front back put old it i stream here = elim (at_put front put back i
   | inr (inl same) ↦ subst P same.1 it
   | inr (inr behind) ↦ old (length front + behind.0) stream (in_back front back behind.0 (length front + behind.0) stream behind.1.1 refl)
 ]
+
+-- what holds of the others and of it holds of all
+pub each_put : (P : NamedBytes → Type 0) (put : NamedBytes) (old new : List NamedBytes) → IsPutAmong put old new →
+    ((i : ℕ) (stream : NamedBytes) → slice_get old i ≡ Some stream → P stream) → P put → (i : ℕ)
+    (stream : NamedBytes) → slice_get new i ≡ Some stream → P stream
+each_put P put old new is each it i stream here =
+    old_or_put P is.front is.back put
+    (λ k other there. each k other (subst (λ streams. slice_get streams k ≡ Some other) (sym is.old_is) there)) it i stream
+    (subst (λ streams. slice_get streams i ≡ Some stream) is.new_is here)
 
 -- the order of the names
 order_put : (front back : List NamedBytes) (put : NamedBytes) →
@@ -148,6 +154,12 @@ total_put front back put =
     let c = sum_by-cons f put back in
     omega (arith, a, b, c)
 
+-- the names keep their order
+pub put_ascend : (put : NamedBytes) (old new : List NamedBytes) → IsPutAmong put old new → Ascend old → Ascend new
+put_ascend put old new is order =
+    subst Ascend (sym is.new_is)
+    (order_put is.front is.back put (subst Ascend is.old_is order) is.behind is.before)
+
 -- the longer list is one of streams
 pub put_are_streams : (put : NamedBytes) (old new : List NamedBytes) → IsPutAmong put old new → AreStreams old →
     1 ≤ length put.name → length put.name ≤ 31 →
@@ -169,12 +181,63 @@ total-put put old new is =
     let f : List NamedBytes → ℕ = λ streams. sum_by (λ (stream : NamedBytes). length stream.bytes) streams in
     ap f is.new_is ∙ (total_put is.front is.back put ∙ ap (λ (streams : List NamedBytes). f streams + length put.bytes) (sym is.old_is))
 
--- and one that can be stored
-pub put_are_stored : (put : NamedBytes) (old new : List NamedBytes) → IsPutAmong put old new → AreStored old →
-    IsStored put.name put.bytes → AreStored new
-put_are_stored put old new is are stored =
-    let these : AreStored (is.front ++ is.back) = subst AreStored is.old_is are in
-    subst AreStored (sym is.new_is) (old_or_put (λ stream. IsStored stream.name stream.bytes) is.front is.back put these stored)
+-- ---- the function that puts it there
+
+-- none of the streams has the name
+abbrev pub HaveOtherNames : List NamedBytes → List ℕ → Type 0
+HaveOtherNames streams name =
+    (i : ℕ) (stream : NamedBytes) → slice_get streams i ≡ Some stream → ¬ AreSameNames stream.name name
+
+first_or_later : (put other : NamedBytes) (others : List NamedBytes) → Ascend (other ∷ others) →
+    ComesBefore put.name other.name → (i : ℕ) (stream : NamedBytes) → slice_get (other ∷ others) i ≡ Some stream →
+    ComesBefore put.name stream.name
+first_or_later put other others order before zero stream here =
+    subst (λ s. ComesBefore put.name s.name) (same_Some other stream here) before
+first_or_later put other others order before (suc i) stream here =
+    comes_before-trans put.name other.name stream.name before (order 0 (suc i) other stream (omega arith) refl here)
+
+behind_more : (put other : NamedBytes) (front : List NamedBytes) → ComesBefore other.name put.name →
+    ((i : ℕ) (stream : NamedBytes) → slice_get front i ≡ Some stream → ComesBefore stream.name put.name) → (i : ℕ)
+    (stream : NamedBytes) → slice_get (other ∷ front) i ≡ Some stream → ComesBefore stream.name put.name
+behind_more put other front first rest zero stream here =
+    subst (λ s. ComesBefore s.name put.name) (same_Some other stream here) first
+behind_more put other front first rest (suc i) stream here = rest i stream here
+
+pub put_among : (put : NamedBytes) (old : List NamedBytes) → Ascend old → HaveOtherNames old put.name →
+    IsPutAmong put old (put_stream put old)
+unfolding put_stream
+put_among put [] order apart = record {
+  front = [];
+  back = [];
+  old_is = refl;
+  new_is = refl;
+  behind = λ i stream here. absurd (none-some stream here);
+  before = λ i stream here. absurd (none-some stream here);
+}
+put_among put (other ∷ others) order apart = elim (cases_Bool (is_name_before other.name put.name)) [
+  | inl first ↦
+      let rest = put_among put others
+      (λ i j stream later less here there. order (suc i) (suc j) stream later (omega (arith, less)) here there)
+      (λ i stream here. apart (suc i) stream here) in
+      record {
+        front = other ∷ rest.front;
+        back = rest.back;
+        old_is = ap (λ streams. other ∷ streams) rest.old_is;
+        new_is =
+            ap (λ b. cond b (other ∷ put_stream put others) (put ∷ other ∷ others)) first
+            ∙ ap (λ streams. other ∷ streams) rest.new_is;
+        behind = behind_more put other rest.front (before_is other.name put.name first) rest.behind;
+        before = rest.before;
+      }
+  | inr behind ↦ record {
+    front = [];
+    back = other ∷ others;
+    old_is = refl;
+    new_is = ap (λ b. cond b (other ∷ put_stream put others) (put ∷ other ∷ others)) behind;
+    behind = λ i stream here. absurd (none-some stream here);
+    before = first_or_later put other others order (behind_is other.name put.name behind (apart 0 other refl));
+  }
+]
 
 -- ---- what a test leaves of it
 
