@@ -1,13 +1,13 @@
 -- The canonical container of streams among which two were put has the two and carries the others.
 use Rattle.std.specs.Prelude.{slice_get, slice_index, slice_index_or, filter}
 use Rattle.std.specs.List.{range_with_len}
-use Rattle.std.proofs.Common.{◌≡◌, inl, inr, ℕ, zero, suc, ◌+◌, ◌<◌, ◌≤◌, Bool, true, false, List, [], ◌∷◌, map, length, Some, refl}
+use Rattle.std.proofs.Common.{◌≡◌, inl, inr, ℕ, suc, ◌+◌, ◌<◌, ◌≤◌, Bool, List, [], ◌∷◌, map}
+use Rattle.std.proofs.Common.{length, Some, refl}
 use Rattle.std.proofs.Common.{sym, ap, ◌∙◌, subst, arith}
 use Rattle.std.proofs.lemmas.Bool.{cases_lt}
 use Rattle.std.proofs.lemmas.Option.{slice_get_within, get_or_from_slice_get}
 use Rattle.doc_bits.proofs.ListLemmas.{map-map, from_map, get-map}
-use Rattle.cfb_streams.specs.Contents.{NamedBytes, Stream, Contents, HasNamed}
-use Rattle.cfb_streams.specs.Directory.{AreSameNames}
+use Rattle.cfb_streams.specs.Contents.{NamedBytes, HasNamed}
 use Rattle.cfb_layout.specs.Counts.{Fits, sector_counts}
 use Rattle.cfb_layout.specs.Layout.{lengths_of, no_stream, stream_at, contents_of}
 use Rattle.cfb_layout.proofs.CountLemmas.{length-sector_counts, sectors-needed, length-lengths_of, counts_stream}
@@ -39,7 +39,8 @@ pub contents_named : (streams : List NamedBytes) (clsid : List ℕ) →
 unfolding contents_of
 contents_named streams clsid =
     map-map without_chain (stream_at streams) (range_with_len 0 (length streams))
-    ∙ all_at streams 0 streams (λ i below. let e : 0 + i ≡ i = omega arith in ap (λ n. slice_index_or streams n no_stream) e)
+    ∙ all_at streams 0 streams
+    (λ i below. let e : 0 + i ≡ i = omega arith in ap (λ n. slice_index_or streams n no_stream) e)
 
 pub contents_clsid : (streams : List NamedBytes) (clsid : List ℕ) → (contents_of streams clsid).clsid ≡ clsid
 unfolding contents_of

@@ -1,19 +1,18 @@
 -- The file of a full save: its streams are those of its layout, and the document is read back of it.
-use Rattle.std.specs.Prelude.{slice_get, slice_index, filter, ◌↔◌}
-use Rattle.std.specs.List.{list_all, sum_by}
-use Rattle.std.proofs.Common.{◌≡◌, ◌∙◌, ◌^◌, inl, inr, ℕ, ◌+◌, ◌<◌, ◌≤◌, Bool, true, false, not, ◌&&◌, ltb, ltb-true, List, length}
+use Rattle.std.specs.Prelude.{slice_get, slice_index, filter}
+use Rattle.std.specs.List.{list_all}
+use Rattle.std.proofs.Common.{◌≡◌, ◌∙◌, ◌^◌, inl, inr, ℕ, ◌<◌, ◌≤◌, Bool, true, not, ◌&&◌, ltb, ltb-true}
+use Rattle.std.proofs.Common.{List, length}
 use Rattle.std.proofs.Common.{Some, refl, sym, ap, subst, arith}
 use Rattle.std.proofs.lemmas.Bool.{cases_lt, and_from}
 use Rattle.std.proofs.lemmas.List.{get_or_past}
 use Rattle.std.proofs.lemmas.List.Elements.{All-get_or}
 use Rattle.std.proofs.lemmas.List.Sums.{AllPass-from_list_all}
-use Rattle.doc_bits.specs.Rules.{Hold}
-use Rattle.cfb_streams.specs.Contents.{NamedBytes, Contents, AreStreams, HasNamed}
+use Rattle.cfb_streams.specs.Contents.{NamedBytes, Contents, AreStreams}
 use Rattle.cfb_streams.specs.Directory.{AreSameNames, ComesBefore}
 use Rattle.cfb_streams.specs.Names.{wd_name, first_table_name, second_table_name, is_same_name}
 use Rattle.cfb_streams.proofs.SameNameLemmas.{same_name-false}
-use Rattle.cfb_layout.specs.Counts.{Fits}
-use Rattle.cfb_layout.specs.Layout.{lengths_of, compound_file, contents_of}
+use Rattle.cfb_layout.specs.Layout.{contents_of}
 use Rattle.cfb_layout.specs.Laws.{IsLayout}
 use Rattle.cfb_layout.proofs.MadeLemmas.{file_holds, file_contents}
 use Rattle.plain_doc.specs.declared.document.Document.{Document}
@@ -22,9 +21,9 @@ use Rattle.plain_doc.specs.Formed.{IsFormed}
 use Rattle.plain_doc.specs.Sound.{IsSound}
 use Rattle.full_save.specs.WordDocument.{wd_stream, table_stream}
 use Rattle.full_save.specs.Streams.{put_stream}
-use Rattle.full_save.specs.Layout.{layout_streams, full_save_image, FitsCompoundFile}
-use Rattle.doc_read.specs.CarriedParts.{is_carried, carried_streams}
-use Rattle.doc_read.specs.Holds.{HoldsDocument, IsAccepted}
+use Rattle.full_save.specs.Layout.{layout_streams, full_save_image}
+use Rattle.doc_read.specs.CarriedParts.{is_carried}
+use Rattle.doc_read.specs.Holds.{HoldsDocument}
 use Rattle.doc_read.proofs.NameLemmas.{wd-not_carried, table-not_carried}
 use Rattle.doc_read.proofs.OneDocument.{document_one}
 use Rattle.doc_read.proofs.ExistDocument.{files_hold as files_hold_documents}
@@ -33,10 +32,11 @@ use Rattle.save_laws.specs.FullSaves.{full_saved_text, HasLayout}
 use Rattle.full_save.specs.ShortStreams.{AreShortStreams}
 use Rattle.save_laws.proofs.HeldLemmas.{files_hold}
 use Rattle.save_laws.proofs.FullSavedLemmas.{full_saves_are_saves}
-use Rattle.fast_save.specs.Laws.{IsSavable, IsHeldInFull, FullSavesHold, FullSavesAreRead, FullSavesAreCanonical}
+use Rattle.fast_save.specs.Laws.{IsSavable, FullSavesHold, FullSavesAreRead, FullSavesAreCanonical}
 use Rattle.fast_save.specs.Laws.{IsSavableFile, FullSavesAreFixed, EqualFilesHaveOneSave}
 use Rattle.full_save.proofs.NameOrder.{same_as_itself}
-use Rattle.full_save.proofs.PutStreams.{IsPutAmong, length-put, put_there, kept_there, each_put, put_ascend, put_are_streams, total-put}
+use Rattle.full_save.proofs.PutStreams.{IsPutAmong, length-put, put_there, kept_there, each_put, put_ascend}
+use Rattle.full_save.proofs.PutStreams.{put_are_streams, total-put}
 use Rattle.full_save.proofs.PutStreams.{put_among, put_left_out, all_pass}
 use Rattle.fast_save.proofs.ContainerLemmas.{contents_has, contents_clsid, contents_carried, stream_short}
 
@@ -57,7 +57,8 @@ units_small name all k = elim (cases_lt k (length name)) [
   | inr past ↦ omega (arith, get_or_past name k 0 past)
   | inl low ↦
       ltb-true (slice_index name k) 65536
-      (All-get_or (λ unit. ltb unit 65536 ≡ true) name k 0 low (AllPass-from_list_all (λ unit. ltb unit 65536) name all))
+      (All-get_or (λ unit. ltb unit 65536 ≡ true) name k 0 low
+      (AllPass-from_list_all (λ unit. ltb unit 65536) name all))
 ]
 
 other_names : ¬ AreSameNames wd_name second_table_name
@@ -90,7 +91,8 @@ unfolding layout_streams
 laid_table document formed =
     let with_wd = put_stream (the_wd document) document.carried.streams in
     put_among (the_table document) with_wd (with_wd_order document formed)
-    (each_put (λ stream. ¬ AreSameNames stream.name second_table_name) (the_wd document) document.carried.streams with_wd (laid_wd document formed)
+    (each_put (λ stream. ¬ AreSameNames stream.name second_table_name) (the_wd document) document.carried.streams
+    with_wd (laid_wd document formed)
     (λ i stream here. (formed.carried.streams.names i stream here).no_second_table) other_names)
 
 -- where the two stand
@@ -99,7 +101,8 @@ table_there : (document : Document) → IsFormed document →
 table_there document formed =
     let is = laid_table document formed in (
       length is.front,
-      put_there (the_table document) (put_stream (the_wd document) document.carried.streams) (layout_streams document) is,
+      put_there (the_table document) (put_stream (the_wd document) document.carried.streams) (layout_streams document)
+          is,
     )
 
 wd_there : (document : Document) → IsFormed document →
@@ -128,8 +131,11 @@ are_streams document is =
     let few = is.formed.carried.streams.total in
     let wd = laid_wd document is.formed in
     let total = total-put (the_wd document) carried with_wd wd in
-    let first = put_are_streams (the_wd document) carried with_wd wd is.formed.carried.ordered (omega arith) (omega arith) (omega (arith, few, most.wd)) in
-    put_are_streams (the_table document) with_wd (layout_streams document) (laid_table document is.formed) first (omega arith) (omega arith)
+    let first =
+    put_are_streams (the_wd document) carried with_wd wd is.formed.carried.ordered (omega arith) (omega arith)
+    (omega (arith, few, most.wd)) in
+    put_are_streams (the_table document) with_wd (layout_streams document) (laid_table document is.formed) first
+    (omega arith) (omega arith)
     (omega (arith, total, few, most.wd, most.table))
 
 is_layout : (document : Document) → IsSavable document → IsLayout (layout_streams document) document.carried.clsid
@@ -161,7 +167,8 @@ is_carried_name name is =
     ap not (sym (same_name-false name first_table_name is.no_first_table)) in
     let no_second : not (is_same_name name second_table_name) ≡ true =
     ap not (sym (same_name-false name second_table_name is.no_second_table)) in
-    and_from (not (is_same_name name wd_name)) (not (is_same_name name first_table_name) && not (is_same_name name second_table_name)) no_wd
+    and_from (not (is_same_name name wd_name))
+    (not (is_same_name name first_table_name) && not (is_same_name name second_table_name)) no_wd
     (and_from (not (is_same_name name first_table_name)) (not (is_same_name name second_table_name)) no_first no_second)
 
 abbrev passes : NamedBytes → Bool
@@ -176,7 +183,8 @@ carried_again document formed =
     (table-not_carried second_table_name true (same_as_itself second_table_name second_table_name refl))
     ∙ (put_left_out passes (the_wd document) carried with_wd (laid_wd document formed)
     (wd-not_carried wd_name (same_as_itself wd_name wd_name refl))
-    ∙ all_pass passes carried (λ i stream here. is_carried_name stream.name (formed.carried.streams.names i stream here)))
+    ∙ all_pass passes carried
+    (λ i stream here. is_carried_name stream.name (formed.carried.streams.names i stream here)))
 
 abbrev the_contents : Document → Contents
 the_contents document = contents_of (layout_streams document) document.carried.clsid
@@ -213,7 +221,9 @@ short document is =
 
 pub full_saves_are_read : FullSavesAreRead
 full_saves_are_read document is =
-    let saved = full_saves_are_saves document (the_contents document) is.formed is.sound (short document is) (has_layout document is.formed) in
+    let saved =
+    full_saves_are_saves document (the_contents document) is.formed is.sound (short document is)
+    (has_layout document is.formed) in
     files_hold (full_save_image document) document (full_saved_text document) (table_stream document)
     (the_contents document) is.formed is.sound saved (file_of document is)
 
@@ -225,7 +235,8 @@ pub full_saves_are_canonical : FullSavesAreCanonical
 full_saves_are_canonical one other is other_is = (
   (λ same.
       document_one (full_save_image other) one other
-      (subst (λ file. HoldsDocument file one) same (full_saves_hold one is).holds) (full_saves_hold other other_is).holds),
+      (subst (λ file. HoldsDocument file one) same (full_saves_hold one is).holds)
+      (full_saves_hold other other_is).holds),
   (λ same. ap full_save_image same),
 )
 
@@ -248,5 +259,6 @@ full_saves_are_fixed file document again is holds =
 
 pub equal_files_have_one_save : EqualFilesHaveOneSave
 equal_files_have_one_save file other_file one other is other_is =
-    let canon = full_saves_are_canonical one other (savable_file file one is) (savable_file other_file other other_is) in
+    let canon =
+    full_saves_are_canonical one other (savable_file file one is) (savable_file other_file other other_is) in
     (canon.1, canon.0)

@@ -1,40 +1,58 @@
 -- Parts of a table stream that stand one after the other are found by their pairs.
 use Rattle.std.specs.Prelude.{replicate, slice_get, slice_set, slice_range, ⊤, All, ◌^◌}
 use Rattle.std.specs.List.{list_all}
-use Rattle.std.proofs.Common.{◌≡◌, ◌≢◌, inl, inr, ℕ, zero, suc, ◌+◌, ◌<◌, ◌≤◌, Bool, true, false, eqb, cond, List, [], ◌∷◌, ◌++◌}
-use Rattle.std.proofs.Common.{length, take, drop, Some, refl, sym, ap, ◌∙◌, subst, arith, append_assoc, length-append, not, eq-eqb}
+use Rattle.std.proofs.Common.{◌≡◌, ◌≢◌, inl, inr, ℕ, zero, suc, ◌+◌, ◌<◌, ◌≤◌, Bool, true, false, eqb, cond, List, []}
+use Rattle.std.proofs.Common.{◌∷◌, ◌++◌}
+use Rattle.std.proofs.Common.{length, take, drop, Some, refl, sym, ap, ◌∙◌, subst, arith, append_assoc, length-append}
+use Rattle.std.proofs.Common.{not, eq-eqb}
 use Rattle.std.proofs.lemmas.Bool.{cases_eq, cases_lt, ne_eqb, and_parts, true≢false}
-use Rattle.std.proofs.lemmas.List.{get_or-set_other, get_or-set_same, get_or-replicate, get_or_past, length-replicate, length-set, nil_from_length}
+use Rattle.std.proofs.lemmas.List.{get_or-set_other, get_or-set_same, get_or-replicate, get_or_past, length-replicate}
+use Rattle.std.proofs.lemmas.List.{length-set, nil_from_length}
 use Rattle.std.proofs.lemmas.List.Elements.{All-set, All-replicate}
 use Rattle.std.proofs.lemmas.Option.{same_Some, none-some}
 use Rattle.doc_bits.proofs.ListLemmas.{range_mid}
 use Rattle.fib_form.specs.FibFields.{pair_at, ArePairs, IsWidePair, empty_pairs}
 use Rattle.fib_form.proofs.PairLemmas.{empty-ArePairs}
-use Rattle.fib_form.specs.TableEntries.{TableEntry, IsPartAt}
+use Rattle.fib_form.specs.TableEntries.{TableEntry, entry, IsPartAt}
 use Rattle.full_save.specs.TableStream.{entry_bytes, entries_bytes, put_pair, pairs_from}
 
 -- a part that is empty has nothing behind it
 abbrev pub IsWholePart : TableEntry → Type 0
 IsWholePart part = length part.bytes ≡ 0 → length part.behind ≡ 0
 
--- the numbers of parts ascend from one on, each is that of a pair, and each part is whole
+-- the number of a part is not below a bound and is that of a pair, and the part is whole
+pub record IsNumbered (low : ℕ) (part : TableEntry) : Type 0 where
+  pub low_is : low ≤ part.number
+  pub below : part.number < 93
+  pub whole : IsWholePart part
+
+-- a part with nothing behind it
+pub plain : (low number : ℕ) (bytes : List ℕ) → low ≤ number → number < 93 → IsNumbered low (entry number bytes)
+plain low number bytes low_is below = record { low_is = low_is; below = below; whole = λ none. refl }
+
+-- the numbers of parts ascend from one on
 abbrev pub AreNumbered : ℕ → List TableEntry → Type 0
 AreNumbered low [] = ⊤
-AreNumbered low (part ∷ parts) =
-    (low ≤ part.number) × ((part.number < 93) × (IsWholePart part × AreNumbered (part.number + 1) parts))
+AreNumbered low (part ∷ parts) = IsNumbered low part × AreNumbered (part.number + 1) parts
+
+-- what is said of a part of the list
+record IsNumberedAbove (part : TableEntry) : Type 0 where
+  low : ℕ
+  is : IsNumbered low part
 
 numbered_at : (low : ℕ) (parts : List TableEntry) (k : ℕ) (part : TableEntry) → AreNumbered low parts →
-    slice_get parts k ≡ Some part → (part.number < 93) × IsWholePart part
+    slice_get parts k ≡ Some part → IsNumberedAbove part
 numbered_at low [] k part are here = absurd (none-some part here)
 numbered_at low (first ∷ parts) zero part are here =
-    subst (λ (p : TableEntry). (p.number < 93) × IsWholePart p) (same_Some first part here) (are.1.0, are.1.1.0)
-numbered_at low (first ∷ parts) (suc k) part are here = numbered_at (first.number + 1) parts k part are.1.1.1 here
+    record { low = low; is = subst (IsNumbered low) (same_Some first part here) are.0 }
+numbered_at low (first ∷ parts) (suc k) part are here = numbered_at (first.number + 1) parts k part are.1 here
 
 -- ---- one pair
 
 length-put_pair : (at : ℕ) (part : TableEntry) (pairs : List (ℕ × ℕ)) → length (put_pair at part pairs) ≡ length pairs
 length-put_pair at part pairs =
-    elim (eqb (length part.bytes) 0) as (λ b. length (cond b pairs (slice_set pairs part.number (at, length part.bytes))) ≡ length pairs) [
+    elim (eqb (length part.bytes) 0) as
+    (λ b. length (cond b pairs (slice_set pairs part.number (at, length part.bytes))) ≡ length pairs) [
       | true ↦ refl
       | false ↦ length-set pairs part.number (at, length part.bytes)
     ]
@@ -42,7 +60,8 @@ length-put_pair at part pairs =
 put_elsewhere : (at n : ℕ) (part : TableEntry) (pairs : List (ℕ × ℕ)) → n ≢ part.number →
     pair_at (put_pair at part pairs) n ≡ pair_at pairs n
 put_elsewhere at n part pairs other =
-    elim (eqb (length part.bytes) 0) as (λ b. pair_at (cond b pairs (slice_set pairs part.number (at, length part.bytes))) n ≡ pair_at pairs n) [
+    elim (eqb (length part.bytes) 0) as
+    (λ b. pair_at (cond b pairs (slice_set pairs part.number (at, length part.bytes))) n ≡ pair_at pairs n) [
       | true ↦ refl
       | false ↦ get_or-set_other pairs part.number n (at, length part.bytes) (0, 0) other
     ]
@@ -54,7 +73,9 @@ placed_pair at part = cond (eqb (length part.bytes) 0) (0, 0) (at, length part.b
 put_here : (at : ℕ) (part : TableEntry) (pairs : List (ℕ × ℕ)) → part.number < length pairs →
     pair_at pairs part.number ≡ (0, 0) → pair_at (put_pair at part pairs) part.number ≡ placed_pair at part
 put_here at part pairs below none =
-    elim (eqb (length part.bytes) 0) as (λ b. pair_at (cond b pairs (slice_set pairs part.number (at, length part.bytes))) part.number ≡ cond b (0, 0) (at, length part.bytes)) [
+    elim (eqb (length part.bytes) 0) as
+    (λ b. pair_at (cond b pairs (slice_set pairs part.number (at, length part.bytes))) part.number ≡ cond b (0, 0)
+    (at, length part.bytes)) [
       | true ↦ none
       | false ↦ get_or-set_same pairs part.number (at, length part.bytes) (0, 0) below
     ]
@@ -67,9 +88,10 @@ lower_kept : (low n at : ℕ) (pairs : List (ℕ × ℕ)) (parts : List TableEnt
 unfolding pairs_from
 lower_kept low n at pairs [] ascend below = refl
 lower_kept low n at pairs (part ∷ parts) ascend below =
-    let first = ascend.0 in
+    let first = ascend.0.low_is in
     let other : n ≢ part.number = λ same. omega (arith, first, below, same) in
-    lower_kept (part.number + 1) n (at + length (entry_bytes part)) (put_pair at part pairs) parts ascend.1.1.1 (omega (arith, first, below))
+    lower_kept (part.number + 1) n (at + length (entry_bytes part)) (put_pair at part pairs) parts ascend.1
+    (omega (arith, first, below))
     ∙ put_elsewhere at n part pairs other
 
 abbrev IsClear : ℕ → List (ℕ × ℕ) → Type 0
@@ -86,19 +108,21 @@ pair_found low at place pairs (first ∷ parts) zero part ascend clear here belo
     let number = ap (λ (p : TableEntry). p.number) same in
     let next : part.number < first.number + 1 = omega (arith, number) in
     let there : at ≡ place = omega (arith, e) in
-    let low_is = ascend.0 in
-    lower_kept (first.number + 1) part.number (at + length (entry_bytes first)) (put_pair at first pairs) parts ascend.1.1.1 next
+    let low_is = ascend.0.low_is in
+    lower_kept (first.number + 1) part.number (at + length (entry_bytes first)) (put_pair at first pairs) parts
+    ascend.1 next
     ∙ (ap (pair_at (put_pair at first pairs)) (sym number)
     ∙ (put_here at first pairs (omega (arith, number, below)) (clear first.number low_is)
     ∙ (λ i. placed_pair (there i) (same i))))
 pair_found low at place pairs (first ∷ parts) (suc k) part ascend clear here below e =
     let len = length-append (entry_bytes first) (entries_bytes (take k parts)) in
-    let first_is = ascend.0 in
+    let first_is = ascend.0.low_is in
     let still : IsClear (first.number + 1) (put_pair at first pairs) = λ n high.
     let other : n ≢ first.number = λ same. omega (arith, high, same) in
     put_elsewhere at n first pairs other ∙ clear n (omega (arith, high, first_is)) in
     let many = length-put_pair at first pairs in
-    pair_found (first.number + 1) (at + length (entry_bytes first)) place (put_pair at first pairs) parts k part ascend.1.1.1
+    pair_found (first.number + 1) (at + length (entry_bytes first)) place (put_pair at first pairs) parts k part
+    ascend.1
     still here (omega (arith, below, many)) (omega (arith, e, len))
 
 -- ---- the bytes
@@ -114,7 +138,8 @@ cut_at_entry (first ∷ parts) zero part here =
     ∙ ap (λ (p : TableEntry). p.bytes ++ (p.behind ++ entries_bytes parts)) same
 cut_at_entry (first ∷ parts) (suc k) part here =
     ap (λ rest. entry_bytes first ++ rest) (cut_at_entry parts k part here)
-    ∙ sym (append_assoc (entry_bytes first) (entries_bytes (take k parts)) (part.bytes ++ (part.behind ++ entries_bytes (drop (suc k) parts))))
+    ∙ sym (append_assoc (entry_bytes first) (entries_bytes (take k parts))
+    (part.bytes ++ (part.behind ++ entries_bytes (drop (suc k) parts))))
 
 empty_there : (table : List ℕ) (part : TableEntry) → length part.bytes ≡ 0 → IsWholePart part →
     IsPartAt table (0, 0) part
@@ -146,7 +171,8 @@ some_there table parts k place part is here at =
     let all = ap length cut in
     record {
       len = refl;
-      bytes = range_mid table front part.bytes (part.behind ++ back) place (place + length part.bytes) cut at (omega (arith, at));
+      bytes = range_mid table front part.bytes (part.behind ++ back) place (place + length part.bytes) cut at
+          (omega (arith, at));
       within = omega (arith, a, b, c, all, at);
       behind = range_mid table (front ++ part.bytes) part.behind back (place + length part.bytes)
           (place + length part.bytes + length part.behind) later (omega (arith, d, at)) (omega (arith, d, at));
@@ -227,7 +253,8 @@ entries_are_pairs parts allowed =
 put_wide : (at : ℕ) (part : TableEntry) (pairs : List (ℕ × ℕ)) → All IsWidePair pairs →
     at + length part.bytes < 2 ^ 32 → All IsWidePair (put_pair at part pairs)
 put_wide at part pairs wide small =
-    elim (eqb (length part.bytes) 0) as (λ b. All IsWidePair (cond b pairs (slice_set pairs part.number (at, length part.bytes)))) [
+    elim (eqb (length part.bytes) 0) as
+    (λ b. All IsWidePair (cond b pairs (slice_set pairs part.number (at, length part.bytes)))) [
       | true ↦ wide
       | false ↦
           All-set IsWidePair pairs part.number (at, length part.bytes) (omega (arith, small), omega (arith, small)) wide
@@ -267,10 +294,10 @@ pub entry_stands : (parts : List TableEntry) (k : ℕ) (part : TableEntry) → A
     slice_get parts k ≡ Some part → Stands parts part
 entry_stands parts k part are here =
     let count = empty-ArePairs.count in
-    let is = numbered_at 0 parts k part are here in
+    let is = (numbered_at 0 parts k part are here).is in
     record {
-      below = is.0;
+      below = is.below;
       there =
-          entry_found (entries_bytes parts) empty_pairs parts k part refl are no_pair here (omega (arith, is.0, count))
-          is.1;
+          entry_found (entries_bytes parts) empty_pairs parts k part refl are no_pair here
+          (omega (arith, is.below, count)) is.whole;
     }

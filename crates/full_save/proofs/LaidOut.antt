@@ -78,7 +78,8 @@ text_writable text formed short =
     item_writable item (All_at IsFormedItem text k item formed.each here) (short k item here))
 
 texts_writable : (texts : List (List Item)) → All IsFormedText texts →
-    ((k : ℕ) (text : List Item) → slice_get texts k ≡ Some text → (i : ℕ) (item : Item) → slice_get text i ≡ Some item → HasShortSettings item) →
+    ((k : ℕ) (text : List Item) → slice_get texts k ≡ Some text → (i : ℕ) (item : Item) →
+    slice_get text i ≡ Some item → HasShortSettings item) →
     All IsWritableItem (joined_texts texts)
 texts_writable texts formed short =
     joined_all IsWritableItem texts (λ k text there.
@@ -115,8 +116,12 @@ unfolding text_items note_story head_story
 items_writable s =
     let d = s.document in
     let main = text_writable d.main s.formed.main (λ k item here. (s.right.texts Main d.main refl).short k item here) in
-    let notes = texts_writable d.notes s.formed.notes.each (λ k text there i item here. (s.right.texts (Note k) text there).short i item here) in
-    let heads = texts_writable d.heads s.formed.heads.each (λ k text there i item here. (s.right.texts (Head k) text there).short i item here) in
+    let notes =
+    texts_writable d.notes s.formed.notes.each
+    (λ k text there i item here. (s.right.texts (Note k) text there).short i item here) in
+    let heads =
+    texts_writable d.heads s.formed.heads.each
+    (λ k text there i item here. (s.right.texts (Head k) text there).short i item here) in
     let note_items = with_mark (joined_texts d.notes) in
     let head_items = with_mark (joined_texts d.heads) in
     All-append IsWritableItem d.main (with_mark (note_items ++ head_items)) main
@@ -215,7 +220,8 @@ length-front document =
     let len = length-written_fib (full_fib document) (fib_pairs_count document) in
     length-filled text_at 0 (written_fib (full_fib document)) (omega (arith, len))
 
-length-wd_body : (document : Document) → length (front_bytes document) + length (wd_body document) ≤ length (wd_stream document)
+length-wd_body : (document : Document) →
+    length (front_bytes document) + length (wd_body document) ≤ length (wd_stream document)
 unfolding wd_stream filled
 length-wd_body document =
     let all = front_bytes document ++ wd_body document in
@@ -272,18 +278,30 @@ fib_read s =
 
 -- ---- how long its parts are
 
-pub record Sizes (s : LaidOut) : Type 0 where
-  pub front : length (body_of s.document).front ≡ 1024
-  pub text : length (body_of s.document).text ≡ 2 * length (text_items s.document)
-  pub fill : length (body_of s.document).text + length (body_of s.document).fill ≡ 512 * ((2 * length (text_items s.document) + 511) / 512)
-  pub chp : length (body_of s.document).chp ≡ 512 * length (document_pages Chpx s.document).starts
-  pub pap : length (body_of s.document).pap ≡ 512 * length (document_pages Papx s.document).starts
-  pub all : 1024 + (length (body_of s.document).text + length (body_of s.document).fill) + length (body_of s.document).chp + length (body_of s.document).pap + length (body_of s.document).sepx ≤ length (wd_stream s.document)
+abbrev the_body : LaidOut → Body
+the_body s = body_of s.document
+
+abbrev page_count : PageKind → LaidOut → ℕ
+page_count kind s = length (document_pages kind s.document).starts
+
+abbrev text_count : LaidOut → ℕ
+text_count s = 2 * length (text_items s.document)
+
+record Sizes (s : LaidOut) : Type 0 where
+  front : length (the_body s).front ≡ 1024
+  text : length (the_body s).text ≡ text_count s
+  fill : length (the_body s).text + length (the_body s).fill ≡ 512 * ((text_count s + 511) / 512)
+  chp : length (the_body s).chp ≡ 512 * page_count Chpx s
+  pap : length (the_body s).pap ≡ 512 * page_count Papx s
+  all :
+      1024 + (length (the_body s).text + length (the_body s).fill) + length (the_body s).chp
+      + length (the_body s).pap + length (the_body s).sepx ≤ length (wd_stream s.document)
 
 pub runs_are : (kind : PageKind) (s : LaidOut) → AreTextRuns kind (document_runs kind s.document)
 runs_are kind s =
     let few = few_items s in
-    text_runs_right kind text_at (text_items s.document) (items_writable s) (omega (arith, few.some)) (omega (arith, few.all))
+    text_runs_right kind text_at (text_items s.document) (items_writable s) (omega (arith, few.some))
+    (omega (arith, few.all))
 
 pub pages_are : (kind : PageKind) (s : LaidOut) →
     ArePagesOf kind (document_runs kind s.document) (document_pages kind s.document)
@@ -292,7 +310,8 @@ pages_are kind s = runs_have_pages kind (document_runs kind s.document) (runs_ar
 length-pages : (kind : PageKind) (s : LaidOut) →
     length (document_pages kind s.document).bytes ≡ 512 * length (document_pages kind s.document).starts
 length-pages kind s =
-    (pages_are_whole kind (document_runs kind s.document) (document_pages kind s.document) (runs_are kind s).right (pages_are kind s)).size
+    (pages_are_whole kind (document_runs kind s.document) (document_pages kind s.document) (runs_are kind s).right
+    (pages_are kind s)).size
 
 length-text : (document : Document) → length (text_bytes document) ≡ 2 * length (text_items document)
 length-text document =
@@ -304,7 +323,9 @@ sizes : (s : LaidOut) → Sizes s
 sizes s =
     let b = body_of s.document in
     let text = length-text s.document in
-    let zeros = length-replicate {A = ℕ} (units_for 512 (length (text_bytes s.document)) * 512 - length (text_bytes s.document)) 0 in
+    let zeros =
+    length-replicate {A = ℕ} (units_for 512 (length (text_bytes s.document)) * 512 - length (text_bytes s.document))
+    0 in
     let whole = ap length (wd_is s.document) in
     let a1 = length-append b.front (b.text ++ (b.fill ++ (b.chp ++ (b.pap ++ (b.sepx ++ b.tail))))) in
     let a2 = length-append b.text (b.fill ++ (b.chp ++ (b.pap ++ (b.sepx ++ b.tail)))) in

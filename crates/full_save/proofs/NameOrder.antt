@@ -1,6 +1,7 @@
 -- Of two names that are not the same, one comes first.
 use Rattle.std.specs.Prelude.{slice_index}
-use Rattle.std.proofs.Common.{◌≡◌, ◌≢◌, ◌∙◌, inl, inr, ℕ, zero, suc, ◌<◌, true, false, cond, ltb, lt-ltb, eq-eqb, List, []}
+use Rattle.std.proofs.Common.{◌≡◌, ◌≢◌, ◌∙◌, inl, inr, ℕ, zero, suc, ◌<◌, true, false, cond, ltb, lt-ltb, eq-eqb}
+use Rattle.std.proofs.Common.{List, []}
 use Rattle.std.proofs.Common.{◌∷◌, length, refl, sym, ap, subst, arith}
 use Rattle.std.proofs.lemmas.Bool.{cases_order, cases_eq, ne_eqb, ltb-true, false≢true, true≢false}
 use Rattle.cfb_streams.specs.Directory.{upper_case, AreSameNames, IsNameLessAt, ComesBefore}
@@ -15,7 +16,8 @@ comes_other name other not apart = elim (cases_order (length name) (length other
     | inr hi ↦ inl hi
   ]
   | inl e ↦
-      elim (first_difference (λ i. upper_case (slice_index name i)) (λ i. upper_case (slice_index other i)) (length name)) [
+      elim (first_difference (λ i. upper_case (slice_index name i)) (λ i. upper_case (slice_index other i))
+      (length name)) [
         | inl same ↦ absurd (apart (record { long = e; units = same }))
         | inr d ↦
             let inside = d.1.0 in
@@ -115,10 +117,12 @@ before_is name other before = elim (cases_eq (length name) (length other)) [
 before_from : (name other : List ℕ) → ComesBefore name other → is_name_before name other ≡ true
 before_from name other (inl shorter) =
     let apart : length name ≢ length other = λ e. omega (arith, e, shorter) in
-    ap (λ b. cond b (has_less_unit name other) (ltb (length name) (length other))) (ne_eqb (length name) (length other) apart)
+    ap (λ b. cond b (has_less_unit name other) (ltb (length name) (length other)))
+    (ne_eqb (length name) (length other) apart)
     ∙ lt-ltb (length name) (length other) shorter
 before_from name other (inr less) =
-    ap (λ b. cond b (has_less_unit name other) (ltb (length name) (length other))) (eq-eqb (length name) (length other) less.0)
+    ap (λ b. cond b (has_less_unit name other) (ltb (length name) (length other)))
+    (eq-eqb (length name) (length other) less.0)
     ∙ less_from name other less.1.0 less.0 less.1.1
 
 -- a name that does not come before another one, and is not the same, comes behind it

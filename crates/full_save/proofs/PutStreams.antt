@@ -1,7 +1,8 @@
--- A stream that is put among others where its name belongs: the names keep their order, and the others are what they were.
+-- A stream that is put among others where its name belongs: the names keep their order, and the others stay.
 use Rattle.std.specs.Prelude.{slice_get, filter}
 use Rattle.std.specs.List.{sum_by}
-use Rattle.std.proofs.Common.{◌≡◌, ◌⊎◌, inl, inr, ℕ, zero, suc, ◌+◌, ◌^◌, ◌<◌, ◌≤◌, Bool, true, false, List, [], ◌∷◌, ◌++◌}
+use Rattle.std.proofs.Common.{◌≡◌, ◌⊎◌, inl, inr, ℕ, zero, suc, ◌+◌, ◌^◌, ◌<◌, ◌≤◌, Bool, true, false, List, [], ◌∷◌}
+use Rattle.std.proofs.Common.{◌++◌}
 use Rattle.std.proofs.Common.{length, Some, refl, sym, ap, ◌∙◌, subst, arith, length-append, cond, map}
 use Rattle.std.proofs.lemmas.List.Elements.{filter-append}
 use Rattle.std.proofs.lemmas.List.Sums.{sum_by-append, sum_by-cons}
@@ -78,8 +79,11 @@ kept_there put old new is i stream here =
     elim (at_seam is.front is.back i stream there) [
       | inl before ↦ (i, in_front is.front (put ∷ is.back) i stream before)
       | inr behind ↦
-          let at : length is.front + suc behind.0 ≡ length is.front + suc behind.0 = refl in
-          (length is.front + suc behind.0, in_back is.front (put ∷ is.back) (suc behind.0) (length is.front + suc behind.0) stream behind.1.1 at)
+          let at : length is.front + suc behind.0 ≡ length is.front + suc behind.0 = refl in (
+            length is.front + suc behind.0,
+            in_back is.front (put ∷ is.back) (suc behind.0)
+                (length is.front + suc behind.0) stream behind.1.1 at,
+          )
     ] in
     (found.0, subst (λ streams. slice_get streams found.0 ≡ Some stream) (sym is.new_is) found.1)
 
@@ -90,7 +94,8 @@ old_or_put : (P : NamedBytes → Type 0) (front back : List NamedBytes) (put : N
 old_or_put P front back put old it i stream here = elim (at_put front put back i stream here) [
   | inl before ↦ old i stream (in_front front back i stream before)
   | inr (inl same) ↦ subst P same.1 it
-  | inr (inr behind) ↦ old (length front + behind.0) stream (in_back front back behind.0 (length front + behind.0) stream behind.1.1 refl)
+  | inr (inr behind) ↦ old (length front + behind.0) stream
+      (in_back front back behind.0 (length front + behind.0) stream behind.1.1 refl)
 ]
 
 -- what holds of the others and of it holds of all
@@ -99,12 +104,13 @@ pub each_put : (P : NamedBytes → Type 0) (put : NamedBytes) (old new : List Na
     (stream : NamedBytes) → slice_get new i ≡ Some stream → P stream
 each_put P put old new is each it i stream here =
     old_or_put P is.front is.back put
-    (λ k other there. each k other (subst (λ streams. slice_get streams k ≡ Some other) (sym is.old_is) there)) it i stream
+    (λ k other there. each k other (subst (λ streams. slice_get streams k ≡ Some other) (sym is.old_is) there)) it i
+    stream
     (subst (λ streams. slice_get streams i ≡ Some stream) is.new_is here)
 
 -- the order of the names
 order_put : (front back : List NamedBytes) (put : NamedBytes) →
-    ((i j : ℕ) (stream later : NamedBytes) → i < j → slice_get (front ++ back) i ≡ Some stream → slice_get (front ++ back) j ≡ Some later → ComesBefore stream.name later.name) →
+    Ascend (front ++ back) →
     ((i : ℕ) (stream : NamedBytes) → slice_get front i ≡ Some stream → ComesBefore stream.name put.name) →
     ((i : ℕ) (stream : NamedBytes) → slice_get back i ≡ Some stream → ComesBefore put.name stream.name) → (i j : ℕ)
     (stream later : NamedBytes) → i < j → slice_get (front ++ (put ∷ back)) i ≡ Some stream →
@@ -118,7 +124,8 @@ order_put front back put order behind before i j stream later less here there =
             let e = far.1.0 in
             let within = slice_get_within front i stream low in
             let after : i < length front + far.0 = omega (arith, within) in
-            order i (length front + far.0) stream later after (in_front front back i stream low) (in_back front back far.0 (length front + far.0) later far.1.1 refl)
+            order i (length front + far.0) stream later after (in_front front back i stream low)
+            (in_back front back far.0 (length front + far.0) later far.1.1 refl)
       ]
       | inr (inl it) ↦ elim (at_put front put back j later there) [
         | inl high ↦
@@ -167,7 +174,8 @@ pub put_are_streams : (put : NamedBytes) (old new : List NamedBytes) → IsPutAm
 put_are_streams put old new is are some short room =
     let these : AreStreams (is.front ++ is.back) = subst AreStreams is.old_is are in
     let total : sum_by (λ stream. length stream.bytes) (is.front ++ is.back) + length put.bytes < 2 ^ 48 =
-    subst (λ (streams : List NamedBytes). sum_by (λ stream. length stream.bytes) streams + length put.bytes < 2 ^ 48) is.old_is room in
+    subst (λ (streams : List NamedBytes). sum_by (λ stream. length stream.bytes) streams + length put.bytes < 2 ^ 48)
+    is.old_is room in
     subst AreStreams (sym is.new_is) (record {
       some = old_or_put (λ stream. 1 ≤ length stream.name) is.front is.back put these.some some;
       short = old_or_put (λ stream. length stream.name ≤ 31) is.front is.back put these.short short;
@@ -179,7 +187,8 @@ pub total-put : (put : NamedBytes) (old new : List NamedBytes) → IsPutAmong pu
     sum_by (λ stream. length stream.bytes) new ≡ sum_by (λ stream. length stream.bytes) old + length put.bytes
 total-put put old new is =
     let f : List NamedBytes → ℕ = λ streams. sum_by (λ (stream : NamedBytes). length stream.bytes) streams in
-    ap f is.new_is ∙ (total_put is.front is.back put ∙ ap (λ (streams : List NamedBytes). f streams + length put.bytes) (sym is.old_is))
+    ap f is.new_is
+    ∙ (total_put is.front is.back put ∙ ap (λ streams. f streams + length put.bytes) (sym is.old_is))
 
 -- ---- the function that puts it there
 

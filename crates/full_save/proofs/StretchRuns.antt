@@ -2,8 +2,10 @@
 use Rattle.std.specs.Prelude.{slice_get, is_some, All}
 use Rattle.std.specs.Option.{ForSome}
 use Rattle.std.specs.FinMap.{empty}
-use Rattle.std.proofs.Common.{◌≡◌, ◌⊎◌, inl, inr, ℕ, zero, suc, ◌+◌, ◌-◌, ◌*◌, ◌^◌, ◌<◌, ◌≤◌, Bool, true, false, not, List, []}
-use Rattle.std.proofs.Common.{◌∷◌, ◌++◌, length, take, Some, None, Option, refl, sym, ap, ◌∙◌, subst, arith, length-append}
+use Rattle.std.proofs.Common.{◌≡◌, ◌⊎◌, inl, inr, ℕ, zero, suc, ◌+◌, ◌-◌, ◌*◌, ◌^◌, ◌<◌, ◌≤◌, Bool, true, false, not}
+use Rattle.std.proofs.Common.{List, []}
+use Rattle.std.proofs.Common.{◌∷◌, ◌++◌, length, take, Some, None, Option, refl, sym, ap, ◌∙◌, subst, arith}
+use Rattle.std.proofs.Common.{length-append}
 use Rattle.std.proofs.lemmas.Bool.{cases_lt, true≢false}
 use Rattle.std.proofs.lemmas.List.Elements.{All-nil, All-cons, All-head, All-tail}
 use Rattle.std.proofs.lemmas.Option.{slice_get_within, same_Some, none-some}
@@ -142,7 +144,8 @@ character_run at items i item here =
     let e : length found.part - 1 ≡ found.offset + (length found.part - 1 - found.offset) = omega (arith, within) in
     let there : slice_get found.part (found.offset + (length found.part - 1 - found.offset)) ≡ Some last.0 =
     subst (λ m. slice_get found.part m ≡ Some last.0) e last.1 in
-    let same = alike_later found.part found.offset (length found.part - 1 - found.offset) item last.0 joined found.here there in
+    let same =
+    alike_later found.part found.offset (length found.part - 1 - found.offset) item last.0 joined found.here there in
     let run = run_at Chpx (at + 2 * length (joined_texts (take found.number parts))) found.part in (
       run,
       (in_run Chpx at parts i item found, ap (λ o. (item_settings Chpx o).1) last.1 ∙ sym same),
@@ -207,9 +210,17 @@ record AreRunSettings (kind : PageKind) (settings : ℕ × Settings) : Type 0 wh
 
 no_settings : (kind : PageKind) → AreRunSettings kind (0, empty)
 no_settings Chpx =
-    record { istd = omega arith; formed = IsPropertyMap-empty (run_groups Chpx); short = rw entries-empty (omega arith) }
+    record {
+      istd = omega arith;
+      formed = IsPropertyMap-empty (run_groups Chpx);
+      short = rw entries-empty (omega arith);
+    }
 no_settings Papx =
-    record { istd = omega arith; formed = IsPropertyMap-empty (run_groups Papx); short = rw entries-empty (omega arith) }
+    record {
+      istd = omega arith;
+      formed = IsPropertyMap-empty (run_groups Papx);
+      short = rw entries-empty (omega arith);
+    }
 
 of_mark : (mark : Option Mark) → ForSome mark IsWritableMark → AreRunSettings Papx (mark_settings mark)
 of_mark None writable = no_settings Papx

@@ -37,7 +37,8 @@ use Rattle.full_save.specs.Text.{extra_mark, with_mark, note_story, head_story, 
 use Rattle.fib_form.specs.TableEntries.{TableEntry, IsPartAt}
 use Rattle.full_save.specs.TableText.{table_entries}
 use Rattle.full_save.specs.TableStream.{entries_bytes, entries_pairs}
-use Rattle.full_save.specs.WordDocument.{text_at, document_runs, full_text, full_entries, table_stream, full_fib, wd_stream}
+use Rattle.full_save.specs.WordDocument.{text_at, document_runs, full_text, full_entries, table_stream, full_fib}
+use Rattle.full_save.specs.WordDocument.{wd_stream}
 use Rattle.full_save.specs.Sections.{seds_from}
 use Rattle.save_laws.specs.Places.{PagedStream, Given, given_of, StandsInside, GivesAt, IsMarkedAfter, IsGivenAfter}
 use Rattle.save_laws.specs.Slots.{Slot, shown, loose, last, StoryEnds, loose_if, note_slots, head_slots}
@@ -52,7 +53,7 @@ use Rattle.plain_doc.proofs.TextListLemmas.{collected_from}
 use Rattle.fkp_pages.proofs.RowTableLemmas.{table_of_row}
 use Rattle.save_laws.proofs.PlanLemmas.{plans_give}
 use Rattle.full_save.proofs.StretchRuns.{character_run, paragraph_run}
-use Rattle.full_save.proofs.EntriesFound.{AreNumbered, entry_stands}
+use Rattle.full_save.proofs.EntriesFound.{AreNumbered, plain, entry_stands}
 use Rattle.full_save.proofs.LaidOut.{LaidOut, few_items, fib_read, unit_there, text_within, HasRowTable}
 use Rattle.full_save.proofs.LaidOut.{character_table, paragraph_table, stand_sepxes}
 use Rattle.save_laws.proofs.FullSections.{FitsSepx, sections_saved}
@@ -157,8 +158,10 @@ written s =
       characters = document_runs Chpx d;
       paragraphs = document_runs Papx d;
       runs = runs_of d;
-      character_row = λ some. names_own Chpx (wd_stream d) (document_runs Chpx d) (the_stream d).characters (character_table s);
-      paragraph_row = λ some. names_own Papx (wd_stream d) (document_runs Papx d) (the_stream d).paragraphs (paragraph_table s);
+      character_row = λ some. names_own Chpx (wd_stream d) (document_runs Chpx d) (the_stream d).characters
+          (character_table s);
+      paragraph_row = λ some. names_own Papx (wd_stream d) (document_runs Papx d) (the_stream d).paragraphs
+          (paragraph_table s);
     }
 
 -- what a modifier that does nothing leaves
@@ -190,7 +193,8 @@ place_is : (len k : ℕ) (place : UnitPlace) → slice_get (flat_pieces (one_pie
     place ≡ the_place k
 unfolding flat_pieces
 place_is len k place here =
-    let all : flat_pieces (one_piece text_at len) ≡ unit_places (the_piece len) = append-nil (unit_places (the_piece len)) in
+    let all : flat_pieces (one_piece text_at len) ≡ unit_places (the_piece len) =
+    append-nil (unit_places (the_piece len)) in
     let there : slice_get (unit_places (the_piece len)) k ≡ Some place =
     subst (λ (places : List UnitPlace). slice_get places k ≡ Some place) all here in
     let within = slice_get_within (unit_places (the_piece len)) k place there in
@@ -217,15 +221,18 @@ full_placed s =
       len = omega (arith, flat, whole, same, one);
       each = λ k place slot here there.
           let item : slice_get items k ≡ Some (slot_item slot) =
-          subst (λ (xs : List Item). slice_get xs k ≡ Some (slot_item slot)) (whole_items d) (get-map slot_item slots k slot there) in
+          subst (λ (xs : List Item). slice_get xs k ≡ Some (slot_item slot)) (whole_items d)
+          (get-map slot_item slots k slot there) in
           let planned : IsPlanned (the_plan d) (text_at + 2 * k) true (given_of (slot_item slot)) = record {
             number = k;
             there = get-map given_of items k (slot_item slot) item;
             here = refl;
             two_bytes = refl;
           } in
-          let gives = plans_give (the_plan d) stream (text_at + 2 * k) true (given_of (slot_item slot)) (written s) planned in
-          subst (λ p. IsPlaced (StandsInside stream) (GivesAt stream) p slot) (sym (place_is (length items) k place here))
+          let gives =
+          plans_give (the_plan d) stream (text_at + 2 * k) true (given_of (slot_item slot)) (written s) planned in
+          subst (λ p. IsPlaced (StandsInside stream) (GivesAt stream) p slot)
+          (sym (place_is (length items) k place here))
           (placed_by stream (text_at + 2 * k) slot gives);
     }
 
@@ -234,7 +241,8 @@ full_placed s =
 one_pcd : (len k : ℕ) (piece : TextPiece) → slice_get (one_piece text_at len) k ≡ Some piece →
     IsPrintedPcd [] piece (slice_index_or (pcd_bytes (record { at = text_at; wide = true; len = len }) 0 ∷ []) k [])
 one_pcd len zero piece here =
-    subst (λ p. IsPrintedPcd [] p (pcd_bytes (record { at = text_at; wide = true; len = len }) 0)) (same_Some (the_piece len) piece here)
+    subst (λ p. IsPrintedPcd [] p (pcd_bytes (record { at = text_at; wide = true; len = len }) 0))
+    (same_Some (the_piece len) piece here)
     (record { prm = 0; names = inl (refl, refl); spelt = refl })
 one_pcd len (suc k) piece here = absurd (none-some piece here)
 
@@ -265,13 +273,16 @@ full_sections : (s : LaidOut) →
 full_sections s =
     let d = s.document in
     let stand = stand_sepxes s in
-    let fit : (k : ℕ) (section : ℕ × Settings) → slice_get (sections_of d.main) k ≡ Some section → FitsSepx section.1 = λ k section here.
+    let fit : (k : ℕ) (section : ℕ × Settings) → slice_get (sections_of d.main) k ≡ Some section →
+    FitsSepx section.1 = λ k section here.
     let from = collected_from (λ (item : Item). item.sect) 0 d.main k section here in
     let formed = All_at IsFormedItem d.main from.index from.item s.formed.main.each from.here in
     let right = (s.right.texts Main d.main refl).short from.index from.item from.here in
     record { formed = formed.maps.sect section.1 from.has; short = right.sect section.1 from.has } in
-    let saved = sections_saved (wd_stream d) stand.before stand.after (sections_of d.main) fit stand.there stand.low s.short.wd in
-    subst (λ n. AreSavedSections (sections_of d.main) (wd_stream d) (seds_from 0 n (sections_of d.main))) stand.place saved
+    let saved =
+    sections_saved (wd_stream d) stand.before stand.after (sections_of d.main) fit stand.there stand.low s.short.wd in
+    subst (λ n. AreSavedSections (sections_of d.main) (wd_stream d) (seds_from 0 n (sections_of d.main))) stand.place
+    saved
 
 -- a document without lists has no levels
 no_levels : (lst levels : List ℕ) → AreListsWithLevels lst levels → length lst ≡ 0 → length levels ≡ 0
@@ -283,7 +294,59 @@ no_levels lst levels are none =
 
 numbered : (document : Document) → AreListsWithLevels document.carried.lst document.carried.levels →
     AreNumbered 0 (full_entries document)
-numbered document lists = (omega arith, (omega arith, (λ none. refl, (omega arith, (omega arith, (λ none. refl, (omega arith, (omega arith, (λ none. refl, (omega arith, (omega arith, (λ none. refl, (omega arith, (omega arith, (λ none. refl, (omega arith, (omega arith, (λ none. refl, (omega arith, (omega arith, (λ none. refl, (omega arith, (omega arith, (λ none. refl, (omega arith, (omega arith, (λ none. refl, (omega arith, (omega arith, (λ none. refl, (omega arith, (omega arith, (λ none. refl, (omega arith, (omega arith, (λ none. refl, (omega arith, (omega arith, (λ none. refl, (omega arith, (omega arith, (λ none. refl, (omega arith, (omega arith, (no_levels document.carried.lst document.carried.levels lists, (omega arith, (omega arith, (λ none. refl, tt))))))))))))))))))))))))))))))))))))))))))))))))
+numbered document lists = (
+  plain 0 1 _ (omega arith) (omega arith),
+  (
+    plain 2 2 _ (omega arith) (omega arith),
+    (
+      plain 3 3 _ (omega arith) (omega arith),
+      (
+        plain 4 6 _ (omega arith) (omega arith),
+        (
+          plain 7 11 _ (omega arith) (omega arith),
+          (
+            plain 12 12 _ (omega arith) (omega arith),
+            (
+              plain 13 13 _ (omega arith) (omega arith),
+              (
+                plain 14 15 _ (omega arith) (omega arith),
+                (
+                  plain 16 16 _ (omega arith) (omega arith),
+                  (
+                    plain 17 17 _ (omega arith) (omega arith),
+                    (
+                      plain 18 18 _ (omega arith) (omega arith),
+                      (
+                        plain 19 31 _ (omega arith) (omega arith),
+                        (
+                          plain 32 32 _ (omega arith) (omega arith),
+                          (
+                            plain 33 33 _ (omega arith) (omega arith),
+                            (
+                              record {
+                                low_is = omega arith;
+                                below = omega arith;
+                                whole = no_levels document.carried.lst document.carried.levels lists;
+                              },
+                              (
+                                plain 74 74 _ (omega arith) (omega arith),
+                                tt,
+                              ),
+                            ),
+                          ),
+                        ),
+                      ),
+                    ),
+                  ),
+                ),
+              ),
+            ),
+          ),
+        ),
+      ),
+    ),
+  ),
+)
 
 full_part : (s : LaidOut) (k : ℕ) (part : TableEntry) → slice_get (full_entries s.document) k ≡ Some part →
     IsPartAt (table_stream s.document) (fib_pair (wd_stream s.document) part.number) part
@@ -344,4 +407,5 @@ saved_of s contents has =
 
 pub full_saves_are_saves : FullSavesAreSaves
 full_saves_are_saves document contents formed sound short has =
-    saved_of (record { document = document; formed = formed; right = sound_is_right document sound; short = short }) contents has
+    saved_of (record { document = document; formed = formed; right = sound_is_right document sound; short = short })
+    contents has

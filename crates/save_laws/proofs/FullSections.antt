@@ -69,7 +69,8 @@ listed_at wd before after settings fits stands =
     let low = stands.low in
     let small = stands.small in
     let same : sepx_list wd fc ≡ list =
-    range_mid wd (before ++ count) list (pad ++ after) (fc + 2) (fc + 2 + u16_at wd fc) later (omega (arith, a2, width)) (omega (arith, a2, width, number)) in
+    range_mid wd (before ++ count) list (pad ++ after) (fc + 2) (fc + 2 + u16_at wd fc) later
+    (omega (arith, a2, width)) (omega (arith, a2, width, number)) in
     let print = print_is settings (section_groups, fits.formed) in
     let back = print.back section_groups (entries settings) fits.formed print.spelt in
     let there : fc ≢ 0xFFFFFFFF = λ same_fc. omega (arith, same_fc, a1, a2, all, small) in
@@ -127,7 +128,8 @@ sed_there start place (first ∷ sections) zero sed section here there =
     ap (λ (s : Sed). s.sepx) (sym (same_Some own sed here)) ∙ (λ i. fc_sepx (e i) (same i).1)
 sed_there start place (first ∷ sections) (suc k) sed section here there =
     let len = length-append (sepx_bytes first.1) (sepxes (take k sections)) in
-    let e : place + length (sepx_bytes first.1) + length (sepxes (take k sections)) ≡ place + length (sepxes (first ∷ take k sections)) = omega (arith, len) in
+    let e : place + length (sepx_bytes first.1) + length (sepxes (take k sections)) ≡ place + length
+    (sepxes (first ∷ take k sections)) = omega (arith, len) in
     sed_there (first.0 + 1) (place + length (sepx_bytes first.1)) sections k sed section here there
     ∙ ap (λ n. fc_sepx n section.1) e
 
@@ -139,7 +141,8 @@ cut_at_section (first ∷ sections) zero section here =
     ap (λ (s : ℕ × Settings). sepx_bytes s.1 ++ sepxes sections) (same_Some first section here)
 cut_at_section (first ∷ sections) (suc k) section here =
     ap (λ rest. sepx_bytes first.1 ++ rest) (cut_at_section sections k section here)
-    ∙ sym (append_assoc (sepx_bytes first.1) (sepxes (take k sections)) (sepx_bytes section.1 ++ sepxes (drop (suc k) sections)))
+    ∙ sym (append_assoc (sepx_bytes first.1) (sepxes (take k sections))
+    (sepx_bytes section.1 ++ sepxes (drop (suc k) sections)))
 
 -- Sepxes that stand between other bytes give each section its settings
 pub sections_saved : (wd before after : List ℕ) (sections : List (ℕ × Settings)) →

@@ -1,5 +1,5 @@
 -- The full save of a document as a saved text: its layout, which is a function of the document.
-use Rattle.std.specs.Prelude.{◌≡◌, ◌^◌, ◌<◌, List, [], ◌∷◌, length, Bool, true, false}
+use Rattle.std.specs.Prelude.{◌≡◌, List, [], ◌∷◌, length, Bool, true, false}
 use Rattle.cfb_streams.specs.Contents.{Contents, HasNamed}
 use Rattle.cfb_streams.specs.Names.{wd_name, second_table_name}
 use Rattle.piece_table.specs.Piece.{one_piece}
