@@ -4,6 +4,5 @@ pub mod Text
 pub mod Runs
 pub mod Sections
 pub mod WordDocument
-pub mod ShortStreams
 pub mod Streams
 pub mod Layout
