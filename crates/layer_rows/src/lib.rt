@@ -29,3 +29,5 @@ mod pieces;
 mod scripts;
 #[cfg(test)]
 mod sheets;
+#[cfg(test)]
+mod sprms;
