@@ -29,8 +29,8 @@ fn the_blank_document_is_as_said(rt: HostRuntime) -> Result<(), Fail> {
 /// The value of a setting.
 const ZEROS: [u8; 253] = [0; 253];
 
-/// The unit of a letter: the ends of sections `B`, of paragraphs `p`, `P`, `q` and `k`, the beginning of a field `[`, and
-/// the letter `a` for all others.
+/// The unit of a letter: the ends of sections `B`, of paragraphs `p`, `P`, `q` and `k`, the beginning of a field `[`,
+/// and the letter `a` for all others.
 fn unit_of(letter: u8) -> u16 {
     match letter {
         b'B' => 0x0C,
@@ -60,7 +60,7 @@ fn section_of(alloc: Global, letter: u8) -> Option<PropMap> {
     }
 }
 
-/// The item of a letter. `n` refers to a note; `F` is a field character, where it is wrong; `[` is one where it is right.
+/// The item of a letter. `n` refers to a note; `F` is a field character where it is wrong, `[` one where it is right.
 pub fn item_of(alloc: Global, letter: u8) -> Item {
     Item {
         unit: unit_of(letter),

@@ -1,5 +1,5 @@
-// Operands of the greatest lengths that a count can say. After the operands of [MS-DOC] Sprm: the count of C60D is a byte,
-// and D608 counts its rest and 1 in two bytes.
+// Operands of the greatest lengths that a count can say. After the operands of [MS-DOC] Sprm: the count of C60D is a
+// byte, and D608 counts its rest and 1 in two bytes.
 use doc_bits::Memory;
 use sprm_table::{Code, SprmFault, list_fault, operand};
 use std::alloc::Global;
