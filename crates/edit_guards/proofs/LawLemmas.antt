@@ -3,7 +3,7 @@ use Rattle.std.proofs.Common.{◌≡◌, ℕ, ◌<◌, List, arith, inl, inr}
 use Rattle.std.proofs.lemmas.Bool.{cases_order}
 use Rattle.std.specs.Prelude.{[], ◌⊎◌}
 use Rattle.edit_guards.specs.declared.facts.Facts.{Facts}
-use Rattle.edit_guards.specs.Policies.{Policy, AllGrant, IsFirstRefuser, lock_of}
+use Rattle.edit_guards.specs.Policies.{Policy, IsFirstRefuser, lock_of}
 use Rattle.edit_guards.specs.Laws.{FirstRefuserIsOne}
 
 -- what refuses grants to none that refuses behind it

@@ -1,7 +1,7 @@
 -- What is found among guards is found among their policies, and guards that are told one by one are all told.
 use Rattle.std.proofs.Common.{◌≡◌, ℕ, ◌+◌, ◌-◌, ◌<◌, ◌≤◌, List, [], ◌∷◌, ◌++◌, map, length, MatchOption, Option, Some, None, arith, ap, subst, sym, ◌∙◌}
 use Rattle.std.specs.Prelude.{take, drop, slice_set, slice_index_or}
-use Rattle.std.specs.List.{All, AllWithin, HoldsAt}
+use Rattle.std.specs.List.{AllWithin, HoldsAt}
 use Rattle.std.proofs.lemmas.List.Elements.{All-map, All-from_all_within}
 use Rattle.std.proofs.lemmas.List.Edits.{map_over_more}
 use Rattle.std.proofs.lemmas.List.{length-map, get_or-map, map-set, get_or-append_right, get_or-drop, length-take-le}
