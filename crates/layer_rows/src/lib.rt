@@ -10,6 +10,8 @@ mod edits;
 #[cfg(test)]
 mod fibs;
 #[cfg(test)]
+mod guards;
+#[cfg(test)]
 mod hello;
 #[cfg(test)]
 mod lists;
