@@ -28,6 +28,8 @@ mod parts;
 #[cfg(test)]
 mod pieces;
 #[cfg(test)]
+mod puts;
+#[cfg(test)]
 mod scripts;
 #[cfg(test)]
 mod sheets;
