@@ -3,3 +3,10 @@ pub mod MarkPlaceLemmas
 pub mod OutcomeLemmas
 pub mod FewLemmas
 pub mod CellLemmas
+pub mod FreshLemmas
+pub mod TextLemmas
+pub mod CanMakeLemmas
+pub mod WithoutLemmas
+pub mod JudgeLemmas
+pub mod MakeLemmas
+pub mod RowLemmas

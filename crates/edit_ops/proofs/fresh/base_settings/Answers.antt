@@ -1,0 +1,14 @@
+use Rattle.std.proofs.Common.{◌≡◌, sym, subst, Some, rules}
+use Rattle.std.specs.Prelude.{slice_get, IfOk}
+use Rattle.prop_map.specs.Formed.{IsPropertyMap, character_groups}
+use Rattle.prop_map.proofs.ActingLemmas.{IsPropertyMap-empty}
+use Rattle.edit_ops.specs.Fresh.{base_of}
+use Rattle.edit_ops.proofs.fresh.base_settings.Goals as goal
+
+pub returns-in-None-clause-formed : goal.returns-in-None-clause-formed
+returns-in-None-clause-formed c = subst (IsPropertyMap character_groups) (sym c.new.ensures) (IsPropertyMap-empty character_groups)
+
+pub returns-in-Some-clause-map : goal.returns-in-Some-clause-map
+returns-in-Some-clause-map c =
+    let there : slice_get c.args.text.now c.args.at ≡ Some c.in-Some.item.now = search rules in
+    subst (λ o. IfOk c.without_special.result (λ base. base ≡ base_of o)) (sym there) c.without_special.ensures.map
