@@ -10,3 +10,5 @@ pub mod WithoutLemmas
 pub mod JudgeLemmas
 pub mod MakeLemmas
 pub mod RowLemmas
+pub mod SumLemmas
+pub mod FactLemmas

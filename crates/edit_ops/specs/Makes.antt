@@ -29,3 +29,13 @@ CanMake document (SetStyleParagraphs istd set) = (kind_at document.sheet istd �
 abbrev pub CanMakeAll : List Change → Document → Type 0
 CanMakeAll [] document = ⊤
 CanMakeAll (change ∷ more) document = CanMake document change × CanMakeAll more (changed change document)
+
+-- the range that it takes away is there
+abbrev pub CanRemove : Document → Change → Type 0
+CanRemove document (SpliceText story from to fresh) = from ≤ to
+CanRemove document (ModifyItems story from to modifier) = ⊤
+CanRemove document (SetSection at set) = ⊤
+CanRemove document (SpliceNotes from to fresh) = (from ≤ to) × (to ≤ length document.notes)
+CanRemove document (SpliceHeads from to fresh) = (from ≤ to) × (to ≤ length document.heads)
+CanRemove document (SetStyleCharacters istd set) = ⊤
+CanRemove document (SetStyleParagraphs istd set) = ⊤

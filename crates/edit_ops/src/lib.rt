@@ -5,6 +5,7 @@ mod applying;
 mod changes;
 mod codes;
 mod faults;
+mod facts;
 mod fresh;
 mod judging;
 mod laws;
@@ -15,7 +16,7 @@ mod planning;
 mod ranges;
 mod rows;
 
-pub use applying::apply_plain;
+pub use applying::{apply_plain, test};
 pub use changes::{Change, Changes};
 pub use codes::has_right_codes;
 pub use edit_guards::Facts;

@@ -1,6 +1,5 @@
-use Rattle.std.proofs.Common.{sym}
 use Rattle.edit_ops.proofs.CanMakeLemmas.{can_make}
 use Rattle.edit_ops.proofs.applying.changed.Goals as goal
 
-pub make_all-requires : goal.make_all-requires
-make_all-requires c = rw (c.in_ok-changes.ensures, c.in_ok-made.ensures) (can_make c.args.document.now c.args.command.now c.requires.sound c.requires.tried)
+pub with_changes-requires : goal.with_changes-requires
+with_changes-requires c = rw c.in_ok-changes.ensures (can_make c.args.document.now c.args.command.now c.requires.sound c.requires.tried)
