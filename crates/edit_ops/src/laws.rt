@@ -1,5 +1,5 @@
 // Laws over the definitions alone.
-ghost use Rattle.edit_ops.specs.Laws.{EditHasOneOutcome, ChangesAreFew, FormattingMovesNoItems};
+ghost use Rattle.edit_ops.specs.Laws.{EditHasOneOutcome, ChangesAreFew, ChangesCanBeMade, FormattingMovesNoItems};
 
 /// An edit has one fault at most, and none where it is accepted.
 pub fn edit_has_one_outcome()
@@ -9,6 +9,11 @@ pub fn edit_has_one_outcome()
 /// A command makes three changes at most.
 pub fn changes_are_few()
     ensures { ChangesAreFew }
+{}
+
+/// The changes of an edit that may be tried can be made, one after another.
+pub fn changes_can_be_made()
+    ensures { ChangesCanBeMade }
 {}
 
 /// By its facts a command that sets codes, clears them or names a style adds and removes no item.

@@ -22,6 +22,9 @@ pub use codes::has_right_codes;
 pub use edit_guards::Facts;
 pub use edit_script::{Cells, Command, Script, ScriptFault, read_script};
 pub use faults::EditFault;
-pub use laws::{changes_are_few, edit_has_one_outcome, formatting_moves_no_items};
+pub use laws::{
+    changes_are_few, changes_can_be_made, edit_has_one_outcome, formatting_moves_no_items,
+};
+pub use making::make;
 pub use planning::changes_of;
 pub use ranges::is_in_range;

@@ -35,7 +35,7 @@ pub(crate) fn make_all(
 }
 
 /// Makes a change.
-pub(crate) fn make(alloc: Global, document: &mut Document, change: Change) -> Result<(), Memory>
+pub fn make(alloc: Global, document: &mut Document, change: Change) -> Result<(), Memory>
     requires { CanMake document.old change }
     ensures ok { OnOk result (document.new ≡ changed change document.old) }
     ensures err { OnErr result (document.new ≡ document.old) }
