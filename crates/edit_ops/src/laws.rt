@@ -1,5 +1,6 @@
 // Laws over the definitions alone.
 ghost use Rattle.edit_ops.specs.Laws.{EditHasOneOutcome, ChangesAreFew, FormattingMovesNoItems};
+ghost use Rattle.edit_ops.specs.Runs.{RunsAreFew};
 
 /// An edit has one fault at most, and none where it is accepted.
 pub fn edit_has_one_outcome()
@@ -14,4 +15,9 @@ pub fn changes_are_few()
 /// By its facts a command that sets codes, clears them or names a style adds and removes no item.
 pub fn formatting_moves_no_items()
     ensures { FormattingMovesNoItems }
+{}
+
+/// A command puts no more runs of equal settings than are reckoned for it.
+pub fn runs_are_few()
+    ensures { RunsAreFew }
 {}
