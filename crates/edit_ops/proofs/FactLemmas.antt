@@ -81,8 +81,8 @@ erased_main document from to right range =
       added = omega arith;
       removed = omega arith;
       there = All-cons (CanRemove document) text (references ∷ blocks ∷ []) (omega arith)
-        (All-cons (CanRemove document) references (blocks ∷ []) (notes.ordered, notes.within)
-        (All-cons (CanRemove document) blocks [] (heads.ordered, heads.within) (All-nil (CanRemove document))));
+          (All-cons (CanRemove document) references (blocks ∷ []) (notes.ordered, notes.within)
+          (All-cons (CanRemove document) blocks [] (heads.ordered, heads.within) (All-nil (CanRemove document))));
     }
 
 record IsShortRange (from to : ℕ) : Type 0 where
@@ -131,7 +131,7 @@ note_put document at reference text right within few =
     let one = sum_by-cons length (note_items text) [] in
     let len = length-note text in
     two document (SpliceText Main at at (reference ∷ [])) (SpliceNotes (note_number document.main at) (note_number document.main at) (note_items text ∷ []))
-        (omega arith) (omega arith) (no_range length document.notes (note_number document.main at)) (omega arith) (notes.ordered, notes.within)
+    (omega arith) (omega arith) (no_range length document.notes (note_number document.main at)) (omega arith) (notes.ordered, notes.within)
 
 section_put : (document : Document) (at : ℕ) (new : Bool) (set : Settings) → IsRightDocument document → at < length document.main → AreCountable document (section_changes document.main at new set)
 section_put document at false set right within = one document (SetSection _ set) (omega arith) (omega arith) tt
@@ -139,7 +139,7 @@ section_put document at true set right within =
     let heads = can_splice_heads document at at (replicate 6 []) right (omega arith) (omega arith) in
     let none = no_texts 6 in
     two document (SpliceText Main at at (section_item document.main at set ∷ [])) (SpliceHeads (head_number document.main at) (head_number document.main at) (replicate 6 []))
-        (omega arith) (omega arith) (no_range length document.heads (head_number document.main at)) (omega arith) (heads.ordered, heads.within)
+    (omega arith) (omega arith) (no_range length document.heads (head_number document.main at)) (omega arith) (heads.ordered, heads.within)
 
 pub countable : (document : Document) (command : Command) → IsSound document → CanBeTried document command → AreCountable document (changes_of document command)
 countable document command sound tried = by_kind command (sound_is_right document sound) tried.range tried.codes

@@ -12,3 +12,4 @@ pub mod MakeLemmas
 pub mod RowLemmas
 pub mod SumLemmas
 pub mod FactLemmas
+pub mod RunLemmas

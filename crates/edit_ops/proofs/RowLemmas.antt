@@ -1,5 +1,5 @@
 -- Rows: the bytes of their definition, and the items of their cells.
-use Rattle.std.proofs.Common.{◌≡◌, ◌∙◌, refl, sym, ap, subst, ℕ, ◌+◌, ◌*◌, ◌<◌, ◌≤◌, List, [], ◌∷◌, ◌++◌, length, map, take, get_or, Some, arith, length-append, replicate}
+use Rattle.std.proofs.Common.{◌≡◌, ◌∙◌, refl, sym, ap, subst, ℕ, zero, suc, ◌+◌, ◌*◌, ◌<◌, ◌≤◌, List, [], ◌∷◌, ◌++◌, length, map, take, get_or, Some, arith, length-append, replicate}
 use Rattle.std.specs.Prelude.{slice_get}
 use Rattle.std.specs.List.{flat_map, sum_by, range_with_len}
 use Rattle.std.proofs.lemmas.List.{append-nil, take_more, length-replicate, length-map}
@@ -9,6 +9,8 @@ use Rattle.std.proofs.lemmas.List.FromFn.{map-range_with_len_more, length-map-ra
 use Rattle.std.proofs.lemmas.List.Sums.{sum_by-le}
 use Rattle.std.proofs.lemmas.Option.{slice_get_within, get_or_from_slice_get}
 use Rattle.std.specs.FinMap.{empty}
+use Rattle.std.specs.Int.{bytes_low_first, byte_at}
+use Rattle.doc_bits.proofs.ByteListLemmas.{no_bytes, joined_bytes, one_byte, AreBytes-flat_map}
 use Rattle.doc_bits.specs.Number.{number_bytes, AreBytes}
 use Rattle.doc_bits.proofs.NumberLemmas.{length-number_bytes}
 use Rattle.prop_map.specs.Formed.{IsPropertyMap, paragraph_groups}
@@ -66,7 +68,29 @@ definition_short cells width few =
     two : (x : ℕ) → length (number_bytes 2 x) ≤ 2
     two x = let len = length-number_bytes 2 x in omega arith
 
-pub row_formed : (cells width : ℕ) (definition : List ℕ) → definition ≡ row_definition cells width → cells ≤ 63 → AreBytes definition → IsPropertyMap paragraph_groups (row_settings cells width)
-row_formed cells width definition is few bytes =
-    definition_formed _ (row_definition cells width) (definition_short cells width few) (subst AreBytes is bytes)
+small_byte : (i x : ℕ) → byte_at i x < 256
+small_byte zero x = omega arith
+small_byte (suc i) x = omega arith
+
+low_bytes : (i k x : ℕ) → AreBytes (bytes_low_first i k x)
+low_bytes i zero x = no_bytes
+low_bytes i (suc k) x = joined_bytes (byte_at i x ∷ []) (bytes_low_first (suc i) k x) (one_byte (byte_at i x) (small_byte i x)) (low_bytes (suc i) k x)
+
+two_bytes : (x : ℕ) → AreBytes (number_bytes 2 x)
+unfolding number_bytes
+two_bytes x = low_bytes 0 2 x
+
+zero_bytes : (n : ℕ) → AreBytes (replicate n 0)
+zero_bytes zero = no_bytes
+zero_bytes (suc n) = joined_bytes (0 ∷ []) (replicate n 0) (one_byte 0 (omega arith)) (zero_bytes n)
+
+definition_bytes : (cells width : ℕ) → cells ≤ 63 → AreBytes (row_definition cells width)
+definition_bytes cells width few =
+    let edges = flat_map (number_bytes 2) (row_edges cells width) in
+    joined_bytes (cells ∷ []) (edges ++ replicate (20 * cells) 0) (one_byte cells (omega (arith, few)))
+    (joined_bytes edges (replicate (20 * cells) 0) (AreBytes-flat_map (number_bytes 2) (row_edges cells width) two_bytes) (zero_bytes (20 * cells)))
+
+pub row_formed : (cells width : ℕ) → cells ≤ 63 → IsPropertyMap paragraph_groups (row_settings cells width)
+row_formed cells width few =
+    definition_formed _ (row_definition cells width) (definition_short cells width few) (definition_bytes cells width few)
     (row_end_formed cell_settings (in_table_formed empty (IsPropertyMap-empty paragraph_groups)))

@@ -48,9 +48,9 @@ among_there p code (e ∷ es) value passes there =
     one_found p code e.0 (filter p (keys es)) (code == e.0) passes refl
     (λ other. among_there p code es value passes (later_entry code e es value there other))
 
-nothing_kept : (b : Bool) (none : Option (List ℕ)) → none ≡ None → cond b none None ≡ None
-nothing_kept true none is = is
-nothing_kept false none is = refl
+nothing_kept : (b : Bool) (found : Option (List ℕ)) → found ≡ None → cond b found None ≡ None
+nothing_kept true found is = is
+nothing_kept false found is = refl
 
 among_is : (p : ℕ → Bool) (settings : Settings) (code : ℕ) (value : List ℕ) (test : Bool) → p code ≡ test → find nat_cmp code (entries settings) ≡ Some value → is_among code (filter p (keys (entries settings))) ≡ test
 among_is p settings code value true passes there = among_there p code (entries settings) value passes there
@@ -64,5 +64,5 @@ by_value p settings code (Some value) there = ap (λ b. cond (not b) (Some value
 pub without_listed : (p : ℕ → Bool) (settings : Settings) → without (filter p (keys (entries settings))) settings ≡ retain_keys settings (λ code. not (p code))
 without_listed p settings =
     same_settings (without (filter p (keys (entries settings))) settings) (retain_keys settings (λ code. not (p code))) (λ code.
-        get-without (filter p (keys (entries settings))) settings code
-        ∙ (by_value p settings code (get settings code) (sym (get-entries settings code)) ∙ sym (get-retained settings (λ key. not (p key)) code)))
+    get-without (filter p (keys (entries settings))) settings code
+    ∙ (by_value p settings code (get settings code) (sym (get-entries settings code)) ∙ sym (get-retained settings (λ key. not (p key)) code)))

@@ -8,3 +8,4 @@ pub mod Causes
 pub mod EditFacts
 pub mod Makes
 pub mod Laws
+pub mod Runs

@@ -56,8 +56,8 @@ fn edit_of(alloc: Global, document: &Document, command: &Command) -> Result<Edit
     requires { IsSound document.now }
     ensures { MatchResult result
         (λ edit. IsAcceptedEdit document.now command.now
-            × ((edit.document ≡ document_after document.now command.now)
-            × (edit.facts ≡ edit_facts document.now command.now)))
+        × ((edit.document ≡ document_after document.now command.now)
+        × (edit.facts ≡ edit_facts document.now command.now)))
         (IsEditFault document.now command.now) }
 {
     if !is_in_range(document, command) {

@@ -4,13 +4,14 @@
 mod applying;
 mod changes;
 mod codes;
-mod faults;
 mod facts;
+mod faults;
 mod fresh;
 mod judging;
 mod laws;
 mod making;
 mod marks;
+mod modifiers;
 mod places;
 mod planning;
 mod ranges;
@@ -24,6 +25,7 @@ pub use edit_script::{Cells, Command, Script, ScriptFault, read_script};
 pub use faults::EditFault;
 pub use laws::{
     changes_are_few, changes_can_be_made, edit_has_one_outcome, formatting_moves_no_items,
+    runs_are_few,
 };
 pub use making::make;
 pub use planning::changes_of;

@@ -8,10 +8,11 @@ ghost use Rattle.edit_ops.specs.Fresh.{is_table_code as of_table, split_mark as 
 ghost use Rattle.edit_ops.specs.Fresh.{section_item as item_of_section, settings_over as over};
 
 use crate::fresh::{base_settings, mark_item};
+use crate::modifiers::setting_characters;
 use crate::places::{mark_at, section_at};
 use doc_bits::Memory;
 use plain_doc::{Item, Items, Mark};
-use prop_map::{Modifier, PropMap};
+use prop_map::PropMap;
 use sprm_table::{Code, group};
 use std::alloc::Global;
 use text_codes::{PARAGRAPH_MARK, SECTION_MARK};
@@ -103,8 +104,7 @@ pub(crate) fn settings_over(alloc: Global, set: &PropMap, base: &PropMap) -> Res
     ensures map { IfOk result (λ made. made ≡ over set.now (Some base.now)) }
     ensures formed { IfOk result (IsPropertyMap section_groups) }
 {
-    let mut change = Modifier::none(alloc);
-    change.chp = set.copy(alloc)?;
+    let change = setting_characters(alloc, set)?;
     let made = change.on_char(alloc, base)?;
     Ok(made)
 }

@@ -11,13 +11,12 @@ ghost use Rattle.edit_ops.specs.Codes.{IsPutText};
 ghost use Rattle.edit_ops.specs.Causes.{CanBeTried};
 ghost use Rattle.edit_ops.specs.Edits.{changes_of as changes_by, erased as erased_in, put_in as put_there, modified_at_mark};
 ghost use Rattle.edit_ops.specs.Edits.{section_changes as changes_of_section};
-ghost use Rattle.edit_ops.specs.Edits.{setting_characters as that_sets, setting_paragraphs as that_sets_marks};
-ghost use Rattle.edit_ops.specs.Edits.{clearing as that_clears, naming_style as that_names};
 ghost use Rattle.edit_ops.specs.Fresh.{base_settings as base_of, note_reference as reference_of};
 ghost use Rattle.edit_ops.specs.Fresh.{note_items as note_of, split_item as item_split};
 
 use crate::fresh::{base_settings, field_items, inserted_items, note_items, note_reference};
 use crate::marks::{section_item, split_item};
+use crate::modifiers::{clearing, naming_style, setting_characters, setting_paragraphs};
 use crate::places::{head_number, items_at, mark_place, note_number, section_place};
 use crate::rows::row_items;
 use crate::{Change, Changes, Command};
@@ -117,42 +116,6 @@ fn modification(
         alloc,
         Change::ModifyItems(story, from as usize, to as usize, modifier),
     )
-}
-
-/// The modifier that sets characters.
-fn setting_characters(alloc: Global, set: &PropMap) -> Result<Modifier, Memory>
-    ensures { IfOk result (λ made. made ≡ that_sets set.now) }
-{
-    let mut modifier = Modifier::none(alloc);
-    modifier.chp = set.copy(alloc)?;
-    Ok(modifier)
-}
-
-/// The modifier that clears characters.
-fn clearing(alloc: Global) -> Modifier
-    ensures { result ≡ that_clears }
-{
-    let mut modifier = Modifier::none(alloc);
-    modifier.clear = true;
-    modifier
-}
-
-/// The modifier that sets paragraphs.
-fn setting_paragraphs(alloc: Global, set: &PropMap) -> Result<Modifier, Memory>
-    ensures { IfOk result (λ made. made ≡ that_sets_marks set.now) }
-{
-    let mut modifier = Modifier::none(alloc);
-    modifier.pap = set.copy(alloc)?;
-    Ok(modifier)
-}
-
-/// The modifier that names a style.
-fn naming_style(alloc: Global, istd: u16) -> Modifier
-    ensures { result ≡ that_names istd }
-{
-    let mut modifier = Modifier::none(alloc);
-    modifier.istd = Some(istd);
-    modifier
 }
 
 /// Units put before a place of a text.

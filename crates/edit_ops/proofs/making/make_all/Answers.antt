@@ -18,7 +18,7 @@ pub make-requires : goal.make-requires
 make-requires c =
     let at = c.loop-change in
     let can : CanMakeAll (c.in-Some.change ∷ into_iter_items c.next.new.self) at.document =
-        subst (λ changes. CanMakeAll changes at.document) c.in-Some.ensures.steps.0 at.invariant.can in
+    subst (λ changes. CanMakeAll changes at.document) c.in-Some.ensures.steps.0 at.invariant.can in
     can.0
 
 pub loop-change-preserved : goal.loop-change-preserved

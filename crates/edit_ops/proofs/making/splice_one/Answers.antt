@@ -17,8 +17,8 @@ returns-clause-err c =
     let texts = c.args.texts.now in
     let number = c.args.number in
     IfErr-weaker c.splice-done.result _ _ (λ _ same.
-        c.replace.ensures.new
-        ∙ (ap (λ now. set now number c.splice-done.new.self) c.replace-text.ensures.new
-        ∙ (ap (λ text. set (set texts number c.new.result) number text) same
-        ∙ put_back texts number c.new.result c.replace-text.result c.replace-text.ensures.old)))
+    c.replace.ensures.new
+    ∙ (ap (λ now. set now number c.splice-done.new.self) c.replace-text.ensures.new
+    ∙ (ap (λ text. set (set texts number c.new.result) number text) same
+    ∙ put_back texts number c.new.result c.replace-text.result c.replace-text.ensures.old)))
     c.splice-done.ensures.err

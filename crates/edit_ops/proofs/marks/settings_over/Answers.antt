@@ -8,18 +8,12 @@ use Rattle.edit_ops.proofs.marks.settings_over.Goals as goal
 
 pub returns-clause-map : goal.returns-clause-map
 returns-clause-map c =
-    let none = c.none-change.ensures in
-    let chp = c.in_ok-change.ensures in
-    characters_after _ c.args.base.now c.in_ok-made.made c.in_ok-made.ensures.map
-    ∙ ap (λ (modifier : Modifier). modified_characters modifier c.args.base.now)
-    (λ i. record { istd = (none i).istd; clear = (none i).clear; chp = chp i; pap = (none i).pap })
+    characters_after c.in_ok-change.change c.args.base.now c.in_ok-made.made c.in_ok-made.ensures.map
+    ∙ ap (λ (modifier : Modifier). modified_characters modifier c.args.base.now) c.in_ok-change.ensures
 
 pub returns-clause-formed : goal.returns-clause-formed
 returns-clause-formed c =
-    let none = c.none-change.ensures in
-    let chp = c.in_ok-change.ensures in
     let is : c.in_ok-made.made ≡ overlay c.args.set.now c.args.base.now =
-    characters_after _ c.args.base.now c.in_ok-made.made c.in_ok-made.ensures.map
-    ∙ ap (λ (modifier : Modifier). modified_characters modifier c.args.base.now)
-    (λ i. record { istd = (none i).istd; clear = (none i).clear; chp = chp i; pap = (none i).pap }) in
+    characters_after c.in_ok-change.change c.args.base.now c.in_ok-made.made c.in_ok-made.ensures.map
+    ∙ ap (λ (modifier : Modifier). modified_characters modifier c.args.base.now) c.in_ok-change.ensures in
     subst (IsPropertyMap section_groups) (sym is) (overlay_formed section_groups c.args.set.now c.args.base.now c.requires.set c.requires.base)

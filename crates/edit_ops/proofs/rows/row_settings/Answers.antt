@@ -1,4 +1,4 @@
-use Rattle.std.proofs.Common.{◌≡◌, ◌∙◌, sym, subst, rules, arith}
+use Rattle.std.proofs.Common.{◌≡◌, sym, subst, rules}
 use Rattle.prop_map.specs.Formed.{IsPropertyMap, paragraph_groups}
 use Rattle.edit_ops.specs.Fresh.{row_settings}
 use Rattle.edit_ops.proofs.RowLemmas.{row_formed}
@@ -7,6 +7,4 @@ use Rattle.edit_ops.proofs.rows.row_settings.Goals as goal
 pub returns-clause-formed : goal.returns-clause-formed
 returns-clause-formed c =
     let is : c.set-2.new.self ≡ row_settings c.args.cells c.args.width = search rules in
-    subst (IsPropertyMap paragraph_groups) (sym is)
-    (row_formed c.args.cells c.args.width c.as_slice-value.result.now (c.as_slice-value.ensures ∙ c.in_ok-definition.ensures) c.requires.cells
-    (λ i. let byte = c.drop-definition-inside-2.type_inv.value i in omega arith))
+    subst (IsPropertyMap paragraph_groups) (sym is) (row_formed c.args.cells c.args.width c.requires.cells)
