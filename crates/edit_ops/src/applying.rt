@@ -34,7 +34,7 @@ pub fn test(alloc: Global, document: &Document, command: &Command) -> Result<Fac
     Ok(edit.facts)
 }
 
-/// Makes an edit. A save changes nothing. After a refusal the document is what it was.
+/// Makes an edit. A save changes nothing.
 pub fn apply_plain(
     alloc: Global,
     document: &mut Document,
@@ -45,6 +45,7 @@ pub fn apply_plain(
         (IsAcceptedEdit document.old command.now × (document.new ≡ document_after document.old command.now)) }
     ensures err { IfErr result
         (λ fault. (document.new ≡ document.old) × IsEditFault document.old command.now fault) }
+    ensures sound { IsSound document.new }
 {
     let edit = edit_of(alloc, document, command)?;
     *document = edit.document;
