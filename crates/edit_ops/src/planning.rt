@@ -31,30 +31,17 @@ pub fn changes_of(alloc: Global, document: &Document, command: &Command) -> Resu
     ensures { IfOk result (λ made. made ≡ changes_by document.now command.now) }
 {
     match command {
-        Command::Insert(story, at, text) => insertion(
-            alloc,
-            document,
-            *story,
-            *at,
-            text.as_slice(),
-        ),
+        Command::Insert(story, at, text) => inserted(alloc, document, *story, *at, text.as_slice()),
         Command::Erase(story, from, to) => {
             erasure(alloc, document, *story, *from as usize, *to as usize)
         }
         Command::Char(story, from, to, set) => {
-            modification(alloc, *story, *from, *to, setting_characters(alloc, set)?)
+            modify(alloc, *story, *from, *to, setting_characters(alloc, set)?)
         }
-        Command::Plain(story, from, to) => {
-            modification(alloc, *story, *from, *to, clearing(alloc))
-        }
+        Command::Plain(story, from, to) => modify(alloc, *story, *from, *to, clearing(alloc)),
         Command::Para(story, at, set) => {
-            at_mark(
-                alloc,
-                document,
-                *story,
-                *at,
-                setting_paragraphs(alloc, set)?,
-            )
+            let modifier = setting_paragraphs(alloc, set)?;
+            at_mark(alloc, document, *story, *at, modifier)
         }
         Command::Style(story, at, istd) => {
             at_mark(alloc, document, *story, *at, naming_style(alloc, *istd))
@@ -103,7 +90,7 @@ fn put_in(alloc: Global, story: Story, at: u32, items: Items) -> Result<Changes,
 }
 
 /// A modifier on a range of a text.
-fn modification(
+fn modify(
     alloc: Global,
     story: Story,
     from: u32,
@@ -119,7 +106,7 @@ fn modification(
 }
 
 /// Units put before a place of a text.
-fn insertion(
+fn inserted(
     alloc: Global,
     document: &Document,
     story: Story,
