@@ -1,5 +1,6 @@
 // Whole sectors, and tables of sectors that stand in a row.
-ghost use Rattle.std.specs.Prelude.{◌≡◌, ◌++◌, ◌+◌, ◌-◌, ◌*◌, ◌^◌, ◌<◌, ◌≤◌, OnOk, length, replicate, sum};
+ghost use Rattle.std.specs.Prelude.{◌≡◌, ◌++◌, ◌+◌, ◌-◌, ◌*◌, ◌^◌};
+ghost use Rattle.std.specs.Prelude.{◌<◌, ◌≤◌, OnOk, length, replicate, sum};
 ghost use Rattle.std.specs.List.{flat_map, range_with_len};
 ghost use Rattle.doc_bits.specs.Number.{number_bytes};
 ghost use Rattle.cfb_layout.specs.Sectors.{units_for, padded, chain_entries, chains_from};

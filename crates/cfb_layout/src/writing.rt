@@ -1,5 +1,6 @@
 // The canonical container, written part by part.
-ghost use Rattle.std.specs.Prelude.{◌≡◌, ◌++◌, ◌+◌, ◌*◌, ◌<◌, ◌^◌, ◌≤◌, OnOk, IfOk, MatchResult, length, sum};
+ghost use Rattle.std.specs.Prelude.{◌≡◌, ◌++◌, ◌+◌, ◌*◌, ◌<◌, ◌^◌};
+ghost use Rattle.std.specs.Prelude.{◌≤◌, OnOk, IfOk, MatchResult, length, sum};
 ghost use Rattle.std.specs.List.{flat_map};
 ghost use Rattle.cfb_layout.specs.Sectors.{padded, table_bytes, chains_from, units_for};
 ghost use Rattle.cfb_layout.specs.Counts.{Fits, mini_counts};

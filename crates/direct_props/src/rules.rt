@@ -1,5 +1,6 @@
 // The rules on the pages, each at its least offset in `WordDocument`.
-ghost use Rattle.std.specs.Prelude.{◌≡◌, ℕ, List, ◌↔◌, ◌+◌, ◌*◌, ◌<◌, ◌≤◌, ◌^◌, length, slice_range, IsTrue, IfOk};
+ghost use Rattle.std.specs.Prelude.{◌≡◌, ℕ, List, ◌↔◌, ◌+◌, ◌*◌, ◌<◌};
+ghost use Rattle.std.specs.Prelude.{◌≤◌, ◌^◌, length, slice_range, IsTrue, IfOk};
 ghost use Rattle.std.specs.Prelude.{IfSome, MatchOption, MatchResult};
 ghost use Rattle.doc_bits.specs.Rules.{From, Hold, IsFirst, LeastOrNone};
 ghost use Rattle.sprm_table.specs.Sprm.{HasSprmFaultAt, fault_place};
@@ -233,7 +234,8 @@ pub(crate) fn page_of(wd: &[u8], number: u32) -> Option<&[u8]>
     requires { number < 2 ^ 22 }
     ensures { MatchOption result
         (length wd.now < 512 * number + 512)
-        (λ page. (page.now ≡ page_at wd.now number) × (length page.now ≡ 512) × (512 * number + 512 ≤ length wd.now)) }
+        (λ page. (page.now ≡ page_at wd.now number) × (length page.now ≡ 512)
+        × (512 * number + 512 ≤ length wd.now)) }
 {
     let from = PAGE_LEN * number as usize;
     if wd.len() < from + PAGE_LEN {
@@ -305,7 +307,8 @@ fn list_outside(found: PageAnswer) -> Option<u32>
 /// Where the sprms of a place have a fault.
 fn sprm_fault(kind: PageKind, wd: &[u8], found: PageAnswer) -> Option<u32>
     requires { found.number < 2 ^ 22 }
-    ensures { (bin : List ℕ) (fc : ℕ) → IsBinTable bin → HasPageAnswer kind wd.now bin fc found.number found.answer
+    ensures { (bin : List ℕ) (fc : ℕ) → IsBinTable bin
+        → HasPageAnswer kind wd.now bin fc found.number found.answer
         → LeastOrNone (HasListFault kind wd.now bin fc) result }
 {
     run_answer_is_one();

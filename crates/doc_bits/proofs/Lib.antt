@@ -5,3 +5,4 @@ pub mod ByteListLemmas
 pub mod PlcLemmas
 pub mod RuleLemmas
 pub mod PlaceLemmas
+pub mod TogetherLemmas

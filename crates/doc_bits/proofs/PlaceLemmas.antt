@@ -1,5 +1,7 @@
 -- The order of places, and the least place of a rule of two parts.
-use Rattle.std.proofs.Common.{◌≡◌, ◌⊎◌, inl, inr, ◌<◌, ◌≤◌, Option, Some, None, ap, arith}
+use Rattle.std.proofs.Common.{◌≡◌, ◌∙◌, ◌⊎◌, inl, inr, refl, sym, ap, ℕ, zero, suc, ◌<◌, ◌≤◌, Option, Some, None, arith}
+use Rattle.doc_bits.specs.declared.places.Where.{Where}
+use Rattle.doc_bits.specs.declared.places.Where.TheVariants.{File, Wd, Table, Sheet, Main, Note, Head}
 use Rattle.doc_bits.specs.Rules.{Nowhere, IsLeast}
 use Rattle.doc_bits.specs.Places.{Place, rank, inner, Upto, LeastPlaceOrNone}
 
@@ -17,6 +19,43 @@ upto_same p q e h =
 -- of two notes or header texts, the one with the lesser number comes first
 pub upto_next : (p q : Place) → rank p.0 ≡ rank q.0 → inner p.0 < inner q.0 → Upto p q
 upto_next p q e h = record { part = omega arith; number = λ _. omega arith; offset = λ _ f. absurd (omega arith) }
+
+-- the kind of place of a rank and a number
+where_of : ℕ → ℕ → Where
+where_of zero k = File
+where_of (suc zero) k = Wd
+where_of (suc (suc zero)) k = Table
+where_of (suc (suc (suc zero))) k = Sheet
+where_of (suc (suc (suc (suc zero)))) k = Main
+where_of (suc (suc (suc (suc (suc zero))))) k = Note k
+where_of (suc (suc (suc (suc (suc (suc n)))))) k = Head k
+
+where_back : (part : Where) → where_of (rank part) (inner part) ≡ part
+unfolding where_of
+where_back File = refl
+where_back Wd = refl
+where_back Table = refl
+where_back Sheet = refl
+where_back Main = refl
+where_back (Note k) = refl
+where_back (Head k) = refl
+
+-- two places of which each is the other or comes before it are one
+pub place_one : (p q : Place) → Upto p q → Upto q p → p ≡ q
+place_one p q a b =
+    let pa = a.part in
+    let pb = b.part in
+    let ranks : rank p.0 ≡ rank q.0 = omega arith in
+    let na = a.number ranks in
+    let nb = b.number (sym ranks) in
+    let inners : inner p.0 ≡ inner q.0 = omega arith in
+    let oa = a.offset ranks inners in
+    let ob = b.offset (sym ranks) (sym inners) in
+    let offsets : p.1 ≡ q.1 = omega arith in
+    let same : where_of (rank p.0) (inner p.0) ≡ where_of (rank q.0) (inner q.0) =
+    ap (λ r. where_of r (inner p.0)) ranks ∙ ap (λ k. where_of (rank q.0) k) inners in
+    let parts : p.0 ≡ q.0 = sym (where_back p.0) ∙ (same ∙ where_back q.0) in
+    λ i. (parts i, offsets i)
 
 -- of two parts of a rule, the first comes first
 pub least_first : (A B : Place → Type 0) (p : Place) → IsLeast Upto A p → ((q : Place) → B q → Upto p q) → IsLeast Upto (λ q. A q ⊎ B q) p

@@ -2,3 +2,4 @@ pub mod Number
 pub mod Plc
 pub mod Rules
 pub mod Places
+pub mod Together

@@ -4,7 +4,7 @@ use Rattle.std.specs.Prelude.{IsTrue, ◌==◌}
 use Rattle.std.proofs.lemmas.Bool.{eqb-true, eq-eqb}
 use Rattle.doc_bits.specs.Rules.{LeastOrNone}
 use Rattle.doc_bits.proofs.RuleLemmas.{least_same}
-use Rattle.doc_parts.specs.Table.{table_of, IsEmptyOrWhole, BreaksTable}
+use Rattle.doc_parts.specs.Table.{plc_part, IsEmptyOrWhole, BreaksTable}
 use Rattle.doc_parts.specs.Stories.{cut_form, cut_cps}
 use Rattle.doc_load.specs.TextCuts.{BreaksCuts}
 use Rattle.fib_form.specs.declared.table_parts.TablePart.TheVariants.{PlcffndRef, PlcffndTxt}
@@ -14,7 +14,7 @@ use Rattle.doc_load.specs.HeadRules.{IsHeadTable}
 use Rattle.doc_load.specs.NoteRules.{ref_count, HasEntries, BreaksNoteCuts}
 
 -- a part of the right length
-pub cuts_judged : (formed : Type 0) (bytes : List ℕ) (story_len at : ℕ) (found : Option ℕ) → formed → IsEmptyOrWhole (table_of 0 bytes) → LeastOrNone (BreaksTable cut_form (cut_cps story_len) bytes at) found → LeastOrNone (BreaksCuts formed bytes story_len at) found
+pub cuts_judged : (formed : Type 0) (bytes : List ℕ) (story_len at : ℕ) (found : Option ℕ) → formed → IsEmptyOrWhole (plc_part 0 bytes) → LeastOrNone (BreaksTable cut_form (cut_cps story_len) bytes at) found → LeastOrNone (BreaksCuts formed bytes story_len at) found
 cuts_judged formed bytes story_len at found is whole h =
     least_same (BreaksTable cut_form (cut_cps story_len) bytes at) (BreaksCuts formed bytes story_len at) found
     (λ p w. elim w [ inl x ↦ absurd (x.1 whole) | inr y ↦ inr y ])
@@ -30,7 +30,7 @@ cuts_same F G bytes story_len at found to from h =
     h
 
 -- a part of four bytes a CP, with one CP at least, is a whole table
-pub whole_cuts : (bytes : List ℕ) (count : ℕ) → 1 ≤ count → length bytes ≡ 4 * count → IsEmptyOrWhole (table_of 0 bytes)
+pub whole_cuts : (bytes : List ℕ) (count : ℕ) → 1 ≤ count → length bytes ≡ 4 * count → IsEmptyOrWhole (plc_part 0 bytes)
 whole_cuts bytes count some len = inr (omega arith)
 
 -- the length of PlcfHdd
@@ -41,7 +41,7 @@ pub head_texts : (len sections : ℕ) → 8 ≤ len → IsHeadTable len sections
 head_texts len sections some (inl none) = absurd (omega arith)
 head_texts len sections some (inr w) = let most = w.most in let cps = w.cps in omega arith
 
-pub whole_heads : (bytes : List ℕ) (sections : ℕ) → IsHeadTable (length bytes) sections → IsEmptyOrWhole (table_of 0 bytes)
+pub whole_heads : (bytes : List ℕ) (sections : ℕ) → IsHeadTable (length bytes) sections → IsEmptyOrWhole (plc_part 0 bytes)
 whole_heads bytes sections (inl none) = inl none
 whole_heads bytes sections (inr w) = whole_cuts bytes (w.texts + 2) (omega arith) w.cps
 

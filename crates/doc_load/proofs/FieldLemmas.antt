@@ -4,13 +4,13 @@ use Rattle.std.specs.Prelude.{IfSome}
 use Rattle.std.proofs.lemmas.Bool.{cases_lt}
 use Rattle.doc_bits.specs.Rules.{Nowhere, IsLeast, LeastOrNone}
 use Rattle.doc_parts.specs.declared.lists.Fld.{Fld}
-use Rattle.doc_parts.specs.Table.{table_of, IsRightEntry, IsReadOf, BreaksTable}
+use Rattle.doc_parts.specs.Table.{plc_part, IsRightEntry, IsReadOf, BreaksTable}
 use Rattle.doc_parts.specs.Fields.{fld_form, fld_cps}
 use Rattle.doc_load.specs.Rows.{HasWrongRow}
 use Rattle.doc_load.specs.FieldRules.{IsFieldThere, HasOtherUnit, BreaksFields}
 
 -- an entry that was read is not wrong
-not_wrong : (story bytes : List ℕ) (at : ℕ) (list : List Fld) (fault : Option ℕ) (k : ℕ) → IsReadOf fld_form (fld_cps (length story)) bytes at list fault → k < length list → ¬ (¬ (IsRightEntry fld_form (fld_cps (length story)) (table_of 2 bytes) k))
+not_wrong : (story bytes : List ℕ) (at : ℕ) (list : List Fld) (fault : Option ℕ) (k : ℕ) → IsReadOf fld_form (fld_cps (length story)) bytes at list fault → k < length list → ¬ (¬ (IsRightEntry fld_form (fld_cps (length story)) (plc_part 2 bytes) k))
 not_wrong story bytes at list None k read h wrong =
     let within = read.leading.within in
     read.judged (at + 4 * k) (inr (record { entry = k; below = omega arith; broken = record { here = refl; broken = wrong } }))
@@ -29,7 +29,7 @@ not_wrong_part story bytes at list (Some f) q read h broken =
     omega arith
 
 -- an entry that was read, and whose unit stands in the text, is as the rule says
-not_field : (story bytes : List ℕ) (at : ℕ) (list : List Fld) (fault : Option ℕ) (k : ℕ) → IsReadOf fld_form (fld_cps (length story)) bytes at list fault → k < length list → ¬ (HasOtherUnit story list k) → ¬ (¬ (IsFieldThere story (table_of 2 bytes) k))
+not_field : (story bytes : List ℕ) (at : ℕ) (list : List Fld) (fault : Option ℕ) (k : ℕ) → IsReadOf fld_form (fld_cps (length story)) bytes at list fault → k < length list → ¬ (HasOtherUnit story list k) → ¬ (¬ (IsFieldThere story (plc_part 2 bytes) k))
 not_field story bytes at list fault k read h same wrong =
     not_wrong story bytes at list fault k read h (λ right.
     same (λ unit. wrong (record {

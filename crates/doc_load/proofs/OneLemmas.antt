@@ -4,7 +4,7 @@ use Rattle.std.specs.List.{slice_range}
 use Rattle.doc_parts.specs.declared.lists.Sed.{Sed}
 use Rattle.doc_parts.specs.declared.lists.Fld.{Fld}
 use Rattle.doc_parts.specs.declared.lists.NoteRef.{NoteRef}
-use Rattle.doc_parts.specs.Table.{table_of}
+use Rattle.doc_parts.specs.Table.{plc_part}
 use Rattle.doc_parts.specs.Sections.{sed_form, sed_cps}
 use Rattle.doc_parts.specs.Fields.{fld_form, fld_cps}
 use Rattle.doc_parts.specs.Stories.{ref_form, ref_cps, cut_form, cut_cps}
@@ -25,26 +25,26 @@ use Rattle.doc_load.specs.PartRules.{PartLists, HasPartLists}
 
 pub sections_one : (source : DocSource) (a b : List Sed) → HasSections source a → HasSections source b → a ≡ b
 sections_one source a b ha hb =
-    AreEntries-unique sed_form (sed_cps (story_length source Main)) (table_of 12 (part_bytes source PlcfSed)) a b ha hb
+    AreEntries-unique sed_form (sed_cps (story_length source Main)) (plc_part 12 (part_bytes source PlcfSed)) a b ha hb
 
 fields_one : (source : DocSource) (story : StoryKind) (a b : List Fld) → HasFields source story a → HasFields source story b → a ≡ b
 fields_one source story a b ha hb =
-    AreEntries-unique fld_form (fld_cps (story_length source story)) (table_of 2 (part_bytes source (field_part story))) a b ha hb
+    AreEntries-unique fld_form (fld_cps (story_length source story)) (plc_part 2 (part_bytes source (field_part story))) a b ha hb
 
 refs_one : (source : DocSource) (a b : List NoteRef) → HasRefs source a → HasRefs source b → a ≡ b
 refs_one source a b ha hb =
-    AreEntries-unique ref_form (ref_cps (story_length source Main)) (table_of 2 (part_bytes source PlcffndRef)) a b ha hb
+    AreEntries-unique ref_form (ref_cps (story_length source Main)) (plc_part 2 (part_bytes source PlcffndRef)) a b ha hb
 
 pub notes_one : (source : DocSource) (a b : List ℕ) → HasNoteCuts source a → HasNoteCuts source b → a ≡ b
 notes_one source a b (inl x) (inl y) =
-    AreEntries-unique cut_form (cut_cps (story_length source Notes)) (table_of 0 (part_bytes source PlcffndTxt)) a b x.1 y.1
+    AreEntries-unique cut_form (cut_cps (story_length source Notes)) (plc_part 0 (part_bytes source PlcffndTxt)) a b x.1 y.1
 notes_one source a b (inl x) (inr y) = absurd (y.0 x.0)
 notes_one source a b (inr x) (inl y) = absurd (x.0 y.0)
 notes_one source a b (inr x) (inr y) = x.1 ∙ sym y.1
 
 pub heads_one : (source : DocSource) (a b : List ℕ) → HasHeadCuts source a → HasHeadCuts source b → a ≡ b
 heads_one source a b ha hb =
-    AreEntries-unique cut_form (cut_cps (story_length source Heads)) (table_of 0 (part_bytes source PlcfHdd)) a b ha hb
+    AreEntries-unique cut_form (cut_cps (story_length source Heads)) (plc_part 0 (part_bytes source PlcfHdd)) a b ha hb
 
 levels_one : (source : DocSource) (a b : List ℕ) → HasLevels source a → HasLevels source b → a ≡ b
 levels_one source a b ha hb =

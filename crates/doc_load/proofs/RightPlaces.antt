@@ -7,7 +7,7 @@ use Rattle.doc_bits.specs.Plc.{plc_cp}
 use Rattle.doc_bits.specs.Rules.{Rules, rule, ◌then◌, given, Hold, Nowhere}
 use Rattle.doc_bits.specs.Places.{rules_in}
 use Rattle.doc_parts.specs.declared.lists.Sed.{Sed}
-use Rattle.doc_parts.specs.Table.{table_of}
+use Rattle.doc_parts.specs.Table.{plc_part}
 use Rattle.fkp_pages.specs.declared.kind.PageKind.TheVariants.{Chpx, Papx}
 use Rattle.fkp_pages.specs.Bin.{IsBinTable, bin_count}
 use Rattle.direct_props.specs.PageRules.{page_rules, AreRightPlaces}
@@ -28,7 +28,7 @@ hold_out place (given is rules) h = (h.0, (h.1.0, hold_out place (rules h.0) h.1
 -- a bin table that breaks its rule nowhere is one
 pub right_bin : (bytes : List ℕ) (at : ℕ) → Nowhere (BreaksBinTable bytes at) → IsBinTable bytes
 right_bin bytes at none =
-    let table = table_of 4 bytes in
+    let table = plc_part 4 bytes in
     let whole : ¬ ¬ (IsPlcBte table) = λ no. none at (inl (refl, no)) in
     record {
       table = elim (cases_eq (length bytes) (4 + bin_count bytes * 8)) [

@@ -4,14 +4,14 @@ use Rattle.doc_bits.specs.declared.places.Where.TheVariants as stands
 use Rattle.doc_bits.specs.Plc.{PlcPart, plc_cp}
 use Rattle.doc_bits.specs.Rules.{Rules, rule, ◌then◌}
 use Rattle.doc_bits.specs.Places.{Place, rules_in}
-use Rattle.doc_parts.specs.Table.{table_of, IsWhole, IsWrongPart}
+use Rattle.doc_parts.specs.Table.{plc_part, IsWholePlc, IsWrongPart}
 use Rattle.fib_form.specs.declared.table_parts.TablePart.TheVariants.{PlcfBteChpx, PlcfBtePapx}
 use Rattle.doc_load.specs.Source.{DocSource, part_place, part_bytes}
 use Rattle.doc_load.specs.Rows.{HasWrongRow}
 
 -- [MS-DOC] PlcBteChpx and PlcBtePapx: fcs, and page numbers of 4 bytes; one at least
 abbrev pub IsPlcBte : PlcPart → Type 0
-IsPlcBte table = IsWhole table × (1 ≤ table.count)
+IsPlcBte table = IsWholePlc table × (1 ≤ table.count)
 
 -- the fc after entry k is not above the one before it
 abbrev pub IsNoAscent : PlcPart → ℕ → Type 0
@@ -23,7 +23,7 @@ HasNoAscent table at = HasWrongRow table.count (λ k. at + 4 * (k + 1)) (IsNoAsc
 -- a bin table breaks its rule
 abbrev pub BreaksBinTable : List ℕ → ℕ → ℕ → Type 0
 BreaksBinTable bytes at place =
-    let table = table_of 4 bytes in IsWrongPart (IsPlcBte table) at place ⊎ HasNoAscent table at place
+    let table = plc_part 4 bytes in IsWrongPart (IsPlcBte table) at place ⊎ HasNoAscent table at place
 
 -- the rules 37 and 38: the table of characters, and that of paragraphs
 abbrev pub rules_of_bins : DocSource → Rules Place

@@ -5,7 +5,7 @@ use Rattle.doc_bits.specs.Plc.{PlcPart}
 use Rattle.doc_bits.specs.Rules.{Rules, rule}
 use Rattle.doc_bits.specs.Places.{Place, rules_in}
 use Rattle.doc_parts.specs.declared.lists.Fld.{Fld}
-use Rattle.doc_parts.specs.Table.{table_of, IsEmptyOrWhole, IsWrongPart, IsRightEntry, entry_at}
+use Rattle.doc_parts.specs.Table.{plc_part, IsEmptyOrWhole, IsWrongPart, IsRightEntry, entry_at}
 use Rattle.doc_parts.specs.Fields.{fld_form, fld_cps, AreFields}
 use Rattle.fib_form.specs.declared.table_parts.TablePart.{TablePart}
 use Rattle.fib_form.specs.declared.table_parts.TablePart.TheVariants.{PlcfFldMom, PlcfFldHdr, PlcfFldFtn}
@@ -26,7 +26,7 @@ HasWrongField story table at = HasWrongRow table.count (λ k. at + 4 * k) (λ k.
 -- the table of a story breaks the rule
 abbrev pub BreaksFields : List ℕ → List ℕ → ℕ → ℕ → Type 0
 BreaksFields story bytes at place =
-    let table = table_of 2 bytes in IsWrongPart (IsEmptyOrWhole table) at place ⊎ HasWrongField story table at place
+    let table = plc_part 2 bytes in IsWrongPart (IsEmptyOrWhole table) at place ⊎ HasWrongField story table at place
 
 -- the tables: PlcfFldMom, PlcfFldFtn, PlcfFldHdr
 abbrev pub field_part : StoryKind → TablePart

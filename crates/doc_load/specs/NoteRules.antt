@@ -4,7 +4,7 @@ use Rattle.doc_bits.specs.declared.places.Where.TheVariants as stands
 use Rattle.doc_bits.specs.Rules.{Rules, rule}
 use Rattle.doc_bits.specs.Places.{Place, rules_in}
 use Rattle.doc_parts.specs.declared.lists.NoteRef.{NoteRef}
-use Rattle.doc_parts.specs.Table.{table_of, IsWhole, BreaksTable}
+use Rattle.doc_parts.specs.Table.{plc_part, IsWholePlc, BreaksTable}
 use Rattle.doc_parts.specs.Stories.{ref_form, ref_cps, AreRefs, AreCuts}
 use Rattle.fib_form.specs.declared.table_parts.TablePart.TheVariants.{PlcffndRef, PlcffndTxt}
 use Rattle.fib_form.specs.declared.stories.StoryKind.TheVariants.{Main, Notes}
@@ -13,11 +13,11 @@ use Rattle.doc_load.specs.TextCuts.{BreaksCuts}
 
 -- the number of entries of PlcffndRef
 abbrev pub ref_count : List ℕ → ℕ
-ref_count refs = (table_of 2 refs).count
+ref_count refs = (plc_part 2 refs).count
 
 -- PlcffndRef has its length, and an entry at least
 abbrev pub HasEntries : List ℕ → Type 0
-HasEntries refs = IsWhole (table_of 2 refs) × (0 < ref_count refs)
+HasEntries refs = IsWholePlc (plc_part 2 refs) × (0 < ref_count refs)
 
 -- the references break the rule
 abbrev pub BreaksRefs : DocSource → ℕ → Type 0

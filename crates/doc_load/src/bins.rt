@@ -1,7 +1,7 @@
 // The rules on the bin tables.
 ghost use Rattle.std.specs.Prelude.{◌≡◌, ◌<◌, ◌^◌, ◌+◌, length, MatchResult};
 ghost use Rattle.doc_bits.specs.Rules.{Hold, LeastOrNone};
-ghost use Rattle.doc_parts.specs.Table.{IsWhole};
+ghost use Rattle.doc_parts.specs.Table.{IsWholePlc};
 ghost use Rattle.doc_load.specs.Faults.{IsReadFault};
 ghost use Rattle.doc_load.specs.BinRules.{HasNoAscent, BreaksBinTable, rules_of_bins};
 
@@ -57,7 +57,7 @@ fn wrong_bin(bytes: &[u8], at: u32) -> Option<u32>
 
 /// The first fc that is not above the one before it.
 fn no_ascent(table: &Plc<'_>, at: u32) -> Option<u32>
-    requires whole { IsWhole table.now }
+    requires whole { IsWholePlc table.now }
     requires addressed { at + length table.now.bytes < 2 ^ 32 }
     ensures { LeastOrNone (HasNoAscent table.now at) result }
 {

@@ -1,5 +1,6 @@
 // Units of one byte. Most stand for themselves, and these are put without a look at the others.
-ghost use Rattle.std.specs.Prelude.{◌≡◌, ◌+◌, ◌<◌, ◌≤◌, ◌++◌, ℕ, length, map, slice_index, take};
+ghost use Rattle.std.specs.Prelude.{◌≡◌, ◌+◌, ◌<◌, ◌≤◌, ◌++◌};
+ghost use Rattle.std.specs.Prelude.{ℕ, length, map, slice_index, take};
 ghost use Rattle.std.specs.List.{range_with_len};
 ghost use Rattle.text_codes.specs.Compressed.{unit_of};
 ghost use Rattle.doc_load.specs.Units.{narrow_unit};

@@ -1,5 +1,6 @@
 // The rules on the sections, one function a rule.
-ghost use Rattle.std.specs.Prelude.{◌≡◌, ◌↔◌, ◌≤◌, ◌<◌, ◌^◌, ◌+◌, length, IsTrue, MatchResult};
+ghost use Rattle.std.specs.Prelude.{◌≡◌, ◌↔◌, ◌≤◌, ◌<◌, ◌^◌};
+ghost use Rattle.std.specs.Prelude.{◌+◌, length, IsTrue, MatchResult};
 ghost use Rattle.doc_bits.specs.Rules.{Hold, LeastOrNone, Nowhere};
 ghost use Rattle.fib_form.specs.declared.table_parts.TablePart.TheVariants.{PlcfSed};
 ghost use Rattle.fib_form.specs.declared.stories.StoryKind.TheVariants.{Main};

@@ -1,7 +1,7 @@
 // The CPs that cut a story into its texts.
 ghost use Rattle.std.specs.Prelude.{◌≡◌, ◌+◌, ◌<◌, ◌^◌, None, length, IsTrue, IfOk};
 ghost use Rattle.doc_bits.specs.Rules.{LeastOrNone};
-ghost use Rattle.doc_parts.specs.Table.{table_of, IsEmptyOrWhole};
+ghost use Rattle.doc_parts.specs.Table.{plc_part, IsEmptyOrWhole};
 ghost use Rattle.doc_parts.specs.Stories.{AreCuts};
 ghost use Rattle.doc_load.specs.TextCuts.{BreaksCuts};
 
@@ -29,7 +29,7 @@ pub fn judged_cuts(
     formed: bool,
 ) -> Result<JudgedCuts, Memory>
     requires addressed { at + length plc.now < 2 ^ 32 }
-    requires whole { IsTrue formed → IsEmptyOrWhole (table_of 0 plc.now) }
+    requires whole { IsTrue formed → IsEmptyOrWhole (plc_part 0 plc.now) }
     ensures { IfOk result (λ judged. LeastOrNone (BreaksCuts (IsTrue formed) plc.now story_len at) judged.fault
         × (judged.fault ≡ None → AreCuts plc.now story_len judged.list)) }
 {

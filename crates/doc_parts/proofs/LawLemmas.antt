@@ -6,7 +6,7 @@ use Rattle.std.proofs.lemmas.List.Elements.{All-weaker}
 use Rattle.doc_parts.specs.declared.lists.Sed.{Sed}
 use Rattle.doc_parts.specs.declared.lists.Fld.{Fld}
 use Rattle.doc_parts.specs.Cps.{AreCpsInOrder}
-use Rattle.doc_parts.specs.Table.{table_of}
+use Rattle.doc_parts.specs.Table.{plc_part}
 use Rattle.doc_parts.specs.Sections.{sed_form, sed_cps, printed_sections, SectionsAreReadBack}
 use Rattle.doc_parts.specs.Fields.{is_field_unit, fld_form, fld_cps, printed_fields, FieldsAreReadBack}
 use Rattle.doc_parts.specs.Stories.{ref_form, ref_cps, printed_refs, RefsAreReadBack, cut_form, cut_cps, printed_texts, TextsAreReadBack}
@@ -21,7 +21,7 @@ sections_back list at main_len last printable =
     let printed : IsPrinted sed_form (sed_cps main_len) bytes list = printed_list sed_form (sed_cps main_len) list last printable.in_order spelled in
     let full : 20 ≤ length bytes = (let some = printable.some in let all = printed.entries.all in omega arith) in (
       section_rule bytes at main_len None full (printed_holds sed_form (sed_cps main_len) bytes at list printed),
-      (printed.entries, λ read are. AreEntries-unique sed_form (sed_cps main_len) (table_of 12 bytes) read list are printed.entries),
+      (printed.entries, λ read are. AreEntries-unique sed_form (sed_cps main_len) (plc_part 12 bytes) read list are printed.entries),
     )
 
 pub fields_back : FieldsAreReadBack
@@ -30,7 +30,7 @@ fields_back list at story_len last printable =
     let spelled : All (IsSpelled fld_form) list = All-weaker (λ (fld : Fld). IsTrue (is_field_unit fld.unit)) (IsSpelled fld_form) fld-IsSpelled list printable.kinds in
     let printed : IsPrinted fld_form (fld_cps story_len) bytes list = printed_list fld_form (fld_cps story_len) list last printable.in_order spelled in (
       printed_holds fld_form (fld_cps story_len) bytes at list printed,
-      (printed.entries, λ read are. AreEntries-unique fld_form (fld_cps story_len) (table_of 2 bytes) read list are printed.entries),
+      (printed.entries, λ read are. AreEntries-unique fld_form (fld_cps story_len) (plc_part 2 bytes) read list are printed.entries),
     )
 
 pub refs_back : RefsAreReadBack
@@ -38,7 +38,7 @@ refs_back list at main_len last in_order =
     let bytes : List ℕ = printed_refs list main_len in
     let printed : IsPrinted ref_form (ref_cps main_len) bytes list = printed_list ref_form (ref_cps main_len) list last in_order (λ k d h. ref-IsSpelled (get_or list k d)) in (
       printed_holds ref_form (ref_cps main_len) bytes at list printed,
-      (printed.entries, λ read are. AreEntries-unique ref_form (ref_cps main_len) (table_of 2 bytes) read list are printed.entries),
+      (printed.entries, λ read are. AreEntries-unique ref_form (ref_cps main_len) (plc_part 2 bytes) read list are printed.entries),
     )
 
 pub texts_back : TextsAreReadBack
@@ -47,5 +47,5 @@ texts_back number list at story_len last in_order =
     let cps : AreCpsInOrder (cut_cps story_len) (map cut_form.cp_of list) = subst (AreCpsInOrder (cut_cps story_len)) (sym (map-id list)) in_order in
     let printed : IsPrinted cut_form (cut_cps story_len) bytes list = printed_list cut_form (cut_cps story_len) list last cps (λ k d h. cut-IsSpelled (get_or list k d)) in (
       printed_holds cut_form (cut_cps story_len) bytes at list printed,
-      (printed.entries, λ read are. AreEntries-unique cut_form (cut_cps story_len) (table_of 0 bytes) read list are printed.entries),
+      (printed.entries, λ read are. AreEntries-unique cut_form (cut_cps story_len) (plc_part 0 bytes) read list are printed.entries),
     )

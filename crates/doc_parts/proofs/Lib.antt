@@ -6,3 +6,4 @@ pub mod ReadBackLemmas
 pub mod EntryLemmas
 pub mod LawLemmas
 pub mod ExistLemmas
+pub mod CpLemmas

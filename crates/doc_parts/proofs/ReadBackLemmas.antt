@@ -12,7 +12,7 @@ use Rattle.doc_parts.specs.declared.cps.CpForm.{CpForm}
 use Rattle.doc_parts.specs.declared.cps.CpOrder.{CpOrder}
 use Rattle.doc_parts.specs.declared.cps.CpOrder.TheVariants.{Ascend, NeverFall}
 use Rattle.doc_parts.specs.Cps.{ComesBefore, AreCpsInOrder}
-use Rattle.doc_parts.specs.Table.{EntryForm, table_of, IsEmptyOrWhole, entry_at, IsRightEntry, BreaksTable, AreEntries, HasPlc, printed_entries}
+use Rattle.doc_parts.specs.Table.{EntryForm, plc_part, IsEmptyOrWhole, entry_at, IsRightEntry, BreaksTable, AreEntries, HasPlc, printed_entries}
 use Rattle.doc_parts.proofs.TableLemmas.{in_order_same, count_of_whole, none_wrong}
 use Rattle.doc_parts.proofs.PrintLemmas.{printed-HasPlc}
 
@@ -23,9 +23,9 @@ pub record IsSpelled {E : Type 0} (form : EntryForm E) (entry : E) : Type 0 wher
 
 -- a table that breaks no rule, and has the entries of the list
 pub record IsPrinted {E : Type 0} (form : EntryForm E) (cps : CpForm) (bytes : List ℕ) (list : List E) : Type 0 where
-  pub formed : IsEmptyOrWhole (table_of form.size bytes)
-  pub right : (k : ℕ) → k < (table_of form.size bytes).count → IsRightEntry form cps (table_of form.size bytes) k
-  pub entries : AreEntries form cps (table_of form.size bytes) list
+  pub formed : IsEmptyOrWhole (plc_part form.size bytes)
+  pub right : (k : ℕ) → k < (plc_part form.size bytes).count → IsRightEntry form cps (plc_part form.size bytes) k
+  pub entries : AreEntries form cps (plc_part form.size bytes) list
 
 -- lists with equal elements are equal
 pub same_by_get : {X : Type 0} (xs ys : List X) → length xs ≡ length ys → ((k : ℕ) → k < length xs → slice_get xs k ≡ slice_get ys k) → xs ≡ ys
@@ -51,10 +51,10 @@ small_cps cps starts last in_order =
     (λ k h. let upto : slice_index starts k ≤ cps.story_len = upto_end cps.order (slice_index starts k) cps.story_len (in_order k h).within in omega arith)
 
 -- an entry of a printed table is that of the list
-printed_entry : {E : Type 0} (form : EntryForm E) (bytes : List ℕ) (end : ℕ) (list : List E) → All (IsSpelled form) list → HasPlc bytes form.size (map form.cp_of list) end (map form.bytes_of list) → (table_of form.size bytes).count ≡ length list → (k : ℕ) → k < length list → slice_get list k ≡ entry_at form (table_of form.size bytes) k
+printed_entry : {E : Type 0} (form : EntryForm E) (bytes : List ℕ) (end : ℕ) (list : List E) → All (IsSpelled form) list → HasPlc bytes form.size (map form.cp_of list) end (map form.bytes_of list) → (plc_part form.size bytes).count ≡ length list → (k : ℕ) → k < length list → slice_get list k ≡ entry_at form (plc_part form.size bytes) k
 printed_entry form bytes end list spelled has count k h = elim (slice_get_cases list k).1 [
   | inl w ↦
-      let table : PlcPart = table_of form.size bytes in
+      let table : PlcPart = plc_part form.size bytes in
       let x = w.0 in
       let here : k < length (map form.cp_of list) = rw (length-map list form.cp_of) h in
       let cp : plc_cp bytes k ≡ form.cp_of x = has.cps k here ∙ (get_or-map form.cp_of list k x 0 h ∙ ap form.cp_of w.3) in
@@ -72,7 +72,7 @@ printed_some : {E : Type 0} (form : EntryForm E) (cps : CpForm) (list : List E) 
 printed_some {E = E} form cps list some last in_order spelled =
     let end : ℕ = cps.story_len in
     let bytes : List ℕ = printed_entries form list end in
-    let table : PlcPart = table_of form.size bytes in
+    let table : PlcPart = plc_part form.size bytes in
     let starts : List ℕ = map form.cp_of list in
     let len : length starts ≡ length list = length-map list form.cp_of in
     let parts : length (map form.bytes_of list) ≡ length list = length-map list form.bytes_of in
@@ -102,7 +102,7 @@ printed_some {E = E} form cps list some last in_order spelled =
 -- any list is read back
 pub printed_list : {E : Type 0} (form : EntryForm E) (cps : CpForm) (list : List E) → cps.story_len < 2 ^ 32 → AreCpsInOrder cps (map form.cp_of list) → All (IsSpelled form) list → IsPrinted form cps (printed_entries form list cps.story_len) list
 printed_list form cps [] last in_order spelled =
-    let none : (table_of form.size []).count ≡ 0 = zero-div (4 + form.size) in
+    let none : (plc_part form.size []).count ≡ 0 = zero-div (4 + form.size) in
     record {
       formed = inl refl;
       right = λ k h. absurd (omega arith);

@@ -10,7 +10,7 @@ use Rattle.doc_bits.proofs.RuleLemmas.{first_among}
 pub use Rattle.doc_bits.proofs.ListLemmas.{slice_get_push, slice_get_before}
 use Rattle.doc_parts.specs.declared.cps.CpForm.{CpForm}
 use Rattle.doc_parts.specs.Cps.{ComesBefore, IsCpInOrder}
-use Rattle.doc_parts.specs.Table.{KeepsCp, EntryForm, table_of, IsWhole, IsEmptyOrWhole, entry_at, IsRightEntry, IsWrongEntry, HasWrongEntry, BreaksTable, AreLeading, StopsAtWrong, IsReadOf}
+use Rattle.doc_parts.specs.Table.{KeepsCp, EntryForm, plc_part, IsWholePlc, IsEmptyOrWhole, entry_at, IsRightEntry, IsWrongEntry, HasWrongEntry, BreaksTable, AreLeading, StopsAtWrong, IsReadOf}
 
 -- a whole table has as many entries as its length says
 pub count_of_whole : (bytes : List ℕ) (size count : ℕ) → IsPlcOf bytes size count → (length bytes - 4) / (4 + size) ≡ count
@@ -20,7 +20,7 @@ count_of_whole bytes size count h =
     ap (λ x. x / (4 + size)) rest ∙ mul-div_cancel count some
 
 -- an entry has its size
-pub length-plc_entry : (table : PlcPart) (k : ℕ) → IsWhole table → k < table.count → length (plc_entry table k) ≡ table.size
+pub length-plc_entry : (table : PlcPart) (k : ℕ) → IsWholePlc table → k < table.count → length (plc_entry table k) ≡ table.size
 length-plc_entry table k whole h =
     let few : table.size * (k + 1) ≤ table.size * table.count = mul-le-mul_left table.size (omega arith) in
     omega (arith, length-take {A = ℕ}, length-drop {A = ℕ})
@@ -63,9 +63,9 @@ wrong_later : {E : Type 0} (form : EntryForm E) (cps : CpForm) (table : PlcPart)
 wrong_later form cps table at j k a b h first second = let e = first.here in let f = second.here in omega arith
 
 -- the first wrong entry has the least place
-pub least_wrong : {E : Type 0} (form : EntryForm E) (cps : CpForm) (bytes : List ℕ) (at i : ℕ) → let table = table_of form.size bytes in IsWhole table → i < table.count → ((k : ℕ) → k < i → IsRightEntry form cps table k) → ¬ (IsRightEntry form cps table i) → IsLeast (λ a b. a ≤ b) (BreaksTable form cps bytes at) (at + 4 * i)
+pub least_wrong : {E : Type 0} (form : EntryForm E) (cps : CpForm) (bytes : List ℕ) (at i : ℕ) → let table = plc_part form.size bytes in IsWholePlc table → i < table.count → ((k : ℕ) → k < i → IsRightEntry form cps table k) → ¬ (IsRightEntry form cps table i) → IsLeast (λ a b. a ≤ b) (BreaksTable form cps bytes at) (at + 4 * i)
 least_wrong form cps bytes at i whole below right wrong =
-    let table : PlcPart = table_of form.size bytes in
+    let table : PlcPart = plc_part form.size bytes in
     let first : IsLeast (λ a b. a ≤ b) (HasWrongEntry form cps table at) (at + 4 * i) =
     first_among (IsWrongEntry form cps table at) table.count i (at + 4 * i) (λ j k a b. wrong_later form cps table at j k a b) below
     (λ k h p w. w.broken (right k h))
@@ -73,7 +73,7 @@ least_wrong form cps bytes at i whole below right wrong =
     record { broken = inr first.broken; least = λ p w. elim w [ inl x ↦ absurd (x.1 (inr whole)) | inr y ↦ first.least p y ] }
 
 -- a table of right entries breaks no rule
-pub none_wrong : {E : Type 0} (form : EntryForm E) (cps : CpForm) (bytes : List ℕ) (at : ℕ) → let table = table_of form.size bytes in IsEmptyOrWhole table → ((k : ℕ) → k < table.count → IsRightEntry form cps table k) → Nowhere (BreaksTable form cps bytes at)
+pub none_wrong : {E : Type 0} (form : EntryForm E) (cps : CpForm) (bytes : List ℕ) (at : ℕ) → let table = plc_part form.size bytes in IsEmptyOrWhole table → ((k : ℕ) → k < table.count → IsRightEntry form cps table k) → Nowhere (BreaksTable form cps bytes at)
 none_wrong form cps bytes at whole right = λ p w. elim w [
   | inl x ↦ x.1 whole
   | inr y ↦ y.broken.broken (right y.entry y.below)
@@ -87,26 +87,26 @@ each_more list items x k at e count here each =
     (rw (e, ← count) (slice_get_push list x ∙ subst (λ n. Some x ≡ at n) (sym count) (sym here)))
 
 -- the table that is read is the table of the bytes
-pub table_of_plc : (plc : PlcPart) (bytes : List ℕ) (size : ℕ) → plc ≡ record { bytes = bytes; size = size; count = plc.count } → IsPlcOf bytes size plc.count → plc ≡ table_of size bytes
+pub table_of_plc : (plc : PlcPart) (bytes : List ℕ) (size : ℕ) → plc ≡ record { bytes = bytes; size = size; count = plc.count } → IsPlcOf bytes size plc.count → plc ≡ plc_part size bytes
 table_of_plc plc bytes size e whole =
     let count : plc.count ≡ (length bytes - 4) / (4 + size) = sym (count_of_whole bytes size plc.count whole) in
     let make : ℕ → PlcPart = λ n. record { bytes = bytes; size = size; count = n } in
     e ∙ ap make count
 
 -- a table is read up to a wrong entry
-pub read_stops : {E : Type 0} (form : EntryForm E) (cps : CpForm) (bytes : List ℕ) (at : ℕ) (list : List E) → KeepsCp form → IsWhole (table_of form.size bytes) → StopsAtWrong form cps (table_of form.size bytes) list → length list < (table_of form.size bytes).count → IsReadOf form cps bytes at list (Some (at + 4 * length list))
+pub read_stops : {E : Type 0} (form : EntryForm E) (cps : CpForm) (bytes : List ℕ) (at : ℕ) (list : List E) → KeepsCp form → IsWholePlc (plc_part form.size bytes) → StopsAtWrong form cps (plc_part form.size bytes) list → length list < (plc_part form.size bytes).count → IsReadOf form cps bytes at list (Some (at + 4 * length list))
 read_stops form cps bytes at list keeps whole read h = record {
-  leading = leading_of_right form cps (table_of form.size bytes) list keeps read;
+  leading = leading_of_right form cps (plc_part form.size bytes) list keeps read;
   judged = least_wrong form cps bytes at (length list) whole h read.right (read.stop h);
   ends = refl;
 }
 
 -- a table is read to its end
-pub read_all : {E : Type 0} (form : EntryForm E) (cps : CpForm) (bytes : List ℕ) (at : ℕ) (list : List E) → KeepsCp form → IsWhole (table_of form.size bytes) → StopsAtWrong form cps (table_of form.size bytes) list → (table_of form.size bytes).count ≤ length list → IsReadOf form cps bytes at list None
+pub read_all : {E : Type 0} (form : EntryForm E) (cps : CpForm) (bytes : List ℕ) (at : ℕ) (list : List E) → KeepsCp form → IsWholePlc (plc_part form.size bytes) → StopsAtWrong form cps (plc_part form.size bytes) list → (plc_part form.size bytes).count ≤ length list → IsReadOf form cps bytes at list None
 read_all form cps bytes at list keeps whole read h =
-    let within : length list ≤ (table_of form.size bytes).count = read.within in
+    let within : length list ≤ (plc_part form.size bytes).count = read.within in
     record {
-      leading = leading_of_right form cps (table_of form.size bytes) list keeps read;
+      leading = leading_of_right form cps (plc_part form.size bytes) list keeps read;
       judged = none_wrong form cps bytes at (inr whole) (λ k below. read.right k (omega arith));
       ends = omega arith;
     }

@@ -7,7 +7,7 @@ use Rattle.doc_parts.specs.declared.field_part.FieldKind.TheVariants.{Begin, Sep
 use Rattle.doc_parts.specs.declared.cps.CpForm.{CpForm}
 use Rattle.doc_parts.specs.declared.cps.CpOrder.TheVariants.{Ascend}
 use Rattle.doc_parts.specs.Cps.{AreCpsInOrder}
-use Rattle.doc_parts.specs.Table.{EntryForm, table_of, BreaksTable, AreEntries, IsOnly, printed_entries}
+use Rattle.doc_parts.specs.Table.{EntryForm, plc_part, BreaksTable, AreEntries, IsOnly, printed_entries}
 
 -- the unit that marks a field's begin, its separator or its end
 abbrev pub unit_of : FieldKind → ℕ
@@ -43,7 +43,7 @@ field_rules plc at story_len = rule 52 (BreaksTable fld_form (fld_cps story_len)
 
 -- the list has the field characters of the part
 abbrev pub AreFields : List ℕ → ℕ → List Fld → Type 0
-AreFields plc story_len list = AreEntries fld_form (fld_cps story_len) (table_of 2 plc) list
+AreFields plc story_len list = AreEntries fld_form (fld_cps story_len) (plc_part 2 plc) list
 
 -- the part as it is printed
 abbrev pub printed_fields : List Fld → ℕ → List ℕ

@@ -7,7 +7,7 @@ use Rattle.doc_parts.specs.declared.lists.Sed.{Sed}
 use Rattle.doc_parts.specs.declared.cps.CpForm.{CpForm}
 use Rattle.doc_parts.specs.declared.cps.CpOrder.TheVariants.{Ascend}
 use Rattle.doc_parts.specs.Cps.{AreCpsInOrder}
-use Rattle.doc_parts.specs.Table.{EntryForm, table_of, IsWhole, IsWrongPart, HasWrongEntry, AreEntries, IsOnly, printed_entries}
+use Rattle.doc_parts.specs.Table.{EntryForm, plc_part, IsWholePlc, IsWrongPart, HasWrongEntry, AreEntries, IsOnly, printed_entries}
 
 -- [MS-DOC] Sed: 12 bytes with fcSepx at 2. Profile: the other bytes are not read, and written 0.
 abbrev pub sed_form : EntryForm Sed
@@ -28,17 +28,17 @@ sed_cps main_len = record { order = Ascend; from_zero = true; story_len = main_l
 
 -- at least one section
 abbrev pub IsSedTable : PlcPart → Type 0
-IsSedTable table = IsWhole table × (1 ≤ table.count)
+IsSedTable table = IsWholePlc table × (1 ≤ table.count)
 
 -- rule 33
 abbrev pub section_rules : List ℕ → ℕ → ℕ → Rules ℕ
 section_rules plc at main_len =
-    let table = table_of 12 plc in
+    let table = plc_part 12 plc in
     rule 33 (λ place. IsWrongPart (IsSedTable table) at place ⊎ HasWrongEntry sed_form (sed_cps main_len) table at place)
 
 -- the list has the sections of the part
 abbrev pub AreSections : List ℕ → ℕ → List Sed → Type 0
-AreSections plc main_len list = AreEntries sed_form (sed_cps main_len) (table_of 12 plc) list
+AreSections plc main_len list = AreEntries sed_form (sed_cps main_len) (plc_part 12 plc) list
 
 -- the part as it is printed
 abbrev pub printed_sections : List Sed → ℕ → List ℕ

@@ -6,7 +6,7 @@ use Rattle.doc_parts.specs.declared.lists.NoteRef.{NoteRef}
 use Rattle.doc_parts.specs.declared.cps.CpForm.{CpForm}
 use Rattle.doc_parts.specs.declared.cps.CpOrder.TheVariants.{Ascend, NeverFall}
 use Rattle.doc_parts.specs.Cps.{AreCpsInOrder}
-use Rattle.doc_parts.specs.Table.{EntryForm, table_of, BreaksTable, AreEntries, IsOnly, printed_entries}
+use Rattle.doc_parts.specs.Table.{EntryForm, plc_part, BreaksTable, AreEntries, IsOnly, printed_entries}
 
 -- [MS-DOC] FRD: a 16-bit number, 0 where the note has a mark of its own. Profile: another one is written 1.
 abbrev pub ref_form : EntryForm NoteRef
@@ -27,7 +27,7 @@ ref_rules plc at main_len = rule 53 (BreaksTable ref_form (ref_cps main_len) plc
 
 -- the list has the references of the part
 abbrev pub AreRefs : List ℕ → ℕ → List NoteRef → Type 0
-AreRefs plc main_len list = AreEntries ref_form (ref_cps main_len) (table_of 2 plc) list
+AreRefs plc main_len list = AreEntries ref_form (ref_cps main_len) (plc_part 2 plc) list
 
 -- the part as it is printed
 abbrev pub printed_refs : List NoteRef → ℕ → List ℕ
@@ -55,7 +55,7 @@ text_rules number plc at story_len = rule number (BreaksTable cut_form (cut_cps 
 
 -- the list has the CPs of the part, all but the last
 abbrev pub AreCuts : List ℕ → ℕ → List ℕ → Type 0
-AreCuts plc story_len list = AreEntries cut_form (cut_cps story_len) (table_of 0 plc) list
+AreCuts plc story_len list = AreEntries cut_form (cut_cps story_len) (plc_part 0 plc) list
 
 -- the part as it is printed
 abbrev pub printed_texts : List ℕ → ℕ → List ℕ

@@ -21,16 +21,16 @@ KeepsCp {E = E} form =
     (cp : ℕ) (bytes : List ℕ) (entry : E) → form.read_from cp bytes ≡ Some entry → form.cp_of entry ≡ cp
 
 -- the bytes as a table: n = (length - 4) / (4 + size)
-abbrev pub table_of : ℕ → List ℕ → PlcPart
-table_of size bytes = record { bytes = bytes; size = size; count = (length bytes - 4) / (4 + size) }
+abbrev pub plc_part : ℕ → List ℕ → PlcPart
+plc_part size bytes = record { bytes = bytes; size = size; count = (length bytes - 4) / (4 + size) }
 
 -- the bytes are those of a whole number of entries
-abbrev pub IsWhole : PlcPart → Type 0
-IsWhole table = IsPlcOf table.bytes table.size table.count
+abbrev pub IsWholePlc : PlcPart → Type 0
+IsWholePlc table = IsPlcOf table.bytes table.size table.count
 
 -- the same, or there are no bytes
 abbrev pub IsEmptyOrWhole : PlcPart → Type 0
-IsEmptyOrWhole table = (length table.bytes ≡ 0) ⊎ IsWhole table
+IsEmptyOrWhole table = (length table.bytes ≡ 0) ⊎ IsWholePlc table
 
 -- what an entry spells with its CP
 abbrev pub entry_at : {E : Type 0} → EntryForm E → PlcPart → ℕ → Option E
@@ -57,7 +57,7 @@ HasWrongEntry form cps table at = Among table.count (IsWrongEntry form cps table
 -- where a part that may be empty breaks its rule
 abbrev pub BreaksTable : {E : Type 0} → EntryForm E → CpForm → List ℕ → ℕ → ℕ → Type 0
 BreaksTable form cps bytes at place =
-    let table = table_of form.size bytes in
+    let table = plc_part form.size bytes in
     IsWrongPart (IsEmptyOrWhole table) at place ⊎ HasWrongEntry form cps table at place
 
 -- the list has the entries of a table from the first on, and their CPs are in order
@@ -81,9 +81,9 @@ pub record AreEntries {E : Type 0} (form : EntryForm E) (cps : CpForm) (table : 
 -- the entries before the first wrong one, and the place of that one
 pub record IsReadOf {E : Type 0} (form : EntryForm E) (cps : CpForm) (bytes : List ℕ) (at : ℕ) (list : List E)
     (fault : Option ℕ) : Type 0 where
-  pub leading : AreLeading form cps (table_of form.size bytes) list
+  pub leading : AreLeading form cps (plc_part form.size bytes) list
   pub judged : LeastOrNone (BreaksTable form cps bytes at) fault
-  pub ends : MatchOption fault (length list ≡ (table_of form.size bytes).count) (λ place. place ≡ at + 4 * length list)
+  pub ends : MatchOption fault (length list ≡ (plc_part form.size bytes).count) (λ place. place ≡ at + 4 * length list)
 
 -- a part is refused by its first broken rule, or for want of memory
 abbrev pub IsPartFault : Rules ℕ → PartFault → Type 0

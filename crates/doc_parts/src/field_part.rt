@@ -1,5 +1,6 @@
 // [MS-DOC] PlcFld.
-ghost use Rattle.std.specs.Prelude.{◌≡◌, ◌+◌, ◌%◌, ◌<◌, ◌^◌, length, IfOk, MatchOption, MatchResult, IsTrue};
+ghost use Rattle.std.specs.Prelude.{◌≡◌, ◌+◌, ◌%◌, ◌<◌, ◌^◌};
+ghost use Rattle.std.specs.Prelude.{length, IfOk, MatchOption, MatchResult, IsTrue};
 ghost use Rattle.doc_bits.specs.Rules.{Hold};
 ghost use Rattle.doc_parts.specs.Table.{IsPartFault, IsReadOf};
 ghost use Rattle.doc_parts.specs.Fields.{unit_of, is_field_unit, fld_form, fld_cps, field_rules, AreFields};

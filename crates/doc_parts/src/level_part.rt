@@ -1,5 +1,6 @@
 // [MS-DOC] PlfLst, LSTF and LVL.
-ghost use Rattle.std.specs.Prelude.{◌≡◌, ℕ, ◌+◌, ◌*◌, ◌<◌, ◌≤◌, ◌^◌, ◌↔◌, length, IsTrue, MatchOption, MatchResult};
+ghost use Rattle.std.specs.Prelude.{◌≡◌, ℕ, ◌+◌, ◌*◌, ◌<◌, ◌≤◌, ◌^◌};
+ghost use Rattle.std.specs.Prelude.{◌↔◌, length, IsTrue, MatchOption, MatchResult};
 ghost use Rattle.doc_bits.specs.Number.{u16_at};
 ghost use Rattle.doc_bits.specs.Rules.{Hold, IsFirst};
 ghost use Rattle.doc_parts.specs.Levels.{level_count, level_end, AreLevelsFrom, StopsAtLevel, HasLists, level_rules};

@@ -1,5 +1,6 @@
 // Lists of what the parts hold. After want of memory each is what it was.
-ghost use Rattle.std.specs.Prelude.{◌≡◌, ◌<◌, List, ℕ, [], ◌∷◌, ◌++◌, length, slice_get, OnOk, OnErr};
+ghost use Rattle.std.specs.Prelude.{◌≡◌, ◌<◌, List, ℕ, [], ◌∷◌};
+ghost use Rattle.std.specs.Prelude.{◌++◌, length, slice_get, OnOk, OnErr};
 
 use doc_bits::Memory;
 use std::alloc::Global;

@@ -1,5 +1,6 @@
 // [MS-DOC] PlcfSed and Sepx.
-ghost use Rattle.std.specs.Prelude.{◌≡◌, ◌≢◌, ◌+◌, ◌*◌, ◌<◌, ◌^◌, length, IfOk, MatchOption, MatchResult};
+ghost use Rattle.std.specs.Prelude.{◌≡◌, ◌≢◌, ◌+◌, ◌*◌, ◌<◌};
+ghost use Rattle.std.specs.Prelude.{◌^◌, length, IfOk, MatchOption, MatchResult};
 ghost use Rattle.doc_bits.specs.Number.{u16_at};
 ghost use Rattle.doc_bits.specs.Rules.{Hold};
 ghost use Rattle.doc_parts.specs.Table.{IsPartFault};

@@ -1,6 +1,7 @@
 // [MS-DOC] Plc: what is the same for each part that is a table of CPs and entries.
-ghost use Rattle.std.specs.Prelude.{◌≡◌, ◌+◌, ◌<◌, ◌++◌, ◌^◌, ℕ, List, length, IfOk, OnOk, OnErr};
-ghost use Rattle.doc_parts.specs.Table.{EntryForm, KeepsCp, IsWhole, IsReadOf, StopsAtWrong, printed_entries};
+ghost use Rattle.std.specs.Prelude.{◌≡◌, ◌+◌, ◌<◌, ◌++◌, ◌^◌};
+ghost use Rattle.std.specs.Prelude.{ℕ, List, length, IfOk, OnOk, OnErr};
+ghost use Rattle.doc_parts.specs.Table.{EntryForm, KeepsCp, IsWholePlc, IsReadOf, StopsAtWrong, printed_entries};
 
 use crate::cps::CpForm;
 use doc_bits::{Bytes, Memory, Plc, plc_of};
@@ -82,7 +83,7 @@ fn leading_entries<E: TableEntry>(
     cps: CpForm,
 ) -> Result<Vec<E>, Memory>
     requires size { plc.now.size ≡ E.form.size }
-    requires whole { IsWhole plc.now }
+    requires whole { IsWholePlc plc.now }
     ensures { IfOk result (λ list. StopsAtWrong E.form cps plc.now list.items) }
 {
     let mut list = Vec::new(alloc);

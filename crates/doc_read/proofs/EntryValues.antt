@@ -16,7 +16,7 @@ use Rattle.text_codes.specs.Compressed.{compressed_text, unit_by, unit_of}
 use Rattle.piece_table.specs.Piece.{UnitPlace}
 use Rattle.piece_table.proofs.NumberingLemmas.{All-from_slice_get}
 use Rattle.doc_parts.specs.declared.lists.Fld.{Fld}
-use Rattle.doc_parts.specs.Table.{table_of}
+use Rattle.doc_parts.specs.Table.{plc_part}
 use Rattle.doc_parts.specs.Fields.{AreFields}
 use Rattle.fib_form.specs.declared.stories.StoryKind.TheVariants.{Main, Notes, Heads}
 use Rattle.doc_load.specs.Units.{unit_at}
@@ -52,7 +52,7 @@ pub fields_are_bytes : (bytes : List ℕ) (story_len : ℕ) (list : List Fld) �
     AreFields bytes story_len list → All (λ (fld : Fld). fld.byte < 256) list
 fields_are_bytes bytes story_len list are fields =
     All-from_slice_get (λ (fld : Fld). fld.byte < 256) list (λ k fld here.
-    let table = table_of 2 bytes in
+    let table = plc_part 2 bytes in
     let from = 4 * (table.count + 1) + table.size * k in
     subst (λ n. n < 256) (sym (fld_byte bytes story_len k list fld fields here)) (AreBytes-range bytes from (from + table.size) are 1))
 

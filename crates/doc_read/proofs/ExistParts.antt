@@ -8,7 +8,7 @@ use Rattle.doc_bits.specs.Number.{AreBytes}
 use Rattle.style_sheet.specs.Formed.{IsFormedSheet}
 use Rattle.style_sheet.specs.Stsh.{stsh_rules}
 use Rattle.doc_parts.specs.declared.lists.Fld.{Fld}
-use Rattle.doc_parts.specs.Table.{table_of, IsRightEntry}
+use Rattle.doc_parts.specs.Table.{plc_part, IsRightEntry}
 use Rattle.doc_parts.specs.Fields.{fld_form, fld_cps}
 use Rattle.doc_parts.specs.Levels.{level_start, level_count, list_part}
 use Rattle.doc_parts.proofs.LevelLemmas.{level_start-zero, level_start-up}
@@ -71,7 +71,7 @@ story_fields source story are long none =
       broken = record {
         here = refl;
         broken = λ there.
-            no (subst (λ len. IsRightEntry fld_form (fld_cps len) (table_of 2 bytes) k) (story_fits source story long) there.right);
+            no (subst (λ len. IsRightEntry fld_form (fld_cps len) (plc_part 2 bytes) k) (story_fits source story long) there.right);
       };
     }))) in
     record { list = found.0; has = found.1; bytes = fields_are_bytes bytes (story_length source story) found.0 (part_bytes_are source (field_part story) are) found.1 }

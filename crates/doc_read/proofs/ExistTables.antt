@@ -8,7 +8,7 @@ use Rattle.doc_bits.specs.Plc.{plc_cp, plc_entry}
 use Rattle.doc_bits.specs.Rules.{Nowhere}
 use Rattle.doc_parts.specs.declared.lists.Fld.{Fld}
 use Rattle.doc_parts.specs.declared.lists.NoteRef.{NoteRef}
-use Rattle.doc_parts.specs.Table.{table_of, entry_at, IsRightEntry, BreaksTable}
+use Rattle.doc_parts.specs.Table.{plc_part, entry_at, IsRightEntry, BreaksTable}
 use Rattle.doc_parts.specs.Fields.{is_field_unit, fld_form, fld_cps, AreFields}
 use Rattle.doc_parts.specs.Stories.{ref_form, ref_cps, AreRefs}
 use Rattle.doc_parts.proofs.ExistLemmas.{entries_there}
@@ -17,7 +17,7 @@ use Rattle.doc_parts.proofs.ExistLemmas.{entries_there}
 pub refs_there : (bytes : List ℕ) (at main_len : ℕ) → Nowhere (BreaksTable ref_form (ref_cps main_len) bytes at) →
     (list : List NoteRef) × AreRefs bytes main_len list
 refs_there bytes at main_len none =
-    let table = table_of 2 bytes in
+    let table = plc_part 2 bytes in
     entries_there ref_form (ref_cps main_len) table (λ cp bytes entry e. ap (λ o. (unwrap_or o entry).cp) (sym e))
     (λ k below wrong. none (at + 4 * k) (inr (record { entry = k; below = below; broken = record { here = refl; broken = wrong } })))
 
@@ -28,16 +28,16 @@ fld_is true cp unit byte fld e = (ap (λ o. (unwrap_or o fld).cp) (sym e), ap (�
 fld_is false cp unit byte fld e = absurd (cc)
 
 pub fields_there : (bytes : List ℕ) (story_len : ℕ) →
-    ((k : ℕ) → k < (table_of 2 bytes).count → ¬ ¬ (IsRightEntry fld_form (fld_cps story_len) (table_of 2 bytes) k)) →
+    ((k : ℕ) → k < (plc_part 2 bytes).count → ¬ ¬ (IsRightEntry fld_form (fld_cps story_len) (plc_part 2 bytes) k)) →
     (list : List Fld) × AreFields bytes story_len list
 fields_there bytes story_len right =
-    entries_there fld_form (fld_cps story_len) (table_of 2 bytes)
+    entries_there fld_form (fld_cps story_len) (plc_part 2 bytes)
     (λ cp bytes entry e. (fld_is (is_field_unit (slice_index bytes 0 % 32)) cp (slice_index bytes 0 % 32) (slice_index bytes 1) entry e).0) right
 
 pub fld_byte : (bytes : List ℕ) (story_len k : ℕ) (list : List Fld) (fld : Fld) → AreFields bytes story_len list →
-    slice_get list k ≡ Some fld → fld.byte ≡ slice_index (plc_entry (table_of 2 bytes) k) 1
+    slice_get list k ≡ Some fld → fld.byte ≡ slice_index (plc_entry (plc_part 2 bytes) k) 1
 fld_byte bytes story_len k list fld are here =
-    let table = table_of 2 bytes in
+    let table = plc_part 2 bytes in
     let entry = plc_entry table k in
     let cp = plc_cp bytes k in
     let there : entry_at fld_form table k ≡ Some fld =

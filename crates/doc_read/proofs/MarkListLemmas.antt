@@ -10,7 +10,7 @@ use Rattle.doc_parts.specs.declared.lists.Sed.{Sed}
 use Rattle.doc_parts.specs.declared.lists.Fld.{Fld}
 use Rattle.doc_parts.specs.declared.lists.NoteRef.{NoteRef}
 use Rattle.doc_parts.specs.Cps.{AreCpsInOrder}
-use Rattle.doc_parts.specs.Table.{table_of}
+use Rattle.doc_parts.specs.Table.{plc_part}
 use Rattle.doc_parts.specs.Fields.{fld_cps}
 use Rattle.doc_parts.specs.Sections.{sed_cps, section_rules}
 use Rattle.fib_form.specs.declared.table_parts.TablePart.TheVariants.{PlcfSed}
@@ -78,7 +78,7 @@ some_section source sections h has =
     let at = part_place source PlcfSed in
     let none_broken = hold_out Table (section_rules plc at (story_length source Main)) h.0 in
     let all = has.all in
-    elim (cases_lt 0 (table_of 12 plc).count) [
+    elim (cases_lt 0 (plc_part 12 plc).count) [
       | inl some ↦ omega (arith, some, all)
       | inr none ↦ absurd (none_broken at (inl (refl, λ is. let least = is.1 in omega (arith, least, none))))
     ]

@@ -1,5 +1,6 @@
 // The items of a text, piece by piece.
-ghost use Rattle.std.specs.Prelude.{◌≡◌, ◌+◌, ◌<◌, ◌≤◌, ◌++◌, ℕ, [], ◌∷◌, length, slice_index, IfOk, OnOk};
+ghost use Rattle.std.specs.Prelude.{◌≡◌, ◌+◌, ◌<◌, ◌≤◌, ◌++◌, ℕ};
+ghost use Rattle.std.specs.Prelude.{[], ◌∷◌, length, slice_index, IfOk, OnOk};
 ghost use Rattle.doc_bits.specs.Rules.{Hold};
 ghost use Rattle.prop_map.specs.Modifiers.{IsFormedModifier};
 ghost use Rattle.piece_table.specs.Piece.{total_length};
@@ -10,7 +11,8 @@ ghost use Rattle.doc_load.specs.PartRules.{part_rules, HasPartLists};
 ghost use Rattle.doc_read.specs.Sections.{AreSectionMaps};
 ghost use Rattle.doc_read.specs.Items.{HoldsItems};
 ghost use Rattle.doc_read.specs.Passing.{AddsEach};
-ghost use Rattle.doc_read.specs.Reading.{AreCharactersFrom, ArePassed, ArePlacedItems, IsReadable, IsReadAt, AreBareUntil, mark_lists, text_view, IsReadCharacter};
+ghost use Rattle.doc_read.specs.Reading.{AreCharactersFrom, ArePassed, ArePlacedItems, IsReadable, IsReadAt};
+ghost use Rattle.doc_read.specs.Reading.{AreBareUntil, mark_lists, text_view, IsReadCharacter};
 
 use crate::SectionMaps;
 use crate::marked::read_marks;

@@ -1,5 +1,6 @@
 // The item of one CP.
-ghost use Rattle.std.specs.Prelude.{◌≡◌, ◌+◌, ◌<◌, ◌≤◌, ◌^◌, ℕ, length, slice_index, IsTrue, IfOk, IfSome, OnOk};
+ghost use Rattle.std.specs.Prelude.{◌≡◌, ◌+◌, ◌<◌, ◌≤◌, ◌^◌, ℕ};
+ghost use Rattle.std.specs.Prelude.{length, slice_index, IsTrue, IfOk, IfSome, OnOk};
 ghost use Rattle.prop_map.specs.Formed.{IsPropertyMap, paragraph_groups};
 ghost use Rattle.prop_map.specs.Modifiers.{IsFormedModifier};
 ghost use Rattle.fkp_pages.specs.declared.kind.PageKind.TheVariants.{Papx};

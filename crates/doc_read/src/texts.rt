@@ -1,5 +1,6 @@
 // The notes and the header texts, cut out of the items of the whole text.
-ghost use Rattle.std.specs.Prelude.{◌≡◌, ◌+◌, ◌≤◌, ◌<◌, ◌^◌, [], length, slice_index, slice_range, IfOk};
+ghost use Rattle.std.specs.Prelude.{◌≡◌, ◌+◌, ◌≤◌, ◌<◌, ◌^◌};
+ghost use Rattle.std.specs.Prelude.{[], length, slice_index, slice_range, IfOk};
 ghost use Rattle.doc_read.specs.Texts.{AreCutFrom, AreCutsWithin};
 
 use doc_bits::Memory;

@@ -1,5 +1,6 @@
 // The lines that show a text.
-ghost use Rattle.std.specs.Prelude.{◌≡◌, ◌-◌, ◌<◌, ◌++◌, false, length, map, slice_get, Some, OnOk, IfOk};
+ghost use Rattle.std.specs.Prelude.{◌≡◌, ◌-◌, ◌<◌, ◌++◌, false};
+ghost use Rattle.std.specs.Prelude.{length, map, slice_get, Some, OnOk, IfOk};
 ghost use Rattle.std.specs.List.{flat_map};
 ghost use Rattle.text_codes.specs.Shown.{shown};
 ghost use Rattle.plain_doc.specs.Stretches.{stretches, BeginsStretch};

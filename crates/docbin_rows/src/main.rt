@@ -23,8 +23,8 @@ fn main(rt: HostRuntime) -> ExitCode {
     }
 }
 
-/// Does what the lines say, in order, and prints what comes of each. Answers whether each line was understood; the first
-/// that is not is named, and ends the run.
+/// Does what the lines say, in order, and prints what comes of each. Answers whether each line was understood; the
+/// first that is not is named, and ends the run.
 fn play<R: Files + Input + Print + AllocGlobal>(rt: &R) -> io::Result<bool> {
     let alloc = rt.alloc();
     let mut data = HostShelf::new(alloc, rt);

@@ -1,5 +1,6 @@
 // What a script has. After want of memory a list is what it was.
-ghost use Rattle.std.specs.Prelude.{◌≡◌, ◌<◌, [], ◌∷◌, ◌++◌, length, slice_get, Some, OnOk, OnErr, IsTrue, ◌↔◌};
+ghost use Rattle.std.specs.Prelude.{◌≡◌, ◌<◌, [], ◌∷◌, ◌++◌, length};
+ghost use Rattle.std.specs.Prelude.{slice_get, Some, OnOk, OnErr, IsTrue, ◌↔◌};
 ghost use Rattle.edit_script.specs.Scripts.{EndsWithSave};
 
 use doc_bits::{Memory, Story, Units};

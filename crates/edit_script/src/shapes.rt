@@ -2,7 +2,9 @@
 ghost use Rattle.std.specs.Prelude.{Option};
 ghost use Rattle.serde_json.specs.View.{view};
 ghost use Rattle.edit_script.specs.Json.{Gives};
-ghost use Rattle.edit_script.specs.Shapes.{command_of, command_with_name, insert_of, erase_of, char_of, plain_of, para_of, style_of, field_of, note_of, split_of, merge_of, sect_of, row_of, style_char_of, style_para_of, save_of};
+ghost use Rattle.edit_script.specs.Shapes.{command_of, command_with_name, insert_of, erase_of, char_of};
+ghost use Rattle.edit_script.specs.Shapes.{plain_of, para_of, style_of, field_of, note_of, split_of, merge_of};
+ghost use Rattle.edit_script.specs.Shapes.{sect_of, row_of, style_char_of, style_para_of, save_of};
 
 use crate::keys::{key_count, member};
 use crate::settings::settings_in;

@@ -4,7 +4,8 @@ ghost use Rattle.std.specs.Char.Escape.{encode_utf16};
 ghost use Rattle.serde_json.specs.Find.{as_bool};
 ghost use Rattle.serde_json.specs.View.{view};
 ghost use Rattle.edit_script.specs.Json.{Gives};
-ghost use Rattle.edit_script.specs.Values.{whole_number, position, short_number, byte_number, story_of, units_of, utf16, bytes_of, mode_with_name, mode_of};
+ghost use Rattle.edit_script.specs.Values.{whole_number, position, short_number, byte_number, story_of};
+ghost use Rattle.edit_script.specs.Values.{units_of, utf16, bytes_of, mode_with_name, mode_of};
 
 use crate::Misfit;
 use crate::hex::bytes_from_digits;

@@ -4,3 +4,4 @@ pub mod FibRules
 pub mod FibBytes
 pub mod Stories
 pub mod TableParts
+pub mod TableEntries

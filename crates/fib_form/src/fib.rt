@@ -1,4 +1,5 @@
-ghost use Rattle.std.specs.Prelude.{◌≡◌, ◌+◌, ◌<◌, ◌≤◌, [], ◌∷◌, slice_index, true, false, MatchResult};
+ghost use Rattle.std.specs.Prelude.{◌≡◌, ◌+◌, ◌<◌, ◌≤◌, [], ◌∷◌};
+ghost use Rattle.std.specs.Prelude.{slice_index, true, false, MatchResult};
 ghost use Rattle.fib_form.specs.Fib.{early_form};
 ghost use Rattle.fib_form.specs.FibFields.{pair_at, text_length, AreCounts, ArePairs, IsKeptFlags};
 

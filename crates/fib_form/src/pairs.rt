@@ -1,4 +1,5 @@
-ghost use Rattle.std.specs.Prelude.{◌≡◌, ℕ, ◌<◌, List, length, ◌++◌, take, drop, flat_map, slice_set, ◌≤◌};
+ghost use Rattle.std.specs.Prelude.{◌≡◌, ℕ, ◌<◌, List, length, ◌++◌};
+ghost use Rattle.std.specs.Prelude.{take, drop, flat_map, slice_set, ◌≤◌};
 ghost use Rattle.doc_bits.specs.Number.{number_bytes};
 ghost use Rattle.fib_form.specs.Fib.{early_form};
 ghost use Rattle.fib_form.specs.FibFields.{pair_at, empty_pairs};

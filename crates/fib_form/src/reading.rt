@@ -1,5 +1,6 @@
 // The rules on the FIB and its fields.
-ghost use Rattle.std.specs.Prelude.{◌≡◌, ℕ, ◌+◌, ◌*◌, ◌≤◌, ◌<◌, List, length, MatchResult, MatchOption, IsTrue, ◌↔◌};
+ghost use Rattle.std.specs.Prelude.{◌≡◌, ℕ, ◌+◌, ◌*◌, ◌≤◌, ◌<◌, List};
+ghost use Rattle.std.specs.Prelude.{length, MatchResult, MatchOption, IsTrue, ◌↔◌};
 ghost use Rattle.doc_bits.specs.Rules.{Hold, IsFirst, LeastOrNone, Among, Nowhere};
 ghost use Rattle.fib_form.specs.Fib.{CcpText, field_offset};
 ghost use Rattle.fib_form.specs.Fib.{early_form, fib_pair, fib_pairs, bit, kept_flags};

@@ -17,3 +17,5 @@ pub mod RunsTested
 pub mod WholePages
 pub mod RowLemmas
 pub mod PackedLemmas
+pub mod RowTableLemmas
+pub mod LongerLemmas

@@ -37,7 +37,7 @@ unfolding numbered_bins
 firsts_are number [] = refl
 firsts_are number (start ∷ starts) = ap (λ l. start ∷ l) (firsts_are (number + 1) starts)
 
-page_is : (number : ℕ) (starts : List ℕ) (k : ℕ) → k < length starts → slice_index (map (λ (bin : Bin). bin.page) (numbered_bins number starts)) k ≡ number + k
+pub page_is : (number : ℕ) (starts : List ℕ) (k : ℕ) → k < length starts → slice_index (map (λ (bin : Bin). bin.page) (numbered_bins number starts)) k ≡ number + k
 unfolding numbered_bins
 page_is number [] k up = absurd (omega arith)
 page_is number (start ∷ starts) zero up = omega arith

@@ -11,3 +11,4 @@ pub mod Pages
 pub mod Packed
 pub mod Found
 pub mod InARow
+pub mod Rows

@@ -1,6 +1,7 @@
 // Lists of runs, of the first fcs of pages, and of what a bin table names. After want of memory each
 // is what it was.
-ghost use Rattle.std.specs.Prelude.{◌≡◌, ◌<◌, ℕ, List, [], ◌∷◌, ◌++◌, length, Some, slice_get, slice_index_or, OnOk};
+ghost use Rattle.std.specs.Prelude.{◌≡◌, ◌<◌, ℕ, List, [], ◌∷◌, ◌++◌};
+ghost use Rattle.std.specs.Prelude.{length, Some, slice_get, slice_index_or, OnOk};
 ghost use Rattle.std.specs.Prelude.{OnErr};
 ghost use Rattle.std.specs.List.{All};
 ghost use Rattle.fkp_pages.specs.declared.lists.Run.{Run};
@@ -81,7 +82,8 @@ impl ChpRuns {
 
     /// Puts a run last.
     pub fn add(&mut self, from: u32, to: u32, map: PropMap) -> Result<(), Memory>
-        ensures ok { OnOk result (self.new ≡ self.old ++ (record { from = from; to = to; istd = 0; map = map }) ∷ []) }
+        ensures ok { OnOk result
+            (self.new ≡ self.old ++ (record { from = from; to = to; istd = 0; map = map }) ∷ []) }
         ensures err { OnErr result (self.new ≡ self.old) }
         ensures numbers { HasFileNumbers (record { from = from; to = to; istd = 0; map = map }) }
     {
@@ -140,7 +142,8 @@ impl PapRuns {
         requires { i < length self.now }
         ensures { (other : Run) →
             let run = slice_index_or self.now i other in
-            (result.0 ≡ run.from) × ((result.1 ≡ run.to) × ((result.2 ≡ run.istd) × (result.3.now ≡ run.map))) }
+            (result.0 ≡ run.from) × ((result.1 ≡ run.to)
+            × ((result.2 ≡ run.istd) × (result.3.now ≡ run.map))) }
     {
         let run = &self.items[i];
         (run.from, run.to, run.istd, &run.map)

@@ -1,5 +1,6 @@
 // Runs on pages: as many on each as fit.
-ghost use Rattle.std.specs.Prelude.{◌≡◌, ◌<◌, ◌≤◌, ◌+◌, ◌^◌, ◌++◌, length, take, All, IfOk, OnOk, OnErr};
+ghost use Rattle.std.specs.Prelude.{◌≡◌, ◌<◌, ◌≤◌, ◌+◌, ◌^◌};
+ghost use Rattle.std.specs.Prelude.{◌++◌, length, take, All, IfOk, OnOk, OnErr};
 ghost use Rattle.fkp_pages.specs.Runs.{IsWritableRun};
 ghost use Rattle.fkp_pages.specs.PageBytes.{FitsPage};
 ghost use Rattle.fkp_pages.specs.Pages.{ArePagesOf};

@@ -2,6 +2,7 @@
 ghost use Rattle.fkp_pages.specs.Pages.{PackingIsOne, PagesAreOne, RunFitsAlone, PagesAreWhole};
 ghost use Rattle.fkp_pages.specs.Packed.{RunsHavePages};
 ghost use Rattle.fkp_pages.specs.InARow.{PagesStandInARow, RowIsPrintable};
+ghost use Rattle.fkp_pages.specs.Rows.{LongerTablesNameBoth};
 ghost use Rattle.fkp_pages.specs.Found.{RunsAreFound, PlacesHaveLists, ListsHaveSettings};
 
 /// Runs are put onto pages in one way at most.
@@ -47,6 +48,11 @@ pub fn pages_stand_in_a_row()
 /// A bin table can have the ranges that number pages.
 pub fn row_is_printable()
     ensures { RowIsPrintable }
+{}
+
+/// A table of the ranges of an old table and then of those of a row names both.
+pub fn longer_tables_name_both()
+    ensures { LongerTablesNameBoth }
 {}
 
 /// The list of a run has its style number, and acting with it on the empty map gives its settings.

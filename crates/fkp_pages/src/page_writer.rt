@@ -1,5 +1,6 @@
 // [MS-DOC] ChpxFkp, PapxFkp: the bytes of a page.
-ghost use Rattle.std.specs.Prelude.{◌≡◌, ◌<◌, ◌≤◌, ◌+◌, ◌-◌, ◌++◌, ◌∷◌, ◌/◌, ◌↔◌, List, ℕ, length, take, drop, All};
+ghost use Rattle.std.specs.Prelude.{◌≡◌, ◌<◌, ◌≤◌, ◌+◌, ◌-◌, ◌++◌, ◌∷◌};
+ghost use Rattle.std.specs.Prelude.{◌/◌, ◌↔◌, List, ℕ, length, take, drop, All};
 ghost use Rattle.std.specs.Prelude.{IsTrue, OnOk, if◌then◌else◌};
 ghost use Rattle.fkp_pages.specs.Fkp.{entry_size, most_runs};
 ghost use Rattle.fkp_pages.specs.Runs.{IsWritableRun};

@@ -1,5 +1,6 @@
 // [MS-DOC] ChpxFkp, PapxFkp: what a page answers at a byte place.
-ghost use Rattle.std.specs.Prelude.{◌≡◌, ◌+◌, ◌*◌, ◌<◌, ◌≤◌, ◌↔◌, length, IsTrue, MatchOption};
+ghost use Rattle.std.specs.Prelude.{◌≡◌, ◌+◌, ◌*◌, ◌<◌, ◌≤◌};
+ghost use Rattle.std.specs.Prelude.{◌↔◌, length, IsTrue, MatchOption};
 ghost use Rattle.fkp_pages.specs.declared.kind.PageKind.TheVariants.{Chpx, Papx};
 ghost use Rattle.fkp_pages.specs.Fkp.{page_count, HasRunCount, HoldsFc, IsFirstRun, HasNoRun, list_from, list_to};
 ghost use Rattle.fkp_pages.specs.Fkp.{IsListWithin, IsAnswerOf, HasRunAnswer};

@@ -1,5 +1,5 @@
-// The canonical container: streams laid out as one file, and read again. The lengths and the sums are those of an independently
-// written model of the layout.
+// The canonical container: streams laid out as one file, and read again. The lengths and the sums are those of an
+// independently written model of the layout.
 use cfb_layout::{LayoutFault, sectors_needed, whole};
 use cfb_streams::{Container, Streams};
 use doc_bits::{Bytes, Memory};

@@ -170,8 +170,8 @@ fn breaks(document: &Document, fault: (u8, Where, u32)) -> bool {
     }
 }
 
-// Rules that no file breaks: a reader gives marks, sections, field characters, references and header texts to the items that
-// they belong to.
+// Rules that no file breaks: a reader gives marks, sections, field characters, references and header texts to the items
+// that they belong to.
 #[test]
 fn documents_of_no_file_are_judged(rt: HostRuntime) -> Result<(), Fail> {
     for row in ROWS {

@@ -28,7 +28,8 @@ struct Words(usize, &'static [u16]);
 #[derive(Clone, Copy)]
 struct Numbers(usize, &'static [u32]);
 
-/// The header, the names of the entries, the FIB, the text, the pages, the style sheet and the rest of the table stream.
+/// The header, the names of the entries, the FIB, the text, the pages, the style sheet and the rest of the table
+/// stream.
 const WORDS: [Words; 13] = [
     Words(24, &[0x3E, 3, 0xFFFE, 9, 6]),
     Words(
@@ -111,8 +112,8 @@ fn put(file: &mut [u8], at: usize, width: usize, value: u32) {
     }
 }
 
-/// Sectors 0 to 7 are the table stream, 8 to 15 `WordDocument`, 16 the directory, 17 the FAT. The header has no further FAT
-/// sectors.
+/// Sectors 0 to 7 are the table stream, 8 to 15 `WordDocument`, 16 the directory, 17 the FAT. The header has no further
+/// FAT sectors.
 fn put_fat(file: &mut [u8]) {
     for i in 1..109 {
         put(file, 76 + 4 * i, 4, FREESECT);

@@ -78,8 +78,8 @@ fn paragraph_pages(alloc: Global, runs: &PapRuns) -> Result<Bytes, Memory> {
     Ok(write_papx_pages(alloc, runs)?.bytes)
 }
 
-// The first list has 5 bytes, an odd number: 3, and they, from 504 on (505 is odd). The next one has 6, an even number: 0,
-// 3, and they, from 496 on. The last one is a style number alone: 0, 1, and it, from 492 on.
+// The first list has 5 bytes, an odd number: 3, and they, from 504 on (505 is odd). The next one has 6, an even number:
+// 0, 3, and they, from 496 on. The last one is a style number alone: 0, 1, and it, from 492 on.
 #[test]
 fn a_paragraph_page_is_laid_out_by_hand(rt: HostRuntime) -> Result<(), Fail> {
     let runs = paragraph_runs(rt.alloc())?;

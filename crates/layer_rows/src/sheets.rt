@@ -62,8 +62,8 @@ fn styles_are_changed_and_added(rt: HostRuntime) -> Result<(), Fail> {
     Ok(())
 }
 
-// [MS-DOC] STSH of the blank document: styles in the slots 0, 1 and 10 of 15. A program apart from this one put the bytes
-// together from the standard's tables.
+// [MS-DOC] STSH of the blank document: styles in the slots 0, 1 and 10 of 15. A program apart from this one put the
+// bytes together from the standard's tables.
 const BLANK: [u8; 188] = [
     18, 0, 15, 0, 10, 0, 1, 0, 91, 0, 15, 0, 0, 0, 0, 0, 0, 0, 0, 0, 32, 0, 0, 0, 0xF1, 0xFF, 2, 0,
     32, 0, 0, 0, 6, 0, 78, 0, 111, 0, 114, 0, 109, 0, 97, 0, 108, 0, 0, 0, 2, 0, 0, 0, 0, 0, 46, 0,

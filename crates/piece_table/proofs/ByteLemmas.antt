@@ -1,55 +1,13 @@
--- The bytes of a number that was read, and bodies behind their sizes.
-use Rattle.std.proofs.Common.{◌≡◌, ℕ, zero, suc, ◌+◌, ◌*◌, ◌/◌, ◌%◌, ◌^◌, ◌<◌, ◌≤◌, List, [], ◌∷◌, ◌++◌, length, take, drop, get_or, slice_index, refl, inl, inr, sym, ap, subst, ◌∙◌, arith, append_assoc, length-append, length-take, length-drop}
-use Rattle.std.proofs.Math.Nat.{pow-suc, div-div-eq-div-mul, div-one}
+-- Bodies behind their sizes.
+use Rattle.std.proofs.Common.{◌≡◌, ℕ, suc, ◌+◌, ◌^◌, ◌<◌, ◌≤◌, List, [], ◌∷◌, ◌++◌, length, take, drop, slice_index, refl, sym, ap, subst, ◌∙◌}
+use Rattle.std.proofs.Common.{arith, append_assoc, length-append, length-take, length-drop}
 use Rattle.std.proofs.Math.Seq.{take-append_seam, drop-append_seam}
-use Rattle.std.proofs.lemmas.List.{take-append-drop, get_or-take, get_or-drop, get_or_past}
-use Rattle.std.proofs.lemmas.Bool.{cases_lt}
-use Rattle.std.specs.Int.{bytes_low_first, byte_at}
-use Rattle.doc_bits.specs.Number.{number_at, number_bytes}
-use Rattle.doc_bits.proofs.NumberLemmas.{number_at-first, number_at-after, number_at-take, number_at-number_bytes, length-number_bytes}
-use Rattle.sprm_table.proofs.OperandLemmas.{same_front}
+use Rattle.std.proofs.lemmas.List.{take-append-drop}
+use Rattle.doc_bits.specs.Number.{number_at, number_bytes, AreBytes}
+use Rattle.doc_bits.proofs.ByteListLemmas.{number_bytes-number_at}
+use Rattle.doc_bits.proofs.ListLemmas.{same_front}
+use Rattle.doc_bits.proofs.NumberLemmas.{number_at-after, number_at-number_bytes, length-number_bytes}
 use Rattle.piece_table.specs.Clx.{sized_bytes}
-
--- all are below 256
-abbrev pub AreBytes : List ℕ → Type 0
-AreBytes xs = (i : ℕ) → slice_index xs i < 256
-
-byte_at-pow : (k x : ℕ) → byte_at k x ≡ x / 256 ^ k % 256
-byte_at-pow zero x = ap (λ (y : ℕ). y % 256) (sym (div-one x))
-byte_at-pow (suc k) x = refl
-
--- the bytes of a number are those that spell it
-digits : (k i x : ℕ) (xs : List ℕ) → length xs ≡ k → AreBytes xs → x / 256 ^ i ≡ number_at xs 0 k → bytes_low_first i k x ≡ xs
-digits zero i x [] len bytes e = refl
-digits zero i x (b ∷ rest) len bytes e = absurd (omega arith)
-digits (suc k) i x [] len bytes e = absurd (omega arith)
-digits (suc k) i x (b ∷ rest) len bytes e =
-    let first = number_at-first (b ∷ rest) 0 k in
-    let moved = number_at-after (b ∷ []) rest 0 k in
-    let byte : b < 256 = bytes 0 in
-    let parts : x / 256 ^ i ≡ b + 256 * number_at rest 0 k = e ∙ (first ∙ ap (λ n. b + 256 * n) moved) in
-    let low : x / 256 ^ i % 256 ≡ b = rw parts (omega arith) in
-    let shift : x / 256 ^ suc i ≡ x / 256 ^ i / 256 = ap (λ (p : ℕ). x / p) (pow-suc 256 i) ∙ sym (div-div-eq-div-mul x (256 ^ i) 256) in
-    let high : x / 256 ^ suc i ≡ number_at rest 0 k = shift ∙ rw parts (omega arith) in
-    let more : bytes_low_first (suc i) k x ≡ rest = digits k (suc i) x rest (omega arith) (λ j. bytes (suc j)) high in
-    rw (byte_at-pow i x, low, more) refl
-
--- bytes of a front
-AreBytes-take : (n : ℕ) (xs : List ℕ) → AreBytes xs → AreBytes (take n xs)
-AreBytes-take n xs bytes i = elim (cases_lt i n) [
-  | inl low ↦ rw (get_or-take n xs i 0 low) (bytes i)
-  | inr high ↦ let past : get_or (take n xs) i 0 ≡ 0 = get_or_past (take n xs) i 0 (omega (arith, length-take n xs)) in rw past (omega arith)
-]
-
-pub AreBytes-drop : (n : ℕ) (xs : List ℕ) → AreBytes xs → AreBytes (drop n xs)
-AreBytes-drop n xs bytes i = rw (get_or-drop n xs i 0) (bytes (n + i))
-
-pub number_bytes-number_at : (k : ℕ) (xs : List ℕ) → AreBytes xs → k ≤ length xs → number_bytes k (number_at xs 0 k) ≡ take k xs
-unfolding number_bytes
-number_bytes-number_at k xs bytes long =
-    let len : length (take k xs) ≡ k = omega (arith, length-take k xs) in
-    let read : number_at xs 0 k / 256 ^ 0 ≡ number_at (take k xs) 0 k = div-one (number_at xs 0 k) ∙ sym (number_at-take k xs 0 k (omega arith)) in
-    digits k 0 (number_at xs 0 k) (take k xs) len (AreBytes-take k xs bytes) read
 
 -- a size and a body at the front are spelled
 pub front_spelt : (clxt width size : ℕ) (bytes : List ℕ) → AreBytes bytes → suc width + size ≤ length bytes → slice_index bytes 0 ≡ clxt → number_at bytes 1 width ≡ size → (length (take size (drop (suc width) bytes)) ≡ size) × (bytes ≡ sized_bytes clxt width (take size (drop (suc width) bytes)) ++ drop size (drop (suc width) bytes))

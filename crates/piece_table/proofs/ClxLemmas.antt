@@ -9,7 +9,9 @@ use Rattle.std.specs.Prelude.{slice_range}
 use Rattle.doc_bits.specs.Plc.{PlcPart, IsPlcOf}
 use Rattle.piece_table.specs.Clx.{prc_bytes, pcdt_bytes, IsGrpprl, IsPlcPcd, BeginsPrc, BeginsPcdt, ClxParts, SpellsClx, IsWrongAt}
 use Rattle.piece_table.specs.Front.{IsPrcFront, IsPcdtFront, ArePrcs, AreAllPrcs, AreParts}
-use Rattle.piece_table.proofs.ByteLemmas.{AreBytes, AreBytes-drop, front_spelt, spelt_front, spelt_body, sized_unique}
+use Rattle.doc_bits.specs.Number.{AreBytes}
+use Rattle.doc_bits.proofs.ByteListLemmas.{AreBytes-drop}
+use Rattle.piece_table.proofs.ByteLemmas.{front_spelt, spelt_front, spelt_body, sized_unique}
 
 pub prc_unique : (a b x y : List ℕ) → IsGrpprl a → IsGrpprl b → prc_bytes a ++ x ≡ prc_bytes b ++ y → (a ≡ b) × (x ≡ y)
 prc_unique a b x y short_a short_b e = sized_unique 1 2 a b x y (omega arith) (omega arith) e

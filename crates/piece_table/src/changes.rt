@@ -1,5 +1,6 @@
 // Changes of a list of pieces, each by its meaning on the flat entries.
-ghost use Rattle.std.specs.Prelude.{◌≡◌, ◌+◌, ◌-◌, ◌<◌, ◌≤◌, length, ⊤, OnOk, OnErr, Option, MatchOption, option_to_list};
+ghost use Rattle.std.specs.Prelude.{◌≡◌, ◌+◌, ◌-◌, ◌<◌, ◌≤◌, length};
+ghost use Rattle.std.specs.Prelude.{⊤, OnOk, OnErr, Option, MatchOption, option_to_list};
 ghost use Rattle.std.specs.List.{splice};
 ghost use Rattle.prop_map.specs.Modifiers.{IsFormedModifier};
 ghost use Rattle.piece_table.specs.Piece.{IsPiece, flat_pieces, total_length};
@@ -49,7 +50,8 @@ impl PieceList {
         requires spare { 3 ≤ self.old.spare }
         requires fresh { MatchOption fresh ⊤ IsPiece }
         requires total { total_length self.old.pieces + fresh_units fresh ≤ 500001 + (to - from) }
-        ensures text { flat_pieces self.new.pieces ≡ splice (flat_pieces self.old.pieces) from to (fresh_places fresh) }
+        ensures text { flat_pieces self.new.pieces
+            ≡ splice (flat_pieces self.old.pieces) from to (fresh_places fresh) }
         ensures count { length self.new.pieces ≤ length self.old.pieces + 1 + length (option_to_list fresh) }
         ensures spare { self.old.spare ≤ self.new.spare + 3 }
     {
@@ -65,7 +67,8 @@ impl PieceList {
         requires within { to ≤ total_length self.old.pieces }
         requires spare { 2 ≤ self.old.spare }
         requires formed { IsFormedModifier by.now }
-        ensures text { OnOk result (AreModified by.now from to (flat_pieces self.old.pieces) (flat_pieces self.new.pieces)) }
+        ensures text { OnOk result
+            (AreModified by.now from to (flat_pieces self.old.pieces) (flat_pieces self.new.pieces)) }
         ensures count { OnOk result (length self.new.pieces ≤ length self.old.pieces + 2) }
         ensures spare { OnOk result (self.old.spare ≤ self.new.spare + 2) }
         ensures err { OnErr result (self.new ≡ self.old) }

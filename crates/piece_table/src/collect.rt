@@ -1,5 +1,6 @@
 // The pieces of a Clx that was judged.
-ghost use Rattle.std.specs.Prelude.{◌≡◌, ℕ, ◌-◌, ◌^◌, ◌<◌, ◌≤◌, List, length, map, IfOk, OnOk};
+ghost use Rattle.std.specs.Prelude.{◌≡◌, ℕ, ◌-◌, ◌^◌, ◌<◌};
+ghost use Rattle.std.specs.Prelude.{◌≤◌, List, length, map, IfOk, OnOk};
 ghost use Rattle.doc_bits.specs.Plc.{PlcPart};
 ghost use Rattle.piece_table.specs.Piece.{bare_piece};
 ghost use Rattle.piece_table.specs.Clx.{ClxParts, IsPlcPcd, clx_piece, clx_pieces, HaveModifiers};

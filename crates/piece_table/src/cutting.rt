@@ -1,8 +1,10 @@
 // How entries are cut and put: what `split`, `splice` and `modify` do to a list of entries.
-ghost use Rattle.std.specs.Prelude.{◌≡◌, ◌+◌, ◌<◌, ◌≤◌, ◌++◌, take, drop, All, vec_len, vec_capacity, IfOk};
+ghost use Rattle.std.specs.Prelude.{◌≡◌, ◌+◌, ◌<◌, ◌≤◌, ◌++◌};
+ghost use Rattle.std.specs.Prelude.{take, drop, All, vec_len, vec_capacity, IfOk};
 ghost use Rattle.piece_table.specs.Piece.{IsPiece};
 ghost use Rattle.piece_table.specs.Changes.{fresh_units};
-ghost use Rattle.piece_table.specs.Cuts.{entry_units, front_entry, back_entry, fresh_entries, IsEntrySpot, IsCut, IsCutTwice};
+ghost use Rattle.piece_table.specs.Cuts.{entry_units, front_entry, back_entry, fresh_entries};
+ghost use Rattle.piece_table.specs.Cuts.{IsEntrySpot, IsCut, IsCutTwice};
 
 use crate::pieces::{Entry, Piece, Spot};
 use doc_bits::Memory;
@@ -98,7 +100,8 @@ pub(crate) fn cut_range(entries: &mut Vec<Entry>, from: u32, to: u32) -> (usize,
 pub(crate) fn put(entries: &mut Vec<Entry>, number: usize, fresh: Option<Piece>)
     requires within { number ≤ vec_len entries.old }
     requires room { vec_len entries.old < vec_capacity entries.old }
-    ensures items { entries.new.items ≡ take number entries.old.items ++ (fresh_entries fresh ++ drop number entries.old.items) }
+    ensures items { entries.new.items
+        ≡ take number entries.old.items ++ (fresh_entries fresh ++ drop number entries.old.items) }
     ensures count { vec_len entries.new ≤ vec_len entries.old + 1 }
     ensures room { vec_capacity entries.old ≤ vec_capacity entries.new }
 {

@@ -1,9 +1,11 @@
 // The rules on the pieces, one function a rule.
-ghost use Rattle.std.specs.Prelude.{◌≡◌, ℕ, ◌+◌, ◌^◌, ◌<◌, ◌≤◌, List, length, MatchOption, MatchResult, IsTrue, ◌↔◌};
+ghost use Rattle.std.specs.Prelude.{◌≡◌, ℕ, ◌+◌, ◌^◌, ◌<◌, ◌≤◌, List};
+ghost use Rattle.std.specs.Prelude.{length, MatchOption, MatchResult, IsTrue, ◌↔◌};
 ghost use Rattle.doc_bits.specs.Rules.{Hold, IsFirst, LeastOrNone, Among, Nowhere};
 ghost use Rattle.doc_bits.specs.Plc.{PlcPart, plc_cp};
 ghost use Rattle.piece_table.specs.Clx.{IsPlcPcd, clx_piece, pcd_place};
-ghost use Rattle.piece_table.specs.ClxRules.{HasWrongCp, IsNoAscent, IsOutside, LeavesStream, IsUnread, IsReadPrm, piece_rules, NamesFirst};
+ghost use Rattle.piece_table.specs.ClxRules.{HasWrongCp, IsNoAscent, IsOutside, LeavesStream};
+ghost use Rattle.piece_table.specs.ClxRules.{IsUnread, IsReadPrm, piece_rules, NamesFirst};
 
 use crate::collect::piece_of;
 use crate::pcd::prm_of_piece;

@@ -1,5 +1,6 @@
 // The modifiers of the Prms of a Clx, each read once.
-ghost use Rattle.std.specs.Prelude.{◌≡◌, ℕ, ◌^◌, ◌<◌, ◌≤◌, List, length, map, slice_get, slice_index, slice_index_or, IfOk, OnOk, Some, ◌++◌, ◌∷◌, [], ◌≢◌};
+ghost use Rattle.std.specs.Prelude.{◌≡◌, ℕ, ◌^◌, ◌<◌, ◌≤◌, List, length, map, slice_get};
+ghost use Rattle.std.specs.Prelude.{slice_index, slice_index_or, IfOk, OnOk, Some, ◌++◌, ◌∷◌, [], ◌≢◌};
 ghost use Rattle.sprm_table.specs.Sprm.{IsAcceptedList, Prl};
 ghost use Rattle.sprm_table.specs.Prms.{IsPrmCode};
 ghost use Rattle.prop_map.specs.declared.modifiers.Modifier.{Modifier as TheModifier};
@@ -27,7 +28,8 @@ pub struct ModifierTable {
 
 impl ModifierTable {
     pub fn new(alloc: Global) -> Result<ModifierTable, Memory>
-        ensures { IfOk result (λ table. (prcs : List (List ℕ)) → HasMet prcs table.modifiers.items table.numbers.items) }
+        ensures { IfOk result
+            (λ table. (prcs : List (List ℕ)) → HasMet prcs table.modifiers.items table.numbers.items) }
     {
         let mut modifiers = Vec::new(alloc);
         modifiers.push(Modifier::none(alloc))?;
@@ -42,8 +44,10 @@ impl ModifierTable {
         requires { prm < 2 ^ 32 }
         ensures number { IfOk result (λ number. number ≡ length self.old.modifiers.items) }
         ensures list { OnOk result (self.new.modifiers.items ≡ self.old.modifiers.items ++ modifier ∷ []) }
-        ensures met { OnOk result ((prcs : List (List ℕ)) → IsFormedModifier modifier → IsPrmModifier prcs (prm_of prm) modifier
-            → HasMet prcs self.old.modifiers.items self.old.numbers.items → HasMet prcs self.new.modifiers.items self.new.numbers.items) }
+        ensures met { OnOk result ((prcs : List (List ℕ)) → IsFormedModifier modifier
+            → IsPrmModifier prcs (prm_of prm) modifier
+            → HasMet prcs self.old.modifiers.items self.old.numbers.items
+            → HasMet prcs self.new.modifiers.items self.new.numbers.items) }
     {
         grow(&mut self.numbers, prm + 1)?;
         let number = self.modifiers.len();
@@ -58,7 +62,8 @@ impl ModifierTable {
         requires readable { AreReadable prcs.now (prm_of word) }
         requires met { HasMet prcs.now self.old.modifiers.items self.old.numbers.items }
         ensures within { IfOk result (λ number. number < length self.new.modifiers.items) }
-        ensures does { IfOk result (λ number. IsPrmModifier prcs.now (prm_of word) (slice_index_or self.new.modifiers.items number no_modifier)) }
+        ensures does { IfOk result (λ number.
+            IsPrmModifier prcs.now (prm_of word) (slice_index_or self.new.modifiers.items number no_modifier)) }
         ensures met { OnOk result (HasMet prcs.now self.new.modifiers.items self.new.numbers.items) }
         ensures extends { OnOk result (Extends self.old.modifiers.items self.new.modifiers.items) }
     {
@@ -100,7 +105,8 @@ impl ModifierTable {
 /// Appends zeros, up to so many numbers.
 fn grow(numbers: &mut Vec<usize>, len: usize) -> Result<(), Memory>
     ensures long { OnOk result (len ≤ length numbers.new.items) }
-    ensures same { OnOk result ((prm : ℕ) → slice_index numbers.new.items prm ≡ slice_index numbers.old.items prm) }
+    ensures same { OnOk result
+        ((prm : ℕ) → slice_index numbers.new.items prm ≡ slice_index numbers.old.items prm) }
 {
     while numbers.len() < len {
         numbers.push(0)?;

@@ -1,5 +1,7 @@
 // [MS-DOC] Clx: its Prcs, and the Plc of its Pcdt.
-ghost use Rattle.std.specs.Prelude.{◌≡◌, ℕ, ◌+◌, ◌^◌, ◌<◌, ◌≤◌, List, length, drop, slice_get, MatchOption, MatchResult, IfOk, OnOk, OnErr, Some, [], ◌++◌, ◌∷◌};
+ghost use Rattle.std.specs.Prelude.{◌≡◌, ℕ, ◌+◌, ◌^◌, ◌<◌, ◌≤◌};
+ghost use Rattle.std.specs.Prelude.{List, length, drop, slice_get, MatchOption, MatchResult};
+ghost use Rattle.std.specs.Prelude.{IfOk, OnOk, OnErr, Some, [], ◌++◌, ◌∷◌};
 ghost use Rattle.doc_bits.specs.Rules.{Nowhere, From, IsLeast, rule, Hold};
 ghost use Rattle.doc_bits.specs.Plc.{PlcPart};
 ghost use Rattle.piece_table.specs.Clx.{IsWrongAt};

@@ -1,4 +1,5 @@
-ghost use Rattle.std.specs.Prelude.{◌≡◌, ℕ, ◌+◌, ◌*◌, ◌^◌, ◌<◌, ◌≤◌, length, map, slice_get, Some, option_map, IfOk};
+ghost use Rattle.std.specs.Prelude.{◌≡◌, ℕ, ◌+◌, ◌*◌, ◌^◌, ◌<◌, ◌≤◌};
+ghost use Rattle.std.specs.Prelude.{length, map, slice_get, Some, option_map, IfOk};
 ghost use Rattle.piece_table.specs.Piece.{TextPiece, PieceTable, total_length, unit_bytes, piece_end, IsPiece};
 
 use doc_bits::Memory;
@@ -6,7 +7,8 @@ use prop_map::Modifier;
 use std::alloc::Global;
 use std::marker::Model;
 
-/// A piece of text: the byte of `WordDocument` where it begins, whether its units have two bytes, and its number of units.
+/// A piece of text: the byte of `WordDocument` where it begins, whether its units have two bytes, and its number of
+/// units.
 #[derive(Clone, Copy, Debug, PartialEq, Eq)]
 pub struct Piece {
     pub at: u32,

@@ -1,5 +1,7 @@
 // The Prcs that pieces name: rules 31 and 32, and their modifiers.
-ghost use Rattle.std.specs.Prelude.{◌≡◌, ℕ, ◌+◌, ◌^◌, ◌<◌, ◌≤◌, ◌↔◌, ◌⊎◌, List, length, flat_map, slice_get, slice_index_or, false, MatchOption, MatchResult, IfOk, IfNone, IsTrue};
+ghost use Rattle.std.specs.Prelude.{◌≡◌, ℕ, ◌+◌, ◌^◌, ◌<◌, ◌≤◌, ◌↔◌};
+ghost use Rattle.std.specs.Prelude.{◌⊎◌, List, length, flat_map, slice_get, slice_index_or};
+ghost use Rattle.std.specs.Prelude.{false, MatchOption, MatchResult, IfOk, IfNone, IsTrue};
 ghost use Rattle.doc_bits.specs.Rules.{LeastOrNone, Nowhere, Among, IsLeast, rule};
 ghost use Rattle.doc_bits.specs.Plc.{PlcPart};
 ghost use Rattle.sprm_table.specs.Sprm.{HasSprmFaultAt, IsAcceptedList};

@@ -1,5 +1,6 @@
 // The Clx of pieces: the Prcs of their modifiers, and the Pcdt.
-ghost use Rattle.std.specs.Prelude.{◌≡◌, ℕ, ◌+◌, ◌*◌, ◌^◌, ◌<◌, ◌≤◌, List, ◌++◌, length, flat_map, take, sum, All, IfOk, OnOk, slice_index};
+ghost use Rattle.std.specs.Prelude.{◌≡◌, ℕ, ◌+◌, ◌*◌, ◌^◌, ◌<◌, ◌≤◌, List};
+ghost use Rattle.std.specs.Prelude.{◌++◌, length, flat_map, take, sum, All, IfOk, OnOk, slice_index};
 ghost use Rattle.doc_bits.specs.Number.{number_bytes};
 ghost use Rattle.piece_table.specs.Clx.{prc_bytes, pcdt_bytes};
 ghost use Rattle.piece_table.specs.Printing.{IsPrintable, IsPrintedClx, fc_number, pcd_bytes, cps_of, plc_bytes};
@@ -134,7 +135,8 @@ fn push_pcdt(bytes: &mut Bytes, entries: &[Entry], prms: &[u16]) -> Result<(), M
     requires total { sum (lens_of entries.now) < 2 ^ 32 }
     requires places { All (λ entry. entry.piece.at < 2 ^ 29) entries.now }
     requires numbers { All (λ entry. entry.modifier < length prms.now) entries.now }
-    ensures { OnOk result (bytes.new ≡ bytes.old ++ pcdt_bytes (plc_bytes (lens_of entries.now) (pcds_of entries.now prms.now))) }
+    ensures { OnOk result (bytes.new
+        ≡ bytes.old ++ pcdt_bytes (plc_bytes (lens_of entries.now) (pcds_of entries.now prms.now))) }
 {
     bytes.push_all(&[CLXT_PCDT])?;
     bytes.push32(4 + 12 * entries.len() as u32)?;

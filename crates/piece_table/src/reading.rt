@@ -1,8 +1,10 @@
-ghost use Rattle.std.specs.Prelude.{◌≡◌, ◌+◌, ◌^◌, ◌<◌, ◌≤◌, length, map, All, MatchResult, IfOk};
+ghost use Rattle.std.specs.Prelude.{◌≡◌, ◌+◌, ◌^◌, ◌<◌, ◌≤◌};
+ghost use Rattle.std.specs.Prelude.{length, map, All, MatchResult, IfOk};
 ghost use Rattle.doc_bits.specs.Rules.{Hold, IsFirst};
 ghost use Rattle.doc_bits.specs.Plc.{PlcPart};
 ghost use Rattle.piece_table.specs.Clx.{ClxParts, IsPlcPcd, SpellsClx, plc_place, IsClx, clx_pieces, HaveModifiers};
-ghost use Rattle.piece_table.specs.ClxRules.{clx_rules, parts_rules, early_bounds, IsClxFault, StaysInStream, FitsPages};
+ghost use Rattle.piece_table.specs.ClxRules.{clx_rules, parts_rules, early_bounds};
+ghost use Rattle.piece_table.specs.ClxRules.{IsClxFault, StaysInStream, FitsPages};
 ghost use Rattle.piece_table.specs.Front.{clx_parts};
 ghost use Rattle.piece_table.specs.Piece.{total_length, bare_piece};
 
@@ -18,8 +20,8 @@ const RULE_SPRM: u8 = 31;
 /// The bytes of the FIB, behind which text begins.
 const FIB_LEN: u32 = 900;
 
-/// Reads the pieces of a Clx that stands at `at` in the table stream. `wd_len` is the length of `WordDocument` in bytes,
-/// `text_len` the number of CPs.
+/// Reads the pieces of a Clx that stands at `at` in the table stream. `wd_len` is the length of `WordDocument` in
+/// bytes, `text_len` the number of CPs.
 pub fn read_clx(
     alloc: Global,
     clx: &[u8],
@@ -34,7 +36,8 @@ pub fn read_clx(
         (IsClxFault (clx_rules clx.now at (early_bounds wd_len) text_len)) }
 
     // What the rules say of the pieces.
-    ensures within { IfOk result (λ list. All (λ piece. StaysInStream (early_bounds wd_len) (bare_piece piece)) list.pieces) }
+    ensures within { IfOk result
+        (λ list. All (λ piece. StaysInStream (early_bounds wd_len) (bare_piece piece)) list.pieces) }
     ensures total { IfOk result (λ list. total_length list.pieces ≡ text_len) }
     ensures fit { IfOk result (λ list. All (λ piece. FitsPages piece.modifier) list.pieces) }
 {
@@ -61,7 +64,8 @@ fn read_parts(
     requires text { text_len ≤ 500001 }
     ensures read { MatchResult result
         (λ list. Hold (parts_rules (clx_parts parts.now) at bounds text_len)
-        × ((map bare_piece list.pieces ≡ clx_pieces parts.now.plc) × HaveModifiers (clx_parts parts.now) list.pieces))
+        × ((map bare_piece list.pieces ≡ clx_pieces parts.now.plc)
+        × HaveModifiers (clx_parts parts.now) list.pieces))
         (IsClxFault (parts_rules (clx_parts parts.now) at bounds text_len)) }
     ensures within { IfOk result (λ list. All (λ piece. StaysInStream bounds (bare_piece piece)) list.pieces) }
     ensures total { IfOk result (λ list. total_length list.pieces ≡ text_len) }

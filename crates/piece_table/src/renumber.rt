@@ -1,5 +1,6 @@
 // Modifiers of entries: composed with another, and copied where an entry names them.
-ghost use Rattle.std.specs.Prelude.{◌≡◌, ◌≢◌, ℕ, ◌<◌, ◌≤◌, List, length, map, All, IfOk, OnOk, slice_index, slice_get, slice_range, Some, vec_len, vec_capacity};
+ghost use Rattle.std.specs.Prelude.{◌≡◌, ◌≢◌, ℕ, ◌<◌, ◌≤◌, List, length, map, All, IfOk};
+ghost use Rattle.std.specs.Prelude.{OnOk, slice_index, slice_get, slice_range, Some, vec_len, vec_capacity};
 ghost use Rattle.std.specs.List.{splice};
 ghost use Rattle.prop_map.specs.declared.modifiers.Modifier.{Modifier as TheModifier};
 ghost use Rattle.prop_map.specs.Modifiers.{no_modifier};
@@ -77,7 +78,8 @@ fn compose_one(
     ensures len { length numbers.new.items ≡ length numbers.old.items }
     ensures composed { OnOk result (HaveComposed by.now modifiers.new.items numbers.new.items) }
     ensures here { OnOk result (slice_index numbers.new.items number ≢ 0) }
-    ensures others { OnOk result ((other : ℕ) → slice_index numbers.old.items other ≢ 0 → slice_index numbers.new.items other ≢ 0) }
+    ensures others { OnOk result ((other : ℕ)
+        → slice_index numbers.old.items other ≢ 0 → slice_index numbers.new.items other ≢ 0) }
 {
     if numbers[number] != 0 {
         return Ok(());
@@ -89,7 +91,8 @@ fn compose_one(
     Ok(())
 }
 
-/// The modifiers that entries name, copied in the order in which they are first named, behind the one that does nothing.
+/// The modifiers that entries name, copied in the order in which they are first named, behind the one that does
+/// nothing.
 #[derive(Drop)]
 pub(crate) struct Copies {
     pub(crate) modifiers: Vec<Modifier>,
@@ -107,7 +110,8 @@ pub(crate) fn copy_all(
     requires named { All (λ entry. entry.modifier < length modifiers.now) entries.now }
     ensures len { IfOk result (λ copies. length copies.numbers.items ≡ length modifiers.now) }
     ensures copied { IfOk result (λ copies. HaveCopied modifiers.now copies.modifiers.items copies.numbers.items) }
-    ensures all { IfOk result (λ copies. All (λ entry. entry.modifier ≢ 0 → slice_index copies.numbers.items entry.modifier ≢ 0) entries.now) }
+    ensures all { IfOk result (λ copies.
+        All (λ entry. entry.modifier ≢ 0 → slice_index copies.numbers.items entry.modifier ≢ 0) entries.now) }
 {
     let mut copies = Copies {
         modifiers: Vec::new(alloc),
@@ -129,7 +133,8 @@ impl Copies {
         ensures len { OnOk result (length self.new.numbers.items ≡ length self.old.numbers.items) }
         ensures copied { OnOk result (HaveCopied modifiers.now self.new.modifiers.items self.new.numbers.items) }
         ensures here { OnOk result (number ≢ 0 → slice_index self.new.numbers.items number ≢ 0) }
-        ensures others { OnOk result ((other : ℕ) → slice_index self.old.numbers.items other ≢ 0 → slice_index self.new.numbers.items other ≢ 0) }
+        ensures others { OnOk result ((other : ℕ)
+            → slice_index self.old.numbers.items other ≢ 0 → slice_index self.new.numbers.items other ≢ 0) }
     {
         if number == 0 || self.numbers[number] != 0 {
             return Ok(());

@@ -23,3 +23,4 @@ pub mod MainLemmas
 pub mod MarkedLemmas
 pub mod LawLemmas
 pub mod CollectedLemmas
+pub mod TextListLemmas

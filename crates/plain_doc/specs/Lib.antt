@@ -19,3 +19,4 @@ pub mod Stretches
 pub mod Settings
 pub mod Entries
 pub mod Collected
+pub mod TextLists

@@ -1,5 +1,6 @@
 // The blank document.
-ghost use Rattle.std.specs.Prelude.{◌≡◌, ℕ, ◌+◌, ◌<◌, ◌≤◌, [], ◌∷◌, ◌++◌, length, replicate, Some, None, IfOk};
+ghost use Rattle.std.specs.Prelude.{◌≡◌, ℕ, ◌+◌, ◌<◌, ◌≤◌, [], ◌∷◌};
+ghost use Rattle.std.specs.Prelude.{◌++◌, length, replicate, Some, None, IfOk};
 ghost use Rattle.plain_doc.specs.Blank.{blank_item, normal_style, heading_style, default_font_style, one_setting};
 ghost use Rattle.plain_doc.specs.Blank.{blank_sheet, blank_carried, blank_document};
 
@@ -91,7 +92,8 @@ fn sheet(alloc: Global) -> Result<StyleSheet, Memory>
 /// The sheet with empty slots at its end.
 fn with_empty_slots(sheet: StyleSheet, count: usize) -> Result<StyleSheet, Memory>
     requires { length sheet.styles + count ≤ 4094 }
-    ensures { IfOk result (λ more. more ≡ record { head = sheet.head; styles = sheet.styles ++ replicate count None }) }
+    ensures { IfOk result (λ more.
+        more ≡ record { head = sheet.head; styles = sheet.styles ++ replicate count None }) }
 {
     let mut more = sheet;
     for _k in 0..count {

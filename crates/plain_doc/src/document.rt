@@ -1,5 +1,6 @@
 // A document, as the reader finds it, edits change it and saves write it.
-ghost use Rattle.std.specs.Prelude.{◌≡◌, ◌↔◌, ◌+◌, ◌-◌, ◌^◌, ◌<◌, ◌≤◌, length, slice_get, slice_set, Some, IsTrue};
+ghost use Rattle.std.specs.Prelude.{◌≡◌, ◌↔◌, ◌+◌, ◌-◌, ◌^◌, ◌<◌};
+ghost use Rattle.std.specs.Prelude.{◌≤◌, length, slice_get, slice_set, Some, IsTrue};
 ghost use Rattle.std.specs.Prelude.{IfOk, OnOk, OnErr};
 ghost use Rattle.std.specs.List.{splice};
 ghost use Rattle.plain_doc.specs.Document.{HasPropertyMaps};

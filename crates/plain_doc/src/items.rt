@@ -1,5 +1,6 @@
 // The items of one text. After want of memory a list is what it was.
-ghost use Rattle.std.specs.Prelude.{◌≡◌, ℕ, ◌+◌, ◌-◌, ◌^◌, ◌<◌, ◌≤◌, [], ◌∷◌, ◌++◌, length, take, slice_get, slice_set};
+ghost use Rattle.std.specs.Prelude.{◌≡◌, ℕ, ◌+◌, ◌-◌, ◌^◌, ◌<◌, ◌≤◌, []};
+ghost use Rattle.std.specs.Prelude.{◌∷◌, ◌++◌, length, take, slice_get, slice_set};
 ghost use Rattle.std.specs.Prelude.{slice_range, All, Some, IsTrue, ◌↔◌, IfOk, OnOk, OnErr};
 ghost use Rattle.std.specs.List.{splice};
 ghost use Rattle.plain_doc.specs.Document.{HasPropertyMaps, IsFormedText};

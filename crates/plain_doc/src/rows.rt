@@ -1,5 +1,6 @@
 // The rows of tables.
-ghost use Rattle.std.specs.Prelude.{◌≡◌, ◌+◌, ◌^◌, ◌<◌, ◌≤◌, ◌↔◌, length, IsTrue, option_map};
+ghost use Rattle.std.specs.Prelude.{◌≡◌, ◌+◌, ◌^◌, ◌<◌, ◌≤◌};
+ghost use Rattle.std.specs.Prelude.{◌↔◌, length, IsTrue, option_map};
 ghost use Rattle.doc_bits.specs.Rules.{LeastOrNone};
 ghost use Rattle.plain_doc.specs.Rows.{paragraph_value, is_on, is_row_mark, is_mark_outside, HasCells, FitsRow};
 ghost use Rattle.plain_doc.specs.Rows.{BreaksRows, cells_after};

@@ -1,6 +1,7 @@
 // One walk over each text, which finds whether a rule on texts is broken, and not which. Most items
 // are plain ones, which take a few tests.
-ghost use Rattle.std.specs.Prelude.{◌≡◌, ℕ, ◌+◌, ◌^◌, ◌<◌, ◌≤◌, ◌↔◌, [], ◌∷◌, length, IsTrue, IfSome};
+ghost use Rattle.std.specs.Prelude.{◌≡◌, ℕ, ◌+◌, ◌^◌, ◌<◌, ◌≤◌};
+ghost use Rattle.std.specs.Prelude.{◌↔◌, [], ◌∷◌, length, IsTrue, IfSome};
 ghost use Rattle.doc_bits.specs.Rules.{Nowhere};
 ghost use Rattle.doc_bits.specs.declared.places.Where.TheVariants.{Main};
 ghost use Rattle.plain_doc.specs.declared.rules_texts.TextRule.{TextRule};

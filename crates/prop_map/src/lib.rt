@@ -21,3 +21,4 @@ pub use laws::{
 };
 pub use map::PropMap;
 pub use modifiers::Modifier;
+pub use sorted::same_entries;

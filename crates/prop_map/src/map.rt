@@ -1,5 +1,6 @@
 // The map itself. Copies share one sorted list.
-ghost use Rattle.std.specs.Prelude.{◌≡◌, ◌↔◌, ℕ, map as each, IsTrue, IfOk, OnOk, OnErr, MatchOption, Some, None};
+ghost use Rattle.std.specs.Prelude.{◌≡◌, ◌↔◌, ℕ, map as each, IsTrue};
+ghost use Rattle.std.specs.Prelude.{IfOk, OnOk, OnErr, MatchOption, Some, None};
 ghost use Rattle.std.specs.FinMap as map;
 ghost use Rattle.prop_map.specs.Formed.{IsPropertyMap, StaysFormed};
 ghost use Rattle.prop_map.specs.Overlay.{without};

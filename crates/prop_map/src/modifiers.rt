@@ -1,5 +1,6 @@
 // The modifiers of pieces.
-ghost use Rattle.std.specs.Prelude.{◌≡◌, ◌↔◌, List, [], ◌∷◌, ◌++◌, ◌<◌, ◌≤◌, Some, None, MatchOption, ⊤, IsTrue, IfOk};
+ghost use Rattle.std.specs.Prelude.{◌≡◌, ◌↔◌, List, [], ◌∷◌, ◌++◌, ◌<◌};
+ghost use Rattle.std.specs.Prelude.{◌≤◌, Some, None, MatchOption, ⊤, IsTrue, IfOk};
 ghost use Rattle.std.specs.Prelude.{OnOk, length};
 ghost use Rattle.std.specs.List.{flat_map};
 ghost use Rattle.doc_bits.specs.Number.{number_bytes};
@@ -100,7 +101,8 @@ impl Modifier {
     /// The properties of a character after the modifier.
     pub fn on_char(&self, alloc: Global, chp: &PropMap) -> Result<PropMap, Memory>
         ensures map { IfOk result (IsCharacterAfter self.now chp.now) }
-        ensures formed { IfOk result (λ made. IsFormedModifier self.now → StaysFormed character_groups chp.now made) }
+        ensures formed { IfOk result
+            (λ made. IsFormedModifier self.now → StaysFormed character_groups chp.now made) }
     {
         let made = over(alloc, chp, self.clear, &self.chp)?;
         Ok(made)

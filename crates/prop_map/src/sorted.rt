@@ -98,8 +98,8 @@ fn place(items: &[(u16, Bytes)], code: u16) -> Result<usize, usize>
     items.binary_search_by_key(&code, |entry| entry.0)
 }
 
-/// Whether two lists have the same codes and values.
-pub(crate) fn same_entries(ours: &[(u16, Bytes)], theirs: &[(u16, Bytes)]) -> bool
+/// Whether two lists of entries, as `PropMap::entries` gives them, have the same codes and values in the same order.
+pub fn same_entries(ours: &[(u16, Bytes)], theirs: &[(u16, Bytes)]) -> bool
     ensures { IsTrue result ↔ ours.now ≡ theirs.now }
 {
     if ours.len() != theirs.len() {

@@ -18,7 +18,7 @@ use Rattle.piece_table.specs.Printing.{IsReadBack}
 use Rattle.piece_table.proofs.PrintedClxLemmas.{read_back}
 use Rattle.doc_load.specs.FileRules.{clx_of}
 use Rattle.doc_read.proofs.PlaceLemmas.{place_at, place_in_piece}
-use Rattle.save_laws.specs.Places.{StandsInside}
+use Rattle.save_laws.specs.Places.{StandsInside, fib_end}
 use Rattle.save_laws.specs.Slots.{story_counts}
 use Rattle.save_laws.proofs.PlaceLemmas.{stands_there}
 use Rattle.save_laws.proofs.SavedLemmas.{Save, the_whole, the_flat, main_some, total_is, part_is}
@@ -32,10 +32,10 @@ cp_stands s cp place here =
     stands_there s.saved.stream place slot.0 (s.is.text.each cp place slot.0 here slot.1)
 
 -- a piece stays where its first and its last unit stand
-stays_by : (at len end : ℕ) (wide : Bool) → 1 ≤ len → 900 ≤ at + 0 * unit_bytes wide →
-    at + (len - 1) * unit_bytes wide + unit_bytes wide ≤ end → (900 ≤ at) × (at + len * unit_bytes wide ≤ end)
-stays_by at len end true some first last = (omega (arith, first), omega (arith, some, last))
-stays_by at len end false some first last = (omega (arith, first), omega (arith, some, last))
+stays_by : (from at len end : ℕ) (wide : Bool) → 1 ≤ len → from ≤ at + 0 * unit_bytes wide →
+    at + (len - 1) * unit_bytes wide + unit_bytes wide ≤ end → (from ≤ at) × (at + len * unit_bytes wide ≤ end)
+stays_by from at len end true some first last = (omega (arith, first), omega (arith, some, last))
+stays_by from at len end false some first last = (omega (arith, first), omega (arith, some, last))
 
 piece_stays : (s : Save) (k : ℕ) (piece : TextPiece) → slice_get s.saved.pieces k ≡ Some piece →
     StaysInStream (early_bounds (length s.saved.stream.wd)) (bare_piece piece)
@@ -50,7 +50,8 @@ piece_stays s k piece here =
     let last =
     cp_stands s (front + end) (place_at piece end)
     (place_in_piece s.saved.pieces k end (front + end) piece here (omega (arith, some)) refl) in
-    stays_by piece.at piece.len (length s.saved.stream.wd) piece.wide some first.behind_fib last.inside
+    let wd = s.saved.stream.wd in
+    stays_by (fib_end wd) piece.at piece.len (length wd) piece.wide some first.behind_fib last.inside
 
 pieces_stay : (s : Save) →
     All (λ (piece : TextPiece). StaysInStream (early_bounds (length s.saved.stream.wd)) (bare_piece piece))

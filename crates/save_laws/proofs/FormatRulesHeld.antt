@@ -2,7 +2,7 @@
 use Rattle.std.specs.Prelude.{slice_get, slice_index, is_some, All, ◌&&◌, nat_lt}
 use Rattle.std.specs.List.{list_any, range_with_len}
 use Rattle.std.proofs.Common.{get_or-take, ◌≡◌, ◌∙◌, refl, sym, ap, subst, ℕ, zero, suc, ◌+◌, ◌-◌, ◌<◌, ◌≤◌, ◌==◌}
-use Rattle.std.proofs.Common.{Bool, true, false, List, [], ◌∷◌, length, map, filter, Some, arith, inl, inr}
+use Rattle.std.proofs.Common.{Bool, true, false, List, [], ◌∷◌, length, map, filter, Option, Some, None, arith, inl, inr}
 use Rattle.std.proofs.lemmas.Option.{same_Some}
 use Rattle.std.proofs.lemmas.Bool.{cases_Bool, ltb-true, eqb-true}
 use Rattle.std.proofs.lemmas.List.{length-map, length-take, get_or-map}
@@ -31,8 +31,7 @@ use Rattle.doc_read.proofs.RightLemmas.{ends_more}
 use Rattle.doc_read.specs.Sections.{section_lasts}
 use Rattle.save_laws.specs.Places.{IsMarkedAfter, StandsInside, GivesAt}
 use Rattle.save_laws.specs.Slots.{Slot, shown, loose, last, IsPlaced}
-use Rattle.save_laws.proofs.TogetherLemmas.{some_of}
-use Rattle.save_laws.proofs.OrderLemmas.{collected_from}
+use Rattle.plain_doc.proofs.TextListLemmas.{collected_from}
 use Rattle.save_laws.proofs.SlotLemmas.{slot_unit, IsJudged, IsShownAs, all_shown, front_slot, main_slot}
 use Rattle.save_laws.proofs.PlaceLemmas.{mark_before, given_there}
 use Rattle.save_laws.proofs.SavedLemmas.{Save, the_source, the_whole, the_flat, main_len, note_len, head_len}
@@ -41,6 +40,11 @@ use Rattle.save_laws.proofs.ItemRules.{IsSavedItem, main_saved, notes_saved, hea
 use Rattle.save_laws.proofs.PartsHeld.{sections_part}
 use Rattle.save_laws.proofs.SectionRulesHeld.{characters_part, paragraphs_part}
 use Rattle.save_laws.proofs.ItemsHeld.{section_cps}
+
+-- what an option has that has something
+some_of : {A : Type 0} (o : Option A) → is_some o ≡ true → (x : A) × (o ≡ Some x)
+some_of None some = absurd (cc (some))
+some_of (Some x) some = (x, refl)
 
 -- a judged CP: its slot, and a place that stands for it
 record IsJudgedAt (s : Save) (cp : ℕ) : Type 0 where

@@ -16,7 +16,7 @@ use Rattle.doc_bits.specs.Rules.{Hold, Nowhere}
 use Rattle.doc_bits.specs.declared.places.Where.TheVariants.{Table}
 use Rattle.prop_map.specs.Settings.{Settings}
 use Rattle.prop_map.specs.declared.modifiers.Modifier.{Modifier}
-use Rattle.fib_form.specs.Fib.{fib_pair}
+use Rattle.fib_form.specs.Fib.{fib_pair, early_form}
 use Rattle.fib_form.specs.FibFields.{fib_fields, text_length}
 use Rattle.fib_form.specs.TableParts.{pair_of}
 use Rattle.fib_form.specs.declared.table_parts.TablePart.TheVariants.{Clx}
@@ -55,8 +55,8 @@ use Rattle.doc_read.specs.Holds.{head_texts}
 use Rattle.save_laws.specs.Places.{PagedStream, given_of, GivesMark, StandsInside, GivesAt, IsMarkedAfter}
 use Rattle.save_laws.specs.GivenFiles.{stream_of}
 use Rattle.save_laws.specs.Slots.{Slot, shown, loose, ReadsAfter, IsPlaced}
-use Rattle.save_laws.proofs.TogetherLemmas.{from_behind}
-use Rattle.save_laws.proofs.OrderLemmas.{length-joined, next_joined}
+use Rattle.doc_bits.proofs.TogetherLemmas.{from_behind}
+use Rattle.plain_doc.proofs.TextListLemmas.{length-joined, next_joined}
 
 -- a text that was read, with what was read of it
 pub record ReadText : Type 0 where
@@ -95,12 +95,12 @@ read_stream r = stream_of (source_of r.text)
 
 -- a place between the end of the FIB and the end of the stream
 abbrev StandsBy : ℕ → UnitPlace → Type 0
-StandsBy end place = (900 ≤ place.at) × (place.at + unit_bytes place.wide ≤ end)
+StandsBy end place = (early_form.size ≤ place.at) × (place.at + unit_bytes place.wide ≤ end)
 
-unit_stands : (at len j end : ℕ) (wide : Bool) → 900 ≤ at → at + len * unit_bytes wide ≤ end → j < len →
-    (900 ≤ at + j * unit_bytes wide) × (at + j * unit_bytes wide + unit_bytes wide ≤ end)
-unit_stands at len j end true low high below = (omega (arith, low), omega (arith, high, below))
-unit_stands at len j end false low high below = (omega (arith, low), omega (arith, high, below))
+unit_stands : (from at len j end : ℕ) (wide : Bool) → from ≤ at → at + len * unit_bytes wide ≤ end → j < len →
+    (from ≤ at + j * unit_bytes wide) × (at + j * unit_bytes wide + unit_bytes wide ≤ end)
+unit_stands from at len j end true low high below = (omega (arith, low), omega (arith, high, below))
+unit_stands from at len j end false low high below = (omega (arith, low), omega (arith, high, below))
 
 below_len : (n : ℕ) → All (λ c. c < n) (range_with_len 0 n)
 below_len n = λ k d below.
@@ -115,8 +115,8 @@ units_stand end piece stays =
     λ j. record { at = piece.at + j * unit_bytes piece.wide; wide = piece.wide; modifier = piece.modifier } in
     All-map (StandsBy end) place (range_with_len 0 piece.len)
     (All-weaker (λ c. c < piece.len) (λ j. StandsBy end (place j))
-    (λ j below. unit_stands piece.at piece.len j end piece.wide stays.0 stays.1 below) (range_with_len 0 piece.len)
-    (below_len piece.len))
+    (λ j below. unit_stands early_form.size piece.at piece.len j end piece.wide stays.0 stays.1 below)
+    (range_with_len 0 piece.len) (below_len piece.len))
 
 flat_stands : (end : ℕ) (pieces : List TextPiece) →
     All (λ (piece : TextPiece). StaysInStream (early_bounds end) (bare_piece piece)) pieces →

@@ -27,8 +27,8 @@ use Rattle.doc_read.proofs.MarkListLemmas.{some_section, ends_up, length-section
 use Rattle.doc_read.proofs.UpLemmas.{IsUpWithin}
 use Rattle.doc_read.proofs.SettingsLemmas.{sepx-there, sepx-right}
 use Rattle.save_laws.specs.Saves.{HasSettingsAt, AreSavedSections}
-use Rattle.save_laws.specs.TextLists.{starts_from}
-use Rattle.save_laws.proofs.OrderLemmas.{Rise}
+use Rattle.plain_doc.specs.TextLists.{starts_from}
+use Rattle.doc_parts.proofs.CpLemmas.{Rise}
 use Rattle.save_laws.proofs.GivenLemmas.{ReadText}
 
 -- ---- what is collected is what is read

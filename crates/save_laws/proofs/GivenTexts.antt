@@ -33,7 +33,7 @@ use Rattle.doc_read.proofs.SliceLemmas.{cuts_within, note_cuts_within}
 use Rattle.save_laws.specs.GivenFiles.{StandsTogether}
 use Rattle.save_laws.specs.Slots.{note_slots, head_slots, story_counts, Slot, shown, loose, last, StoryEnds, loose_if}
 use Rattle.save_laws.specs.Slots.{story_slots, last_slots, whole_text}
-use Rattle.save_laws.proofs.TogetherLemmas.{from_behind}
+use Rattle.doc_bits.proofs.TogetherLemmas.{from_behind}
 use Rattle.save_laws.proofs.SlotLemmas.{length-story_slots, length-whole}
 use Rattle.save_laws.proofs.GivenLemmas.{ReadText, read_parts, place_stands, StandsAt, item_shown, mark_loose}
 use Rattle.save_laws.proofs.GivenLemmas.{end_count, texts_shown, end_or_mark}

@@ -33,7 +33,7 @@ use Rattle.doc_read.specs.Holds.{HoldsDocument, IsDocumentFrom}
 use Rattle.doc_read.specs.Sections.{IsSectionSettings, HaveSettings}
 use Rattle.doc_read.specs.Items.{HoldsTexts}
 use Rattle.doc_read.specs.CarriedParts.{HoldsCarried}
-use Rattle.save_laws.specs.TableEntries.{TableEntry}
+use Rattle.fib_form.specs.TableEntries.{TableEntry}
 use Rattle.save_laws.specs.Saves.{file_text}
 use Rattle.save_laws.specs.Laws.{SavedDocumentsAreHeld, SavedFilesHold}
 use Rattle.save_laws.proofs.PartsHeld.{head_cuts, note_cuts, sections_part, sheet_part, main_fields_part}

@@ -16,7 +16,7 @@ use Rattle.plain_doc.specs.declared.document.Document.{Document}
 use Rattle.plain_doc.specs.Collected.{joined_texts}
 use Rattle.plain_doc.specs.RightDocument.{IsRightText, IsRightDocument}
 use Rattle.plain_doc.proofs.MarkedLemmas.{marked_at_ends}
-use Rattle.save_laws.proofs.OrderLemmas.{joined_all, empty_joined}
+use Rattle.plain_doc.proofs.TextListLemmas.{joined_all, empty_joined}
 
 -- a mark stands exactly where a paragraph ends, and a field byte on a field unit alone
 pub record IsSavedItem (item : Item) : Type 0 where

@@ -21,9 +21,9 @@ use Rattle.doc_read.specs.Sections.{section_lasts, section_marks}
 use Rattle.doc_read.specs.Marked.{story_bytes, field_bytes}
 use Rattle.doc_read.specs.Items.{TextParts, IsMarkAt, IsItemAt, HoldsItems, HoldsTexts}
 use Rattle.doc_read.proofs.EntryLemmas.{entry_of_parts}
-use Rattle.save_laws.specs.TextLists.{cuts_of}
+use Rattle.plain_doc.specs.TextLists.{cuts_of}
 use Rattle.save_laws.specs.Slots.{shown}
-use Rattle.save_laws.proofs.OrderLemmas.{cut_at, in_joined, next_joined, empty_joined}
+use Rattle.plain_doc.proofs.TextListLemmas.{cut_at, in_joined, next_joined, empty_joined}
 use Rattle.save_laws.proofs.SlotLemmas.{main_slot, note_slot, head_slot, story_item}
 use Rattle.save_laws.proofs.PlaceLemmas.{item_read}
 use Rattle.save_laws.proofs.SavedLemmas.{Save, the_source, the_whole, the_notes, main_len, note_len, placed_at}

@@ -15,6 +15,7 @@ use Rattle.fkp_pages.specs.declared.kind.PageKind.TheVariants.{Chpx, Papx}
 use Rattle.fkp_pages.specs.declared.kind.PageKind.{PageKind}
 use Rattle.fkp_pages.specs.Fkp.{HasRunAnswer}
 use Rattle.fkp_pages.specs.Bin.{IsBinPage, page_at}
+use Rattle.fkp_pages.specs.Rows.{KeepsRanges}
 use Rattle.fkp_pages.specs.Properties.{IsListAnswered}
 use Rattle.direct_props.specs.Direct.{MakesSettings}
 use Rattle.direct_props.specs.Stretches.{HasRightList}
@@ -27,7 +28,7 @@ use Rattle.doc_load.specs.SectionRules.{sepx_list}
 use Rattle.doc_read.specs.Sections.{IsSectionSettings}
 use Rattle.doc_read.proofs.PlaceLemmas.{range_at}
 use Rattle.save_laws.specs.Places.{PagedStream, fib_end, StandsInside}
-use Rattle.save_laws.specs.KeptPages.{KeepsBytes, KeepsRanges, KeepsPages}
+use Rattle.save_laws.specs.KeptPages.{KeepsBytes, KeepsPages}
 use Rattle.save_laws.specs.Laws.{KeptSettingsAreThere, KeptPlacesGive}
 
 -- ---- bytes

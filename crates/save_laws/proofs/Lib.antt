@@ -1,5 +1,3 @@
-pub mod TogetherLemmas
-pub mod OrderLemmas
 pub mod SlotLemmas
 pub mod PlaceLemmas
 pub mod SavedLemmas
@@ -17,7 +15,6 @@ pub mod HeldLemmas
 pub mod RowLemmas
 pub mod PlanLemmas
 pub mod KeptLemmas
-pub mod LongerLemmas
 pub mod FastLemmas
 pub mod GivenLemmas
 pub mod GivenTexts

@@ -11,7 +11,7 @@ use Rattle.doc_parts.specs.declared.lists.Sed.{Sed}
 use Rattle.doc_parts.specs.declared.lists.Fld.{Fld}
 use Rattle.doc_parts.specs.declared.lists.NoteRef.{NoteRef}
 use Rattle.doc_parts.specs.Cps.{AreCpsInOrder}
-use Rattle.doc_parts.specs.Table.{table_of, IsEmptyOrWhole}
+use Rattle.doc_parts.specs.Table.{plc_part, IsEmptyOrWhole}
 use Rattle.doc_parts.specs.Sections.{sed_cps, section_rules, AreSections, printed_sections, ArePrintableSections}
 use Rattle.doc_parts.specs.Fields.{is_field_unit, fld_cps, field_rules, AreFields, printed_fields, ArePrintableFields}
 use Rattle.doc_parts.specs.Stories.{ref_cps, ref_rules, AreRefs, printed_refs, text_rules, AreCuts, printed_texts}
@@ -19,10 +19,11 @@ use Rattle.doc_parts.proofs.LawLemmas.{sections_back, fields_back, refs_back, te
 use Rattle.plain_doc.specs.declared.item.Item.{Item}
 use Rattle.plain_doc.specs.declared.item.NoteKind.{NoteKind}
 use Rattle.plain_doc.specs.Collected.{joined_texts, collected, field_of, fields_of, refs_of, sections_of, is_auto}
-use Rattle.save_laws.specs.TextLists.{cuts_of, starts_from}
+use Rattle.plain_doc.specs.TextLists.{cuts_of, starts_from}
 use Rattle.save_laws.specs.Saves.{HasSettingsAt, AreSavedSections}
-use Rattle.save_laws.proofs.OrderLemmas.{Rise, rise_in_order, rise_from_zero, collected_rise, collected_from}
-use Rattle.save_laws.proofs.OrderLemmas.{starts_rise, first_start, cuts_in_order}
+use Rattle.doc_parts.proofs.CpLemmas.{Rise, rise_in_order, rise_from_zero}
+use Rattle.plain_doc.proofs.TextListLemmas.{collected_rise, collected_from}
+use Rattle.plain_doc.proofs.TextListLemmas.{starts_rise, first_start, cuts_in_order}
 use Rattle.save_laws.proofs.ItemRules.{IsSavedItem}
 
 -- ---- what a printed part holds, wherever it stands
@@ -191,11 +192,11 @@ sections_held wd main seds small few some saved =
 -- ---- tables
 
 -- a table that does not break its rule by its length has the length
-pub whole_table : (size : ℕ) (bytes : List ℕ) → ¬ ¬ (IsEmptyOrWhole (table_of size bytes)) →
-    IsEmptyOrWhole (table_of size bytes)
+pub whole_table : (size : ℕ) (bytes : List ℕ) → ¬ ¬ (IsEmptyOrWhole (plc_part size bytes)) →
+    IsEmptyOrWhole (plc_part size bytes)
 whole_table size bytes wrong = elim (cases_eq (length bytes) 0) [
   | inl empty ↦ inl empty
-  | inr some ↦ elim (cases_eq (length bytes) (4 + (table_of size bytes).count * (4 + size))) [
+  | inr some ↦ elim (cases_eq (length bytes) (4 + (plc_part size bytes).count * (4 + size))) [
     | inl whole ↦ inr whole
     | inr not_whole ↦ absurd (wrong (λ is. elim is [ inl empty ↦ some empty | inr whole ↦ not_whole whole ]))
   ]

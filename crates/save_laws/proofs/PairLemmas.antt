@@ -19,7 +19,7 @@ use Rattle.style_sheet.specs.Written.{word, written_front, written_slots, writte
 use Rattle.style_sheet.specs.Counted.{written_counted}
 use Rattle.doc_load.specs.Source.{part_bytes}
 use Rattle.doc_load.specs.PairRules.{read_pairs, IsNeeded, BreaksPairs}
-use Rattle.save_laws.specs.TableEntries.{TableEntry}
+use Rattle.fib_form.specs.TableEntries.{TableEntry}
 use Rattle.save_laws.specs.Saves.{saved_entries}
 use Rattle.save_laws.proofs.SavedLemmas.{the_source, part_is, Save}
 use Rattle.save_laws.proofs.PartsHeld.{some_sections, sections_part}

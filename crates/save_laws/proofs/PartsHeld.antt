@@ -24,9 +24,9 @@ use Rattle.plain_doc.specs.Collected.{joined_texts, fields_of, refs_of, sections
 use Rattle.plain_doc.proofs.MainLemmas.{main_ends, ends_main}
 use Rattle.doc_load.specs.Source.{part_bytes, part_place, story_length}
 use Rattle.doc_load.specs.ListRules.{rules_of_lists, HasLevels}
-use Rattle.save_laws.specs.TextLists.{cuts_of}
-use Rattle.save_laws.specs.TableEntries.{TableEntry, IsPartAt}
-use Rattle.save_laws.proofs.OrderLemmas.{some_collected}
+use Rattle.plain_doc.specs.TextLists.{cuts_of}
+use Rattle.fib_form.specs.TableEntries.{TableEntry, IsPartAt}
+use Rattle.plain_doc.proofs.TextListLemmas.{some_collected}
 use Rattle.save_laws.proofs.SlotLemmas.{length-story_slots}
 use Rattle.save_laws.proofs.SavedLemmas.{Save, the_source, the_notes, the_heads, main_len, note_len, head_len}
 use Rattle.save_laws.proofs.SavedLemmas.{few_units, part_is}

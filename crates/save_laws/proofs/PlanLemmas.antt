@@ -11,12 +11,13 @@ use Rattle.fkp_pages.specs.declared.lists.Run.{Run}
 use Rattle.fkp_pages.specs.Runs.{run_groups, run_list, IsWritableRun}
 use Rattle.fkp_pages.specs.Found.{sprms_of}
 use Rattle.fkp_pages.proofs.FoundLemmas.{lists_have_settings}
+use Rattle.fkp_pages.proofs.RowTableLemmas.{row_run}
 use Rattle.direct_props.specs.Direct.{MakesSettings}
 use Rattle.plain_doc.specs.declared.item.Mark.{Mark}
 use Rattle.save_laws.specs.Places.{PagedStream, Given, GivesCharacters, GivesMark, GivesAt}
 use Rattle.save_laws.specs.Plans.{Plan, IsWrittenPlan}
 use Rattle.save_laws.specs.Laws.{PlansGive}
-use Rattle.save_laws.proofs.RowLemmas.{row_gives, row_run}
+use Rattle.save_laws.proofs.RowLemmas.{row_gives}
 
 -- a run's list makes its settings
 makes : (kind : PageKind) (run : Run) → IsWritableRun kind run → run.istd < 2 ^ 16 →

@@ -18,7 +18,7 @@ use Rattle.plain_doc.specs.Collected.{entry_before, collected, field_of, fields_
 use Rattle.plain_doc.proofs.CollectedLemmas.{entry_here, entry_later, none_below, entry_of_item, found_before}
 use Rattle.doc_read.specs.Sections.{section_lasts}
 use Rattle.doc_read.specs.Marked.{story_bytes, note_kind, note_kinds}
-use Rattle.save_laws.specs.TextLists.{starts_from}
+use Rattle.plain_doc.specs.TextLists.{starts_from}
 
 -- ---- entries of joined lists
 

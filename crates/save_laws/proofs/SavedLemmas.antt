@@ -24,11 +24,11 @@ use Rattle.doc_load.specs.Source.{DocSource, part_bytes, story_length, story_beg
 use Rattle.doc_load.specs.FormatRules.{text_count}
 use Rattle.doc_load.specs.FileRules.{source_of}
 use Rattle.doc_read.proofs.PlaceLemmas.{range_at}
-use Rattle.save_laws.specs.TableEntries.{entry}
+use Rattle.fib_form.specs.TableEntries.{entry}
 use Rattle.save_laws.specs.Places.{StandsInside, GivesAt}
 use Rattle.save_laws.specs.Slots.{Slot, shown, note_slots, head_slots, IsPlaced, whole_text, story_counts}
 use Rattle.save_laws.specs.Saves.{SavedText, IsSavedAs, saved_entries, file_text}
-use Rattle.save_laws.proofs.TogetherLemmas.{Beside, beside}
+use Rattle.doc_bits.proofs.TogetherLemmas.{Beside, beside}
 use Rattle.save_laws.proofs.SlotLemmas.{slot_unit, IsJudged, length-whole, main_slot, note_slot, head_slot}
 use Rattle.save_laws.proofs.PlaceLemmas.{unit_placed}
 

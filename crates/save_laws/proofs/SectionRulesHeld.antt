@@ -24,7 +24,8 @@ use Rattle.doc_load.specs.SectionRules.{rules_of_sections}
 use Rattle.doc_load.specs.BinRules.{BreaksBinTable, rules_of_bins}
 use Rattle.doc_load.proofs.RowLemmas.{no_row, index_of_get}
 use Rattle.save_laws.specs.Saves.{HasSettingsAt, HasRanges}
-use Rattle.save_laws.proofs.OrderLemmas.{Rise, rise_within, rise_step, collected_rise, collected_from, next_start}
+use Rattle.doc_parts.proofs.CpLemmas.{Rise, rise_within, rise_step}
+use Rattle.plain_doc.proofs.TextListLemmas.{collected_rise, collected_from, next_start}
 use Rattle.save_laws.proofs.SavedLemmas.{Save, the_source, main_unit, part_is}
 use Rattle.save_laws.proofs.PartsHeld.{sections_part}
 

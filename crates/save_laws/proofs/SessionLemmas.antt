@@ -20,11 +20,11 @@ use Rattle.plain_doc.specs.declared.item.Mark.{Mark}
 use Rattle.plain_doc.proofs.StreamLemmas.{slice_get-take}
 use Rattle.save_laws.specs.Slots.{shown, loose, last, Slot, note_slots, head_slots, last_slots, whole_text, IsPlaced}
 use Rattle.save_laws.specs.FastSaves.{StandsInEither, IsGivenBy}
-use Rattle.save_laws.specs.Together.{AreTogether}
+use Rattle.doc_bits.specs.Together.{AreTogether}
 use Rattle.save_laws.specs.Places.{PagedStream, Given, given_of, IsMarkedAfter, IsGivenAfter}
 use Rattle.save_laws.specs.Sessions.{IsSlotAfter, AreSlotsAfter, StandInSession, SplicesStayTogether}
 use Rattle.save_laws.specs.Sessions.{ModifiedStayTogether, LongerPlansKeep, MainSplices}
-use Rattle.save_laws.proofs.TogetherLemmas.{in_front, from_behind, in_back, Beside}
+use Rattle.doc_bits.proofs.TogetherLemmas.{in_front, from_behind, in_back, Beside}
 
 -- ---- lists that stand together
 

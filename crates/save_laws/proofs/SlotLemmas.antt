@@ -14,7 +14,7 @@ use Rattle.plain_doc.specs.declared.document.Document.{Document}
 use Rattle.plain_doc.specs.Collected.{joined_texts}
 use Rattle.save_laws.specs.Slots.{Slot, shown, loose, last, StoryEnds, loose_if, story_slots, note_slots, head_slots}
 use Rattle.save_laws.specs.Slots.{last_slots, whole_text, story_counts}
-use Rattle.save_laws.proofs.TogetherLemmas.{in_front, in_back}
+use Rattle.doc_bits.proofs.TogetherLemmas.{in_front, in_back}
 
 -- the unit of a slot; that of the last CP does not matter
 abbrev pub slot_unit : Slot → ℕ

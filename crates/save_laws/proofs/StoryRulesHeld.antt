@@ -15,7 +15,7 @@ use Rattle.prop_map.specs.Settings.{Settings}
 use Rattle.fib_form.specs.declared.table_parts.TablePart.TheVariants.{PlcffndRef, PlcffndTxt, PlcfHdd, PlcfFldMom}
 use Rattle.fib_form.specs.declared.table_parts.TablePart.TheVariants.{PlcfFldHdr, PlcfFldFtn}
 use Rattle.fib_form.specs.declared.stories.StoryKind.TheVariants.{Main, Notes, Heads}
-use Rattle.doc_parts.specs.Table.{IsRightEntry, table_of}
+use Rattle.doc_parts.specs.Table.{IsRightEntry, plc_part}
 use Rattle.doc_parts.specs.Stories.{printed_texts}
 use Rattle.doc_parts.specs.declared.lists.NoteRef.{NoteRef}
 use Rattle.doc_parts.specs.declared.lists.Fld.{Fld}
@@ -30,11 +30,11 @@ use Rattle.doc_load.specs.FieldRules.{BreaksFields, BreaksAllFields, rules_of_fi
 use Rattle.doc_load.specs.NoteRules.{ref_count, HasEntries, BreaksRefs, BreaksNoteCuts, HasNoteCuts, rules_of_notes}
 use Rattle.doc_load.specs.HeadRules.{IsHeadTable, BreaksHeads, rules_of_heads}
 use Rattle.doc_load.specs.EndRules.{last_end, IsLooseUnit, BreaksEnds, rules_of_ends}
-use Rattle.save_laws.specs.TextLists.{cuts_of}
+use Rattle.plain_doc.specs.TextLists.{cuts_of}
 use Rattle.save_laws.specs.Slots.{shown, loose, story_slots}
 use Rattle.save_laws.proofs.SavedLemmas.{part_is, Save, the_source, the_heads, note_len, head_len, length-story_units}
 use Rattle.save_laws.proofs.SavedLemmas.{main_unit, note_unit, head_unit}
-use Rattle.save_laws.proofs.OrderLemmas.{cut_at}
+use Rattle.plain_doc.proofs.TextListLemmas.{cut_at}
 use Rattle.save_laws.proofs.SlotLemmas.{length-story_slots, story_item, story_mark}
 use Rattle.save_laws.proofs.ItemRules.{no_notes}
 use Rattle.save_laws.proofs.ListedLemmas.{AreFieldsHeld, AreCutsHeld, field_from, whole_table}
@@ -51,7 +51,7 @@ HasUnits story items = (i : ℕ) (item : Item) → slice_get items i ≡ Some it
 fields_right : (story bytes : List ℕ) (at len : ℕ) (items : List Item) → HasUnits story items → length story ≡ len →
     AreFieldsHeld bytes len (fields_of items) → Nowhere (BreaksFields story bytes at)
 fields_right story bytes at len items units long held place w =
-    let table : PlcPart = table_of 2 bytes in
+    let table : PlcPart = plc_part 2 bytes in
     elim w [
       | inl wrong ↦ held.rules at place (inl wrong)
       | inr row ↦

@@ -12,9 +12,9 @@ use Rattle.plain_doc.specs.declared.document.Document.{Document}
 use Rattle.plain_doc.specs.Collected.{sections_of}
 use Rattle.doc_load.specs.FileRules.{table_stream_name}
 use Rattle.doc_read.specs.CarriedParts.{carried_streams}
-use Rattle.save_laws.specs.Together.{AreTogether}
-use Rattle.save_laws.specs.TextLists.{starts_from}
-use Rattle.save_laws.specs.TableEntries.{TableEntry, IsPartAt}
+use Rattle.doc_bits.specs.Together.{AreTogether}
+use Rattle.plain_doc.specs.TextLists.{starts_from}
+use Rattle.fib_form.specs.TableEntries.{TableEntry, IsPartAt}
 use Rattle.save_laws.specs.Places.{PagedStream, Given, StandsInside, GivesAt}
 use Rattle.save_laws.specs.Slots.{StoryEnds, IsPlaced, whole_text, story_counts}
 use Rattle.save_laws.specs.Saves.{SavedText, saved_entries, HasSettingsAt, HasRanges, KeepsFields}

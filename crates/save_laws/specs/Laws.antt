@@ -1,21 +1,16 @@
 -- The laws of saves.
-use Rattle.std.specs.Prelude.{◌≡◌, ℕ, ◌≤◌, List, ◌++◌, Bool, slice_index}
+use Rattle.std.specs.Prelude.{◌≡◌, ℕ, List, Bool}
 use Rattle.doc_bits.specs.Number.{AreBytes}
 use Rattle.prop_map.specs.Settings.{Settings}
 use Rattle.cfb_streams.specs.Contents.{Contents}
-use Rattle.fkp_pages.specs.declared.kind.PageKind.{PageKind}
-use Rattle.fkp_pages.specs.declared.lists.Bin.{Bin}
-use Rattle.fkp_pages.specs.declared.lists.Run.{Run}
-use Rattle.fkp_pages.specs.Bin.{bin_fcs, ArePrintableBins, printed_bin}
-use Rattle.fkp_pages.specs.PageBytes.{last_fc}
 use Rattle.plain_doc.specs.declared.document.Document.{Document}
 use Rattle.plain_doc.specs.Collected.{sections_of}
 use Rattle.plain_doc.specs.Formed.{IsFormed}
 use Rattle.plain_doc.specs.Sound.{IsSound}
 use Rattle.doc_read.specs.Holds.{HoldsDocument, IsAccepted}
 use Rattle.save_laws.specs.Places.{PagedStream, Given, GivesAt}
-use Rattle.save_laws.specs.Plans.{Plan, IsPlanned, IsWrittenPlan, IsRow, row_bins}
-use Rattle.save_laws.specs.KeptPages.{KeepsBytes, KeepsPages, AreRangesBefore, NamesBoth}
+use Rattle.save_laws.specs.Plans.{Plan, IsPlanned, IsWrittenPlan}
+use Rattle.save_laws.specs.KeptPages.{KeepsBytes, KeepsPages}
 use Rattle.save_laws.specs.FastSaves.{IsFastSaved}
 use Rattle.save_laws.specs.GivenFiles.{StandsTogether}
 use Rattle.save_laws.specs.Saves.{SavedText, HasSettingsAt, AreSavedSections, IsSavedAs, IsHeldBy, IsFileOf}
@@ -65,17 +60,6 @@ abbrev pub KeptPlacesGive : Type 0
 KeptPlacesGive =
     (old new : PagedStream) (before at : ℕ) (wide : Bool) (given : Given) → KeepsPages old new before →
     GivesAt old at wide given → GivesAt new at wide given
-
--- a table of the ranges of an old table that begin before a place, and then of those of a row that begins there or
--- behind it, names both
-abbrev pub LongerTablesNameBoth : Type 0
-LongerTablesNameBoth =
-    (kind : PageKind) (wd : List ℕ) (runs : List Run) (first before : ℕ) (old : List ℕ) (bins : List Bin)
-    (row : IsRow kind wd runs first) →
-    AreRangesBefore old before bins →
-    ArePrintableBins (bins ++ row_bins row) (last_fc runs) →
-    before ≤ slice_index (bin_fcs (row_bins row) (last_fc runs)) 0 →
-    NamesBoth row old (printed_bin (bins ++ row_bins row) (last_fc runs)) before
 
 -- the places of the text of a file that holds a document stand together with the document's slots
 abbrev pub GivenFilesStand : Type 0

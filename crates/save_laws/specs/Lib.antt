@@ -1,6 +1,3 @@
-pub mod Together
-pub mod TextLists
-pub mod TableEntries
 pub mod TableText
 pub mod Places
 pub mod Slots

@@ -1,17 +1,11 @@
 -- Text that is added behind what a WordDocument has: units from a place on, and pages of runs for them in a row, which
 -- the bin tables name. A full save adds the whole text of its document, a fast save what was added since the last save.
-use Rattle.std.specs.Prelude.{◌≡◌, ℕ, ◌+◌, ◌*◌, ◌^◌, ◌<◌, ◌≤◌, List, ◌++◌, length, true, Bool, Some, All, slice_get}
+use Rattle.std.specs.Prelude.{◌≡◌, ℕ, ◌+◌, ◌*◌, ◌<◌, ◌≤◌, List, length, true, Bool, Some, slice_get}
 use Rattle.doc_bits.specs.Number.{u16_at}
 use Rattle.fkp_pages.specs.declared.kind.PageKind.{PageKind}
 use Rattle.fkp_pages.specs.declared.kind.PageKind.TheVariants.{Chpx, Papx}
-use Rattle.fkp_pages.specs.declared.lists.Bin.{Bin}
 use Rattle.fkp_pages.specs.declared.lists.Run.{Run}
-use Rattle.fkp_pages.specs.declared.packing.Pages.{Pages}
-use Rattle.fkp_pages.specs.Bin.{IsBinPage, printed_bin}
-use Rattle.fkp_pages.specs.Runs.{AreRuns, HasFileNumbers}
-use Rattle.fkp_pages.specs.PageBytes.{last_fc}
-use Rattle.fkp_pages.specs.Pages.{ArePagesOf}
-use Rattle.fkp_pages.specs.InARow.{numbered_bins}
+use Rattle.fkp_pages.specs.Rows.{IsInRun, IsRow, NamesRow}
 use Rattle.plain_doc.specs.declared.item.Mark.{Mark}
 use Rattle.save_laws.specs.Places.{PagedStream, Given, fib_end}
 
@@ -33,41 +27,6 @@ pub record IsPlanned (plan : Plan) (at : ℕ) (wide : Bool) (given : Given) : Ty
   pub there : slice_get plan.added number ≡ Some given
   pub here : at ≡ plan.base + 2 * number
   pub two_bytes : wide ≡ true
-
--- the run holds the place
-pub record IsInRun (runs : List Run) (fc : ℕ) (run : Run) : Type 0 where
-  pub number : ℕ
-  pub there : slice_get runs number ≡ Some run
-  pub from : run.from ≤ fc
-  pub to : fc < run.to
-
--- the pages of runs stand in a row in WordDocument, from the page of a number on, behind the FIB
-pub record IsRow (kind : PageKind) (wd : List ℕ) (runs : List Run) (first : ℕ) : Type 0 where
-  pub pages : Pages
-  pub before : List ℕ
-  pub behind : List ℕ
-  pub right : AreRuns kind runs
-  pub numbers : All HasFileNumbers runs
-  pub pages_are : ArePagesOf kind runs pages
-  pub some : 0 < length runs
-  pub low : 2 ≤ first
-  pub high : first + length pages.starts ≤ 2 ^ 22
-  pub begins : length before ≡ 512 * first
-  pub there : wd ≡ before ++ (pages.bytes ++ behind)
-
--- the ranges of the pages of a row, and the table of these alone
-abbrev pub row_bins :
-    {kind : PageKind} {wd : List ℕ} {runs : List Run} {first : ℕ} → IsRow kind wd runs first → List Bin
-row_bins {first = first} row = numbered_bins first row.pages.starts
-
-abbrev pub row_table :
-    {kind : PageKind} {wd : List ℕ} {runs : List Run} {first : ℕ} → IsRow kind wd runs first → List ℕ
-row_table {runs = runs} row = printed_bin (row_bins row) (last_fc runs)
-
--- a table names at each place the page that the table of the row names there
-abbrev pub NamesRow :
-    {kind : PageKind} {wd : List ℕ} {runs : List Run} {first : ℕ} → IsRow kind wd runs first → List ℕ → Type 0
-NamesRow row table = (fc number : ℕ) → IsBinPage (row_table row) fc number → IsBinPage table fc number
 
 -- each added unit is in a run of characters with its settings, and where it has a mark, in a run of paragraphs with the
 -- mark's style and settings

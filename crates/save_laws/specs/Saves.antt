@@ -23,9 +23,9 @@ use Rattle.doc_load.specs.FileRules.{FileText, HasText, table_stream_name, sourc
 use Rattle.doc_read.specs.Sections.{IsSectionSettings}
 use Rattle.doc_read.specs.CarriedParts.{carried_streams}
 use Rattle.doc_read.specs.Holds.{IsDocumentFrom}
-use Rattle.save_laws.specs.Together.{AreTogether}
-use Rattle.save_laws.specs.TextLists.{starts_from}
-use Rattle.save_laws.specs.TableEntries.{TableEntry, IsPartAt}
+use Rattle.doc_bits.specs.Together.{AreTogether}
+use Rattle.plain_doc.specs.TextLists.{starts_from}
+use Rattle.fib_form.specs.TableEntries.{TableEntry, IsPartAt}
 use Rattle.save_laws.specs.TableText.{table_entries}
 use Rattle.save_laws.specs.Places.{PagedStream, StandsInside, GivesAt}
 use Rattle.save_laws.specs.Slots.{StoryEnds, IsPlaced, whole_text, story_counts}

@@ -6,7 +6,7 @@ use Rattle.piece_table.specs.Piece.{UnitPlace}
 use Rattle.piece_table.specs.Changes.{AreModified}
 use Rattle.plain_doc.specs.declared.item.Item.{Item}
 use Rattle.plain_doc.specs.declared.document.Document.{Document}
-use Rattle.save_laws.specs.Together.{AreTogether}
+use Rattle.doc_bits.specs.Together.{AreTogether}
 use Rattle.save_laws.specs.Places.{PagedStream, Given, given_of, IsGivenAfter}
 use Rattle.save_laws.specs.Slots.{Slot, shown, loose, last, StoryEnds, IsPlaced, whole_text}
 use Rattle.save_laws.specs.Plans.{Plan}

@@ -12,8 +12,8 @@ use Rattle.doc_parts.specs.Stories.{printed_refs, printed_texts}
 use Rattle.style_sheet.specs.Written.{written_sheet}
 use Rattle.plain_doc.specs.declared.document.Document.{Document}
 use Rattle.plain_doc.specs.Collected.{joined_texts, fields_of, refs_of}
-use Rattle.save_laws.specs.TextLists.{cuts_of}
-use Rattle.save_laws.specs.TableEntries.{TableEntry, entry}
+use Rattle.plain_doc.specs.TextLists.{cuts_of}
+use Rattle.fib_form.specs.TableEntries.{TableEntry, entry}
 
 -- what the table stream has beside the document: the counts of the three stories, the sections' places, the two bin
 -- tables and the Clx

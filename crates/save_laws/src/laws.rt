@@ -1,7 +1,7 @@
 // Laws over the definitions alone.
 ghost use Rattle.save_laws.specs.Laws.{SavedDocumentsAreHeld, SavedFilesHold, PlansGive, FastSavesAreSaves};
 ghost use Rattle.save_laws.specs.Laws.{KeptSettingsAreThere};
-ghost use Rattle.save_laws.specs.Laws.{KeptPlacesGive, LongerTablesNameBoth, GivenFilesStand, GivenSectionsAreSaved};
+ghost use Rattle.save_laws.specs.Laws.{KeptPlacesGive, GivenFilesStand, GivenSectionsAreSaved};
 ghost use Rattle.save_laws.specs.Sessions.{SplicesStayTogether, ModifiedStayTogether, LongerPlansKeep, MainSplices};
 
 /// A well-formed sound document that is saved is held by the contents, which break none of the rules 15 to 56.
@@ -27,11 +27,6 @@ pub fn kept_places_give()
 /// The settings of a section that stand in a stream stand in one that keeps its bytes.
 pub fn kept_settings_are_there()
     ensures { KeptSettingsAreThere }
-{}
-
-/// A table of the ranges of an old table and then of those of a row names both.
-pub fn longer_tables_name_both()
-    ensures { LongerTablesNameBoth }
 {}
 
 /// What a session writes behind an old stream is a save of its document.

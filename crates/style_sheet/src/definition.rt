@@ -1,5 +1,6 @@
 // [MS-DOC] STD: whether bytes are one, and the style that they spell. `base` is cbSTDBaseInFile.
-ghost use Rattle.std.specs.Prelude.{◌≡◌, ◌↔◌, ◌⊎◌, ◌+◌, ◌<◌, ◌≤◌, ◌^◌, length, IsTrue, None};
+ghost use Rattle.std.specs.Prelude.{◌≡◌, ◌↔◌, ◌⊎◌, ◌+◌, ◌<◌};
+ghost use Rattle.std.specs.Prelude.{◌≤◌, ◌^◌, length, IsTrue, None};
 ghost use Rattle.doc_bits.specs.Rules.{LeastOrNone, From};
 ghost use Rattle.sprm_table.specs.Sprm.{HasSprmFaultAt, IsAcceptedList};
 ghost use Rattle.style_sheet.specs.StyleDefinition.{stk, cupx, upxes_start, upx_place, HasName, HasKind, HasUpxes};

@@ -1,6 +1,7 @@
 // [MS-DOC] STSH: writing a sheet. Profile: cbStshi 18, base 10, the number of the slot in the first
 // upx of a style of paragraphs, bchUpe as cbStd.
-ghost use Rattle.std.specs.Prelude.{◌≡◌, ◌+◌, ◌-◌, ◌%◌, ◌<◌, ◌≤◌, ◌^◌, ◌++◌, ◌↔◌, min, length, IsTrue, IfOk, OnOk};
+ghost use Rattle.std.specs.Prelude.{◌≡◌, ◌+◌, ◌-◌, ◌%◌, ◌<◌, ◌≤◌, ◌^◌};
+ghost use Rattle.std.specs.Prelude.{◌++◌, ◌↔◌, min, length, IsTrue, IfOk, OnOk};
 ghost use Rattle.std.specs.List.{All, flat_map};
 ghost use Rattle.doc_bits.specs.Number.{number_bytes};
 ghost use Rattle.prop_map.specs.Formed.{IsFormedMap};
@@ -68,7 +69,8 @@ impl StyleSheet {
     /// Appends a slot: its cbStd and its STD.
     fn push_slot(&self, alloc: Global, bytes: &mut Bytes, istd: u16) -> Result<(), Memory>
         requires { IsWritable self.now }
-        ensures { OnOk result (bytes.new ≡ bytes.old ++ written_counted (written_slot istd (style_at self.now istd))) }
+        ensures { OnOk result
+            (bytes.new ≡ bytes.old ++ written_counted (written_slot istd (style_at self.now istd))) }
     {
         match self.get(istd) {
             None => bytes.push16(0),

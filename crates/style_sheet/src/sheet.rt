@@ -1,5 +1,6 @@
 // The sheet. Copies share one list of slots, and lists of slots share their styles.
-ghost use Rattle.std.specs.Prelude.{◌≡◌, ◌↔◌, ◌<◌, ◌≤◌, ℕ, [], ◌∷◌, ◌++◌, length, IsTrue, IfSome, IfOk, OnOk, OnErr};
+ghost use Rattle.std.specs.Prelude.{◌≡◌, ◌↔◌, ◌<◌, ◌≤◌, ℕ, [], ◌∷◌};
+ghost use Rattle.std.specs.Prelude.{◌++◌, length, IsTrue, IfSome, IfOk, OnOk, OnErr};
 ghost use Rattle.std.specs.Prelude.{MatchOption, Some, None};
 ghost use Rattle.style_sheet.specs.Sheet.{Sheet, style_at};
 ghost use Rattle.style_sheet.specs.Formed.{IsFormedSheet, IsFormedStyle, IsFormedSlot};
@@ -85,7 +86,8 @@ impl StyleSheet {
     pub fn add(&mut self, style: Option<Style>) -> Result<(), Memory>
         requires room { length self.old.styles < 4094 }
         requires formed { IsFormedSlot style }
-        ensures ok { OnOk result (self.new ≡ record { head = self.old.head; styles = self.old.styles ++ style ∷ [] }) }
+        ensures ok { OnOk result
+            (self.new ≡ record { head = self.old.head; styles = self.old.styles ++ style ∷ [] }) }
         ensures err { OnErr result (self.new ≡ self.old) }
     {
         let alloc = self.alloc;

@@ -1,5 +1,6 @@
 // The slots of a sheet. Styles are shared, so that a copy of the list copies no style.
-ghost use Rattle.std.specs.Prelude.{◌≡◌, ◌↔◌, [], ◌∷◌, ◌++◌, length, slice_set, IsTrue, IfOk, OnOk, OnErr, MatchOption};
+ghost use Rattle.std.specs.Prelude.{◌≡◌, ◌↔◌, [], ◌∷◌, ◌++◌, length};
+ghost use Rattle.std.specs.Prelude.{slice_set, IsTrue, IfOk, OnOk, OnErr, MatchOption};
 ghost use Rattle.std.specs.Prelude.{Some, None, ◌<◌};
 ghost use Rattle.std.specs.List.{All};
 ghost use Rattle.style_sheet.specs.Sheet.{style_at};
@@ -46,8 +47,8 @@ impl Slots {
 
     /// Puts a slot at the end.
     pub(crate) fn add(&mut self, alloc: Global, style: Option<Style>) -> Result<(), Memory>
-        ensures ok { OnOk result
-            (sheet_of self.new ≡ record { head = self.old.head; styles = (sheet_of self.old).styles ++ style ∷ [] }) }
+        ensures ok { OnOk result (sheet_of self.new
+            ≡ record { head = self.old.head; styles = (sheet_of self.old).styles ++ style ∷ [] }) }
         ensures err { OnErr result (sheet_of self.new ≡ sheet_of self.old) }
     {
         let slot = match style {

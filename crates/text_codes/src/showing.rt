@@ -1,5 +1,6 @@
 // The text that is shown for units. A surrogate pair is one character, so a high surrogate waits for the next unit.
-ghost use Rattle.std.specs.Prelude.{◌≡◌, ◌<◌, ◌++◌, ◌⊎◌, ◌↔◌, ◌&&◌, nat_le, nat_lt, List, ℕ, [], ◌∷◌, length, Bool};
+ghost use Rattle.std.specs.Prelude.{◌≡◌, ◌<◌, ◌++◌, ◌⊎◌, ◌↔◌, ◌&&◌};
+ghost use Rattle.std.specs.Prelude.{nat_le, nat_lt, List, ℕ, [], ◌∷◌, length, Bool};
 ghost use Rattle.std.specs.Prelude.{true, false, IfOk, OnOk, OnErr, IfSome, MatchOption, IsTrue, encode_utf8};
 ghost use Rattle.std.specs.String.{string_bytes};
 ghost use Rattle.text_codes.specs.Shown.{Showing, shown, shown_alone, completed, escape, hex_digit, is_pair};
@@ -44,7 +45,8 @@ impl ShownText {
 
     /// Adds a unit: what is completed by the units after it was completed by it and them.
     pub fn push(&mut self, unit: u16) -> Result<(), Memory>
-        ensures ok { OnOk result ((units : List ℕ) → completed self.new units ≡ completed self.old (unit ∷ units)) }
+        ensures ok { OnOk result
+            ((units : List ℕ) → completed self.new units ≡ completed self.old (unit ∷ units)) }
         ensures err { OnErr result (self.new ≡ self.old) }
     {
         let Some(first) = self.waiting else {
@@ -64,7 +66,8 @@ impl ShownText {
     #[inline(always)]
     fn push_first(&mut self, unit: u16) -> Result<(), Memory>
         requires { self.old.waiting ≡ [] }
-        ensures ok { OnOk result ((units : List ℕ) → completed self.new units ≡ completed self.old (unit ∷ units)) }
+        ensures ok { OnOk result
+            ((units : List ℕ) → completed self.new units ≡ completed self.old (unit ∷ units)) }
         ensures err { OnErr result (self.new ≡ self.old) }
     {
         if is_high(unit) {

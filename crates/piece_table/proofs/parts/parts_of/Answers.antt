@@ -4,7 +4,7 @@ use Rattle.doc_bits.specs.Plc.{PlcPart}
 use Rattle.doc_bits.proofs.RuleLemmas.{least_from}
 use Rattle.piece_table.specs.Clx.{IsWrongAt}
 use Rattle.piece_table.specs.Front.{IsPcdtFront}
-use Rattle.piece_table.proofs.ByteLemmas.{AreBytes}
+use Rattle.doc_bits.specs.Number.{AreBytes}
 use Rattle.piece_table.proofs.ClxLemmas.{rest_is, parts_found, parts_wrong}
 use Rattle.piece_table.proofs.ClxRuleLemmas.{nowhere_from}
 use Rattle.piece_table.proofs.parts.parts_of.Goals as goal

@@ -1,7 +1,7 @@
 -- Each turn adds one Prc; at the end no Prc follows.
 use Rattle.std.proofs.Common.{ℕ, ◌+◌, drop, subst, sym, arith}
 use Rattle.piece_table.specs.Front.{ArePrcs, IsPrcFront}
-use Rattle.piece_table.proofs.ByteLemmas.{AreBytes}
+use Rattle.doc_bits.specs.Number.{AreBytes}
 use Rattle.piece_table.proofs.ClxLemmas.{prcs_more, rest_is}
 use Rattle.piece_table.proofs.parts.prcs_of.Goals as goal
 

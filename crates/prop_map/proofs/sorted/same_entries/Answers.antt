@@ -1,11 +1,8 @@
-use Rattle.std.proofs.Common.{◌≡◌, ◌<◌, Bool, true, false, not, length, refl, sym, ◌∙◌, arith}
+use Rattle.std.proofs.Common.{◌≡◌, ◌<◌, length, sym, ◌∙◌, arith}
 use Rattle.std.proofs.lemmas.List.{take_more_same, get_or_read}
 use Rattle.std.proofs.lemmas.Slice.Eq.{bytes_eq-Decides}
+use Rattle.doc_bits.proofs.TestLemmas.{true_from_not}
 use Rattle.prop_map.proofs.sorted.same_entries.Goals as goal
-
-true_from_not : (b : Bool) → false ≡ not b → b ≡ true
-true_from_not true e = refl
-true_from_not false e = cc
 
 pub loop-i-preserved : goal.loop-i-preserved
 loop-i-preserved c =

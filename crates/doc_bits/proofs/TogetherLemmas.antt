@@ -1,10 +1,9 @@
 -- What stands at places of lists that stand together, or one behind the other.
-use Rattle.std.specs.Prelude.{slice_get, is_some}
-use Rattle.std.proofs.Common.{◌≡◌, ◌∙◌, ap, ℕ, suc, ◌+◌, ◌<◌, List, [], ◌∷◌, ◌++◌, length, Some, arith, refl, true}
-use Rattle.std.proofs.Common.{Option, None}
+use Rattle.std.specs.Prelude.{slice_get}
+use Rattle.std.proofs.Common.{◌≡◌, ◌∙◌, ap, ℕ, suc, ◌+◌, ◌<◌, List, [], ◌∷◌, ◌++◌, length, Some, arith}
 use Rattle.std.proofs.lemmas.Option.{slice_get_within}
 use Rattle.doc_bits.proofs.ListLemmas.{there_is, slice_get_before}
-use Rattle.save_laws.specs.Together.{AreTogether}
+use Rattle.doc_bits.specs.Together.{AreTogether}
 
 -- what stands in the first list stands in the joined one
 pub in_front : {A : Type 0} (xs ys : List A) (k : ℕ) (x : A) → slice_get xs k ≡ Some x →
@@ -34,8 +33,3 @@ beside Belongs xs ys k y together here =
     let below : k < length xs = omega (arith, slice_get_within ys k y here, together.len) in
     let found = there_is xs k below in
     record { other = found.0; here = found.1; is = together.each k found.0 y found.1 here }
-
--- what an option has that has something
-pub some_of : {A : Type 0} (o : Option A) → is_some o ≡ true → (x : A) × (o ≡ Some x)
-some_of None some = absurd (cc (some))
-some_of (Some x) some = (x, refl)

@@ -1,66 +1,18 @@
--- CPs that ascend or never fall, said step by step, are in the order that a table of CPs has.
-use Rattle.std.specs.Prelude.{⊤, IsSome, slice_index, slice_get}
+-- What the items of texts have, listed by CPs: it ascends. Where sections begin, where texts are cut, and texts joined.
+use Rattle.std.specs.Prelude.{IsSome, slice_index, slice_get}
 use Rattle.std.proofs.Common.{◌⊎◌, subst, inl, inr, take, All, ◌≡◌, ◌∙◌, refl, sym, ap, ℕ, zero, suc, ◌+◌, ◌<◌, ◌≤◌}
-use Rattle.std.proofs.Common.{true, false, List, [], ◌∷◌, length, map, Option, Some, None, arith}
+use Rattle.std.proofs.Common.{List, [], ◌∷◌, length, map, Option, Some, None, arith}
 use Rattle.std.proofs.lemmas.List.{nil_from_length, length-append}
 use Rattle.std.proofs.lemmas.List.Elements.{All-nil, All-append}
-use Rattle.std.proofs.lemmas.Bool.{false≢true}
 use Rattle.std.proofs.lemmas.Option.{same_Some, none-some}
+use Rattle.doc_bits.proofs.TogetherLemmas.{in_front, in_back}
 use Rattle.prop_map.specs.Settings.{Settings}
-use Rattle.doc_parts.specs.declared.cps.CpOrder.TheVariants.{Ascend}
 use Rattle.doc_parts.specs.Cps.{AreCpsInOrder}
 use Rattle.doc_parts.specs.Stories.{cut_cps}
+use Rattle.doc_parts.proofs.CpLemmas.{Rise, rise_lower, Climb, climb_lower, climb_in_order}
 use Rattle.plain_doc.specs.declared.item.Item.{Item}
 use Rattle.plain_doc.specs.Collected.{joined_texts, entry_before, collected, cuts_from}
-use Rattle.save_laws.specs.TextLists.{cuts_of, starts_from}
-use Rattle.save_laws.proofs.TogetherLemmas.{in_front, in_back}
-
--- ---- CPs that ascend between two bounds
-
-abbrev pub Rise : ℕ → ℕ → List ℕ → Type 0
-Rise low high [] = ⊤
-Rise low high (cp ∷ cps) = (low ≤ cp) × ((cp < high) × Rise (cp + 1) high cps)
-
-pub rise_lower : (low lower high : ℕ) (cps : List ℕ) → lower ≤ low → Rise low high cps → Rise lower high cps
-rise_lower low lower high [] below rise = tt
-rise_lower low lower high (cp ∷ cps) below rise = let first = rise.0 in (omega arith, (rise.1.0, rise.1.1))
-
-pub rise_within : (low high : ℕ) (cps : List ℕ) → Rise low high cps → (k : ℕ) → k < length cps →
-    (low ≤ slice_index cps k) × (slice_index cps k < high)
-rise_within low high [] rise k below = absurd (omega arith)
-rise_within low high (cp ∷ cps) rise zero below = (rise.0, rise.1.0)
-rise_within low high (cp ∷ cps) rise (suc k) below =
-    let later = rise_within (cp + 1) high cps rise.1.1 k (omega arith) in
-    let first = rise.0 in
-    let above = later.0 in
-    (omega arith, later.1)
-
-pub rise_step : (low high : ℕ) (cps : List ℕ) → Rise low high cps → (j k : ℕ) → j + 1 ≡ k → k < length cps →
-    slice_index cps j < slice_index cps k
-rise_step low high [] rise j k next below = absurd (omega arith)
-rise_step low high (cp ∷ cps) rise zero zero next below = absurd (omega arith)
-rise_step low high (cp ∷ cps) rise zero (suc k) next below =
-    let above = (rise_within (cp + 1) high cps rise.1.1 k (omega arith)).0 in omega arith
-rise_step low high (cp ∷ cps) rise (suc j) zero next below = absurd (omega arith)
-rise_step low high (cp ∷ cps) rise (suc j) (suc k) next below =
-    rise_step (cp + 1) high cps rise.1.1 j k (omega arith) (omega arith)
-
-pub rise_in_order : (len : ℕ) (cps : List ℕ) → Rise 0 len cps →
-    AreCpsInOrder (record { order = Ascend; from_zero = false; story_len = len }) cps
-rise_in_order len cps rise k below = record {
-  begin = λ needed first. absurd (false≢true needed);
-  after = λ j next. rise_step 0 len cps rise j k next below;
-  within = (rise_within 0 len cps rise k below).1;
-}
-
--- the same where the first one is 0
-pub rise_from_zero : (len : ℕ) (cps : List ℕ) → Rise 0 len cps → slice_index cps 0 ≡ 0 →
-    AreCpsInOrder (record { order = Ascend; from_zero = true; story_len = len }) cps
-rise_from_zero len cps rise begins k below = record {
-  begin = λ needed first. ap (slice_index cps) first ∙ begins;
-  after = λ j next. rise_step 0 len cps rise j k next below;
-  within = (rise_within 0 len cps rise k below).1;
-}
+use Rattle.plain_doc.specs.TextLists.{cuts_of, starts_from}
 
 -- ---- what items have, by their CPs
 
@@ -185,36 +137,6 @@ next_start start (first ∷ (second ∷ sections)) zero section here below =
 next_start start (first ∷ (second ∷ sections)) (suc k) section here below =
     next_start (first.0 + 1) (second ∷ sections) k section here (omega arith)
 
--- ---- CPs that never fall
-
-abbrev Climb : ℕ → ℕ → List ℕ → Type 0
-Climb low high [] = ⊤
-Climb low high (cp ∷ cps) = (low ≤ cp) × ((cp ≤ high) × Climb cp high cps)
-
-climb_lower : (low lower high : ℕ) (cps : List ℕ) → lower ≤ low → Climb low high cps → Climb lower high cps
-climb_lower low lower high [] below climb = tt
-climb_lower low lower high (cp ∷ cps) below climb = let first = climb.0 in (omega arith, (climb.1.0, climb.1.1))
-
-climb_within : (low high : ℕ) (cps : List ℕ) → Climb low high cps → (k : ℕ) → k < length cps →
-    (low ≤ slice_index cps k) × (slice_index cps k ≤ high)
-climb_within low high [] climb k below = absurd (omega arith)
-climb_within low high (cp ∷ cps) climb zero below = (climb.0, climb.1.0)
-climb_within low high (cp ∷ cps) climb (suc k) below =
-    let later = climb_within cp high cps climb.1.1 k (omega arith) in
-    let first = climb.0 in
-    let above = later.0 in
-    (omega arith, later.1)
-
-climb_step : (low high : ℕ) (cps : List ℕ) → Climb low high cps → (j k : ℕ) → j + 1 ≡ k → k < length cps →
-    slice_index cps j ≤ slice_index cps k
-climb_step low high [] climb j k next below = absurd (omega arith)
-climb_step low high (cp ∷ cps) climb zero zero next below = absurd (omega arith)
-climb_step low high (cp ∷ cps) climb zero (suc k) next below =
-    (climb_within cp high cps climb.1.1 k (omega arith)).0
-climb_step low high (cp ∷ cps) climb (suc j) zero next below = absurd (omega arith)
-climb_step low high (cp ∷ cps) climb (suc j) (suc k) next below =
-    climb_step cp high cps climb.1.1 j k (omega arith) (omega arith)
-
 -- ---- the cuts of texts
 
 pub length-joined : (text : List Item) (texts : List (List Item)) →
@@ -236,13 +158,6 @@ first_cut : (texts : List (List Item)) → slice_index (cuts_from 0 texts) 0 ≡
 unfolding cuts_from
 first_cut [] = refl
 first_cut (text ∷ texts) = refl
-
-climb_in_order : (len : ℕ) (cps : List ℕ) → Climb 0 len cps → slice_index cps 0 ≡ 0 → AreCpsInOrder (cut_cps len) cps
-climb_in_order len cps climb begins k below = record {
-  begin = λ needed first. ap (slice_index cps) first ∙ begins;
-  after = λ j next. climb_step 0 len cps climb j k next below;
-  within = (climb_within 0 len cps climb k below).1;
-}
 
 pub cuts_in_order : (joined : List Item) (texts : List (List Item)) (len : ℕ) → joined ≡ joined_texts texts →
     length joined ≤ len → AreCpsInOrder (cut_cps len) (cuts_of joined texts)

@@ -11,10 +11,8 @@ use Rattle.fkp_pages.specs.Bin.{ArePrintableBins, printed_bin, bin_fcs, IsBinPag
 use Rattle.fkp_pages.proofs.PrintedBinLemmas.{printed_table, printed_fc, printed_page, printed_count}
 use Rattle.fkp_pages.specs.declared.lists.Bin.{Bin}
 use Rattle.fkp_pages.specs.PageBytes.{last_fc}
-use Rattle.save_laws.specs.Plans.{row_bins}
-use Rattle.save_laws.specs.KeptPages.{KeepsRanges, AreRangesBefore}
-use Rattle.save_laws.specs.Laws.{LongerTablesNameBoth}
-use Rattle.save_laws.proofs.RowLemmas.{table_of_row}
+use Rattle.fkp_pages.specs.Rows.{row_bins, KeepsRanges, AreRangesBefore, LongerTablesNameBoth}
+use Rattle.fkp_pages.proofs.RowTableLemmas.{table_of_row}
 
 -- ---- the fcs and the pages of joined ranges
 
