@@ -1,15 +1,14 @@
 -- The changes of an edit that may be tried can be made, one after another.
-use Rattle.std.proofs.Common.{◌≡◌, ◌∙◌, refl, sym, ap, ℕ, ◌+◌, ◌*◌, ◌-◌, ◌^◌, ◌<◌, ◌≤◌, inl, inr, List, [], ◌∷◌, ◌++◌, length, take, map, Option, Some, None, arith, length-append, cond, ◌==◌, suc}
-use Rattle.std.specs.Prelude.{Bool, true, false, MatchOption, ⊤, slice_get, replicate, is_some}
+use Rattle.std.proofs.Common.{◌≡◌, ◌∙◌, refl, sym, ℕ, ◌+◌, ◌<◌, ◌≤◌, inl, inr, List, [], ◌∷◌, ◌++◌, length, Option, Some, None, arith, length-append, cond, ◌==◌}
+use Rattle.std.specs.Prelude.{Bool, true, false, MatchOption, slice_get, replicate, is_some}
 use Rattle.std.specs.Option.{unwrap_or}
 use Rattle.text_codes.specs.Paragraph.{paragraph_mark, cell_mark}
-use Rattle.std.specs.List.{count_by, sum_by, flat_map, splice}
+use Rattle.std.specs.List.{sum_by, flat_map}
 use Rattle.std.proofs.lemmas.List.{length-map}
 use Rattle.std.specs.FinMap.{empty, get-empty}
 use Rattle.std.specs.Ordering.{nat_cmp}
 use Rattle.std.proofs.lemmas.List.Sums.{count_by-le-length, sum_by-cons}
 use Rattle.std.proofs.lemmas.Option.{none-some}
-use Rattle.std.proofs.lemmas.Bool.{cases_lt}
 use Rattle.doc_bits.specs.declared.places.Story.{Story}
 use Rattle.doc_bits.specs.declared.places.Story.TheVariants.{Main, Note as NoteText, Head as HeadText}
 use Rattle.prop_map.specs.Settings.{Settings}
@@ -18,21 +17,20 @@ use Rattle.prop_map.specs.Formed.{IsPropertyMap, character_groups, paragraph_gro
 use Rattle.prop_map.specs.Modifiers.{IsFormedModifier}
 use Rattle.plain_doc.specs.declared.item.Item.{Item}
 use Rattle.plain_doc.specs.declared.document.Document.{Document}
-use Rattle.plain_doc.specs.RulesOfSheet.{note_count, section_count, head_count}
 use Rattle.plain_doc.specs.Sound.{IsSound}
 use Rattle.plain_doc.specs.RightDocument.{IsRightText, IsRightDocument}
 use Rattle.plain_doc.proofs.RightLemmas.{sound_is_right}
 use Rattle.edit_script.specs.declared.commands.Command.{Command}
 use Rattle.edit_script.specs.declared.commands.Command.TheVariants.{Insert, Erase, Char, Plain, Para, Style, Field, Note, Split, Merge, Sect, Row, StyleChar, StylePara, Save}
-use Rattle.edit_ops.specs.declared.changes.Change.TheVariants.{SpliceText, ModifyItems, SetSection, SpliceNotes, SpliceHeads, SetStyleCharacters, SetStyleParagraphs}
-use Rattle.edit_ops.specs.Places.{text_at, items_at, mark_place, section_place, note_number, head_number}
+use Rattle.edit_ops.specs.declared.changes.Change.TheVariants.{ModifyItems}
+use Rattle.edit_ops.specs.Places.{text_at, items_at, mark_place, note_number, head_number}
 use Rattle.edit_ops.specs.Fresh.{unit_item, unit_items, inserted_items, field_items, field_mark, base_settings, cell_items, cell_settings, row_items, row_settings, mark_item, mark_with, plain_end}
-use Rattle.edit_ops.specs.Edits.{changes_of, erased, section_changes, put_in, setting_characters, setting_paragraphs, clearing, naming_style, modified_at_mark}
+use Rattle.edit_ops.specs.Edits.{changes_of, erased, section_changes, put_in, setting_characters, setting_paragraphs, clearing, naming_style}
 use Rattle.edit_ops.specs.Ranges.{IsInRange, HasText, HasPlace, HasRange, TakesText, EndsWithMark, BeginsParagraph}
-use Rattle.edit_ops.specs.Codes.{HasRightCodes, IsPutText, IsPutField, IsPutRow}
+use Rattle.edit_ops.specs.Codes.{HasRightCodes}
 use Rattle.edit_ops.specs.Causes.{CanBeTried}
-use Rattle.edit_ops.specs.Makes.{CanSplice, CanMake, CanMakeAll}
-use Rattle.edit_ops.proofs.TextLemmas.{text_weaker, at_items, right_text, part_of, few_items, mark_within, section_within, unit_within, count_upto, count_within}
+use Rattle.edit_ops.specs.Makes.{CanSplice, CanMakeAll}
+use Rattle.edit_ops.proofs.TextLemmas.{text_weaker, right_text, part_of, few_items, mark_within, section_within, unit_within, count_upto, count_within}
 
 -- ---- settings
 

@@ -1,9 +1,8 @@
 -- What the changes of an edit add and remove can be counted.
-use Rattle.std.proofs.Common.{◌≡◌, ◌∙◌, refl, sym, ap, ℕ, ◌+◌, ◌*◌, ◌-◌, ◌^◌, ◌<◌, ◌≤◌, List, [], ◌∷◌, length, take, drop, zero, suc, Option, Some, None, arith, length-append}
+use Rattle.std.proofs.Common.{◌≡◌, refl, ℕ, ◌+◌, ◌^◌, ◌<◌, ◌≤◌, List, [], ◌∷◌, length, Option, Some, None, arith, length-append}
 use Rattle.std.specs.FinMap.{empty}
-use Rattle.std.specs.Prelude.{Bool, true, false, MatchOption, ⊤, slice_range, replicate}
+use Rattle.std.specs.Prelude.{Bool, true, false, MatchOption, replicate}
 use Rattle.std.specs.List.{All, sum_by}
-use Rattle.std.specs.Option.{unwrap_or}
 use Rattle.std.proofs.lemmas.List.Elements.{All-cons, All-nil}
 use Rattle.std.proofs.lemmas.List.Sums.{sum_by-cons}
 use Rattle.std.proofs.lemmas.List.Folds.{sum_by-replicate}
@@ -19,8 +18,8 @@ use Rattle.edit_script.specs.declared.commands.Command.{Command}
 use Rattle.edit_script.specs.declared.commands.Command.TheVariants.{Insert, Erase, Char, Plain, Para, Style, Field, Note, Split, Merge, Sect, Row, StyleChar, StylePara, Save}
 use Rattle.edit_ops.specs.declared.changes.Change.{Change}
 use Rattle.edit_ops.specs.declared.changes.Change.TheVariants.{SpliceText, ModifyItems, SetSection, SpliceNotes, SpliceHeads, SetStyleCharacters, SetStyleParagraphs}
-use Rattle.edit_ops.specs.Places.{text_at, items_at, mark_place, note_number, head_number}
-use Rattle.edit_ops.specs.Fresh.{section_item, special, unit_item, plain_end, inserted_items, field_items, base_settings, row_items, note_items, note_reference, unit_items}
+use Rattle.edit_ops.specs.Places.{text_at, items_at, note_number, head_number}
+use Rattle.edit_ops.specs.Fresh.{section_item, plain_end, inserted_items, field_items, base_settings, row_items, note_items, note_reference, unit_items}
 use Rattle.edit_ops.specs.Edits.{changes_of, erased, section_changes, put_in}
 use Rattle.edit_ops.specs.Ranges.{IsInRange, HasText, HasRange}
 use Rattle.edit_ops.specs.Codes.{HasRightCodes}
@@ -29,7 +28,7 @@ use Rattle.edit_ops.specs.EditFacts.{items_added, items_removed}
 use Rattle.edit_ops.specs.Makes.{CanRemove}
 use Rattle.edit_ops.proofs.TextLemmas.{few_items}
 use Rattle.edit_ops.proofs.SumLemmas.{no_range, range_sum}
-use Rattle.edit_ops.proofs.CanMakeLemmas.{length-inserted, length-field, length-row, length-units, can_splice_notes, can_splice_heads, unit_range, few_main}
+use Rattle.edit_ops.proofs.CanMakeLemmas.{length-inserted, length-field, length-row, length-units, can_splice_notes, can_splice_heads, unit_range}
 
 length-note : (text : List ℕ) → length (note_items text) ≡ length text + 2
 length-note text =

@@ -1,15 +1,10 @@
 -- The settings and the items that commands put are well formed.
-use Rattle.std.proofs.Common.{◌≡◌, ◌∙◌, refl, sym, ap, inl, inr, ℕ, ◌+◌, ◌*◌, ◌<◌, ◌≤◌, List, [], ◌∷◌, ◌++◌, length, map, Some, None, arith, length-append, replicate, suc, zero}
-use Rattle.std.specs.Prelude.{slice_index}
-use Rattle.std.specs.List.{flat_map, range_with_len}
-use Rattle.std.proofs.lemmas.List.{length-map}
-use Rattle.std.specs.FinMap.{empty, insert}
-use Rattle.std.proofs.lemmas.List.{length-replicate}
-use Rattle.std.proofs.lemmas.List.FromFn.{length-map-range_with_len}
+use Rattle.std.proofs.Common.{◌≡◌, ◌∙◌, refl, sym, ap, inl, inr, ℕ, ◌≤◌, List, [], ◌∷◌, length, Some, arith}
+use Rattle.std.specs.FinMap.{insert}
 use Rattle.std.specs.Option.{option_and_then}
 use Rattle.std.proofs.lemmas.Option.{slice_get_cases, none-some}
-use Rattle.doc_bits.specs.Number.{AreBytes, number_bytes}
-use Rattle.doc_bits.proofs.ByteListLemmas.{one_byte, joined_bytes, no_bytes}
+use Rattle.doc_bits.specs.Number.{AreBytes}
+use Rattle.doc_bits.proofs.ByteListLemmas.{one_byte}
 use Rattle.prop_map.specs.Settings.{Settings}
 use Rattle.prop_map.specs.Formed.{IsPropertyMap, character_groups, paragraph_groups, section_groups}
 use Rattle.prop_map.proofs.LawLemmas.{stay_formed}
@@ -19,7 +14,7 @@ use Rattle.plain_doc.specs.Document.{HasPropertyMaps, IsFormedText}
 use Rattle.plain_doc.proofs.MainLemmas.{maps_there}
 use Rattle.edit_ops.specs.Places.{mark_place, mark_at, section_place, section_at}
 use Rattle.plain_doc.proofs.FormedLemmas.{HasPropertyMaps-from_parts}
-use Rattle.edit_ops.specs.Fresh.{special, unit_item, mark_item, mark_with, cell_settings, row_settings, row_definition, row_edges}
+use Rattle.edit_ops.specs.Fresh.{special, unit_item, mark_item}
 
 -- ---- settings
 

@@ -1,5 +1,5 @@
 -- What a judged copy says of the edit.
-use Rattle.std.proofs.Common.{◌≡◌, sym, subst}
+use Rattle.std.proofs.Common.{◌≡◌, subst}
 use Rattle.plain_doc.specs.declared.document.Document.{Document}
 use Rattle.plain_doc.specs.Sound.{IsSound, document_rules}
 use Rattle.doc_bits.specs.Places.{IsFirstPlace}

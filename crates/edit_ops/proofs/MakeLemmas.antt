@@ -1,18 +1,16 @@
 -- Changes as the calls of documents make them.
-use Rattle.std.proofs.Common.{◌≡◌, ◌∙◌, refl, sym, ap, subst, ℕ, zero, suc, ◌+◌, ◌<◌, ◌≤◌, List, [], ◌∷◌, map, set, Option, Some, None, false, arith}
+use Rattle.std.proofs.Common.{◌≡◌, ◌∙◌, refl, sym, ap, ℕ, zero, suc, List, [], ◌∷◌, map, set, Option, Some, None}
 use Rattle.std.specs.Prelude.{slice_get, slice_range, MatchOption}
 use Rattle.std.specs.List.{splice}
-use Rattle.std.specs.Option.{unwrap_or, option_map}
+use Rattle.std.specs.Option.{unwrap_or}
 use Rattle.std.proofs.lemmas.List.{set-get_or}
 use Rattle.std.proofs.lemmas.Option.{get_or_from_slice_get}
 use Rattle.doc_bits.specs.declared.places.Story.{Story}
 use Rattle.doc_bits.specs.declared.places.Story.TheVariants.{Main, Note, Head}
 use Rattle.prop_map.specs.Settings.{Settings}
-use Rattle.prop_map.specs.Modifiers.{IsOver}
 use Rattle.prop_map.specs.Overlay.{overlay}
 use Rattle.prop_map.proofs.MapLemmas.{is_overlay}
-use Rattle.style_sheet.specs.declared.styles.Kind.{Kind}
-use Rattle.style_sheet.specs.Sheet.{Sheet, style_at}
+use Rattle.style_sheet.specs.Sheet.{Sheet}
 use Rattle.style_sheet.specs.Changes.{SetsCharacters, SetsParagraphs, characters_of, with_characters, paragraphs_of, with_paragraphs, with_kind, with_style}
 use Rattle.plain_doc.specs.declared.item.Item.{Item}
 use Rattle.plain_doc.specs.declared.document.Document.{Document}

@@ -1,5 +1,5 @@
 -- An edit has one outcome.
-use Rattle.std.proofs.Common.{◌≡◌, ◌∙◌, refl, sym, ap, subst, ℕ, zero, suc, ◌≤◌, length, arith}
+use Rattle.std.proofs.Common.{◌≡◌, refl, sym, ap, subst, ℕ}
 use Rattle.doc_bits.specs.declared.places.Where.{Where}
 use Rattle.doc_bits.specs.Places.{Place, Upto}
 use Rattle.doc_bits.proofs.PlaceLemmas.{place_one}
@@ -8,12 +8,11 @@ use Rattle.plain_doc.specs.declared.document.Document.{Document}
 use Rattle.plain_doc.specs.Sound.{document_rules}
 use Rattle.plain_doc.proofs.SoundLemmas.{document_rules-IsSingle}
 use Rattle.edit_script.specs.declared.commands.Command.{Command}
-use Rattle.edit_script.specs.declared.commands.Command.TheVariants as command
 use Rattle.edit_ops.specs.declared.faults.EditFault.{EditFault}
 use Rattle.edit_ops.specs.declared.faults.EditFault.TheVariants.{Range, Code, Rule, Limit, Memory}
-use Rattle.edit_ops.specs.Edits.{document_after, changes_of}
+use Rattle.edit_ops.specs.Edits.{document_after}
 use Rattle.edit_ops.specs.Causes.{IsEditFault, IsAcceptedEdit, BreaksFirst, IsLimit}
-use Rattle.edit_ops.specs.Laws.{IsCause, EditHasOneOutcome, ChangesAreFew}
+use Rattle.edit_ops.specs.Laws.{IsCause, EditHasOneOutcome}
 
 -- ---- faults
 

@@ -1,6 +1,6 @@
 -- What a sound document says of the texts that a command may change.
-use Rattle.std.proofs.Common.{◌≡◌, ◌∙◌, refl, sym, ap, subst, inl, inr, cond, ◌∷◌, zero, suc, ℕ, ◌+◌, ◌-◌, ◌<◌, ◌≤◌, Bool, true, false, List, [], length, take, drop, get_or, Option, Some, None, arith, length-drop}
-use Rattle.std.specs.Prelude.{slice_get, is_some, IsSome, MatchOption}
+use Rattle.std.proofs.Common.{◌≡◌, ◌∙◌, refl, sym, ap, inl, inr, cond, ◌∷◌, zero, suc, ℕ, ◌+◌, ◌-◌, ◌<◌, ◌≤◌, Bool, true, false, List, [], length, take, drop, get_or, Option, Some, None, arith}
+use Rattle.std.specs.Prelude.{slice_get, is_some, MatchOption}
 use Rattle.std.specs.List.{position_or_len, count_by, sum_by}
 use Rattle.std.specs.Option.{option_map, unwrap_or}
 use Rattle.std.proofs.lemmas.List.{get_or-drop}
@@ -15,12 +15,10 @@ use Rattle.text_codes.specs.Paragraph.{paragraph_mark}
 use Rattle.style_sheet.specs.Sheet.{Sheet}
 use Rattle.plain_doc.specs.declared.item.Item.{Item}
 use Rattle.plain_doc.specs.declared.document.Document.{Document}
-use Rattle.plain_doc.specs.RulesOfSheet.{item_count, most_items}
-use Rattle.plain_doc.specs.RulesOfTexts.{last_unit, EndsRight, IsHead}
+use Rattle.plain_doc.specs.RulesOfTexts.{last_unit, EndsRight}
 use Rattle.plain_doc.specs.RightDocument.{IsRightText, IsRightDocument}
 use Rattle.plain_doc.proofs.MainLemmas.{main_ends, ends_main}
-use Rattle.edit_ops.specs.Places.{text_at, items_at, mark_place, mark_unit, section_place}
-use Rattle.edit_ops.specs.Ranges.{HasText}
+use Rattle.edit_ops.specs.Places.{text_at, mark_place, mark_unit, section_place}
 use Rattle.edit_ops.proofs.MarkPlaceLemmas.{nothing}
 
 -- ---- texts that are there

@@ -1,5 +1,5 @@
 use Rattle.std.proofs.Common.{length, arith}
-use Rattle.edit_ops.proofs.SumLemmas.{no_range, range_more, range_within}
+use Rattle.edit_ops.proofs.SumLemmas.{range_more, range_within}
 use Rattle.edit_ops.proofs.facts.items_in.Goals as goal
 
 pub overflow_add-count : goal.overflow_add-count

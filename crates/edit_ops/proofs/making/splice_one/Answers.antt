@@ -1,4 +1,4 @@
-use Rattle.std.proofs.Common.{◌≡◌, ◌∙◌, ap, set}
+use Rattle.std.proofs.Common.{◌∙◌, ap, set}
 use Rattle.std.specs.List.{splice}
 use Rattle.std.proofs.lemmas.Result.{IfOk-weaker, IfErr-weaker}
 use Rattle.edit_ops.proofs.MakeLemmas.{changed_back, put_back}

@@ -3,7 +3,6 @@ use Rattle.prop_map.specs.Formed.{IsPropertyMap, section_groups}
 use Rattle.prop_map.specs.declared.modifiers.Modifier.{Modifier}
 use Rattle.prop_map.specs.Overlay.{overlay, modified_characters}
 use Rattle.prop_map.proofs.MapLemmas.{characters_after, overlay_formed}
-use Rattle.edit_ops.specs.Edits.{setting_characters}
 use Rattle.edit_ops.proofs.marks.settings_over.Goals as goal
 
 pub returns-clause-map : goal.returns-clause-map

@@ -1,4 +1,4 @@
-use Rattle.std.proofs.Common.{◌≡◌, ◌∙◌, sym, ap, ◌<◌, length, arith}
+use Rattle.std.proofs.Common.{◌∙◌, sym, ap, ◌<◌, length, arith}
 use Rattle.std.specs.Prelude.{is_some}
 use Rattle.edit_ops.proofs.FirstLemmas.{first_is}
 use Rattle.edit_ops.proofs.MarkPlaceLemmas.{nothing, any_default}

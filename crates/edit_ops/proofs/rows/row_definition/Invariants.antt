@@ -1,4 +1,4 @@
-use Rattle.std.proofs.Common.{◌≡◌, ◌∷◌, ◌++◌, map, ◌*◌}
+use Rattle.std.proofs.Common.{◌≡◌, ◌∷◌, map, ◌*◌}
 use Rattle.std.specs.List.{flat_map, range_with_len}
 use Rattle.doc_bits.specs.Number.{number_bytes}
 use Rattle.edit_ops.proofs.rows.row_definition.Given as goal

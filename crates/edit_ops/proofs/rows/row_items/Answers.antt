@@ -1,4 +1,4 @@
-use Rattle.std.proofs.Common.{◌≡◌, ◌∙◌, ◌+◌, ◌≤◌, sym, ap, length, take, Some, ◌++◌, arith, length-append}
+use Rattle.std.proofs.Common.{◌≡◌, ◌∙◌, ◌+◌, sym, ap, length, Some, ◌++◌, arith, length-append}
 use Rattle.std.specs.Prelude.{slice_get}
 use Rattle.edit_ops.specs.Fresh.{cell_items}
 use Rattle.edit_ops.proofs.CellLemmas.{units_more, units_within}

@@ -1,4 +1,4 @@
-use Rattle.std.proofs.Common.{◌≡◌, ◌≤◌, ◌+◌, length, take}
+use Rattle.std.proofs.Common.{◌≡◌, ◌+◌, length, take}
 use Rattle.std.specs.List.{flat_map, sum_by}
 use Rattle.edit_ops.specs.Fresh.{cell_items}
 use Rattle.edit_ops.proofs.rows.row_items.Given as goal
