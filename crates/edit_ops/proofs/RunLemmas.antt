@@ -1,18 +1,18 @@
 -- Runs of what commands put: elements that all join are one run, and one element is one more at most.
-use Rattle.std.proofs.Common.{◌≡◌, ◌∙◌, refl, sym, ap, subst, append_assoc, ℕ, zero, suc, ◌+◌, ◌≤◌, Bool, true, false, List, [], ◌∷◌, ◌++◌, length, map, arith}
-use Rattle.std.specs.Prelude.{if◌then◌else◌, ◌==◌}
+use Rattle.std.proofs.Common.{◌≡◌, ◌∙◌, refl, sym, ap, subst, ℕ, suc, ◌+◌, ◌≤◌, Bool, true, false, cond, List, [], ◌∷◌, ◌++◌, length, Option, None, arith}
+use Rattle.std.specs.Prelude.{if◌then◌else◌, ◌==◌, is_some}
 use Rattle.std.specs.List.{All, flat_map, sum_by}
 use Rattle.std.specs.FinMap.{empty}
 use Rattle.std.proofs.lemmas.List.{append-nil}
-use Rattle.std.proofs.lemmas.List.Elements.{All-append}
-use Rattle.std.proofs.lemmas.Bool.Decides.{Decides-and, Decides-eqb}
+use Rattle.std.proofs.lemmas.List.Elements.{All-append, All-cons, All-nil}
+use Rattle.std.proofs.lemmas.List.Sums.{sum_by-append, sum_by-cons}
 use Rattle.text_codes.specs.Paragraph.{cell_mark}
 use Rattle.prop_map.specs.Settings.{Settings}
 use Rattle.plain_doc.specs.declared.item.Item.{Item}
 use Rattle.plain_doc.specs.declared.item.Mark.{Mark}
 use Rattle.plain_doc.specs.declared.document.Document.{Document}
 use Rattle.plain_doc.specs.Stretches.{stretch_from, stretches}
-use Rattle.plain_doc.specs.Settings.{same_settings, is_alike}
+use Rattle.plain_doc.specs.Settings.{is_alike}
 use Rattle.plain_doc.proofs.SettingsLemmas.{same_settings-Decides}
 use Rattle.doc_bits.specs.declared.places.Story.{Story}
 use Rattle.doc_bits.specs.declared.places.Story.TheVariants.{Main, Note as NoteText, Head as HeadText}
@@ -20,7 +20,7 @@ use Rattle.edit_script.specs.declared.commands.Command.TheVariants.{Insert, Eras
 use Rattle.edit_ops.specs.Places.{items_at}
 use Rattle.edit_ops.specs.Fresh.{unit_item, unit_items, mark_item, mark_with, plain_end, cell_items, cell_settings, row_items, row_settings, field_items, field_mark, special, base_settings, note_items}
 use Rattle.edit_ops.specs.Edits.{erased, section_changes}
-use Rattle.edit_ops.specs.Runs.{is_same_mark, marks_of, run_count, texts_put, most_runs_of_section, RunsAreFew}
+use Rattle.edit_ops.specs.Runs.{paragraph_count, run_count, texts_put, most_runs_of_section, RunsAreFew}
 
 -- ---- stretches of any list
 
@@ -71,7 +71,7 @@ joined_one : {A : Type 0} (joins : A → A → Bool) (P : A → Type 0) → ((x 
 unfolding stretches
 joined_one joins P same xs all = subst (λ list. length (stretches joins list) ≤ 1) (append-nil xs) (let few = joined_before joins P same xs [] all in omega (arith, few))
 
--- ---- items of equal settings, and equal marks
+-- ---- items of equal settings
 
 abbrev HasChp : Settings → Item → Type 0
 HasChp chp item = item.chp ≡ chp
@@ -79,49 +79,69 @@ HasChp chp item = item.chp ≡ chp
 alike : (chp : Settings) (x y : Item) → HasChp chp x → HasChp chp y → is_alike x y ≡ true
 alike chp x y one other = (same_settings-Decides x.chp y.chp).1 (one ∙ sym other)
 
-same_marks : (mark x y : Mark) → x ≡ mark → y ≡ mark → is_same_mark x y ≡ true
-same_marks mark x y one other =
-    (Decides-and (x.istd == y.istd) (same_settings x.pap y.pap) (Decides-eqb x.istd y.istd) (same_settings-Decides x.pap y.pap)).1
-    (let same : x ≡ y = one ∙ sym other in (ap (λ m. m.istd) same, ap (λ m. m.pap) same))
-
-all_cons : {A : Type 0} (P : A → Type 0) (x : A) (xs : List A) → P x → All P xs → All P (x ∷ xs)
-all_cons P x xs one more zero d within = one
-all_cons P x xs one more (suc k) d within = more k d (omega (arith, within))
-
-all_none : {A : Type 0} (P : A → Type 0) → All P []
-all_none P k d within = absurd (omega (arith, within))
-
 units_have : (chp : Settings) (units : List ℕ) → All (HasChp chp) (unit_items chp units)
-units_have chp [] = all_none (HasChp chp)
-units_have chp (unit ∷ units) = all_cons (HasChp chp) (unit_item chp unit) (unit_items chp units) refl (units_have chp units)
+units_have chp [] = All-nil (HasChp chp)
+units_have chp (unit ∷ units) = All-cons (HasChp chp) (unit_item chp unit) (unit_items chp units) refl (units_have chp units)
 
--- units are one run more, and have no mark
+cells_have : (cells : List (List ℕ)) → All (HasChp empty) (flat_map cell_items cells)
+cells_have [] = All-nil (HasChp empty)
+cells_have (text ∷ cells) =
+    let mark = mark_item empty cell_mark (mark_with cell_settings) in
+    All-append (HasChp empty) (cell_items text) (flat_map cell_items cells)
+    (All-append (HasChp empty) (unit_items empty text) (mark ∷ []) (units_have empty text) (All-cons (HasChp empty) mark [] refl (All-nil (HasChp empty))))
+    (cells_have cells)
+
+-- units are one run more
 units_before : (chp : Settings) (units : List ℕ) (rest : List Item) → length (stretches is_alike (unit_items chp units ++ rest)) ≤ 1 + length (stretches is_alike rest)
 units_before chp units rest = joined_before is_alike (HasChp chp) (alike chp) (unit_items chp units) rest (units_have chp units)
 
-no_marks : (chp : Settings) (units : List ℕ) (rest : List Item) → marks_of (unit_items chp units ++ rest) ≡ marks_of rest
-no_marks chp [] rest = refl
-no_marks chp (unit ∷ units) rest = no_marks chp units rest
+-- ---- paragraphs
+
+both_texts : (one other : List Item) → paragraph_count (one ++ other) ≡ paragraph_count one + paragraph_count other
+both_texts one other = sum_by-append (λ (item : Item). cond (is_some item.mark) 1 0) one other
+
+-- an item ends a paragraph, or not
+abbrev ends_of : Option Mark → ℕ
+ends_of mark = cond (is_some mark) 1 0
+
+unmarked : (item : Item) (more : List Item) → item.mark ≡ None → paragraph_count (item ∷ more) ≡ paragraph_count more
+unmarked item more none =
+    let same : 0 + paragraph_count more ≡ paragraph_count more = omega arith in
+    sum_by-cons (λ (item : Item). ends_of item.mark) item more
+    ∙ (ap (λ (mark : Option Mark). ends_of mark + paragraph_count more) none ∙ same)
+
+in_units : (chp : Settings) (units : List ℕ) → paragraph_count (unit_items chp units) ≡ 0
+in_units chp [] = refl
+in_units chp (unit ∷ units) = unmarked (unit_item chp unit) (unit_items chp units) refl ∙ in_units chp units
+
+in_cells : (cells : List (List ℕ)) → paragraph_count (flat_map cell_items cells) ≡ length cells
+in_cells [] = refl
+in_cells (text ∷ cells) =
+    let mark = mark_item empty cell_mark (mark_with cell_settings) in
+    let both : paragraph_count (flat_map cell_items (text ∷ cells)) ≡ paragraph_count (cell_items text) + paragraph_count (flat_map cell_items cells) =
+    both_texts (cell_items text) (flat_map cell_items cells) in
+    let cell : paragraph_count (cell_items text) ≡ paragraph_count (unit_items empty text) + 1 = both_texts (unit_items empty text) (mark ∷ []) in
+    let units = in_units empty text in
+    let later = in_cells cells in
+    omega (arith, both, cell, units, later)
 
 -- ---- what each command puts
 
 first_units : (units : List ℕ) → run_count (unit_items empty units ++ plain_end ∷ plain_end ∷ []) ≤ 3
-unfolding stretches
 first_units units =
-    let ends : All (HasChp empty) (plain_end ∷ plain_end ∷ []) = all_cons (HasChp empty) plain_end (plain_end ∷ []) refl (all_cons (HasChp empty) plain_end [] refl (all_none (HasChp empty))) in
-    let characters = units_before empty units (plain_end ∷ plain_end ∷ []) in
-    let end = joined_one is_alike (HasChp empty) (alike empty) (plain_end ∷ plain_end ∷ []) ends in
-    let mark = mark_with empty in
-    let marks : length (stretches is_same_mark (mark ∷ mark ∷ [])) ≤ 1 = joined_one is_same_mark (λ m. m ≡ mark) (same_marks mark) (mark ∷ mark ∷ []) (all_cons (λ m. m ≡ mark) mark (mark ∷ []) refl (all_cons (λ m. m ≡ mark) mark [] refl (all_none (λ m. m ≡ mark)))) in
-    let list : marks_of (unit_items empty units ++ plain_end ∷ plain_end ∷ []) ≡ mark ∷ mark ∷ [] = no_marks empty units (plain_end ∷ plain_end ∷ []) in
-    rw list (omega (arith, characters, end, marks))
+    let ends = plain_end ∷ plain_end ∷ [] in
+    let all = All-append (HasChp empty) (unit_items empty units) ends (units_have empty units)
+    (All-cons (HasChp empty) plain_end (plain_end ∷ []) refl (All-cons (HasChp empty) plain_end [] refl (All-nil (HasChp empty)))) in
+    let characters = joined_one is_alike (HasChp empty) (alike empty) (unit_items empty units ++ ends) all in
+    let paragraphs : paragraph_count (unit_items empty units ++ ends) ≡ paragraph_count (unit_items empty units) + 2 = both_texts (unit_items empty units) ends in
+    let none = in_units empty units in
+    omega (arith, characters, paragraphs, none)
 
 later_units : (base : Settings) (units : List ℕ) → run_count (unit_items base units) ≤ 3
-unfolding stretches
 later_units base units =
     let characters = joined_one is_alike (HasChp base) (alike base) (unit_items base units) (units_have base units) in
-    let list : marks_of (unit_items base units) ≡ [] = ap marks_of (sym (append-nil (unit_items base units))) ∙ no_marks base units [] in
-    rw list (omega (arith, characters))
+    let none = in_units base units in
+    omega (arith, characters, none)
 
 few_inserted : (none : Bool) (base : Settings) (units : List ℕ) → run_count (if none then unit_items empty units ++ plain_end ∷ plain_end ∷ [] else unit_items base units) ≤ 3
 few_inserted true base units = first_units units
@@ -130,64 +150,45 @@ few_inserted false base units = later_units base units
 few_of_field : (base : Settings) (type : ℕ) (code shown : List ℕ) → run_count (field_items base type code shown) ≤ 5
 unfolding stretches
 few_of_field base type code shown =
-    let end = field_mark base 0x15 0x80 ∷ [] in
+    let begin = field_mark base 0x13 type in
+    let middle = field_mark base 0x14 0xFF in
+    let last = field_mark base 0x15 0x80 in
+    let end = last ∷ [] in
     let behind = unit_items base shown ++ end in
-    let separator = field_mark base 0x14 0xFF ∷ behind in
-    let inside = unit_items base code ++ separator in
-    let first = first_more is_alike (field_mark base 0x13 type) inside in
-    let second = units_before base code separator in
-    let third = first_more is_alike (field_mark base 0x14 0xFF) behind in
+    let inside = unit_items base code ++ middle ∷ behind in
+    let first = first_more is_alike begin inside in
+    let second = units_before base code (middle ∷ behind) in
+    let third = first_more is_alike middle behind in
     let fourth = units_before base shown end in
-    let list : marks_of (field_items base type code shown) ≡ [] = no_marks base code separator ∙ no_marks base shown end in
-    rw list (omega (arith, first, second, third, fourth))
+    let paragraphs : paragraph_count (field_items base type code shown) ≡ paragraph_count inside = unmarked begin inside refl in
+    let codes : paragraph_count inside ≡ paragraph_count (unit_items base code) + paragraph_count (middle ∷ behind) = both_texts (unit_items base code) (middle ∷ behind) in
+    let separator : paragraph_count (middle ∷ behind) ≡ paragraph_count behind = unmarked middle behind refl in
+    let units : paragraph_count behind ≡ paragraph_count (unit_items base shown) + 0 = both_texts (unit_items base shown) end in
+    let no_codes = in_units base code in
+    let no_units = in_units base shown in
+    omega (arith, first, second, third, fourth, paragraphs, codes, separator, units, no_codes, no_units)
 
 few_of_note : (units : List ℕ) → run_count (note_items units) ≤ 4
 unfolding stretches
 few_of_note units =
+    let number = unit_item (special empty) 0x02 in
     let end = plain_end ∷ [] in
-    let first = first_more is_alike (unit_item (special empty) 0x02) (unit_items empty units ++ end) in
+    let behind = unit_items empty units ++ end in
+    let first = first_more is_alike number behind in
     let second = units_before empty units end in
-    let list : marks_of (note_items units) ≡ mark_with empty ∷ [] = no_marks empty units end in
-    rw list (omega (arith, first, second))
-
-cells_have : (cells : List (List ℕ)) → All (HasChp empty) (flat_map cell_items cells)
-cells_have [] = all_none (HasChp empty)
-cells_have (text ∷ cells) =
-    let mark = mark_item empty cell_mark (mark_with cell_settings) in
-    All-append (HasChp empty) (cell_items text) (flat_map cell_items cells)
-    (All-append (HasChp empty) (unit_items empty text) (mark ∷ []) (units_have empty text) (all_cons (HasChp empty) mark [] refl (all_none (HasChp empty))))
-    (cells_have cells)
-
-abbrev cell_end : Mark
-cell_end = mark_with cell_settings
-
-cells_marked : (cells : List (List ℕ)) (rest : List Item) → marks_of (flat_map cell_items cells ++ rest) ≡ map (λ (cell : List ℕ). cell_end) cells ++ marks_of rest
-cells_marked [] rest = refl
-cells_marked (text ∷ cells) rest =
-    let mark = mark_item empty cell_mark cell_end in
-    let more = flat_map cell_items cells in
-    ap marks_of (append_assoc (cell_items text) more rest ∙ append_assoc (unit_items empty text) (mark ∷ []) (more ++ rest))
-    ∙ (no_marks empty text (mark ∷ (more ++ rest)) ∙ ap (λ marks. cell_end ∷ marks) (cells_marked cells rest))
-
-all_ends : (cells : List (List ℕ)) → All (λ mark. mark ≡ cell_end) (map (λ (cell : List ℕ). cell_end) cells)
-all_ends [] = all_none (λ mark. mark ≡ cell_end)
-all_ends (text ∷ cells) = all_cons (λ mark. mark ≡ cell_end) cell_end (map (λ (cell : List ℕ). cell_end) cells) refl (all_ends cells)
-
-some_cells : (width : ℕ) (cells : List (List ℕ)) → run_count (row_items width cells) ≤ 3
-unfolding stretches
-some_cells width cells =
-    let end = mark_with (row_settings (length cells) width) in
-    let last = mark_item empty cell_mark end ∷ [] in
-    let all = All-append (HasChp empty) (flat_map cell_items cells) last (cells_have cells) (all_cons (HasChp empty) (mark_item empty cell_mark end) [] refl (all_none (HasChp empty))) in
-    let characters = joined_one is_alike (HasChp empty) (alike empty) (row_items width cells) all in
-    let marks = joined_before is_same_mark (λ mark. mark ≡ cell_end) (same_marks cell_end) (map (λ (cell : List ℕ). cell_end) cells) (end ∷ []) (all_ends cells) in
-    let list : marks_of (row_items width cells) ≡ map (λ (cell : List ℕ). cell_end) cells ++ end ∷ [] = cells_marked cells last in
-    rw list (omega (arith, characters, marks))
+    let paragraphs : paragraph_count (note_items units) ≡ paragraph_count behind = unmarked number behind refl in
+    let both : paragraph_count behind ≡ paragraph_count (unit_items empty units) + 1 = both_texts (unit_items empty units) end in
+    let none = in_units empty units in
+    omega (arith, first, second, paragraphs, both, none)
 
 few_of_row : (width : ℕ) (cells : List (List ℕ)) → run_count (row_items width cells) ≤ length cells + 2
-unfolding stretches
-few_of_row width [] = omega arith
-few_of_row width (cell ∷ cells) = let few = some_cells width (cell ∷ cells) in omega (arith, few)
+few_of_row width cells =
+    let end = mark_item empty cell_mark (mark_with (row_settings (length cells) width)) in
+    let all = All-append (HasChp empty) (flat_map cell_items cells) (end ∷ []) (cells_have cells) (All-cons (HasChp empty) end [] refl (All-nil (HasChp empty))) in
+    let characters = joined_one is_alike (HasChp empty) (alike empty) (row_items width cells) all in
+    let both : paragraph_count (row_items width cells) ≡ paragraph_count (flat_map cell_items cells) + 1 = both_texts (flat_map cell_items cells) (end ∷ []) in
+    let before = in_cells cells in
+    omega (arith, characters, both, before)
 
 -- ---- the changes of each command
 

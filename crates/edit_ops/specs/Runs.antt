@@ -1,28 +1,23 @@
--- How many runs of equal settings a command puts: of characters, and of paragraphs. A fast save writes so many at most.
-use Rattle.std.specs.Prelude.{ℕ, ◌+◌, ◌≤◌, ◌==◌, ◌&&◌, Bool, true, false, List, [], ◌∷◌, length}
-use Rattle.std.specs.List.{filter_map, sum_by}
+-- How many runs of settings a command puts: of characters, and of paragraphs. A save writes so many of them at most.
+use Rattle.std.specs.Prelude.{ℕ, ◌+◌, ◌≤◌, Bool, true, false, List, [], ◌∷◌, length, is_some}
+use Rattle.std.specs.List.{count_by, sum_by}
 use Rattle.plain_doc.specs.declared.item.Item.{Item}
-use Rattle.plain_doc.specs.declared.item.Mark.{Mark}
 use Rattle.plain_doc.specs.declared.document.Document.{Document}
 use Rattle.plain_doc.specs.Stretches.{stretches}
-use Rattle.plain_doc.specs.Settings.{same_settings, is_alike}
+use Rattle.plain_doc.specs.Settings.{is_alike}
 use Rattle.edit_script.specs.declared.commands.Command.{Command}
 use Rattle.edit_script.specs.declared.commands.Command.TheVariants.{Insert, Erase, Char, Plain, Para, Style, Field, Note, Split, Merge, Sect, Row, StyleChar, StylePara, Save}
 use Rattle.edit_ops.specs.declared.changes.Change.{Change}
 use Rattle.edit_ops.specs.declared.changes.Change.TheVariants.{SpliceText, ModifyItems, SetSection, SpliceNotes, SpliceHeads, SetStyleCharacters, SetStyleParagraphs}
 use Rattle.edit_ops.specs.Edits.{changes_of}
 
--- the next mark has the same style and settings
-abbrev pub is_same_mark : Mark → Mark → Bool
-is_same_mark mark next = (mark.istd == next.istd) && same_settings mark.pap next.pap
+-- the paragraphs that end in a text
+abbrev pub paragraph_count : List Item → ℕ
+paragraph_count text = count_by (λ item. is_some item.mark) text
 
--- the marks of a text, in its order
-abbrev pub marks_of : List Item → List Mark
-marks_of text = filter_map (λ item. item.mark) text
-
--- the stretches of items with equal settings, and those of equal marks
+-- the stretches of items with equal settings, and the paragraphs
 abbrev pub run_count : List Item → ℕ
-run_count text = length (stretches is_alike text) + length (stretches is_same_mark (marks_of text))
+run_count text = length (stretches is_alike text) + paragraph_count text
 
 -- the texts that a change puts
 abbrev pub texts_put : Change → List (List Item)

@@ -22,7 +22,7 @@ pub fn formatting_moves_no_items()
     ensures { FormattingMovesNoItems }
 {}
 
-/// A command puts no more runs of equal settings than are reckoned for it.
+/// A command puts no more runs of characters and paragraphs than are reckoned for it.
 pub fn runs_are_few()
     ensures { RunsAreFew }
 {}
