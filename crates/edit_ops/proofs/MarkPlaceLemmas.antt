@@ -1,6 +1,6 @@
 -- The first mark of a text from a place on.
-use Rattle.std.proofs.Common.{◌≡◌, ◌∙◌, refl, sym, ap, ℕ, ◌+◌, ◌-◌, ◌<◌, ◌≤◌, Bool, true, false, List, length, get_or, Some, None, arith}
-use Rattle.std.specs.Prelude.{slice_get, is_some, IsSome}
+use Rattle.std.proofs.Common.{◌≡◌, ◌∙◌, refl, ap, ℕ, ◌<◌, ◌≤◌, Bool, true, false, List, length, get_or, None, arith}
+use Rattle.std.specs.Prelude.{is_some}
 use Rattle.std.specs.FinMap.{empty}
 use Rattle.std.proofs.lemmas.Option.{slice_get_within, get_or_from_slice_get, slice_get-get_or}
 use Rattle.plain_doc.specs.declared.item.Item.{Item}
@@ -37,3 +37,7 @@ no_end_is text at within none =
     first_is (λ item. is_some item.mark) text at (length text) nothing within (omega arith)
     (λ k from less. unmarked text k less (none k from))
     (λ less. absurd (omega arith))
+
+-- a read within a list does not look at its default
+pub any_default : (text : List Item) (i : ℕ) (item d : Item) → i < length text → get_or text i d ≡ get_or text i item
+any_default text i item d within = get_or_from_slice_get text i (get_or text i item) d (slice_get-get_or text i item within)

@@ -1,5 +1,5 @@
 -- What an edit changes: a list of changes, each of which is a function of documents.
-use Rattle.std.specs.Prelude.{ℕ, ◌+◌, ◌-◌, List, [], ◌∷◌, Bool, true, false, Option, Some, None, map, option_map, slice_get, slice_set, slice_range}
+use Rattle.std.specs.Prelude.{ℕ, List, Option, Some, None, map, option_map, slice_get, slice_set, slice_range}
 use Rattle.std.specs.List.{splice, fold}
 use Rattle.doc_bits.specs.declared.places.Story.{Story}
 use Rattle.doc_bits.specs.declared.places.Story.TheVariants.{Main, Note, Head}

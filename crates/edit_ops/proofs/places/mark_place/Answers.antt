@@ -1,4 +1,4 @@
-use Rattle.std.proofs.Common.{◌≤◌, ◌<◌, length, arith}
+use Rattle.std.proofs.Common.{arith}
 use Rattle.std.proofs.lemmas.Option.{slice_get_within}
 use Rattle.edit_ops.proofs.MarkPlaceLemmas.{end_is, no_end_is}
 use Rattle.edit_ops.proofs.places.mark_place.Goals as goal
