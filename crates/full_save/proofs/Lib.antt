@@ -1,1 +1,4 @@
 pub mod RunLemmas
+pub mod SoFarLemmas
+pub mod ListLemmas
+pub mod TableLemmas

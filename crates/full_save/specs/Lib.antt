@@ -6,5 +6,7 @@ pub mod Lists
 pub mod Sections
 pub mod WordDocument
 pub mod RunsSoFar
+pub mod Savable
+pub mod Made
 pub mod Streams
 pub mod Layout

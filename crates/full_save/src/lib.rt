@@ -15,7 +15,7 @@ mod text;
 mod word_document;
 
 pub use fault::SaveFault;
-pub use made_parts::{table_parts, table_stream_len};
+pub use made_parts::{table_stream_len, write_table};
 pub use pages::{append_chpx_pages, append_papx_pages, append_units};
 pub use saving::{full, table_len};
 pub use table_parts::TableParts;

@@ -1,6 +1,6 @@
 // The lists that the table stream has of the texts of a document.
 ghost use Rattle.std.specs.Prelude.{◌≡◌, ◌+◌, ◌^◌, ◌<◌, ◌++◌, length, OnOk, IfOk};
-ghost use Rattle.plain_doc.specs.Collected.{joined_texts, refs_of, fields_of};
+ghost use Rattle.plain_doc.specs.Collected.{joined_texts, refs_of, fields_of, is_auto};
 ghost use Rattle.plain_doc.specs.TextLists.{cuts_of};
 ghost use Rattle.full_save.specs.Lists.{fields_from};
 
@@ -17,10 +17,20 @@ pub(crate) fn refs_of(alloc: Global, main: &[Item]) -> Result<Refs, Memory>
     let mut refs = Refs::new(alloc);
     for (cp, item) in main.iter().enumerate() {
         if let Some(kind) = item.note {
-            refs.add(cp as u32, kind == NoteKind::Auto)?;
+            refs.add(cp as u32, is_auto(kind))?;
         }
     }
     Ok(refs)
+}
+
+/// Whether notes of this kind are numbered by themselves.
+fn is_auto(kind: NoteKind) -> bool
+    ensures { result ≡ is_auto kind }
+{
+    match kind {
+        NoteKind::Auto => true,
+        NoteKind::Custom => false,
+    }
 }
 
 /// The field characters of a text.

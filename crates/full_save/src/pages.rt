@@ -62,12 +62,7 @@ pub fn append_papx_pages(
 }
 
 /// Appends pages and their ranges. Answers the number behind the last page.
-fn append_pages(
-    out: &mut Bytes,
-    bins: &mut Bins,
-    pages: &Pages,
-    number: u32,
-) -> Result<u32, Memory>
+fn append_pages(out: &mut Bytes, bins: &mut Bins, pages: &Pages, number: u32) -> Result<u32, Memory>
     requires { number + length pages.now.starts ≤ 2 ^ 22 }
     ensures bytes { OnOk result (out.new ≡ out.old ++ pages.now.bytes) }
     ensures bins { OnOk result (bins.new ≡ bins.old ++ numbered_bins number pages.now.starts) }

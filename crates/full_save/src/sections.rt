@@ -37,12 +37,7 @@ pub(crate) fn append_sepxes(
 }
 
 /// Appends the Sepx of a section that has settings. Answers its fcSepx.
-fn append_sepx(
-    alloc: Global,
-    out: &mut Bytes,
-    settings: &PropMap,
-    base: u32,
-) -> Result<u32, Memory>
+fn append_sepx(alloc: Global, out: &mut Bytes, settings: &PropMap, base: u32) -> Result<u32, Memory>
     requires section { IsSavableSection settings.now }
     requires room { base + length out.old < 2 ^ 32 }
     ensures bytes { OnOk result (out.new ≡ out.old ++ sepx_bytes settings.now) }

@@ -1,4 +1,9 @@
 // The streams of a full save in the order of their names.
+ghost use Rattle.std.specs.Prelude.{◌≡◌, ◌↔◌, ℕ, ◌<◌, ◌≤◌, List, ◌++◌, length, take, drop, map, slice_range, IsTrue, OnOk, IfOk};
+ghost use Rattle.cfb_streams.specs.Contents.{AreStreams};
+ghost use Rattle.cfb_layout.specs.Layout.{lengths_of};
+ghost use Rattle.full_save.specs.Streams.{saved_streams, IsPlaceFor};
+
 use cfb_streams::{Streams, TABLE_1, WORD_DOCUMENT, name_before};
 use doc_bits::Memory;
 use std::alloc::Global;
@@ -9,7 +14,10 @@ pub(crate) fn streams_with(
     carried: &Streams,
     table: &[u8],
     wd: &[u8],
-) -> Result<Streams, Memory> {
+) -> Result<Streams, Memory>
+    requires { AreStreams (saved_streams table.now wd.now carried.now) }
+    ensures { IfOk result (λ streams. streams ≡ saved_streams table.now wd.now carried.now) }
+{
     let first = place_for(carried, &TABLE_1);
     let second = place_for(carried, &WORD_DOCUMENT);
     let mut streams = Streams::new(alloc);
@@ -27,7 +35,11 @@ pub(crate) fn lengths_with(
     carried: &Streams,
     table: u64,
     wd: u64,
-) -> Result<Vec<u64>, Memory> {
+) -> Result<Vec<u64>, Memory>
+    ensures { IfOk result (λ lengths. (table_bytes wd_bytes : List ℕ) →
+        length table_bytes ≡ table → length wd_bytes ≡ wd →
+        lengths.items ≡ lengths_of (saved_streams table_bytes wd_bytes carried.now)) }
+{
     let first = place_for(carried, &TABLE_1);
     let second = place_for(carried, &WORD_DOCUMENT);
     let mut lengths = Vec::new(alloc);
@@ -40,7 +52,9 @@ pub(crate) fn lengths_with(
 }
 
 /// How many streams have names that come before a name.
-fn place_for(streams: &Streams, name: &[u16]) -> usize {
+fn place_for(streams: &Streams, name: &[u16]) -> usize
+    ensures { IsPlaceFor name.now streams.now result }
+{
     let count = streams.count();
     for i in 0..count {
         if !name_before(streams.name(i), name) {
@@ -51,12 +65,12 @@ fn place_for(streams: &Streams, name: &[u16]) -> usize {
 }
 
 /// Adds the streams from `from` to before `to`.
-fn add_range(
-    streams: &mut Streams,
-    carried: &Streams,
-    from: usize,
-    to: usize,
-) -> Result<(), Memory> {
+fn add_range(streams: &mut Streams, carried: &Streams, from: usize, to: usize) -> Result<(), Memory>
+    requires ordered { from ≤ to }
+    requires within { to ≤ length carried.now }
+    requires streams { AreStreams (streams.old ++ slice_range carried.now from to) }
+    ensures { OnOk result (streams.new ≡ streams.old ++ slice_range carried.now from to) }
+{
     for i in from..to {
         streams.add(carried.name(i), carried.bytes(i))?;
     }
@@ -69,7 +83,12 @@ fn add_lengths(
     carried: &Streams,
     from: usize,
     to: usize,
-) -> Result<(), Memory> {
+) -> Result<(), Memory>
+    requires ordered { from ≤ to }
+    requires within { to ≤ length carried.now }
+    ensures { OnOk result
+        (lengths.new.items ≡ lengths.old.items ++ lengths_of (slice_range carried.now from to)) }
+{
     for i in from..to {
         lengths.push(carried.bytes(i).len() as u64)?;
     }

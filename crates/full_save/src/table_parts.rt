@@ -48,7 +48,12 @@ impl TableParts {
             (length self.new.bytes ≡ length self.old.bytes + length lists.now + length levels.now) }
     {
         let at = self.bytes.as_slice().len();
-        put_pair(&mut self.pairs, TablePart::PlfLst, at as u32, lists.len() as u32);
+        put_pair(
+            &mut self.pairs,
+            TablePart::PlfLst,
+            at as u32,
+            lists.len() as u32,
+        );
         self.bytes.push_all(lists)?;
         self.bytes.push_all(levels)?;
         Ok(())
