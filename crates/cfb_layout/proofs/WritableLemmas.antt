@@ -110,7 +110,7 @@ stream_writable streams clsid i are lay low =
     let short = are.short i stream there in
     record {
       whole = record { few = omega arith; clsid = length-no_clsid };
-      units = λ k. (lay.stored i stream there).units k;
+      units = λ k. lay.names i stream there k;
       long = omega arith;
       kind = omega arith;
       left = top_below (lower (part_of (length lengths) (i + 1) all)) (omega arith);

@@ -1,19 +1,19 @@
 -- What the canonical container is for a reader.
-use Rattle.std.specs.Prelude.{◌≡◌, ℕ, ◌+◌, ◌*◌, ◌≤◌, List, length, map}
+use Rattle.std.specs.Prelude.{◌≡◌, ℕ, ◌+◌, ◌*◌, ◌^◌, ◌<◌, ◌≤◌, List, length, map, Some, slice_get, slice_index}
 use Rattle.doc_bits.specs.Rules.{Hold}
 use Rattle.cfb_streams.specs.Header.{sector_count}
-use Rattle.cfb_streams.specs.Contents.{NamedBytes, Contents, AreStreams, AreStored}
+use Rattle.cfb_streams.specs.Contents.{NamedBytes, Contents, AreStreams}
 use Rattle.cfb_streams.specs.Container.{container_rules, HasContents}
 use Rattle.cfb_layout.specs.Sectors.{units_for}
 use Rattle.cfb_layout.specs.Counts.{Fits, sectors_needed}
 use Rattle.cfb_layout.specs.Layout.{lengths_of, compound_file, contents_of}
 
--- streams that are laid out: few and short enough, with names and bytes that a file can hold, and a CLSID
+-- streams that are laid out: few and short enough, with names of 16-bit units, and a CLSID
 pub record IsLayout (streams : List NamedBytes) (clsid : List ℕ) : Type 0 where
   pub few : length streams ≤ 1023
   pub fits : Fits (lengths_of streams)
   pub clsid_len : length clsid ≡ 16
-  pub stored : AreStored streams
+  pub names : (i : ℕ) (stream : NamedBytes) → slice_get streams i ≡ Some stream → (k : ℕ) → slice_index stream.name k < 2 ^ 16
 
 -- it is accepted
 abbrev pub BreaksNoRule : Type 0

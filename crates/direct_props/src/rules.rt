@@ -235,7 +235,7 @@ pub(crate) fn page_of(wd: &[u8], number: u32) -> Option<&[u8]>
     ensures { MatchOption result
         (length wd.now < 512 * number + 512)
         (λ page. (page.now ≡ page_at wd.now number) × (length page.now ≡ 512)
-            × (512 * number + 512 ≤ length wd.now)) }
+        × (512 * number + 512 ≤ length wd.now)) }
 {
     let from = PAGE_LEN * number as usize;
     if wd.len() < from + PAGE_LEN {

@@ -22,8 +22,9 @@ pub use laws::{
 pub use lists::{Bin, Bins, ChpRuns, PapRuns, Run, Starts};
 pub use packing::Pages;
 pub use page_laws::{
-    lists_have_settings, longer_tables_name_both, packing_is_one, pages_are_one, pages_are_whole, pages_stand_in_a_row,
-    places_have_lists, row_is_printable, run_fits_alone, runs_are_found, runs_have_pages,
+    lists_have_settings, longer_tables_name_both, packing_is_one, pages_are_one, pages_are_whole,
+    pages_stand_in_a_row, places_have_lists, row_is_printable, run_fits_alone, runs_are_found,
+    runs_have_pages,
 };
 pub use page_writers::{write_chpx_pages, write_papx_pages};
 pub use reading::{Stretch, chpx_at, chpx_stretch, papx_at, papx_stretch};

@@ -2,3 +2,8 @@ pub mod RunLemmas
 pub mod SoFarLemmas
 pub mod ListLemmas
 pub mod TableLemmas
+pub mod StretchRuns
+pub mod EntriesFound
+pub mod LaidOut
+pub mod NameOrder
+pub mod PutStreams

@@ -8,5 +8,6 @@ pub mod WordDocument
 pub mod RunsSoFar
 pub mod Savable
 pub mod Made
+pub mod ShortStreams
 pub mod Streams
 pub mod Layout

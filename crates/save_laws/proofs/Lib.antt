@@ -21,3 +21,5 @@ pub mod GivenTexts
 pub mod GivenSections
 pub mod GivenFiles
 pub mod SessionLemmas
+pub mod FullSections
+pub mod FullSavedLemmas

@@ -9,12 +9,12 @@ use Rattle.std.proofs.lemmas.Option.{slice_get_within, same_Some, none-some}
 use Rattle.std.proofs.lemmas.List.{length-map, length-append, length-take, length-drop, take-append-drop, map-append}
 use Rattle.std.proofs.lemmas.List.{take-append-le, drop-append-le, drop-drop, append_assoc}
 use Rattle.doc_bits.proofs.ListLemmas.{slice_get_before}
-use Rattle.prop_map.specs.Modifiers.{character_value, mark_value, IsComposed, IsCharacterAfter, IsMarkAfter}
+use Rattle.prop_map.specs.Modifiers.{character_value, mark_value, IsComposed}
 use Rattle.prop_map.specs.Modifiers.{mark_style}
 use Rattle.prop_map.specs.declared.modifiers.Modifier.{Modifier}
 use Rattle.prop_map.proofs.ModifierLemmas.{acts_in_turn}
 use Rattle.piece_table.specs.Piece.{UnitPlace}
-use Rattle.piece_table.specs.Changes.{IsModifiedPlace, AreModified}
+use Rattle.piece_table.specs.Changes.{IsModifiedPlace}
 use Rattle.plain_doc.specs.declared.item.Item.{Item}
 use Rattle.plain_doc.specs.declared.item.Mark.{Mark}
 use Rattle.plain_doc.proofs.StreamLemmas.{slice_get-take}
@@ -22,7 +22,7 @@ use Rattle.save_laws.specs.Slots.{shown, loose, last, Slot, note_slots, head_slo
 use Rattle.save_laws.specs.FastSaves.{StandsInEither, IsGivenBy}
 use Rattle.doc_bits.specs.Together.{AreTogether}
 use Rattle.save_laws.specs.Places.{PagedStream, Given, given_of, IsMarkedAfter, IsGivenAfter}
-use Rattle.save_laws.specs.Sessions.{IsSlotAfter, AreSlotsAfter, StandInSession, SplicesStayTogether}
+use Rattle.save_laws.specs.Sessions.{IsSlotAfter, SplicesStayTogether}
 use Rattle.save_laws.specs.Sessions.{ModifiedStayTogether, LongerPlansKeep, MainSplices}
 use Rattle.doc_bits.proofs.TogetherLemmas.{in_front, from_behind, in_back, Beside}
 

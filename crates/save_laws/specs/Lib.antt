@@ -3,6 +3,7 @@ pub mod Slots
 pub mod Saves
 pub mod Plans
 pub mod KeptPages
+pub mod FullSaves
 pub mod FastSaves
 pub mod GivenFiles
 pub mod Sessions

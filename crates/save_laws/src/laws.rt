@@ -2,6 +2,7 @@
 ghost use Rattle.save_laws.specs.Laws.{SavedDocumentsAreHeld, SavedFilesHold, PlansGive, FastSavesAreSaves};
 ghost use Rattle.save_laws.specs.Laws.{KeptSettingsAreThere};
 ghost use Rattle.save_laws.specs.Laws.{KeptPlacesGive, GivenFilesStand, GivenSectionsAreSaved};
+ghost use Rattle.save_laws.specs.FullSaves.{FullSavesAreSaves};
 ghost use Rattle.save_laws.specs.Sessions.{SplicesStayTogether, ModifiedStayTogether, LongerPlansKeep, MainSplices};
 
 /// A well-formed sound document that is saved is held by the contents, which break none of the rules 15 to 56.
@@ -27,6 +28,11 @@ pub fn kept_places_give()
 /// The settings of a section that stand in a stream stand in one that keeps its bytes.
 pub fn kept_settings_are_there()
     ensures { KeptSettingsAreThere }
+{}
+
+/// Contents with the layout of a full save are a save of its document.
+pub fn full_saves_are_saves()
+    ensures { FullSavesAreSaves }
 {}
 
 /// What a session writes behind an old stream is a save of its document.

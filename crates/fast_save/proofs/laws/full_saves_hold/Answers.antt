@@ -1,0 +1,5 @@
+use Rattle.fast_save.proofs.FullFileLemmas.{full_saves_hold}
+use Rattle.fast_save.proofs.laws.full_saves_hold.Goals as goal
+
+pub returns : goal.returns
+returns c = full_saves_hold
