@@ -1,7 +1,13 @@
 pub mod RunLemmas
 pub mod SoFarLemmas
+pub mod TextLemmas
 pub mod ListLemmas
+pub mod SectionLemmas
 pub mod TableLemmas
+pub mod MadeLemmas
+pub mod ClxLemmas
+pub mod BodyLemmas
+pub mod StreamLemmas
 pub mod StretchRuns
 pub mod EntriesFound
 pub mod LaidOut

@@ -6,7 +6,6 @@ pub mod Lists
 pub mod Sections
 pub mod WordDocument
 pub mod RunsSoFar
-pub mod Savable
 pub mod Made
 pub mod ShortStreams
 pub mod Streams

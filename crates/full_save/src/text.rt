@@ -1,8 +1,8 @@
 // The text of a document, as units and runs: the main text, the notes and the header texts, with the marks behind
 // stories.
-ghost use Rattle.std.specs.Prelude.{◌≡◌, ◌+◌, ◌^◌, ◌<◌, ◌≤◌, List, [], ◌∷◌, ◌++◌, length, OnOk, IfOk};
+ghost use Rattle.std.specs.Prelude.{◌≡◌, ◌+◌, ◌^◌, ◌<◌, ◌≤◌, List, [], ◌∷◌, ◌++◌, length, nat_lt, OnOk, IfOk};
 ghost use Rattle.plain_doc.specs.Collected.{joined_texts};
-ghost use Rattle.full_save.specs.Text.{extra_mark, with_mark, text_items};
+ghost use Rattle.full_save.specs.Text.{extra_mark, mark_if, with_mark, text_items};
 ghost use Rattle.full_save.specs.RunsSoFar.{IsTextSoFar, GoesOnBy, IsWholeText, IsTextOf};
 ghost use Rattle.plain_doc.specs.declared.item.Item.{Item as TextItem};
 
@@ -39,10 +39,9 @@ pub(crate) fn text_of(alloc: Global, document: &Document) -> Result<SavedText, M
     let notes = text.len() - main;
     text.push_story(&document.heads)?;
     let heads = text.len() - main - notes;
-    if notes + heads > 0 {
-        text.push_mark()?;
-    }
-    text.finish([main, notes, heads])
+    text.mark_behind(main)?;
+    let text = text.finish([main, notes, heads])?;
+    Ok(text)
 }
 
 /// The units and the runs of a text so far.
@@ -122,9 +121,22 @@ impl TextSoFar {
         ensures count { OnOk result
             (length self.new.units.items ≡ length self.old.units.items + length (with_mark (joined_texts texts.now))) }
     {
-        let before = self.units.len();
+        let before = self.len();
         self.push_texts(texts)?;
-        if self.units.len() > before {
+        self.mark_behind(before)?;
+        Ok(())
+    }
+
+    /// Goes on by a mark where units came behind the first `before`.
+    fn mark_behind(&mut self, before: u32) -> Result<(), Memory>
+        requires { length self.old.units.items + 1 < 2 ^ 30 }
+        ensures text { OnOk result
+            (GoesOnBy (mark_if (nat_lt before (length self.old.units.items))) self.old self.new) }
+        ensures count { OnOk result
+            (length self.new.units.items
+            ≡ length self.old.units.items + length (mark_if (nat_lt before (length self.old.units.items)))) }
+    {
+        if before < self.len() {
             self.push_mark()?;
             return Ok(());
         }

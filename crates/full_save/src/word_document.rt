@@ -4,7 +4,8 @@ ghost use Rattle.std.specs.List.{flat_map};
 ghost use Rattle.fib_form.specs.FibBytes.{written_fib};
 ghost use Rattle.cfb_layout.specs.Sectors.{units_for, filled, padded};
 ghost use Rattle.full_save.specs.WordDocument.{units_bytes, one_piece_clx, least_length};
-ghost use Rattle.full_save.specs.Savable.{IsSavable};
+ghost use Rattle.plain_doc.specs.Formed.{IsFormed};
+ghost use Rattle.plain_doc.specs.RightDocument.{IsRightDocument};
 ghost use Rattle.full_save.specs.Made.{IsBodyOf};
 
 use crate::pages::{append_chpx_pages, append_papx_pages, append_units};
@@ -32,7 +33,8 @@ pub(crate) struct WordBody {
 impl WordBody {
     /// That of a document.
     pub(crate) fn of(alloc: Global, document: &Document) -> Result<WordBody, Memory>
-        requires { IsSavable document.now }
+        requires formed { IsFormed document.now }
+        requires right { IsRightDocument document.now }
         ensures { IfOk result (IsBodyOf document.now) }
     {
         let text = text_of(alloc, document)?;

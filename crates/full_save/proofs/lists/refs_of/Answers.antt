@@ -1,0 +1,4 @@
+use Rattle.full_save.proofs.lists.refs_of.Goals as goal
+
+pub returns : goal.returns
+returns c = ?

@@ -1,0 +1,4 @@
+use Rattle.full_save.proofs.table_parts.TableParts.put.Goals as goal
+
+pub returns-clause-part : goal.returns-clause-part
+returns-clause-part c = ?
