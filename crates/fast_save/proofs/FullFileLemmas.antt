@@ -29,7 +29,6 @@ use Rattle.doc_read.proofs.OneDocument.{document_one}
 use Rattle.doc_read.proofs.ExistDocument.{files_hold as files_hold_documents}
 use Rattle.save_laws.specs.Saves.{IsFileOf}
 use Rattle.save_laws.specs.FullSaves.{full_saved_text, HasLayout}
-use Rattle.full_save.specs.ShortStreams.{AreShortStreams}
 use Rattle.save_laws.proofs.HeldLemmas.{files_hold}
 use Rattle.save_laws.proofs.FullSavedLemmas.{full_saves_are_saves}
 use Rattle.fast_save.specs.Laws.{IsSavable, FullSavesHold, FullSavesAreRead, FullSavesAreCanonical}
@@ -215,14 +214,11 @@ file_of document is =
       has_contents = file_contents streams document.carried.clsid are lay;
     }
 
-short : (document : Document) → IsSavable document → AreShortStreams document
-short document is =
-    let most = within document is in record { wd = omega (arith, most.wd); table = omega (arith, most.table) }
-
 pub full_saves_are_read : FullSavesAreRead
 full_saves_are_read document is =
+    let most = within document is in
     let saved =
-    full_saves_are_saves document (the_contents document) is.formed is.sound (short document is)
+    full_saves_are_saves document (the_contents document) is.formed is.sound (omega (arith, most.table))
     (has_layout document is.formed) in
     files_hold (full_save_image document) document (full_saved_text document) (table_stream document)
     (the_contents document) is.formed is.sound saved (file_of document is)

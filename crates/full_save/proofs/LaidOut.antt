@@ -1,7 +1,7 @@
--- The layout of a full save: what stands where in WordDocument, and what can be written of the document's items.
+-- The layout of a full save: what stands where in WordDocument.
 use Rattle.std.specs.Prelude.{slice_get, slice_index, All, min, replicate}
 use Rattle.std.specs.FinMap.{empty}
-use Rattle.std.proofs.Common.{◌≡◌, ℕ, ◌+◌, ◌-◌, ◌*◌, ◌/◌, ◌≤◌}
+use Rattle.std.proofs.Common.{◌≡◌, ℕ, ◌+◌, ◌-◌, ◌*◌, ◌/◌, ◌^◌, ◌<◌, ◌≤◌}
 use Rattle.std.proofs.Common.{List, [], ◌∷◌, ◌++◌, length, map, Some, refl, sym, ap}
 use Rattle.std.proofs.Common.{◌∙◌, subst, arith, append_assoc, length-append}
 use Rattle.std.proofs.lemmas.List.{length-map, length-replicate}
@@ -24,7 +24,7 @@ use Rattle.fib_form.proofs.FibLemmas.{sum-three, read_back}
 use Rattle.fib_form.proofs.WriteLemmas.{length-written_fib}
 use Rattle.fkp_pages.specs.declared.kind.PageKind.{PageKind}
 use Rattle.fkp_pages.specs.declared.kind.PageKind.TheVariants.{Chpx, Papx}
-use Rattle.fkp_pages.specs.Pages.{ArePagesOf}
+use Rattle.fkp_pages.specs.Pages.{ArePagesOf, AreWholePages}
 use Rattle.fkp_pages.proofs.PackedLemmas.{runs_have_pages}
 use Rattle.fkp_pages.proofs.WholePages.{pages_are_whole}
 use Rattle.cfb_layout.specs.Sectors.{units_for, filled, padded}
@@ -43,126 +43,21 @@ use Rattle.full_save.specs.WordDocument.{text_at, text_bytes, document_runs, doc
 use Rattle.full_save.specs.WordDocument.{first_character_page, first_paragraph_page, pages_end, wd_body, full_text}
 use Rattle.full_save.specs.WordDocument.{full_entries, table_stream, full_fib, wd_stream}
 use Rattle.full_save.specs.Sections.{sepxes}
-use Rattle.full_save.specs.ShortStreams.{AreShortStreams}
 use Rattle.fkp_pages.specs.declared.lists.Run.{Run}
 use Rattle.fkp_pages.specs.Rows.{IsRow, row_table}
 use Rattle.plain_doc.proofs.TextListLemmas.{joined_all}
 use Rattle.full_save.proofs.StretchRuns.{IsWritableItem, IsWritableMark, AreTextRuns, text_runs_right}
 use Rattle.full_save.proofs.EntriesFound.{AreAllowed, entries_are_pairs, entries_are_wide}
+pub use Rattle.full_save.proofs.TextLaidOut.{items_writable, few_items, counts_are, runs_are, pages_are, length-pages}
+use Rattle.full_save.proofs.TextLaidOut.{length-text}
+use Rattle.full_save.proofs.StreamLengths.{short_body}
 
--- a well-formed right document whose streams are short
+-- a well-formed right document whose table stream has places of 32 bits
 pub record LaidOut : Type 0 where
   pub document : Document
   pub formed : IsFormed document
   pub right : IsRightDocument document
-  pub short : AreShortStreams document
-
--- ---- what can be written of its items
-
-item_writable : (item : Item) → IsFormedItem item → HasShortSettings item → IsWritableItem item
-item_writable item formed short = record {
-  unit = formed.unit;
-  formed = formed.maps.chp;
-  short = short.chp;
-  mark = λ mark here. record {
-    istd = formed.style mark here;
-    formed = formed.maps.pap mark here;
-    short = short.pap mark here;
-  };
-}
-
-text_writable : (text : List Item) → IsFormedText text →
-    ((k : ℕ) (item : Item) → slice_get text k ≡ Some item → HasShortSettings item) → All IsWritableItem text
-text_writable text formed short =
-    All-from_slice_get IsWritableItem text (λ k item here.
-    item_writable item (All_at IsFormedItem text k item formed.each here) (short k item here))
-
-texts_writable : (texts : List (List Item)) → All IsFormedText texts →
-    ((k : ℕ) (text : List Item) → slice_get texts k ≡ Some text → (i : ℕ) (item : Item) →
-    slice_get text i ≡ Some item → HasShortSettings item) →
-    All IsWritableItem (joined_texts texts)
-texts_writable texts formed short =
-    joined_all IsWritableItem texts (λ k text there.
-    text_writable text (All_at IsFormedText texts k text formed there) (short k text there))
-
-none_printed : length (printed_list empty) ≡ 0
-none_printed = rw entries-empty refl
-
-bare_mark : Mark
-bare_mark = record { istd = 0; pap = empty }
-
-bare_writable : IsWritableMark bare_mark
-unfolding bare_mark
-bare_writable =
-    record { istd = omega arith; formed = IsPropertyMap-empty _; short = let e = none_printed in omega (arith, e) }
-
-mark_writable : IsWritableItem extra_mark
-unfolding bare_mark
-mark_writable = record {
-  unit = omega arith;
-  formed = IsPropertyMap-empty _;
-  short = let e = none_printed in omega (arith, e);
-  mark = λ mark here. subst IsWritableMark (same_Some bare_mark mark here) bare_writable;
-}
-
-with_mark_writable : (items : List Item) → All IsWritableItem items → All IsWritableItem (with_mark items)
-with_mark_writable [] all = all
-with_mark_writable (item ∷ items) all =
-    All-append IsWritableItem (item ∷ items) (extra_mark ∷ []) all
-    (All-cons IsWritableItem extra_mark [] mark_writable (All-nil IsWritableItem))
-
-pub items_writable : (s : LaidOut) → All IsWritableItem (text_items s.document)
-unfolding text_items note_story head_story
-items_writable s =
-    let d = s.document in
-    let main = text_writable d.main s.formed.main (λ k item here. (s.right.texts Main d.main refl).short k item here) in
-    let notes =
-    texts_writable d.notes s.formed.notes.each
-    (λ k text there i item here. (s.right.texts (Note k) text there).short i item here) in
-    let heads =
-    texts_writable d.heads s.formed.heads.each
-    (λ k text there i item here. (s.right.texts (Head k) text there).short i item here) in
-    let note_items = with_mark (joined_texts d.notes) in
-    let head_items = with_mark (joined_texts d.heads) in
-    All-append IsWritableItem d.main (with_mark (note_items ++ head_items)) main
-    (with_mark_writable (note_items ++ head_items)
-    (All-append IsWritableItem note_items head_items (with_mark_writable (joined_texts d.notes) notes)
-    (with_mark_writable (joined_texts d.heads) heads)))
-
--- ---- how many there are
-
-length-with_mark : (items : List Item) → length (with_mark items) ≡ length items + min 1 (length items)
-length-with_mark [] = omega arith
-length-with_mark (item ∷ items) = omega (arith, length-append (item ∷ items) (extra_mark ∷ []))
-
--- the counts of the stories, and of all items
-pub record AreFew (document : Document) : Type 0 where
-  pub main : 1 ≤ length document.main
-  pub stories : length document.main + length (note_story document) + length (head_story document) ≤ 500000
-  pub some : 1 ≤ length (text_items document)
-  pub all : length (text_items document) ≤ 500001
-
-pub few_items : (s : LaidOut) → AreFew s.document
-unfolding text_items note_story head_story
-few_items s =
-    let d = s.document in
-    let some = (main_ends d s.right).some in
-    let most = s.right.few in
-    let notes = length-flat_map (λ (text : List Item). text) d.notes in
-    let heads = length-flat_map (λ (text : List Item). text) d.heads in
-    let note_items = with_mark (joined_texts d.notes) in
-    let head_items = with_mark (joined_texts d.heads) in
-    let n = length-with_mark (joined_texts d.notes) in
-    let h = length-with_mark (joined_texts d.heads) in
-    let both = length-append note_items head_items in
-    let last = length-with_mark (note_items ++ head_items) in
-    let all = length-append d.main (with_mark (note_items ++ head_items)) in
-    record {
-      main = omega (arith, some);
-      stories = omega (arith, some, most, notes, heads, n, h);
-      some = omega (arith, all, some);
-      all = omega (arith, all, some, most, notes, heads, n, h, both, last);
-    }
+  pub short : length (table_stream document) < 2 ^ 32
 
 -- ---- WordDocument in its parts
 
@@ -208,9 +103,6 @@ body_cut b = (simp (append_assoc) refl, (simp (append_assoc) refl, simp (append_
 allowed : (document : Document) → AreAllowed (full_entries document)
 allowed document = record { bookmarks = refl; main_drawings = refl; header_drawings = refl; endnotes = refl }
 
-abbrev the_wd : LaidOut → List ℕ
-the_wd s = wd_stream s.document
-
 fib_pairs_count : (document : Document) → length (full_fib document).pairs ≡ early_form.pair_count
 unfolding full_fib
 fib_pairs_count document = (entries_are_pairs (full_entries document) (allowed document)).count
@@ -220,37 +112,33 @@ length-front document =
     let len = length-written_fib (full_fib document) (fib_pairs_count document) in
     length-filled text_at 0 (written_fib (full_fib document)) (omega (arith, len))
 
-length-wd_body : (document : Document) →
-    length (front_bytes document) + length (wd_body document) ≤ length (wd_stream document)
+-- WordDocument is short, whatever the document
+pub short_wd : (s : LaidOut) → length (wd_stream s.document) < 2 ^ 31
 unfolding wd_stream filled
-length-wd_body document =
+short_wd s =
+    let document = s.document in
     let all = front_bytes document ++ wd_body document in
     let zeros : List ℕ = replicate (4096 - length all) 0 in
-    omega (arith, length-append all zeros, length-append (front_bytes document) (wd_body document))
+    let a = length-append all zeros in
+    let b = length-append (front_bytes document) (wd_body document) in
+    let c = length-replicate {A = ℕ} (4096 - length all) 0 in
+    let short = short_body document s.formed s.right in
+    omega (arith, a, b, c, length-front document, short)
 
-counts_are : (s : LaidOut) → AreCounts (text_counts s.document)
-unfolding text_counts
-counts_are s =
-    let few = few_items s in
-    let counted = sum-three (text_counts s.document) refl in
-    record { three = refl; main = few.main; all = omega (arith, counted, few.stories) }
-
-saved_is_fib : (s : LaidOut) → IsFib (full_fib s.document)
+pub saved_is_fib : (s : LaidOut) → IsFib (full_fib s.document)
 unfolding full_fib table_stream
 saved_is_fib s =
     let d = s.document in
-    let front = length-front d in
-    let within = length-wd_body d in
-    let short = s.short.wd in
+    let short = short_body d s.formed s.right in
     record {
       languages = s.formed.carried.languages;
       flags = s.formed.carried.flags;
       quick_saves = omega arith;
       which_table = omega arith;
-      cb_mac = omega (arith, front, within, short);
-      counts = counts_are s;
+      cb_mac = omega (arith, short);
+      counts = counts_are d s.right;
       pairs = entries_are_pairs (full_entries d) (allowed d);
-      wide = entries_are_wide (full_entries d) s.short.table;
+      wide = entries_are_wide (full_entries d) s.short;
     }
 
 -- what is read of it
@@ -297,28 +185,6 @@ record Sizes (s : LaidOut) : Type 0 where
       1024 + (length (the_body s).text + length (the_body s).fill) + length (the_body s).chp
       + length (the_body s).pap + length (the_body s).sepx ≤ length (wd_stream s.document)
 
-pub runs_are : (kind : PageKind) (s : LaidOut) → AreTextRuns kind (document_runs kind s.document)
-runs_are kind s =
-    let few = few_items s in
-    text_runs_right kind text_at (text_items s.document) (items_writable s) (omega (arith, few.some))
-    (omega (arith, few.all))
-
-pub pages_are : (kind : PageKind) (s : LaidOut) →
-    ArePagesOf kind (document_runs kind s.document) (document_pages kind s.document)
-pages_are kind s = runs_have_pages kind (document_runs kind s.document) (runs_are kind s).right.writable
-
-length-pages : (kind : PageKind) (s : LaidOut) →
-    length (document_pages kind s.document).bytes ≡ 512 * length (document_pages kind s.document).starts
-length-pages kind s =
-    (pages_are_whole kind (document_runs kind s.document) (document_pages kind s.document) (runs_are kind s).right
-    (pages_are kind s)).size
-
-length-text : (document : Document) → length (text_bytes document) ≡ 2 * length (text_items document)
-length-text document =
-    let units = length-table 2 (map (λ (item : Item). item.unit) (text_items document)) in
-    let count = length-map (text_items document) (λ (item : Item). item.unit) in
-    omega (arith, units, count)
-
 sizes : (s : LaidOut) → Sizes s
 sizes s =
     let b = body_of s.document in
@@ -338,8 +204,8 @@ sizes s =
       front = front;
       text = text;
       fill = omega (arith, text, zeros);
-      chp = length-pages Chpx s;
-      pap = length-pages Papx s;
+      chp = length-pages Chpx s.document s.formed s.right;
+      pap = length-pages Papx s.document s.formed s.right;
       all = omega (arith, whole, a1, a2, a3, a4, a5, a6, front);
     }
 
@@ -357,7 +223,8 @@ unit_there s k item here =
     let at : text_at + 2 * k ≡ length b.front + 2 * k = ap (λ n. n + 2 * k) (sym size.front) in
     let unit : slice_index units k ≡ item.unit =
     get_or_from_slice_get units k item.unit 0 (get-map (λ (i : Item). i.unit) (text_items s.document) k item here) in
-    let small = (All_at IsWritableItem (text_items s.document) k item (items_writable s) here).unit in
+    let small =
+    (All_at IsWritableItem (text_items s.document) k item (items_writable s.document s.formed s.right) here).unit in
     ap (λ wd. u16_at wd (text_at + 2 * k)) (wd_is s.document)
     ∙ (ap (λ n. u16_at (joined_body b) n) at
     ∙ (number_at-after b.front (b.text ++ rest) (2 * k) 2
@@ -370,9 +237,9 @@ character_row : (s : LaidOut) →
     IsRow Chpx (wd_stream s.document) (document_runs Chpx s.document) (first_character_page s.document)
 character_row s =
     let b = body_of s.document in
-    let runs = runs_are Chpx s in
+    let runs = runs_are Chpx s.document s.formed s.right in
     let size = sizes s in
-    let short = s.short.wd in
+    let short = short_wd s in
     let a1 = length-append b.front (b.text ++ b.fill) in
     let a2 = length-append b.text b.fill in
     record {
@@ -381,7 +248,7 @@ character_row s =
       behind = b.pap ++ (b.sepx ++ b.tail);
       right = runs.right;
       numbers = runs.numbers;
-      pages_are = pages_are Chpx s;
+      pages_are = pages_are Chpx s.document s.formed s.right;
       some = runs.some;
       low = omega arith;
       high = omega (arith, size.text, size.fill, size.chp, size.all, short);
@@ -393,9 +260,9 @@ paragraph_row : (s : LaidOut) →
     IsRow Papx (wd_stream s.document) (document_runs Papx s.document) (first_paragraph_page s.document)
 paragraph_row s =
     let b = body_of s.document in
-    let runs = runs_are Papx s in
+    let runs = runs_are Papx s.document s.formed s.right in
     let size = sizes s in
-    let short = s.short.wd in
+    let short = short_wd s in
     let a1 = length-append b.front (b.text ++ (b.fill ++ b.chp)) in
     let a2 = length-append b.text (b.fill ++ b.chp) in
     let a3 = length-append b.fill b.chp in
@@ -405,7 +272,7 @@ paragraph_row s =
       behind = b.sepx ++ b.tail;
       right = runs.right;
       numbers = runs.numbers;
-      pages_are = pages_are Papx s;
+      pages_are = pages_are Papx s.document s.formed s.right;
       some = runs.some;
       low = omega arith;
       high = omega (arith, size.text, size.fill, size.chp, size.pap, size.all, short);

@@ -10,6 +10,8 @@ pub mod BodyLemmas
 pub mod StreamLemmas
 pub mod StretchRuns
 pub mod EntriesFound
+pub mod TextLaidOut
+pub mod StreamLengths
 pub mod LaidOut
 pub mod NameOrder
 pub mod PutStreams

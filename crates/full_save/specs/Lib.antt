@@ -7,6 +7,5 @@ pub mod Sections
 pub mod WordDocument
 pub mod RunsSoFar
 pub mod Made
-pub mod ShortStreams
 pub mod Streams
 pub mod Layout

@@ -54,7 +54,7 @@ use Rattle.fkp_pages.proofs.RowTableLemmas.{table_of_row}
 use Rattle.save_laws.proofs.PlanLemmas.{plans_give}
 use Rattle.full_save.proofs.StretchRuns.{character_run, paragraph_run}
 use Rattle.full_save.proofs.EntriesFound.{AreNumbered, plain, entry_stands}
-use Rattle.full_save.proofs.LaidOut.{LaidOut, few_items, fib_read, unit_there, text_within, HasRowTable}
+use Rattle.full_save.proofs.LaidOut.{LaidOut, few_items, short_wd, fib_read, unit_there, text_within, HasRowTable}
 use Rattle.full_save.proofs.LaidOut.{character_table, paragraph_table, stand_sepxes}
 use Rattle.save_laws.proofs.FullSections.{FitsSepx, sections_saved}
 
@@ -280,7 +280,7 @@ full_sections s =
     let right = (s.right.texts Main d.main refl).short from.index from.item from.here in
     record { formed = formed.maps.sect section.1 from.has; short = right.sect section.1 from.has } in
     let saved =
-    sections_saved (wd_stream d) stand.before stand.after (sections_of d.main) fit stand.there stand.low s.short.wd in
+    sections_saved (wd_stream d) stand.before stand.after (sections_of d.main) fit stand.there stand.low (short_wd s) in
     subst (λ n. AreSavedSections (sections_of d.main) (wd_stream d) (seds_from 0 n (sections_of d.main))) stand.place
     saved
 
@@ -378,8 +378,8 @@ unfolding full_fib
 saved_of s contents has =
     let d = s.document in
     let read = fib_read s in
-    let few = few_items s in
-    let short = s.short.wd in
+    let few = few_items d s.right in
+    let short = short_wd s in
     let which : fib_which_table (wd_stream d) ≡ 1 = ap (λ (fib : FibFields). fib.which_table) read.fields in
     let named : table_stream_name (wd_stream d) ≡ second_table_name = ap table_name which in
     record {

@@ -1,5 +1,5 @@
 -- The full save of a document as a saved text: its layout, which is a function of the document.
-use Rattle.std.specs.Prelude.{◌≡◌, List, [], ◌∷◌, length, Bool, true, false}
+use Rattle.std.specs.Prelude.{◌≡◌, ◌^◌, ◌<◌, List, [], ◌∷◌, length, Bool, true, false}
 use Rattle.cfb_streams.specs.Contents.{Contents, HasNamed}
 use Rattle.cfb_streams.specs.Names.{wd_name, second_table_name}
 use Rattle.piece_table.specs.Piece.{one_piece}
@@ -10,7 +10,6 @@ use Rattle.plain_doc.specs.Formed.{IsFormed}
 use Rattle.plain_doc.specs.Sound.{IsSound}
 use Rattle.full_save.specs.Text.{text_items}
 use Rattle.full_save.specs.WordDocument.{text_at, full_text, wd_stream, table_stream}
-use Rattle.full_save.specs.ShortStreams.{AreShortStreams}
 use Rattle.doc_read.specs.CarriedParts.{carried_streams}
 use Rattle.save_laws.specs.Saves.{SavedText, IsSavedAs}
 
@@ -43,8 +42,9 @@ pub record HasLayout (document : Document) (contents : Contents) : Type 0 where
   pub clsid : document.carried.clsid ≡ contents.clsid
   pub streams : document.carried.streams ≡ carried_streams contents.streams
 
--- contents with the layout of a well-formed sound document are a save of it
+-- contents with the layout of a well-formed sound document are a save of it, if its table stream has places of 32 bits
 abbrev pub FullSavesAreSaves : Type 0
 FullSavesAreSaves =
-    (document : Document) (contents : Contents) → IsFormed document → IsSound document → AreShortStreams document →
-    HasLayout document contents → IsSavedAs document (full_saved_text document) (table_stream document) contents
+    (document : Document) (contents : Contents) → IsFormed document → IsSound document →
+    length (table_stream document) < 2 ^ 32 → HasLayout document contents →
+    IsSavedAs document (full_saved_text document) (table_stream document) contents
