@@ -1,46 +1,34 @@
--- WordDocument from the text on: how many runs and pages there are, and where each part stands.
-use Rattle.std.proofs.Common.{◌≡◌, ◌≤◌, ◌<◌, ◌+◌, ◌-◌, ◌*◌, ◌/◌, ◌∙◌, ap, refl, sym, subst, ℕ, zero, suc, Bool, true, false, List, [], ◌∷◌, ◌++◌, length, map, arith}
-use Rattle.std.specs.Prelude.{slice_index, if◌then◌else◌, replicate}
-use Rattle.std.proofs.lemmas.List.{length-append, length-map, length-replicate}
+-- Where the last run of a text ends, and what WordDocument has from the text on.
+use Rattle.std.proofs.Common.{◌≡◌, ◌<◌, ◌≤◌, ◌^◌, ◌+◌, ◌-◌, ◌*◌, ◌/◌, ◌∙◌, ap, refl, sym, subst, ℕ, suc, List, [], ◌∷◌, ◌++◌, length, map, arith}
+use Rattle.std.specs.Prelude.{All}
+use Rattle.std.specs.Prelude.{slice_index}
+use Rattle.std.proofs.lemmas.List.{append_assoc, length-append}
+use Rattle.doc_bits.specs.declared.places.Where.TheVariants.{Main}
+use Rattle.doc_bits.proofs.ListLemmas.{All_at, All-from_slice_get}
+use Rattle.prop_map.specs.Formed.{section_groups}
 use Rattle.fkp_pages.specs.declared.kind.PageKind.{PageKind}
+use Rattle.fkp_pages.specs.declared.kind.PageKind.TheVariants.{Chpx, Papx}
 use Rattle.fkp_pages.specs.declared.lists.Run.{Run}
+use Rattle.fkp_pages.specs.Bin.{ArePrintableBins}
+use Rattle.fkp_pages.specs.InARow.{numbered_bins}
+use Rattle.fkp_pages.proofs.RowLemmas.{row_is_printable}
+use Rattle.cfb_layout.specs.Sectors.{padded}
+use Rattle.cfb_layout.proofs.BytesLemmas.{length-padded}
 use Rattle.fkp_pages.specs.PageBytes.{last_fc}
-use Rattle.cfb_layout.specs.Sectors.{units_for, padded}
-use Rattle.cfb_layout.proofs.BytesLemmas.{length-table}
 use Rattle.plain_doc.specs.declared.item.Item.{Item}
-use Rattle.plain_doc.specs.Collected.{joined_texts}
-use Rattle.plain_doc.specs.Stretches.{stretch_from, stretches}
+use Rattle.plain_doc.specs.declared.document.Document.{Document}
+use Rattle.plain_doc.specs.Collected.{joined_texts, sections_of}
+use Rattle.plain_doc.specs.Document.{IsFormedItem}
+use Rattle.plain_doc.specs.Formed.{IsFormed}
+use Rattle.plain_doc.specs.RightDocument.{IsRightDocument}
+use Rattle.plain_doc.specs.Stretches.{stretches}
 use Rattle.plain_doc.proofs.CutLemmas.{are_stretches}
 use Rattle.full_save.specs.Runs.{joins_run, run_at, runs_from, text_runs}
-use Rattle.full_save.specs.WordDocument.{units_bytes}
-
--- ---- runs
-
-one_more : {A : Type 0} (joins : A → A → Bool) (x : A) (parts : List (List A)) → length (stretch_from joins x parts) ≤ length parts + 1
-one_more joins x [] = omega arith
-one_more joins x ([] ∷ more) = omega arith
-one_more joins x ((y ∷ ys) ∷ more) =
-    elim (joins x y) as (λ b. length (if b then (x ∷ y ∷ ys) ∷ more else (x ∷ []) ∷ (y ∷ ys) ∷ more) ≤ length ((y ∷ ys) ∷ more) + 1) [
-      | true ↦ omega arith
-      | false ↦ omega arith
-    ]
-
-length-stretches : {A : Type 0} (joins : A → A → Bool) (xs : List A) → length (stretches joins xs) ≤ length xs
-unfolding stretches
-length-stretches joins [] = omega arith
-length-stretches joins (x ∷ xs) =
-    let rest = length-stretches joins xs in
-    omega (arith, one_more joins x (stretches joins xs), rest)
-
-length-runs_from : (kind : PageKind) (at : ℕ) (parts : List (List Item)) → length (runs_from kind at parts) ≡ length parts
-unfolding runs_from
-length-runs_from kind at [] = refl
-length-runs_from kind at (part ∷ parts) = let rest = length-runs_from kind (at + 2 * length part) parts in omega arith
-
--- there are not more runs than items
-pub few_runs : (kind : PageKind) (at : ℕ) (items : List Item) → length (text_runs kind at items) ≤ length items
-few_runs kind at items =
-    omega (arith, length-runs_from kind at (stretches (joins_run kind) items), length-stretches (joins_run kind) items)
+use Rattle.full_save.specs.Text.{text_items}
+use Rattle.full_save.specs.Sections.{sepxes, HasSavableSection}
+use Rattle.full_save.specs.WordDocument.{text_at, text_bytes, document_runs, document_pages, pages_end, wd_body}
+use Rattle.full_save.proofs.StreamLengths.{length-runs_from, short_body}
+use Rattle.full_save.proofs.TextLaidOut.{few_items, runs_are, pages_are, length-pages, length-text}
 
 last_of : (kind : PageKind) (at : ℕ) (part : List Item) (parts : List (List Item)) →
     last_fc (runs_from kind at (part ∷ parts)) ≡ at + 2 * length (joined_texts (part ∷ parts))
@@ -68,14 +56,55 @@ last_fc-text_runs kind at items some =
     let len = ap length (are_stretches (joins_run kind) items).whole in
     last_some kind at parts (omega (arith, some, len)) ∙ omega (arith, len)
 
--- ---- the text
+-- ---- of a document
 
-pub length-units : (units : List ℕ) → length (units_bytes units) ≡ 2 * length units
-length-units units = let len = length-table 2 units in omega (arith, len)
+-- each section of the main text has settings that a Sepx can hold
+pub sections_savable : (d : Document) → IsFormed d → IsRightDocument d → All HasSavableSection d.main
+sections_savable d formed right = All-from_slice_get HasSavableSection d.main (λ k item here settings has.
+    let item_formed = All_at IsFormedItem d.main k item formed.main.each here in
+    let short = (right.texts Main d.main refl).short k item here in
+    record { formed = (section_groups, item_formed.maps.sect settings has); short = short.sect settings has })
 
-pub length-padded : (xs : List ℕ) → length (padded 512 0 xs) ≡ 512 * ((length xs + 511) / 512)
-unfolding padded
-length-padded xs =
-    let fill = replicate (units_for 512 (length xs) * 512 - length xs) 0 in
-    let zeros = length-replicate {A = ℕ} (units_for 512 (length xs) * 512 - length xs) 0 in
-    omega (arith, length-append xs fill, zeros)
+-- the ranges of its pages can be printed
+pub bins_printable : (kind : PageKind) (d : Document) (number : ℕ) → IsFormed d → IsRightDocument d →
+    number + length (document_pages kind d).starts ≤ 2 ^ 22 →
+    ArePrintableBins (numbered_bins number (document_pages kind d).starts) (text_at + 2 * length (text_items d))
+bins_printable kind d number formed right small =
+    let runs = runs_are kind d formed right in
+    let few = few_items d right in
+    let some : 0 < length (text_items d) = let n = few.some in omega arith in
+    subst (λ (end : ℕ). ArePrintableBins (numbered_bins number (document_pages kind d).starts) end)
+    (last_fc-text_runs kind text_at (text_items d) some)
+    (row_is_printable kind (document_runs kind d) (document_pages kind d) number runs.right
+    (pages_are kind d formed right) runs.some small)
+
+-- the text and the pages, one behind the other
+abbrev pub text_and_pages : Document → List ℕ
+text_and_pages d = (padded 512 0 (text_bytes d) ++ (document_pages Chpx d).bytes) ++ (document_pages Papx d).bytes
+
+pub body_is : (d : Document) → text_and_pages d ++ sepxes (sections_of d.main) ≡ wd_body d
+unfolding wd_body
+body_is d =
+    let text = padded 512 0 (text_bytes d) in
+    let chp = (document_pages Chpx d).bytes in
+    let pap = (document_pages Papx d).bytes in
+    append_assoc (text ++ chp) pap (sepxes (sections_of d.main))
+    ∙ append_assoc text chp (pap ++ sepxes (sections_of d.main))
+
+-- where they end
+pub pages_end_is : (d : Document) → IsFormed d → IsRightDocument d → text_at + length (text_and_pages d) ≡ pages_end d
+pages_end_is d formed right =
+    let text = padded 512 0 (text_bytes d) in
+    let chp = (document_pages Chpx d).bytes in
+    let pap = (document_pages Papx d).bytes in
+    let units = length-text d in
+    let whole = length-padded 512 0 (text_bytes d) (omega arith) in
+    let chp_size = length-pages Chpx d formed right in
+    let pap_size = length-pages Papx d formed right in
+    omega (arith, units, whole, chp_size, pap_size, length-append (text ++ chp) pap, length-append text chp)
+
+pub pages_short : (d : Document) → IsFormed d → IsRightDocument d → length (text_and_pages d) < 2 ^ 30
+pages_short d formed right =
+    let body = short_body d formed right in
+    let len = ap length (body_is d) in
+    omega (arith, body, len, length-append (text_and_pages d) (sepxes (sections_of d.main)))

@@ -6,12 +6,16 @@ pub mod SectionLemmas
 pub mod TableLemmas
 pub mod MadeLemmas
 pub mod ClxLemmas
-pub mod BodyLemmas
+pub mod FrontLemmas
 pub mod StreamLemmas
 pub mod StretchRuns
 pub mod EntriesFound
 pub mod TextLaidOut
 pub mod StreamLengths
+pub mod BodyLemmas
 pub mod LaidOut
 pub mod NameOrder
 pub mod PutStreams
+pub mod FitLemmas
+pub mod LayoutLemmas
+pub mod PlaceLemmas

@@ -75,7 +75,7 @@ few_parts (part ∷ parts) some =
     let rest = few_parts parts (All-tail (λ (p : List Item). 0 < length p) part parts some) in
     omega (arith, first, rest, length-append part (joined_texts parts))
 
-length-runs_from : (kind : PageKind) (at : ℕ) (parts : List (List Item)) →
+pub length-runs_from : (kind : PageKind) (at : ℕ) (parts : List (List Item)) →
     length (runs_from kind at parts) ≡ length parts
 unfolding runs_from
 length-runs_from kind at [] = refl
@@ -124,7 +124,7 @@ length-counted bytes =
     let b = length-append bytes pad in
     omega (arith, a, b, length-number_bytes 2 (length bytes), length-pad bytes)
 
-length-sepx : (settings : Settings) → length (printed_list settings) ≤ 500 → length (sepx_bytes settings) ≤ 503
+pub length-sepx : (settings : Settings) → length (printed_list settings) ≤ 500 → length (sepx_bytes settings) ≤ 503
 length-sepx settings short =
     cond_both (is_plain_section settings) [] (written_counted (printed_list settings))
     (λ (bytes : List ℕ). length bytes ≤ 503)

@@ -103,7 +103,8 @@ fn front_of(alloc: Global, fib: &Fib) -> Result<Bytes, Memory>
 {
     let mut front = [0u8; TEXT_AT as usize];
     fib.write(&mut front);
-    Bytes::from_slice(alloc, &front)
+    let bytes = Bytes::from_slice(alloc, &front)?;
+    Ok(bytes)
 }
 
 /// Appends the text, and zeros up to a page.
