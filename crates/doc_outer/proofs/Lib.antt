@@ -1,3 +1,4 @@
+pub mod CountLemmas
 pub mod HeldLemmas
 pub mod StoreLemmas
 pub mod WholeLemmas

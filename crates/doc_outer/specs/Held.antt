@@ -1,5 +1,5 @@
--- What names hold, where that is told: the meaning of a shelf, and what a read says of it.
-use Rattle.std.specs.Prelude.{◌≡◌, ℕ, ◌<◌, ◌≤◌, List, length, take, drop, Option, Some, None, ⊤}
+-- What names hold, where that is told: the meaning of a shelf, and what a read and a put say of it.
+use Rattle.std.specs.Prelude.{◌≡◌, ◌≢◌, ℕ, ◌<◌, ◌≤◌, List, length, take, drop, Option, Some, None, option_map, ⊤}
 use Rattle.std.specs.Ordering.{nat_cmp}
 use Rattle.std.specs.Cmp.Lexicographic.{slice_cmp}
 use Rattle.std.specs.FinMap as map
@@ -19,6 +19,21 @@ file_at files name = map.get files name
 -- the same files, but that the name holds these bytes
 abbrev pub with_file : Files → List ℕ → List ℕ → Files
 with_file files name bytes = map.insert files name bytes
+
+-- what names hold after the bytes were put under the name, where that is told
+abbrev pub held_with : Option Files → (name bytes : List ℕ) → Option Files
+held_with held name bytes = option_map (λ files. with_file files name bytes) held
+
+-- the name holds what it held, where that is told; whether it is told stays
+abbrev pub StaysAt : List ℕ → Option Files → Option Files → Type 0
+StaysAt name None None = ⊤
+StaysAt name (Some before) (Some now) = file_at now name ≡ file_at before name
+StaysAt name None (Some now) = ⊥
+StaysAt name (Some before) None = ⊥
+
+-- every other name holds what it held
+abbrev pub OthersStay : List ℕ → Option Files → Option Files → Type 0
+OthersStay name before now = (other : List ℕ) → other ≢ name → StaysAt other before now
 
 -- a fact on what the name holds, wherever the files are told
 abbrev pub Told : Option Files → List ℕ → (Option (List ℕ) → Type 0) → Type 0

@@ -3,6 +3,7 @@ pub mod Counts
 pub mod Held
 pub mod HostCounts
 pub mod Plan
+pub mod Puts
 pub mod Reads
 pub mod Store
 pub mod Whole

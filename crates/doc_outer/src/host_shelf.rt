@@ -2,9 +2,11 @@
 ghost use Rattle.std.specs.Prelude.{◌≡◌, ◌≤◌, length, None, IfOk, IsErrOf};
 ghost use Rattle.doc_outer.specs.Counts.{Rose, GoesOn};
 ghost use Rattle.doc_outer.specs.HostCounts.{no_counts};
+ghost use Rattle.doc_outer.specs.Puts.{faults_putting};
 ghost use Rattle.doc_outer.specs.Reads.{faults_after, missed_after};
 
-use crate::{Shelf, ShelfFault};
+use crate::file_put::put_file;
+use crate::{PutFault, Shelf, ShelfFault};
 use doc_bits::{Memory, Text};
 use std::alloc::Global;
 use std::io::{ErrorKind, Read, Seek, SeekFrom};
@@ -31,6 +33,7 @@ pub struct HostShelf<R: Files + Drop> {
     files: R,
     last: Option<LastFile<R::File>>,
     faults: u64,
+    put_faults: u64,
     missed: u64,
 }
 
@@ -39,7 +42,7 @@ impl<R: Files + Drop> Model for HostShelf<R> {
 
     ghost Value = { HostCounts };
 
-    ghost view = { λ s. record { faults = s.faults; missed = s.missed } };
+    ghost view = { λ s. record { faults = s.faults; put_faults = s.put_faults; missed = s.missed } };
 }
 
 impl<R: Files + Drop> HostShelf<R> {
@@ -52,6 +55,7 @@ impl<R: Files + Drop> HostShelf<R> {
             files,
             last: None,
             faults: 0,
+            put_faults: 0,
             missed: 0,
         }
     }
@@ -63,6 +67,14 @@ fn fault_of(error: io::Error) -> ShelfFault {
         ErrorKind::NotFound => ShelfFault::Missing,
         ErrorKind::OutOfMemory => ShelfFault::Memory,
         _ => ShelfFault::Failed,
+    }
+}
+
+/// What a refused put is to a caller.
+fn put_fault_of(error: io::Error) -> PutFault {
+    match error.kind() {
+        ErrorKind::OutOfMemory => PutFault::Memory,
+        _ => PutFault::Failed,
     }
 }
 
@@ -128,6 +140,8 @@ impl<R: Files + Drop> Shelf for HostShelf<R> {
 
     ghost faults = { λ s. s.faults };
 
+    ghost put_faults = { λ s. s.put_faults };
+
     ghost missed = { λ s. s.missed };
 
     fn read_at(&mut self, name: &str, at: u64, buf: &mut [u8]) -> Result<usize, ShelfFault>
@@ -140,6 +154,7 @@ impl<R: Files + Drop> Shelf for HostShelf<R> {
             → (self.new.faults ≡ self.old.faults) × (self.new.missed ≡ self.old.missed) }
         ensures faults { GoesOn self.old.faults self.new.faults }
         ensures missed { GoesOn self.old.missed self.new.missed }
+        ensures put_faults { self.new.put_faults ≡ self.old.put_faults }
 
         // Exactly.
         ensures faults_exact { self.new.faults ≡ faults_after result self.old.faults }
@@ -150,6 +165,32 @@ impl<R: Files + Drop> Shelf for HostShelf<R> {
             Err(ShelfFault::Failed) => self.faults = self.faults.saturating_add(1),
             Err(ShelfFault::Missing) => self.missed = self.missed.saturating_add(1),
             _ => {}
+        }
+        answer
+    }
+
+    fn put(&mut self, name: &str, bytes: &[u8]) -> Result<(), PutFault>
+        // As every shelf, but nothing is told.
+        ensures failed { IsErrOf result PutFault.Failed
+            → Rose self.old.faults self.new.faults × Rose self.old.put_faults self.new.put_faults }
+        ensures memory { IsErrOf result PutFault.Memory
+            → (self.new.faults ≡ self.old.faults)
+            × ((self.new.put_faults ≡ self.old.put_faults) × (self.new.missed ≡ self.old.missed)) }
+        ensures faults { GoesOn self.old.faults self.new.faults }
+        ensures put_faults { GoesOn self.old.put_faults self.new.put_faults }
+        ensures missed { GoesOn self.old.missed self.new.missed }
+
+        // Exactly.
+        ensures faults_exact { self.new.faults ≡ faults_putting result self.old.faults }
+        ensures put_faults_exact { self.new.put_faults ≡ faults_putting result self.old.put_faults }
+        ensures missed_exact { self.new.missed ≡ self.old.missed }
+    {
+        // The file that stays open may be the one that is replaced.
+        self.last = None;
+        let answer = put_file(self.alloc, &self.files, name, bytes).map_err(put_fault_of);
+        if let Err(PutFault::Failed) = answer {
+            self.faults = self.faults.saturating_add(1);
+            self.put_faults = self.put_faults.saturating_add(1);
         }
         answer
     }

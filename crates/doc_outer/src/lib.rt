@@ -1,6 +1,7 @@
 //! The world outside: files by name, a byte sink, and stand-ins for both.
 #![tactic(auto)]
 
+mod file_put;
 mod host_shelf;
 mod host_sink;
 mod mem_shelf;
@@ -14,6 +15,6 @@ pub use host_shelf::HostShelf;
 pub use host_sink::HostSink;
 pub use mem_shelf::MemShelf;
 pub use mem_sink::MemSink;
-pub use shelf::{Shelf, ShelfFault};
+pub use shelf::{PutFault, Shelf, ShelfFault};
 pub use sink::{Sink, SinkFailed, write_all};
 pub use whole::{MAX_FILE_LEN, ReadFail, read_whole};

@@ -1,12 +1,12 @@
 // Files in memory, to stand in for real ones.
-ghost use Rattle.std.specs.Prelude.{◌≡◌, ◌-◌, ◌≤◌, length, min, Some, IfOk, OnOk, OnErr, IsErrOf, option_map};
+ghost use Rattle.std.specs.Prelude.{◌≡◌, ◌≢◌, ◌-◌, ◌≤◌, length, min, Some, IfOk, OnOk, OnErr, IsErrOf, option_map};
 ghost use Rattle.doc_outer.specs.Counts.{Rose, GoesOn};
-ghost use Rattle.doc_outer.specs.Held.{file_at, with_file, Told, ReadsPart, IsAbsent, IsPart};
+ghost use Rattle.doc_outer.specs.Held.{file_at, with_file, held_with, OthersStay, Told, ReadsPart, IsAbsent, IsPart};
 ghost use Rattle.doc_outer.specs.Plan.{fails_at, FailsNext};
-ghost use Rattle.doc_outer.specs.Store.{empty_store, files_of, read_answer, store_after};
+ghost use Rattle.doc_outer.specs.Store.{empty_store, files_of, read_answer, store_after, store_putting};
 
 use crate::plan::CallPlan;
-use crate::{Shelf, ShelfFault};
+use crate::{PutFault, Shelf, ShelfFault};
 use doc_bits::{Bytes, Memory, Text};
 use std::alloc::Global;
 use std::collections::VecDeque;
@@ -20,6 +20,7 @@ pub struct MemShelf {
     entries: VecDeque<(Text, Bytes)>,
     plan: CallPlan,
     faults: u64,
+    put_faults: u64,
     missed: u64,
 }
 
@@ -34,6 +35,7 @@ impl Model for MemShelf {
       files = files_of s.entries.items;
       plan = s.plan;
       faults = s.faults;
+      put_faults = s.put_faults;
       missed = s.missed;
     } };
 }
@@ -48,6 +50,7 @@ impl MemShelf {
             entries: VecDeque::new(alloc),
             plan: CallPlan::new(alloc),
             faults: 0,
+            put_faults: 0,
             missed: 0,
         }
     }
@@ -105,6 +108,8 @@ impl Shelf for MemShelf {
 
     ghost faults = { λ s. s.faults };
 
+    ghost put_faults = { λ s. s.put_faults };
+
     ghost missed = { λ s. s.missed };
 
     /// Takes no memory.
@@ -123,6 +128,7 @@ impl Shelf for MemShelf {
             → (self.new.faults ≡ self.old.faults) × (self.new.missed ≡ self.old.missed) }
         ensures faults { GoesOn self.old.faults self.new.faults }
         ensures missed { GoesOn self.old.missed self.new.missed }
+        ensures put_faults { self.new.put_faults ≡ self.old.put_faults }
 
         // Exactly: the number is looked at first.
         ensures failing { FailsNext self.old.plan → result ≡ Err ShelfFault.Failed }
@@ -141,5 +147,34 @@ impl Shelf for MemShelf {
             }
             Some(all) => Ok(copy_part(all, at, buf)),
         }
+    }
+
+    /// A failed call changes no file.
+    fn put(&mut self, name: &str, bytes: &[u8]) -> Result<(), PutFault>
+        // As every shelf.
+        ensures holds { OnOk result (Some self.new.files ≡ held_with (Some self.old.files) name.now bytes.now) }
+        ensures others { OthersStay name.now (Some self.old.files) (Some self.new.files) }
+        ensures failed { IsErrOf result PutFault.Failed
+            → Rose self.old.faults self.new.faults × Rose self.old.put_faults self.new.put_faults }
+        ensures memory { IsErrOf result PutFault.Memory
+            → (Some self.new.files ≡ Some self.old.files)
+            × ((self.new.faults ≡ self.old.faults)
+            × ((self.new.put_faults ≡ self.old.put_faults) × (self.new.missed ≡ self.old.missed))) }
+        ensures faults { GoesOn self.old.faults self.new.faults }
+        ensures put_faults { GoesOn self.old.put_faults self.new.put_faults }
+        ensures missed { GoesOn self.old.missed self.new.missed }
+
+        // Exactly: the number is looked at first.
+        ensures failing { FailsNext self.old.plan → result ≡ Err PutFault.Failed }
+        ensures answer { ¬ (FailsNext self.old.plan) → result ≢ Err PutFault.Failed }
+        ensures after { self.new ≡ store_putting self.old name.now bytes.now result }
+    {
+        if self.plan.next_fails() {
+            self.faults = self.faults.saturating_add(1);
+            self.put_faults = self.put_faults.saturating_add(1);
+            return Err(PutFault::Failed);
+        }
+        self.give(name, bytes)?;
+        Ok(())
     }
 }

@@ -1,7 +1,8 @@
-ghost use Rattle.std.specs.Prelude.{◌≡◌, ◌≤◌, ℕ, length, Option, IfOk, IsErrOf};
+ghost use Rattle.std.specs.Prelude.{◌≡◌, ◌≤◌, ℕ, length, Option, IfOk, OnOk, IsErrOf};
 ghost use Rattle.doc_outer.specs.Counts.{Rose, GoesOn};
-ghost use Rattle.doc_outer.specs.Held.{Files, Told, ReadsPart, IsAbsent};
+ghost use Rattle.doc_outer.specs.Held.{Files, held_with, OthersStay, Told, ReadsPart, IsAbsent};
 
+use doc_bits::Memory;
 use thiserror::Error;
 
 /// Why a read gives no bytes.
@@ -15,6 +16,25 @@ pub enum ShelfFault {
     Memory,
 }
 
+/// Why bytes are not put.
+#[derive(Clone, Copy, Debug, PartialEq, Eq, Error)]
+pub enum PutFault {
+    #[error("the put failed")]
+    Failed,
+    #[error("out of memory")]
+    Memory,
+}
+
+impl From<Memory> for PutFault {
+    ghost use Rattle.doc_outer.specs.declared.shelf.PutFault.TheVariants.{Memory};
+
+    ghost from_gives = { λ _ e. e ≡ Memory };
+
+    fn from(_: Memory) -> Self {
+        PutFault::Memory
+    }
+}
+
 /// Files by their names.
 pub trait Shelf {
     /// What each name holds, where the shelf tells it.
@@ -22,6 +42,9 @@ pub trait Shelf {
 
     /// How often a call failed.
     ghost faults: { Self → ℕ };
+
+    /// How often a put failed.
+    ghost put_faults: { Self → ℕ };
 
     /// How often a name was not there.
     ghost missed: { Self → ℕ };
@@ -47,5 +70,24 @@ pub trait Shelf {
 
         // Counts never fall.
         ensures faults { GoesOn (faults self.old) (faults self.new) }
+        ensures missed { GoesOn (missed self.old) (missed self.new) }
+        ensures put_faults { put_faults self.new ≡ put_faults self.old };
+
+    /// Lets a name hold exactly these bytes. After `Failed` nothing is said of what it holds.
+    fn put(&mut self, name: &str, bytes: &[u8]) -> Result<(), PutFault>
+        ensures holds { OnOk result (held self.new ≡ held_with (held self.old) name.now bytes.now) }
+        ensures others { OthersStay name.now (held self.old) (held self.new) }
+
+        // A failure shows in both counts, and want of memory in nothing.
+        ensures failed { IsErrOf result PutFault.Failed
+            → Rose (faults self.old) (faults self.new) × Rose (put_faults self.old) (put_faults self.new) }
+        ensures memory { IsErrOf result PutFault.Memory
+            → (held self.new ≡ held self.old)
+            × ((faults self.new ≡ faults self.old)
+            × ((put_faults self.new ≡ put_faults self.old) × (missed self.new ≡ missed self.old))) }
+
+        // Counts never fall.
+        ensures faults { GoesOn (faults self.old) (faults self.new) }
+        ensures put_faults { GoesOn (put_faults self.old) (put_faults self.new) }
         ensures missed { GoesOn (missed self.old) (missed self.new) };
 }

@@ -84,6 +84,7 @@ pub fn read_whole<S: Shelf>(alloc: Global, shelf: &mut S, name: &str) -> Result<
         → Rose (S.missed shelf.old) (S.missed shelf.new) }
     ensures faults { GoesOn (S.faults shelf.old) (S.faults shelf.new) }
     ensures missed { GoesOn (S.missed shelf.old) (S.missed shelf.new) }
+    ensures put_faults { S.put_faults shelf.new ≡ S.put_faults shelf.old }
 {
     let mut bytes = Bytes::new(alloc);
     let mut buffer = zeros(alloc, PART_LEN)?;

@@ -1,0 +1,2 @@
+mod PolicyLemmas
+mod LawLemmas

@@ -27,6 +27,7 @@ use Rattle.fkp_pages.specs.PageBytes.{last_fc}
 use Rattle.fkp_pages.specs.InARow.{numbered_bins}
 use Rattle.fkp_pages.proofs.RowLemmas.{length-numbered_bins}
 use Rattle.piece_table.specs.Printing.{pcd_bytes, cps_of, plc_bytes}
+use Rattle.cfb_layout.specs.Sectors.{padded}
 use Rattle.cfb_layout.proofs.BytesLemmas.{length-table, length-padded}
 use Rattle.style_sheet.specs.declared.styles.Style.{Style}
 use Rattle.style_sheet.specs.Sheet.{Sheet, style_at}
@@ -112,21 +113,28 @@ few_collected what from (item ∷ items) =
     let rest = few_collected what (from + 1) items in
     omega (arith, rest, few_before (what item) from (collected what (from + 1) items))
 
-length-pad : (bytes : List ℕ) → length (if length bytes % 2 == 0 then [] else 0 ∷ []) ≤ 1
+-- the zero behind bytes that are odd
+abbrev pad_of : List ℕ → List ℕ
+pad_of bytes = if length bytes % 2 == 0 then [] else 0 ∷ []
+
+length-pad : (bytes : List ℕ) → length (pad_of bytes) ≤ 1
 length-pad bytes =
-    cond_both (length bytes % 2 == 0) [] (0 ∷ []) (λ (pad : List ℕ). length pad ≤ 1) (λ even. omega arith)
+    let none : List ℕ = [] in
+    let one : List ℕ = 0 ∷ [] in
+    cond_both (length bytes % 2 == 0) none one (λ (pad : List ℕ). length pad ≤ 1) (λ even. omega arith)
     (λ odd. omega arith)
 
 length-counted : (bytes : List ℕ) → length (written_counted bytes) ≤ length bytes + 3
 length-counted bytes =
-    let pad : List ℕ = if length bytes % 2 == 0 then [] else 0 ∷ [] in
+    let pad = pad_of bytes in
     let a = length-append (number_bytes 2 (length bytes)) (bytes ++ pad) in
     let b = length-append bytes pad in
     omega (arith, a, b, length-number_bytes 2 (length bytes), length-pad bytes)
 
 pub length-sepx : (settings : Settings) → length (printed_list settings) ≤ 500 → length (sepx_bytes settings) ≤ 503
 length-sepx settings short =
-    cond_both (is_plain_section settings) [] (written_counted (printed_list settings))
+    let none : List ℕ = [] in
+    cond_both (is_plain_section settings) none (written_counted (printed_list settings))
     (λ (bytes : List ℕ). length bytes ≤ 503)
     (λ plain. omega arith) (λ listed. omega (arith, short, length-counted (printed_list settings)))
 

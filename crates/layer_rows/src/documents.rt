@@ -8,6 +8,7 @@ use doc_bits::{Memory, Where};
 use doc_show::{accepted_line, listing};
 use plain_doc::{Document, Item, Items, Mark, NoteKind, Texts, blank, check};
 use prop_map::{CHARACTER_GROUPS, PARAGRAPH_GROUPS, PropMap, SECTION_GROUPS};
+use sprm_table::Code;
 use std::alloc::Global;
 use std::test::Fail;
 
@@ -25,20 +26,26 @@ fn the_blank_document_is_as_said(rt: HostRuntime) -> Result<(), Fail> {
     Ok(())
 }
 
-/// The unit of a letter: the ends of sections `B`, of paragraphs `p`, `P` and `q`, and the letter `a` for all others.
+/// The value of a setting.
+const ZEROS: [u8; 253] = [0; 253];
+
+/// The unit of a letter: the ends of sections `B`, of paragraphs `p`, `P`, `q` and `k`, the beginning of a field `[`,
+/// and the letter `a` for all others.
 fn unit_of(letter: u8) -> u16 {
     match letter {
         b'B' => 0x0C,
-        b'p' | b'P' | b'q' => 0x0D,
+        b'p' | b'P' | b'q' | b'k' => 0x0D,
+        b'[' => 0x13,
         _ => 0x61,
     }
 }
 
-/// A mark of style 0: on `p`, `P` and `B`, and where it is wrong, on `m` and `s`.
+/// A mark of style 0: on `p`, `P` and `B`, and where it is wrong, on `m` and `s`. That of `k` has the style 10 of
+/// characters.
 fn mark_of(alloc: Global, letter: u8) -> Option<Mark> {
     match letter {
-        b'p' | b'P' | b'B' | b'm' | b's' => Some(Mark {
-            istd: 0,
+        b'p' | b'P' | b'B' | b'm' | b's' | b'k' => Some(Mark {
+            istd: if letter == b'k' { 10 } else { 0 },
             pap: PropMap::new(alloc),
         }),
         _ => None,
@@ -53,14 +60,18 @@ fn section_of(alloc: Global, letter: u8) -> Option<PropMap> {
     }
 }
 
-/// The item of a letter. `n` refers to a note; `F` is a field character, where it is wrong.
+/// The item of a letter. `n` refers to a note; `F` is a field character where it is wrong, `[` one where it is right.
 pub fn item_of(alloc: Global, letter: u8) -> Item {
     Item {
         unit: unit_of(letter),
         chp: PropMap::new(alloc),
         mark: mark_of(alloc, letter),
         sect: section_of(alloc, letter),
-        fld: if letter == b'F' { Some(1) } else { None },
+        fld: if letter == b'F' || letter == b'[' {
+            Some(1)
+        } else {
+            None
+        },
         note: if letter == b'n' {
             Some(NoteKind::Auto)
         } else {
@@ -107,11 +118,21 @@ fn add_item(text: &mut Items, item: Item) -> Result<(), Memory> {
     text.add(item)
 }
 
+/// Gives the item of `w` settings that are printed as 256 bytes, one more than a character may have.
+fn widen(item: &mut Item, letter: u8) -> Result<(), Memory> {
+    if letter == b'w' {
+        item.chp.set(Code(0xCA31), &ZEROS)?;
+    }
+    Ok(())
+}
+
 /// The text of these letters.
 pub fn text_of(alloc: Global, letters: &str) -> Result<Items, Memory> {
     let mut text = Items::new(alloc);
     for letter in letters.bytes() {
-        add_item(&mut text, item_of(alloc, letter))?;
+        let mut item = item_of(alloc, letter);
+        widen(&mut item, letter)?;
+        add_item(&mut text, item)?;
     }
     Ok(text)
 }
@@ -138,8 +159,11 @@ struct Row<'a>(&'a str, &'a str, &'a str, (u8, Where, u32));
 
 const HEADS: &str = "////////////";
 
-const ROWS: [Row<'static>; 14] = [
+const ROWS: [Row<'static>; 19] = [
     Row("", "", HEADS, (60, Where::Main, 0)),
+    Row("qPa", "", HEADS, (60, Where::Main, 2)),
+    Row("[kqP", "", HEADS, (61, Where::Main, 2)),
+    Row("mqP", "", HEADS, (61, Where::Main, 0)),
     Row("aqaP", "", HEADS, (61, Where::Main, 1)),
     Row("mP", "", HEADS, (61, Where::Main, 0)),
     Row("asP", "", HEADS, (61, Where::Main, 1)),
@@ -151,6 +175,8 @@ const ROWS: [Row<'static>; 14] = [
     Row("P", "", "/np///////////", (61, Where::Head(1), 0)),
     Row("aFP", "", HEADS, (61, Where::Main, 1)),
     Row("naP", "", HEADS, (66, Where::Main, 0)),
+    Row("P", "p/p/", HEADS, (66, Where::Main, 2)),
+    Row("nwP", "", "/////////////", (66, Where::Main, 0)),
     Row("P", "", "/////////////", (67, Where::Main, 13)),
     Row("BP", "", HEADS, (67, Where::Main, 12)),
 ];

@@ -4,6 +4,7 @@ use doc_bits::{Memory, Text};
 use doc_show::main_text;
 use plain_doc::{Document, Item, Items, Texts, blank, equal, paragraph_end};
 use std::alloc::Global;
+use std::mem;
 use std::test::Fail;
 
 /// Puts letters in place of a part of the main text.
@@ -110,5 +111,12 @@ fn a_paragraph_ends_at_the_first_mark(rt: HostRuntime) -> Result<(), Fail> {
     for (from, end) in [(0, Some(1)), (1, Some(1)), (2, None), (9, None)] {
         assert!(rt; paragraph_end(items.as_slice(), from) == end);
     }
+    Ok(())
+}
+
+// A text of 400,000 items takes 32 megabytes.
+#[test]
+fn an_item_is_small(rt: HostRuntime) -> Result<(), Fail> {
+    assert!(rt; mem::size_of::<Item>() <= 80);
     Ok(())
 }

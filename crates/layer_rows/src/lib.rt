@@ -10,6 +10,8 @@ mod edits;
 #[cfg(test)]
 mod fibs;
 #[cfg(test)]
+mod guards;
+#[cfg(test)]
 mod hello;
 #[cfg(test)]
 mod lists;
@@ -26,6 +28,10 @@ mod parts;
 #[cfg(test)]
 mod pieces;
 #[cfg(test)]
+mod puts;
+#[cfg(test)]
 mod scripts;
 #[cfg(test)]
 mod sheets;
+#[cfg(test)]
+mod sprms;

@@ -60,6 +60,30 @@ fn a_copy_is_a_map_of_its_own(rt: HostRuntime) -> Result<(), Fail> {
     Ok(())
 }
 
+/// Whether copies of a map, so many at once, are equal to it and stay so while another copy is changed.
+fn are_alike(alloc: Global, map: &PropMap, count: usize) -> Result<bool, Memory> {
+    let mut copies = Vec::new(alloc);
+    for _k in 0..count {
+        copies.push(map.copy(alloc)?)?;
+    }
+    let mut other = map.copy(alloc)?;
+    other.set(Code(0x0836), &[1])?;
+    for copy in &copies {
+        if !copy.equal(map) {
+            return Ok(false);
+        }
+    }
+    Ok(!other.equal(map))
+}
+
+// As many copies as the items of a long document have.
+#[test]
+fn copies_share_the_entries(rt: HostRuntime) -> Result<(), Fail> {
+    let map = map_of(rt.alloc(), &[(0x0835, &[1]), (0x4A43, &[0x1C, 0])])?;
+    assert!(rt; are_alike(rt.alloc(), &map, 500_000)?);
+    Ok(())
+}
+
 // The codes that are not there change nothing.
 #[test]
 fn codes_are_taken_out(rt: HostRuntime) -> Result<(), Fail> {

@@ -129,6 +129,37 @@ fn pages_are_numbered_in_a_row(rt: HostRuntime) -> Result<(), Fail> {
     Ok(())
 }
 
+/// The number of pages of characters, and of paragraphs, that so many runs of one unit without settings take.
+fn page_counts(alloc: Global, count: u32) -> Result<(usize, usize), Memory> {
+    let mut characters = ChpRuns::new(alloc);
+    let mut paragraphs = PapRuns::new(alloc);
+    for i in 0..count.min(1_000) {
+        characters.add(1024 + 2 * i, 1026 + 2 * i, PropMap::new(alloc))?;
+        paragraphs.add(1024 + 2 * i, 1026 + 2 * i, 0, PropMap::new(alloc))?;
+    }
+    let first = character_pages(alloc, &characters)?;
+    let second = paragraph_pages(alloc, &paragraphs)?;
+    Ok((first.as_slice().len() / 512, second.as_slice().len() / 512))
+}
+
+// A page has at most 101 runs of characters, and 29 of paragraphs.
+#[test]
+fn a_page_takes_the_most_runs(rt: HostRuntime) -> Result<(), Fail> {
+    let rows = [
+        (0, (0, 0)),
+        (1, (1, 1)),
+        (29, (1, 1)),
+        (30, (1, 2)),
+        (101, (1, 4)),
+        (102, (2, 4)),
+        (203, (3, 7)),
+    ];
+    for (count, pages) in rows {
+        assert!(rt; page_counts(rt.alloc(), count)? == pages, "{count}");
+    }
+    Ok(())
+}
+
 fn two_ranges(alloc: Global) -> Result<Bytes, Memory> {
     let mut bins = Bins::new(alloc);
     bins.add(1024, 3)?;

@@ -20,4 +20,5 @@ loop-taken-preserved g c =
           (IsFront-append bytes buffer at count c.loop-taken.invariant.count) c.loop-taken.invariant.front part);
       faults = search rules;
       missed = search rules;
+      put_faults = cc (c.read_at.ensures.put_faults, c.loop-taken.invariant.put_faults);
     }

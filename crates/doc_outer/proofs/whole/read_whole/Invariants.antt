@@ -8,6 +8,7 @@ use Rattle.doc_outer.proofs.whole.read_whole.Given as goal
 abbrev pub invariant-loop-taken : goal.invariant-loop-taken
 invariant-loop-taken g l =
     let held = g.S.Shelf.held in let faults = g.S.Shelf.faults in let missed = g.S.Shelf.missed in
+    let put_faults = g.S.Shelf.put_faults in
     record {
       count : length l.bytes ≡ l.taken;
       part : length l.part ≡ 65536;
@@ -16,6 +17,7 @@ invariant-loop-taken g l =
       front : Told (held l.fn.shelf) l.name (IsFront l.bytes);
       faults : GoesOn (faults l.fn.shelf) (faults l.shelf);
       missed : GoesOn (missed l.fn.shelf) (missed l.shelf);
+      put_faults : put_faults l.shelf ≡ put_faults l.fn.shelf;
     }
 
 abbrev pub decreases-loop-taken : goal.decreases-loop-taken

@@ -1,0 +1,12 @@
+-- On counts that rise in one part of a call after the other.
+use Rattle.std.proofs.Common.{ℕ, ◌+◌, ◌≤◌, min, arith}
+use Rattle.std.proofs.Math.Nat.{min-le_left, min-le_right, le-min, le_trans}
+use Rattle.doc_outer.specs.Counts.{Rose, GoesOn, raised, last_count}
+
+-- a count that rose later rose
+pub Rose-after : (first mid now : ℕ) → GoesOn first mid → Rose mid now → Rose first now
+Rose-after first mid now on rose =
+    let up = on.not_fallen in
+    let least = min-le_left (first + 1) last_count in
+    let step : raised first ≤ raised mid = le-min (omega (arith, up, least)) (min-le_right (first + 1) last_count) in
+    le_trans step rose

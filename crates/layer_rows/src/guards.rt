@@ -1,0 +1,96 @@
+// Guards in boxes. What they allow was worked out by counting the items that are put.
+ghost use Rattle.std.specs.Prelude.{◌≡◌, []};
+ghost use Rattle.edit_guards.specs.Policies.{lock_of};
+
+use edit_guards::{Facts, Guard, StyleLock, UnitQuota, first_refuser, note_all};
+use std::test::Fail;
+
+/// A guard of a kind of its own, which allows each edit.
+#[derive(Drop)]
+struct Lenient;
+
+impl Guard for Lenient {
+    ghost policy = { λ _. lock_of [] };
+
+    fn may(&self, _facts: Facts) -> bool {
+        true
+    }
+
+    fn note(&mut self, _facts: Facts) {}
+}
+
+/// What an insertion of so many items into a paragraph of this style does.
+fn insertion(units: u32, style: u16) -> Facts {
+    Facts {
+        kind: 1,
+        units_in: units,
+        units_out: 0,
+        style,
+    }
+}
+
+/// The first guard that refuses the edit. Where there is none, each is told of it.
+fn asked(guards: &mut [Box<dyn Guard>], facts: Facts) -> Option<usize> {
+    let refuser = first_refuser(guards, facts);
+    if refuser.is_none() {
+        note_all(guards, facts);
+    }
+    refuser
+}
+
+#[test]
+fn the_first_refuser_is_named(rt: HostRuntime) -> Result<(), Fail> {
+    let alloc = rt.alloc();
+    let mut guards: Vec<Box<dyn Guard>> = Vec::new(alloc);
+    assert!(rt; asked(&mut guards, insertion(9, 0)) == None, "no guard");
+    guards.push(Box::new(alloc, UnitQuota::new(5))?)?;
+    guards.push(Box::new(alloc, UnitQuota::new(3))?)?;
+    guards.push(Box::new(alloc, Lenient)?)?;
+    guards.push(Box::new(alloc, StyleLock::new(alloc, &[1, 7])?)?)?;
+    // The items and the style of an edit, and who refuses it: 5 and 3 items are left at first, and 2 and 0 behind "ab" and "c".
+    let rows = [
+        (2, 0, None),
+        (0, 7, Some(3)),
+        (1, 2, None),
+        (1, 0, Some(1)),
+        (3, 1, Some(0)),
+        (0, 1, Some(3)),
+        (0, 0, None),
+        (2, 0, Some(1)),
+    ];
+    for (row, (units, style, refuser)) in rows.into_iter().enumerate() {
+        assert!(rt;
+            asked(&mut guards, insertion(units, style)) == refuser,
+            "row {row}"
+        );
+    }
+    Ok(())
+}
+
+// The lock is on the style of a header text that is empty.
+#[test]
+fn noted_guards_have_less_left(rt: HostRuntime) -> Result<(), Fail> {
+    let alloc = rt.alloc();
+    let mut guards: Vec<Box<dyn Guard>> = Vec::new(alloc);
+    guards.push(Box::new(alloc, UnitQuota::new(u64::MAX))?)?;
+    guards.push(Box::new(alloc, UnitQuota::new(10))?)?;
+    guards.push(Box::new(alloc, StyleLock::new(alloc, &[0])?)?)?;
+    assert!(rt; asked(&mut guards, insertion(4, 1)) == None);
+    assert!(rt; asked(&mut guards, insertion(6, 2)) == None);
+    // Each guard, the items and the style of an edit, and whether it allows that.
+    let rows = [
+        (0, u32::MAX, 0, true),
+        (1, 0, 0, true),
+        (1, 1, 1, false),
+        (2, u32::MAX, 1, true),
+        (2, 0, 0, false),
+    ];
+    for (guard, units, style, allowed) in rows {
+        let may = match guards.get(guard) {
+            Some(guard) => guard.may(insertion(units, style)),
+            None => !allowed,
+        };
+        assert!(rt; may == allowed, "guard {guard}");
+    }
+    Ok(())
+}
