@@ -82,7 +82,7 @@ body_of document = record {
   chp = (document_pages Chpx document).bytes;
   pap = (document_pages Papx document).bytes;
   sepx = sepxes (sections_of document.main);
-  tail = replicate (least_length - length (front_bytes document ++ wd_body document)) 0;
+  tail = replicate (4096 - length (front_bytes document ++ wd_body document)) 0;
 }
 
 abbrev joined_body : Body → List ℕ

@@ -13,14 +13,14 @@ use Rattle.full_save.specs.Streams.{is_name_before, saved_streams, IsPlaceFor}
 use Rattle.full_save.proofs.NameOrder.{before_is, before_from}
 use Rattle.full_save.proofs.StreamLemmas.{streams_front, saved_in_parts}
 
-none : {A : Type 0} (b : ℕ) → take b ([] {A = A}) ≡ []
-none zero = refl
-none (suc b) = refl
+take_none : {A : Type 0} (b : ℕ) → let none : List A = [] in take b none ≡ none
+take_none zero = refl
+take_none (suc b) = refl
 
 take_split : {A : Type 0} (a b : ℕ) (xs : List A) → take (a + b) xs ≡ take a xs ++ take b (drop a xs)
 take_split zero b xs = let e : 0 + b ≡ b = omega arith in ap (λ (n : ℕ). take n xs) e
-take_split (suc a) b [] =
-    none (suc a + b) ∙ sym (none b)
+take_split {A = A} (suc a) b [] =
+    let none : List A = [] in let whole : take (suc a + b) none ≡ none = take_none (suc a + b) in whole ∙ sym (take_none b)
 take_split (suc a) b (x ∷ xs) =
     let e : suc a + b ≡ suc (a + b) = omega arith in
     ap (λ (n : ℕ). take n (x ∷ xs)) e ∙ ap (λ (ys : List _). x ∷ ys) (take_split a b xs)

@@ -410,7 +410,7 @@ carried_short carried short =
 -- ---- the table stream
 
 pub short_table : (document : Document) → IsFormed document → IsRightDocument document →
-    length (table_stream document) < 2 ^ 48
+    length (table_stream document) < 2 ^ 46
 unfolding table_stream
 short_table d formed right =
     let few = few_items d right in

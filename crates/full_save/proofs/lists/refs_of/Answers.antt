@@ -1,4 +1,4 @@
-use Rattle.std.proofs.Common.{◌≡◌, ◌+◌, ◌++◌, ℕ, Bool, [], ◌∷◌, get_or, sym, ap, subst, ◌∙◌}
+use Rattle.std.proofs.Common.{◌≡◌, ◌+◌, ◌++◌, ℕ, Bool, [], ◌∷◌, get_or, sym, ap, subst, ◌∙◌, arith}
 use Rattle.plain_doc.specs.declared.item.Item.{Item}
 use Rattle.plain_doc.specs.declared.item.NoteKind.{NoteKind}
 use Rattle.plain_doc.specs.Collected.{is_auto}
@@ -16,11 +16,13 @@ loop-cp-preserved c =
     let item = c.index-main-cp.result in
     let is_item : get_or main c.loop-cp.cp item ≡ item = sym c.index-main-cp.is in
     let note = ap (λ (i : Item). i.note) is_item in
+    let from_zero : c.loop-cp.cp ≡ 0 + c.loop-cp.cp = omega arith in
     elim c.match-item.branch [
       | in-Some+in_ok-add w ↦
           listed_entry (λ item. item.note) entry 0 main c.loop-cp.cp item w.in-Some.kind [] c.loop-cp.refs
           c.match-item.refs c.loop-cp-test.true (note ∙ w.in-Some.is)
-          (w.refs-is ∙ (w.in_ok-add.ensures.ok ∙ ap (λ (b : Bool). c.loop-cp.refs ++ (record { cp = c.loop-cp.cp; auto = b }) ∷ []) w.is_auto.ensures))
+          (w.refs-is ∙ (w.in_ok-add.ensures.ok ∙ ap (λ (b : Bool). c.loop-cp.refs ++ (record { cp = c.loop-cp.cp; auto = b }) ∷ []) w.is_auto.ensures
+          ∙ ap (λ (n : ℕ). c.loop-cp.refs ++ (record { cp = n; auto = is_auto w.in-Some.kind }) ∷ []) from_zero))
           c.loop-cp.invariant
       | in_default w ↦
           subst (λ refs. IsListedUpTo (λ item. item.note) entry 0 main (c.loop-cp.cp + 1) [] refs) (sym w.refs-is)

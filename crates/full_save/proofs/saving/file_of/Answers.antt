@@ -119,7 +119,8 @@ returns-in-Err-TooLarge c =
         (λ i. saved_streams (table i) (wd i) d.carried.streams) in
     let streams : c.in_ok-streams.streams ≡ layout_streams d = c.in_ok-streams.ensures ∙ saved in
     let lengths = ap (λ (xs : List NamedBytes). sectors_needed (lengths_of xs)) streams in
-    let fault = c.in-Err-TooLarge.ensures in
+    let all = sectors_needed (lengths_of c.in_ok-streams.streams) in
+    let fault : (most_sectors < all) × (c.in-Err-TooLarge.sectors ≡ all) = c.in-Err-TooLarge.ensures in
     let most = fault.0 in
     (omega (arith, most, lengths), fault.1 ∙ lengths)
 

@@ -124,8 +124,8 @@ returns c =
     let a : c.len-main.result ≡ length d.main = omega arith in
     let b : c.len.result - c.len-main.result ≡ length notes = omega arith in
     let e : c.len-2.result - c.len-main.result - (c.len.result - c.len-main.result) ≡ length heads = omega arith in
-    let counts :
-        c.len-main.result ∷ (c.len.result - c.len-main.result) ∷ (c.len-2.result - c.len-main.result - (c.len.result - c.len-main.result)) ∷ []
-        ≡ length d.main ∷ length notes ∷ length heads ∷ [] = λ i. a i ∷ b i ∷ e i ∷ [] in
+    let given : List ℕ =
+        c.len-main.result ∷ (c.len.result - c.len-main.result) ∷ (c.len-2.result - c.len-main.result - (c.len.result - c.len-main.result)) ∷ [] in
+    let counts : given ≡ length d.main ∷ length notes ∷ length heads ∷ [] = λ i. a i ∷ b i ∷ e i ∷ [] in
     subst (λ (cs : List ℕ). IsWholeText (text_items d) cs c.in_ok-text.text) counts
-    (subst (λ (xs : List Item). IsWholeText xs _ c.in_ok-text.text) items whole)
+    (subst (λ (xs : List Item). IsWholeText xs given c.in_ok-text.text) items whole)
