@@ -2,6 +2,8 @@ use Rattle.std.proofs.Common.{◌≡◌, ◌≤◌, ◌<◌, ◌^◌, ◌+◌, �
 use Rattle.cfb_streams.specs.Contents.{NamedBytes, AreStreams}
 use Rattle.cfb_layout.specs.Counts.{sectors_needed, most_sectors}
 use Rattle.cfb_layout.specs.Layout.{lengths_of, compound_file}
+use Rattle.cfb_layout.specs.Faults.{IsLayoutFault}
+use Rattle.cfb_layout.specs.declared.faults.LayoutFault.TheVariants.{TooLarge}
 use Rattle.fib_form.specs.FibFields.{FibFields}
 use Rattle.plain_doc.proofs.RightLemmas.{sound_is_right}
 use Rattle.full_save.specs.declared.table_text.TableText.{TableText}
@@ -119,8 +121,8 @@ returns-in-Err-TooLarge c =
         (λ i. saved_streams (table i) (wd i) d.carried.streams) in
     let streams : c.in_ok-streams.streams ≡ layout_streams d = c.in_ok-streams.ensures ∙ saved in
     let lengths = ap (λ (xs : List NamedBytes). sectors_needed (lengths_of xs)) streams in
-    let all = sectors_needed (lengths_of c.in_ok-streams.streams) in
-    let fault : (most_sectors < all) × (c.in-Err-TooLarge.sectors ≡ all) = c.in-Err-TooLarge.ensures in
+    let fault : IsLayoutFault (lengths_of c.in_ok-streams.streams) (TooLarge c.in-Err-TooLarge.sectors) =
+        subst (λ f. IsLayoutFault (lengths_of c.in_ok-streams.streams) f) c.in-Err-TooLarge.field-0-is c.in-Err-TooLarge.ensures in
     let most = fault.0 in
     (omega (arith, most, lengths), fault.1 ∙ lengths)
 
