@@ -24,5 +24,5 @@ mod streams;
 pub use container::Container;
 pub use faults::CfbFault;
 pub use laws::{contents_are_one, first_is_least, hold_or_first};
-pub use list::Streams;
+pub use list::{Streams, name_before};
 pub use stream_names::{TABLE_0, TABLE_1, WORD_DOCUMENT, equal_names, table_name, word_document};

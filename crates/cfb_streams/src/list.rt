@@ -51,7 +51,7 @@ const MAX_NAME_UNITS: usize = 31;
 const MAX_TOTAL: usize = 1 << 48;
 
 /// Whether a name comes before another one: it is shorter, or as long and the lesser in upper case.
-fn name_before(name: &[u16], other: &[u16]) -> bool
+pub fn name_before(name: &[u16], other: &[u16]) -> bool
     ensures { IsTrue result ↔ ComesBefore name.now other.now }
 {
     if name.len() != other.len() {

@@ -85,14 +85,14 @@ body_cut b = (simp (append_assoc) refl, (simp (append_assoc) refl, simp (append_
 
 -- ---- the FIB
 
-allowed : (document : Document) → AreAllowed (full_entries document)
+pub allowed : (document : Document) → AreAllowed (full_entries document)
 allowed document = record { bookmarks = refl; main_drawings = refl; header_drawings = refl; endnotes = refl }
 
 fib_pairs_count : (document : Document) → length (full_fib document).pairs ≡ early_form.pair_count
 unfolding full_fib
 fib_pairs_count document = (entries_are_pairs (full_entries document) (allowed document)).count
 
-length-front : (document : Document) → length (front_bytes document) ≡ 1024
+pub length-front : (document : Document) → length (front_bytes document) ≡ 1024
 length-front document =
     let len = length-written_fib (full_fib document) (fib_pairs_count document) in
     length-filled text_at 0 (written_fib (full_fib document)) (omega (arith, len))

@@ -114,7 +114,7 @@ before_is name other before = elim (cases_eq (length name) (length other)) [
       inl (ltb-true (length name) (length other) shorter)
 ]
 
-before_from : (name other : List ℕ) → ComesBefore name other → is_name_before name other ≡ true
+pub before_from : (name other : List ℕ) → ComesBefore name other → is_name_before name other ≡ true
 before_from name other (inl shorter) =
     let apart : length name ≢ length other = λ e. omega (arith, e, shorter) in
     ap (λ b. cond b (has_less_unit name other) (ltb (length name) (length other)))

@@ -73,7 +73,7 @@ few_parts (part ∷ parts) some =
     let rest = few_parts parts (All-tail (λ (p : List Item). 0 < length p) part parts some) in
     omega (arith, first, rest, length-append part (joined_texts parts))
 
-length-runs_from : (kind : PageKind) (at : ℕ) (parts : List (List Item)) →
+pub length-runs_from : (kind : PageKind) (at : ℕ) (parts : List (List Item)) →
     length (runs_from kind at parts) ≡ length parts
 unfolding runs_from
 length-runs_from kind at [] = refl
@@ -128,7 +128,7 @@ length-counted bytes =
     let b = length-append bytes pad in
     omega (arith, a, b, length-number_bytes 2 (length bytes), length-pad bytes)
 
-length-sepx : (settings : Settings) → length (printed_list settings) ≤ 500 → length (sepx_bytes settings) ≤ 503
+pub length-sepx : (settings : Settings) → length (printed_list settings) ≤ 500 → length (sepx_bytes settings) ≤ 503
 length-sepx settings short =
     let none : List ℕ = [] in
     cond_both (is_plain_section settings) none (written_counted (printed_list settings))
@@ -407,7 +407,7 @@ carried_short carried short =
 -- ---- the table stream
 
 pub short_table : (document : Document) → IsFormed document → IsRightDocument document →
-    length (table_stream document) < 2 ^ 48
+    length (table_stream document) < 2 ^ 46
 unfolding table_stream
 short_table d formed right =
     let few = few_items d right in

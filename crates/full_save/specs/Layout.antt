@@ -1,20 +1,17 @@
 -- The file of a document, as a function of that document alone.
 use Rattle.std.specs.Prelude.{◌≡◌, ◌<◌, ◌≤◌, ℕ, List}
 use Rattle.cfb_streams.specs.Contents.{NamedBytes}
-use Rattle.cfb_streams.specs.Names.{wd_name, second_table_name}
 use Rattle.cfb_layout.specs.Counts.{sectors_needed, most_sectors}
 use Rattle.cfb_layout.specs.Layout.{lengths_of, compound_file}
 use Rattle.plain_doc.specs.declared.document.Document.{Document}
 use Rattle.full_save.specs.declared.fault.SaveFault.{SaveFault}
 use Rattle.full_save.specs.declared.fault.SaveFault.TheVariants.{TooLarge, Memory}
 use Rattle.full_save.specs.WordDocument.{wd_stream, table_stream}
-use Rattle.full_save.specs.Streams.{put_stream}
+use Rattle.full_save.specs.Streams.{saved_streams}
 
 -- the two streams that a save makes, among those that are carried along
 unfoldable pub layout_streams : Document → List NamedBytes
-layout_streams document =
-    put_stream (record { name = second_table_name; bytes = table_stream document })
-    (put_stream (record { name = wd_name; bytes = wd_stream document }) document.carried.streams)
+layout_streams document = saved_streams (table_stream document) (wd_stream document) document.carried.streams
 
 -- the full save: the canonical container of these streams
 unfoldable pub full_save_image : Document → List ℕ

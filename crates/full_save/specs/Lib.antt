@@ -2,7 +2,10 @@ pub mod TableText
 pub mod TableStream
 pub mod Text
 pub mod Runs
+pub mod Lists
 pub mod Sections
 pub mod WordDocument
+pub mod RunsSoFar
+pub mod Made
 pub mod Streams
 pub mod Layout

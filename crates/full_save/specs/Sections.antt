@@ -1,11 +1,14 @@
 -- [MS-DOC] Sepx and Sed of the sections of a text.
-use Rattle.std.specs.Prelude.{ℕ, ◌+◌, ◌==◌, Bool, List, [], ◌∷◌, length, if◌then◌else◌}
+use Rattle.std.specs.Prelude.{ℕ, ◌≤◌, ◌+◌, ◌==◌, Bool, List, [], ◌∷◌, length, if◌then◌else◌}
 use Rattle.std.specs.List.{flat_map}
 use Rattle.std.specs.FinMap.{entries}
+use Rattle.std.specs.Option.{ForSome}
 use Rattle.prop_map.specs.Settings.{Settings}
+use Rattle.prop_map.specs.Formed.{IsFormedMap}
 use Rattle.prop_map.specs.Printing.{printed_list}
 use Rattle.style_sheet.specs.Counted.{written_counted}
 use Rattle.doc_parts.specs.declared.lists.Sed.{Sed}
+use Rattle.plain_doc.specs.declared.item.Item.{Item}
 
 -- a section without settings
 abbrev pub is_plain_section : Settings → Bool
@@ -32,3 +35,12 @@ seds_from start place [] = []
 seds_from start place (section ∷ sections) =
     record { start = start; sepx = fc_sepx place section.1 }
     ∷ seds_from (section.0 + 1) (place + length (sepx_bytes section.1)) sections
+
+-- a section whose settings a Sepx can hold
+pub record IsSavableSection (settings : Settings) : Type 0 where
+  pub formed : IsFormedMap settings
+  pub short : length (printed_list settings) ≤ 500
+
+-- the item ends such a section, if it ends one
+abbrev pub HasSavableSection : Item → Type 0
+HasSavableSection item = ForSome item.sect IsSavableSection

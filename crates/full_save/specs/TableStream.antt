@@ -1,8 +1,9 @@
 -- The table stream: its parts in the order of their pairs, each right after the last, and the pairs that name them.
-use Rattle.std.specs.Prelude.{ℕ, ◌+◌, ◌==◌, List, [], ◌∷◌, ◌++◌, length, slice_set, if◌then◌else◌}
+use Rattle.std.specs.Prelude.{◌≡◌, ℕ, ◌+◌, ◌==◌, List, [], ◌∷◌, ◌++◌, length, slice_set, if◌then◌else◌}
 use Rattle.std.specs.List.{flat_map}
 use Rattle.fib_form.specs.FibFields.{empty_pairs}
 use Rattle.fib_form.specs.TableEntries.{TableEntry}
+use Rattle.full_save.specs.declared.table_parts.TableParts.{TableParts}
 
 -- the bytes of a part, and those that its pair does not count
 abbrev pub entry_bytes : TableEntry → List ℕ
@@ -24,3 +25,12 @@ pairs_from at pairs (part ∷ parts) = pairs_from (at + length (entry_bytes part
 -- the pairs of the parts of a table stream
 abbrev pub entries_pairs : List TableEntry → List (ℕ × ℕ)
 entries_pairs parts = pairs_from 0 empty_pairs parts
+
+-- the parts are written, and their pairs are put
+pub record AreWritten (parts : List TableEntry) (table : TableParts) : Type 0 where
+  pub bytes_are : table.bytes ≡ entries_bytes parts
+  pub pairs_are : table.pairs ≡ entries_pairs parts
+
+-- a part is written behind those that are
+abbrev pub WritesPart : TableEntry → TableParts → TableParts → Type 0
+WritesPart part old new = (parts : List TableEntry) → AreWritten parts old → AreWritten (parts ++ part ∷ []) new

@@ -1,5 +1,5 @@
 -- The text of a saved document: the main text, the notes and the header texts, with the marks behind stories.
-use Rattle.std.specs.Prelude.{ℕ, List, [], ◌∷◌, ◌++◌, length, Some, None}
+use Rattle.std.specs.Prelude.{ℕ, Bool, true, false, List, [], ◌∷◌, ◌++◌, length, Some, None}
 use Rattle.std.specs.FinMap.{empty}
 use Rattle.text_codes.specs.Paragraph.{paragraph_mark}
 use Rattle.plain_doc.specs.declared.item.Item.{Item}
@@ -21,6 +21,11 @@ extra_mark = record {
 abbrev pub with_mark : List Item → List Item
 with_mark [] = []
 with_mark (item ∷ items) = (item ∷ items) ++ extra_mark ∷ []
+
+-- a mark alone, where there is one
+abbrev pub mark_if : Bool → List Item
+mark_if true = extra_mark ∷ []
+mark_if false = []
 
 -- all notes, and all header texts, each with its mark
 unfoldable pub note_story : Document → List Item

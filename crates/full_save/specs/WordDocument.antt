@@ -103,6 +103,10 @@ full_fib document = record {
   pairs = entries_pairs (full_entries document);
 }
 
--- WordDocument: the FIB and zeros up to the text, then the rest. Profile: zeros follow where it is shorter than 4,096
+-- Profile: the stream is never shorter
+abbrev pub least_length : ℕ
+least_length = 4096
+
+-- WordDocument: the FIB and zeros up to the text, then the rest, and zeros where it would be too short
 unfoldable pub wd_stream : Document → List ℕ
-wd_stream document = filled 4096 0 (filled text_at 0 (written_fib (full_fib document)) ++ wd_body document)
+wd_stream document = filled least_length 0 (filled text_at 0 (written_fib (full_fib document)) ++ wd_body document)

@@ -1,0 +1,85 @@
+-- Sepxes and Seds that are made as the items of a main text are gone through.
+use Rattle.std.proofs.Common.{◌≡◌, ◌<◌, ◌≤◌, ◌+◌, ◌*◌, ◌∙◌, ap, refl, sym, subst, ℕ, zero, suc, List, [], ◌∷◌, ◌++◌, length, drop, get_or, Option, Some, None, arith}
+use Rattle.std.proofs.lemmas.List.{append_assoc, length-append, append-nil, drop_all}
+use Rattle.prop_map.specs.Settings.{Settings}
+use Rattle.doc_parts.specs.declared.lists.Sed.{Sed}
+use Rattle.plain_doc.specs.declared.item.Item.{Item}
+use Rattle.plain_doc.specs.Collected.{collected, entry_before, sections_of}
+use Rattle.full_save.specs.Sections.{sepx_bytes, sepxes, fc_sepx, seds_from}
+use Rattle.full_save.proofs.ListLemmas.{drop_here}
+
+-- where the next section begins, the bytes with its Sepxes, and the Seds
+pub record SectionsSoFar : Type 0 where
+  pub start : ℕ
+  pub out : List ℕ
+  pub seds : List Sed
+
+abbrev left : List Item → ℕ → List (ℕ × Settings)
+left main cp = collected (λ item. item.sect) cp (drop cp main)
+
+-- the sections that end before a CP are done, and those that are left go on from here
+pub record AreSepxesUpTo (main : List Item) (base : ℕ) (old : List ℕ) (cp : ℕ) (so : SectionsSoFar) : Type 0 where
+  pub bytes : so.out ++ sepxes (left main cp) ≡ old ++ sepxes (sections_of main)
+  pub places : so.seds ++ seds_from so.start (base + length so.out) (left main cp) ≡ seds_from 0 (base + length old) (sections_of main)
+  pub few : length so.out ≤ length old + 504 * cp
+
+pub sepxes_start : (main : List Item) (base : ℕ) (old : List ℕ) → AreSepxesUpTo main base old 0 (record { start = 0; out = old; seds = [] })
+sepxes_start main base old = record { bytes = refl; places = refl; few = omega arith }
+
+left_here : (main : List Item) (cp : ℕ) (d : Item) → cp < length main →
+    left main cp ≡ entry_before (get_or main cp d).sect cp (left main (cp + 1))
+unfolding collected
+left_here main cp d h = ap (λ (rest : List Item). collected (λ item. item.sect) cp rest) (drop_here main cp d h)
+
+pub sepxes_skip :
+    (main : List Item) (base : ℕ) (old : List ℕ) (cp : ℕ) (d : Item) (so : SectionsSoFar) → cp < length main →
+    (get_or main cp d).sect ≡ None → AreSepxesUpTo main base old cp so → AreSepxesUpTo main base old (cp + 1) so
+sepxes_skip main base old cp d so h none are =
+    let same = sym (left_here main cp d h ∙ ap (λ (o : Option Settings). entry_before o cp (left main (cp + 1))) none) in
+    let few = are.few in
+    record {
+      bytes = ap (λ (rest : List (ℕ × Settings)). so.out ++ sepxes rest) same ∙ are.bytes;
+      places = ap (λ (rest : List (ℕ × Settings)). so.seds ++ seds_from so.start (base + length so.out) rest) same ∙ are.places;
+      few = omega arith;
+    }
+
+pub sepxes_more :
+    (main : List Item) (base : ℕ) (old : List ℕ) (cp : ℕ) (d : Item) (settings : Settings) (so new : SectionsSoFar) →
+    cp < length main → (get_or main cp d).sect ≡ Some settings → length (sepx_bytes settings) ≤ 504 →
+    new.out ≡ so.out ++ sepx_bytes settings →
+    new.seds ≡ so.seds ++ (record { start = so.start; sepx = fc_sepx (base + length so.out) settings }) ∷ [] →
+    new.start ≡ cp + 1 → AreSepxesUpTo main base old cp so → AreSepxesUpTo main base old (cp + 1) new
+unfolding seds_from
+sepxes_more main base old cp d settings so new h has short out seds start are =
+    let rest = left main (cp + 1) in
+    let same = sym (left_here main cp d h ∙ ap (λ (o : Option Settings). entry_before o cp rest) has) in
+    let sed : Sed = record { start = so.start; sepx = fc_sepx (base + length so.out) settings } in
+    let few = are.few in
+    let grown = ap length out ∙ length-append so.out (sepx_bytes settings) in
+    let place : base + length new.out ≡ base + length so.out + length (sepx_bytes settings) = omega arith in
+    record {
+      bytes =
+          ap (λ (bytes : List ℕ). bytes ++ sepxes rest) out
+          ∙ (append_assoc so.out (sepx_bytes settings) (sepxes rest)
+          ∙ (ap (λ (all : List (ℕ × Settings)). so.out ++ sepxes all) same ∙ are.bytes));
+      places =
+          ap (λ (list : List Sed). list ++ seds_from new.start (base + length new.out) rest) seds
+          ∙ (append_assoc so.seds (sed ∷ []) (seds_from new.start (base + length new.out) rest)
+          ∙ (ap (λ (n : ℕ). so.seds ++ (sed ∷ seds_from n (base + length new.out) rest)) start
+          ∙ (ap (λ (n : ℕ). so.seds ++ (sed ∷ seds_from (cp + 1) n rest)) place
+          ∙ (ap (λ (all : List (ℕ × Settings)). so.seds ++ seds_from so.start (base + length so.out) all) same ∙ are.places))));
+      few = omega arith;
+    }
+
+pub sepxes_all :
+    (main : List Item) (base : ℕ) (old : List ℕ) (cp : ℕ) (so : SectionsSoFar) → length main ≤ cp →
+    AreSepxesUpTo main base old cp so →
+    (so.out ≡ old ++ sepxes (sections_of main)) × (so.seds ≡ seds_from 0 (base + length old) (sections_of main))
+unfolding collected seds_from
+sepxes_all main base old cp so h are =
+    let none : drop cp main ≡ [] = drop_all cp main h in
+    let nothing = ap (λ (items : List Item). collected (λ item. item.sect) cp items) none in (
+      sym (append-nil so.out) ∙ (ap (λ (all : List (ℕ × Settings)). so.out ++ sepxes all) (sym nothing) ∙ are.bytes),
+      sym (append-nil so.seds)
+      ∙ (ap (λ (all : List (ℕ × Settings)). so.seds ++ seds_from so.start (base + length so.out) all) (sym nothing) ∙ are.places),
+    )

@@ -1,0 +1,226 @@
+-- The runs of characters and of paragraphs, one item further and at the end.
+use Rattle.std.proofs.Common.{◌≡◌, ◌≢◌, ◌≤◌, ◌<◌, ◌+◌, ◌-◌, ◌*◌, ◌∙◌, ap, refl, sym, subst, inl, inr, ℕ, Bool, true, false, not, List, [], ◌∷◌, ◌++◌, length, slice_get, Option, Some, None, arith}
+use Rattle.std.specs.Prelude.{is_some}
+use Rattle.std.specs.FinMap.{empty}
+use Rattle.std.proofs.lemmas.List.{length-append}
+use Rattle.std.proofs.lemmas.Option.{same_Some}
+use Rattle.doc_bits.proofs.ListLemmas.{slice_get_push, there_is}
+use Rattle.prop_map.specs.Settings.{Settings}
+use Rattle.fkp_pages.specs.declared.kind.PageKind.{PageKind}
+use Rattle.fkp_pages.specs.declared.kind.PageKind.TheVariants.{Chpx, Papx}
+use Rattle.fkp_pages.specs.declared.lists.Run.{Run}
+use Rattle.plain_doc.specs.declared.item.Mark.{Mark}
+use Rattle.plain_doc.specs.declared.item.Item.{Item}
+use Rattle.plain_doc.specs.Settings.{is_alike, is_inside, same_settings}
+use Rattle.plain_doc.specs.Stretches.{joins_next, goes_over, IsJoined}
+use Rattle.plain_doc.proofs.SettingsLemmas.{same_settings-Decides}
+use Rattle.full_save.specs.declared.runs.CharacterRuns.{CharacterRuns}
+use Rattle.full_save.specs.declared.runs.ParagraphRuns.{ParagraphRuns}
+use Rattle.full_save.specs.Runs.{joins_run, item_settings, mark_settings, run_at, text_runs}
+use Rattle.full_save.specs.RunsSoFar.{RunsSoFar, AreRunsSoFar, EndsWith, AreCharactersSoFar, AreParagraphsSoFar}
+use Rattle.full_save.proofs.RunLemmas.{joined_more, grow_part, close_before, close_behind, all_closed, last_closed}
+
+-- what stands last
+last_push : {A : Type 0} (xs : List A) (x : A) → slice_get (xs ++ x ∷ []) (length (xs ++ x ∷ []) - 1) ≡ Some x
+last_push xs x =
+    let e : length (xs ++ x ∷ []) - 1 ≡ length xs = omega (arith, length-append xs (x ∷ [])) in
+    ap (slice_get (xs ++ x ∷ [])) e ∙ slice_get_push xs x
+
+last_is : (xs : List Item) → 1 ≤ length xs → (x : Item) × (slice_get xs (length xs - 1) ≡ Some x)
+last_is xs some = there_is xs (length xs - 1) (omega arith)
+
+ends_push : (IsSuch : Item → Type 0) (part : List Item) (x : Item) → IsSuch x → EndsWith IsSuch (part ++ x ∷ [])
+ends_push IsSuch part x such item here = subst IsSuch (same_Some x item (sym (last_push part x) ∙ here)) such
+
+one_joined : {A : Type 0} (joins : A → A → Bool) (x : A) → IsJoined joins (x ∷ [])
+one_joined joins x k h = absurd (omega arith)
+
+-- a run by what it has
+run_is :
+    (kind : PageKind) (from end : ℕ) (part : List Item) (settings : ℕ × Settings) →
+    item_settings kind (slice_get part (length part - 1)) ≡ settings → end ≡ from + 2 * length part →
+    run_at kind from part ≡ record { from = from; to = end; istd = settings.0; map = settings.1 }
+run_is kind from end part settings has place =
+    let run : ℕ × Settings → ℕ → Run = λ s to. record { from = from; to = to; istd = s.0; map = s.1 } in
+    ap (λ (s : ℕ × Settings). run s (from + 2 * length part)) has ∙ ap (λ (to : ℕ). run settings to) (sym place)
+
+-- ---- characters
+
+-- the first item
+pub characters_begin :
+    (at : ℕ) (done : List Item) (item : Item) (old new : CharacterRuns) → old.from ≡ at + 2 * length done →
+    new.closed ≡ old.closed → new.from ≡ old.from → new.chp ≡ item.chp →
+    AreCharactersSoFar at done old → AreCharactersSoFar at (done ++ item ∷ []) new
+characters_begin at done item old new here closed from chp so =
+    let stands = so.are.stands in
+    let none : length so.part ≡ 0 = omega arith in
+    let grown =
+        grow_part Chpx at done old.closed old.from so.part item
+        (joined_more is_alike so.part item so.are.joined (λ some. absurd (omega arith))) so.are in
+    record {
+      part = so.part ++ item ∷ [];
+      are = subst (λ (runs : List Run). AreRunsSoFar Chpx at (done ++ item ∷ []) (record { closed = runs; from = new.from; part = so.part ++ item ∷ [] }))
+          (sym closed)
+          (subst (λ (place : ℕ). AreRunsSoFar Chpx at (done ++ item ∷ []) (record { closed = old.closed; from = place; part = so.part ++ item ∷ [] }))
+          (sym from) grown);
+      last = ends_push (λ (x : Item). x.chp ≡ new.chp) so.part item (sym chp);
+    }
+
+-- an item with the settings of the last run
+pub characters_go_on :
+    (at : ℕ) (done : List Item) (item : Item) (runs : CharacterRuns) → runs.chp ≡ item.chp →
+    AreCharactersSoFar at done runs → AreCharactersSoFar at (done ++ item ∷ []) runs
+characters_go_on at done item runs same so =
+    let alike : 1 ≤ length so.part → goes_over is_alike so.part (item ∷ []) ≡ true = λ some.
+        let last = last_is so.part some in
+        let chp : last.0.chp ≡ item.chp = so.last last.0 last.1 ∙ same in
+        ap (λ (o : Option Item). joins_next is_alike o (Some item)) last.1
+        ∙ (same_settings-Decides last.0.chp item.chp).1 chp in
+    record {
+      part = so.part ++ item ∷ [];
+      are = grow_part Chpx at done runs.closed runs.from so.part item (joined_more is_alike so.part item so.are.joined alike) so.are;
+      last = ends_push (λ (x : Item). x.chp ≡ runs.chp) so.part item (sym same);
+    }
+
+-- the last run has items
+some_open : (kind : PageKind) (at end : ℕ) (done : List Item) (runs : RunsSoFar) → end ≡ at + 2 * length done →
+    runs.from ≢ end → AreRunsSoFar kind at done runs → 1 ≤ length runs.part
+some_open kind at end done runs here apart are =
+    let stands = are.stands in
+    let low : runs.from ≤ end = omega arith in
+    let ne : ¬ (length runs.part ≡ 0) = λ none. apart (omega (arith, stands, here, none)) in
+    omega (arith, ne)
+
+false_from : (b : Bool) → ¬ (b ≡ true) → b ≡ false
+false_from true h = absurd (h refl)
+false_from false h = refl
+
+-- an item with other settings
+pub characters_change :
+    (at end : ℕ) (done : List Item) (item : Item) (old new : CharacterRuns) → end ≡ at + 2 * length done →
+    old.from ≢ end → old.chp ≢ item.chp →
+    new.closed ≡ old.closed ++ (record { from = old.from; to = end; istd = 0; map = old.chp }) ∷ [] →
+    new.from ≡ end → new.chp ≡ item.chp →
+    AreCharactersSoFar at done old → AreCharactersSoFar at (done ++ item ∷ []) new
+characters_change at end done item old new here apart other closed from chp so =
+    let runs : RunsSoFar = record { closed = old.closed; from = old.from; part = so.part } in
+    let some = some_open Chpx at end done runs here apart so.are in
+    let stands = so.are.stands in
+    let last = last_is so.part some in
+    let has : last.0.chp ≡ old.chp = so.last last.0 last.1 in
+    let not_alike : ¬ (same_settings last.0.chp item.chp ≡ true) = λ same.
+        other (sym has ∙ (same_settings-Decides last.0.chp item.chp).0 same) in
+    let ends : goes_over is_alike so.part (item ∷ []) ≡ false =
+        ap (λ (o : Option Item). joins_next is_alike o (Some item)) last.1 ∙ false_from (same_settings last.0.chp item.chp) not_alike in
+    let run = run_is Chpx old.from end so.part (0, old.chp)
+        (ap (item_settings Chpx) last.1 ∙ ap (λ (s : Settings). (0, s)) has) (omega arith) in
+    let before = close_before Chpx at done old.closed old.from end so.part item some ends here so.are in
+    let closed_is : new.closed ≡ old.closed ++ run_at Chpx old.from so.part ∷ [] =
+        closed ∙ ap (λ (r : Run). old.closed ++ r ∷ []) (sym run) in
+    record {
+      part = item ∷ [];
+      are = subst (λ (rs : List Run). AreRunsSoFar Chpx at (done ++ item ∷ []) (record { closed = rs; from = new.from; part = item ∷ [] }))
+          (sym closed_is)
+          (subst (λ (place : ℕ). AreRunsSoFar Chpx at (done ++ item ∷ []) (record { closed = old.closed ++ run_at Chpx old.from so.part ∷ []; from = place; part = item ∷ [] }))
+          (sym from) before);
+      last = λ x here_x. ap (λ (i : Item). i.chp) (sym (same_Some item x here_x)) ∙ sym chp;
+    }
+
+pub characters_none_left :
+    (at end : ℕ) (done : List Item) (runs : CharacterRuns) → end ≡ at + 2 * length done → runs.from ≡ end →
+    AreCharactersSoFar at done runs → runs.closed ≡ text_runs Chpx at done
+characters_none_left at end done runs here from so =
+    let stands = so.are.stands in
+    all_closed Chpx at done runs.closed runs.from so.part (omega arith) so.are
+
+pub characters_left :
+    (at end : ℕ) (done : List Item) (runs : CharacterRuns) (closed : List Run) → end ≡ at + 2 * length done →
+    runs.from ≢ end → closed ≡ runs.closed ++ (record { from = runs.from; to = end; istd = 0; map = runs.chp }) ∷ [] →
+    AreCharactersSoFar at done runs → closed ≡ text_runs Chpx at done
+characters_left at end done runs closed here apart is so =
+    let open_runs : RunsSoFar = record { closed = runs.closed; from = runs.from; part = so.part } in
+    let some = some_open Chpx at end done open_runs here apart so.are in
+    let stands = so.are.stands in
+    let last = last_is so.part some in
+    let has : last.0.chp ≡ runs.chp = so.last last.0 last.1 in
+    let run = run_is Chpx runs.from end so.part (0, runs.chp)
+        (ap (item_settings Chpx) last.1 ∙ ap (λ (s : Settings). (0, s)) has) (omega arith) in
+    is ∙ (ap (λ (r : Run). runs.closed ++ r ∷ []) (sym run) ∙ last_closed Chpx at done runs.closed runs.from so.part some so.are)
+
+-- ---- paragraphs
+
+-- an item without a mark joins the next one
+inside : (part : List Item) (item : Item) → EndsWith (λ x. x.mark ≡ None) part → 1 ≤ length part →
+    goes_over is_inside part (item ∷ []) ≡ true
+inside part item last some =
+    let end = last_is part some in
+    let open_end = last end.0 end.1 in
+    ap (λ (o : Option Item). joins_next is_inside o (Some item)) end.1
+    ∙ ap (λ (o : Option Mark). not (is_some o)) open_end
+
+pub paragraphs_go_on :
+    (at : ℕ) (done : List Item) (item : Item) (runs : ParagraphRuns) → item.mark ≡ None →
+    AreParagraphsSoFar at done runs → AreParagraphsSoFar at (done ++ item ∷ []) runs
+paragraphs_go_on at done item runs unmarked so = record {
+  part = so.part ++ item ∷ [];
+  are = grow_part Papx at done runs.closed runs.from so.part item
+      (joined_more is_inside so.part item so.are.joined (inside so.part item so.last)) so.are;
+  last = ends_push (λ (x : Item). x.mark ≡ None) so.part item unmarked;
+}
+
+joins_not : (item : Item) (mark : Mark) → item.mark ≡ Some mark → (next : Option Item) → joins_next is_inside (Some item) next ≡ false
+joins_not item mark has None = refl
+joins_not item mark has (Some next) = ap (λ (o : Option Mark). not (is_some o)) has
+
+-- an item with a mark joins nothing
+marked : (part more : List Item) (item : Item) (mark : Mark) → item.mark ≡ Some mark →
+    goes_over is_inside (part ++ item ∷ []) more ≡ false
+marked part more item mark has =
+    ap (λ (o : Option Item). joins_next is_inside o (slice_get more 0)) (last_push part item) ∙ joins_not item mark has (slice_get more 0)
+
+pub paragraphs_end :
+    (at end : ℕ) (done : List Item) (item : Item) (mark : Mark) (old new : ParagraphRuns) →
+    end ≡ at + 2 * length (done ++ item ∷ []) → item.mark ≡ Some mark →
+    new.closed ≡ old.closed ++ (record { from = old.from; to = end; istd = mark.istd; map = mark.pap }) ∷ [] →
+    new.from ≡ end → AreParagraphsSoFar at done old → AreParagraphsSoFar at (done ++ item ∷ []) new
+paragraphs_end at end done item mark old new here has closed from so =
+    let part = so.part ++ item ∷ [] in
+    let grown =
+        grow_part Papx at done old.closed old.from so.part item
+        (joined_more is_inside so.part item so.are.joined (inside so.part item so.last)) so.are in
+    let stands = grown.stands in
+    let some : 1 ≤ length part = omega (arith, length-append so.part (item ∷ [])) in
+    let run = run_is Papx old.from end part (mark.istd, mark.pap)
+        (ap (item_settings Papx) (last_push so.part item) ∙ ap mark_settings has) (omega arith) in
+    let behind = close_behind Papx at (done ++ item ∷ []) old.closed old.from end part some
+        (λ more. marked so.part more item mark has) here grown in
+    let closed_is : new.closed ≡ old.closed ++ run_at Papx old.from part ∷ [] =
+        closed ∙ ap (λ (r : Run). old.closed ++ r ∷ []) (sym run) in
+    record {
+      part = [];
+      are = subst (λ (rs : List Run). AreRunsSoFar Papx at (done ++ item ∷ []) (record { closed = rs; from = new.from; part = [] }))
+          (sym closed_is)
+          (subst (λ (place : ℕ). AreRunsSoFar Papx at (done ++ item ∷ []) (record { closed = old.closed ++ run_at Papx old.from part ∷ []; from = place; part = [] }))
+          (sym from) behind);
+      last = λ x none. absurd (cc);
+    }
+
+pub paragraphs_none_left :
+    (at end : ℕ) (done : List Item) (runs : ParagraphRuns) → end ≡ at + 2 * length done → runs.from ≡ end →
+    AreParagraphsSoFar at done runs → runs.closed ≡ text_runs Papx at done
+paragraphs_none_left at end done runs here from so =
+    let stands = so.are.stands in
+    all_closed Papx at done runs.closed runs.from so.part (omega arith) so.are
+
+pub paragraphs_left :
+    (at end : ℕ) (done : List Item) (runs : ParagraphRuns) (closed : List Run) → end ≡ at + 2 * length done →
+    runs.from ≢ end → closed ≡ runs.closed ++ (record { from = runs.from; to = end; istd = 0; map = empty }) ∷ [] →
+    AreParagraphsSoFar at done runs → closed ≡ text_runs Papx at done
+paragraphs_left at end done runs closed here apart is so =
+    let open_runs : RunsSoFar = record { closed = runs.closed; from = runs.from; part = so.part } in
+    let some = some_open Papx at end done open_runs here apart so.are in
+    let stands = so.are.stands in
+    let last = last_is so.part some in
+    let run = run_is Papx runs.from end so.part (0, empty)
+        (ap (item_settings Papx) last.1 ∙ ap mark_settings (so.last last.0 last.1)) (omega arith) in
+    is ∙ (ap (λ (r : Run). runs.closed ++ r ∷ []) (sym run) ∙ last_closed Papx at done runs.closed runs.from so.part some so.are)

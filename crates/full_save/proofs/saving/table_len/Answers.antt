@@ -1,0 +1,62 @@
+use Rattle.std.proofs.Common.{◌≡◌, ◌≤◌, ◌<◌, ◌^◌, ◌+◌, ℕ, List, length, sum, ap, sym, subst, refl, ◌∙◌, arith}
+use Rattle.cfb_streams.specs.Contents.{NamedBytes, AreStreams}
+use Rattle.cfb_layout.specs.Counts.{sectors_needed, most_sectors}
+use Rattle.cfb_layout.specs.Layout.{lengths_of, compound_file}
+use Rattle.fib_form.specs.FibFields.{FibFields}
+use Rattle.plain_doc.proofs.RightLemmas.{sound_is_right}
+use Rattle.full_save.specs.declared.table_text.TableText.{TableText}
+use Rattle.full_save.specs.TableText.{table_entries}
+use Rattle.full_save.specs.TableStream.{entries_bytes, entries_pairs}
+use Rattle.full_save.specs.WordDocument.{table_stream, wd_stream, full_fib, full_text}
+use Rattle.full_save.specs.Streams.{saved_streams}
+use Rattle.full_save.specs.Layout.{layout_streams, full_save_image, sectors_of, IsTooLarge}
+use Rattle.full_save.proofs.TextLaidOut.{few_items}
+use Rattle.full_save.proofs.StreamLengths.{short_body, short_table}
+use Rattle.full_save.proofs.LayoutLemmas.{layout_are, total_short, length-wd_stream, fits_short, body_stream}
+use Rattle.full_save.proofs.saving.table_len.Goals as goal
+
+pub of-requires-clause-right : goal.of-requires-clause-right
+of-requires-clause-right c =
+    sound_is_right c.args.document.now c.requires
+
+pub table_stream_len-requires-clause-sheet : goal.table_stream_len-requires-clause-sheet
+table_stream_len-requires-clause-sheet c =
+    (sound_is_right c.args.document.now c.requires).writable
+
+pub table_stream_len-requires-clause-notes : goal.table_stream_len-requires-clause-notes
+table_stream_len-requires-clause-notes c =
+    let d = c.args.document.now in
+    let formed = c.documents_are_formed.ensures in
+    let right = sound_is_right d c.requires in
+    let few = few_items d right in
+    let n = few.notes in
+    omega arith
+
+pub table_stream_len-requires-clause-heads : goal.table_stream_len-requires-clause-heads
+table_stream_len-requires-clause-heads c =
+    let d = c.args.document.now in
+    let formed = c.documents_are_formed.ensures in
+    let right = sound_is_right d c.requires in
+    let few = few_items d right in
+    let n = few.heads in
+    omega arith
+
+pub table_stream_len-requires-clause-small : goal.table_stream_len-requires-clause-small
+unfolding table_stream
+table_stream_len-requires-clause-small c =
+    let d = c.args.document.now in
+    let formed = c.documents_are_formed.ensures in
+    let right = sound_is_right d c.requires in
+    let table = ap (λ (t : TableText). length (entries_bytes (table_entries d t))) c.in_ok-body.ensures.text in
+    let short = short_table d formed right in
+    omega (arith, short, table)
+
+pub returns : goal.returns
+unfolding table_stream
+returns c =
+    let d = c.args.document.now in
+    let formed = c.documents_are_formed.ensures in
+    let right = sound_is_right d c.requires in
+    let table = ap (λ (t : TableText). length (entries_bytes (table_entries d t))) c.in_ok-body.ensures.text in
+    c.in_ok-len.ensures ∙ table
+

@@ -1,0 +1,7 @@
+use Rattle.std.proofs.Common.{◌≡◌, ◌+◌, length, take}
+use Rattle.plain_doc.specs.Collected.{joined_texts}
+use Rattle.full_save.specs.RunsSoFar.{GoesOnBy}
+use Rattle.full_save.proofs.text.TextSoFar.push_texts.Given as goal
+
+abbrev pub invariant-loop-k : goal.invariant-loop-k
+invariant-loop-k l = GoesOnBy (joined_texts (take l.k l.texts)) l.initial.self l.self × (length l.self.units.items ≡ length l.initial.self.units.items + length (joined_texts (take l.k l.texts)))

@@ -1,0 +1,67 @@
+-- A text that is gone through once: which runs of it are closed, and from where on the last one goes on.
+use Rattle.std.specs.Prelude.{◌≡◌, ◌+◌, ◌-◌, ◌*◌, ℕ, List, ◌++◌, length, map, Some, None, slice_get}
+use Rattle.fkp_pages.specs.declared.kind.PageKind.{PageKind}
+use Rattle.fkp_pages.specs.declared.kind.PageKind.TheVariants.{Chpx, Papx}
+use Rattle.fkp_pages.specs.declared.lists.Run.{Run}
+use Rattle.plain_doc.specs.declared.item.Item.{Item}
+use Rattle.plain_doc.specs.declared.document.Document.{Document}
+use Rattle.plain_doc.specs.Stretches.{stretches, IsJoined}
+use Rattle.full_save.specs.declared.runs.CharacterRuns.{CharacterRuns}
+use Rattle.full_save.specs.declared.runs.ParagraphRuns.{ParagraphRuns}
+use Rattle.full_save.specs.declared.text.TextSoFar.{TextSoFar}
+use Rattle.full_save.specs.declared.text.SavedText.{SavedText}
+use Rattle.full_save.specs.Runs.{joins_run, runs_from, text_runs}
+use Rattle.full_save.specs.Text.{text_items, text_counts}
+use Rattle.full_save.specs.WordDocument.{text_at}
+
+-- closed runs, where the last run begins, and its items
+pub record RunsSoFar : Type 0 where
+  pub closed : List Run
+  pub from : ℕ
+  pub part : List Item
+
+-- the runs of a text that begins at a place: whatever items follow, they are the closed ones and those from the last one on
+pub record AreRunsSoFar (kind : PageKind) (at : ℕ) (done : List Item) (runs : RunsSoFar) : Type 0 where
+  pub joined : IsJoined (joins_run kind) runs.part
+  pub stands : runs.from + 2 * length runs.part ≡ at + 2 * length done
+  pub goes_on :
+      (more : List Item) →
+      runs.closed ++ runs_from kind runs.from (stretches (joins_run kind) (runs.part ++ more))
+      ≡ text_runs kind at (done ++ more)
+
+-- the last item of a part, if it has one, is such
+abbrev pub EndsWith : (Item → Type 0) → List Item → Type 0
+EndsWith IsSuch part = (item : Item) → slice_get part (length part - 1) ≡ Some item → IsSuch item
+
+-- the last run has the settings of its characters
+pub record AreCharactersSoFar (at : ℕ) (done : List Item) (runs : CharacterRuns) : Type 0 where
+  pub part : List Item
+  pub are : AreRunsSoFar Chpx at done (record { closed = runs.closed; from = runs.from; part = part })
+  pub last : EndsWith (λ item. item.chp ≡ runs.chp) part
+
+-- no mark ends the last run
+pub record AreParagraphsSoFar (at : ℕ) (done : List Item) (runs : ParagraphRuns) : Type 0 where
+  pub part : List Item
+  pub are : AreRunsSoFar Papx at done (record { closed = runs.closed; from = runs.from; part = part })
+  pub last : EndsWith (λ item. item.mark ≡ None) part
+
+-- the units and the runs of a text that begins where the text of a document does
+pub record IsTextSoFar (done : List Item) (text : TextSoFar) : Type 0 where
+  pub units : text.units.items ≡ map (λ item. item.unit) done
+  pub characters : AreCharactersSoFar text_at done text.characters
+  pub paragraphs : AreParagraphsSoFar text_at done text.paragraphs
+
+-- these items are put behind a text
+abbrev pub GoesOnBy : List Item → TextSoFar → TextSoFar → Type 0
+GoesOnBy items old new = (done : List Item) → IsTextSoFar done old → IsTextSoFar (done ++ items) new
+
+-- a text with its runs, and these counts
+pub record IsWholeText (items : List Item) (counts : List ℕ) (text : SavedText) : Type 0 where
+  pub units : text.units.items ≡ map (λ item. item.unit) items
+  pub characters : text.characters ≡ text_runs Chpx text_at items
+  pub paragraphs : text.paragraphs ≡ text_runs Papx text_at items
+  pub counts_are : text.counts ≡ counts
+
+-- the text of a document
+abbrev pub IsTextOf : Document → SavedText → Type 0
+IsTextOf document text = IsWholeText (text_items document) (text_counts document) text

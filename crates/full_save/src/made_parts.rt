@@ -1,0 +1,141 @@
+// The table stream of a document: its parts that are made of it, those that are carried along, and what is said of the
+// text.
+ghost use Rattle.std.specs.Prelude.{◌≡◌, ◌+◌, ◌^◌, ◌<◌, length, IfOk};
+ghost use Rattle.style_sheet.specs.Written.{IsWritable};
+ghost use Rattle.plain_doc.specs.Collected.{joined_texts};
+ghost use Rattle.full_save.specs.TableText.{table_entries};
+ghost use Rattle.full_save.specs.TableStream.{entries_bytes, AreWritten};
+ghost use Rattle.full_save.specs.Made.{AreMadeOf, made_length, carried_length};
+
+use crate::lists::{cuts_of, fields_of, fields_of_texts, refs_of};
+use crate::table_parts::TableParts;
+use crate::table_text::TableText;
+use doc_bits::{Bytes, Memory};
+use doc_parts::{print_fields, print_refs, print_sections, print_texts};
+use fib_form::TablePart;
+use plain_doc::{Carried, Document};
+use std::alloc::Global;
+
+/// The parts that are made of a document.
+#[derive(Drop)]
+struct MadeParts {
+    sheet: Bytes,
+    refs: Bytes,
+    note_cuts: Bytes,
+    sections: Bytes,
+    head_cuts: Bytes,
+    main_fields: Bytes,
+    head_fields: Bytes,
+    note_fields: Bytes,
+}
+
+impl MadeParts {
+    /// The parts of a document.
+    fn of(alloc: Global, document: &Document, text: &TableText) -> Result<MadeParts, Memory>
+        requires sheet { IsWritable document.now.sheet }
+        requires notes { length (joined_texts document.now.notes) < 2 ^ 32 }
+        requires heads { length (joined_texts document.now.heads) < 2 ^ 32 }
+        ensures { IfOk result (AreMadeOf document.now text.now) }
+    {
+        let [main, notes, heads] = text.counts;
+        let items = document.main.as_slice();
+        let sheet = document.sheet.print(alloc)?;
+        let refs = refs_of(alloc, items)?;
+        let note_cuts = cuts_of(alloc, &document.notes)?;
+        let head_cuts = cuts_of(alloc, &document.heads)?;
+        let main_fields = fields_of(alloc, items)?;
+        let head_fields = fields_of_texts(alloc, &document.heads)?;
+        let note_fields = fields_of_texts(alloc, &document.notes)?;
+        Ok(MadeParts {
+            sheet,
+            refs: print_refs(alloc, &refs, main)?,
+            note_cuts: print_texts(alloc, &note_cuts, notes)?,
+            sections: print_sections(alloc, &text.seds, main)?,
+            head_cuts: print_texts(alloc, &head_cuts, heads)?,
+            main_fields: print_fields(alloc, &main_fields, main)?,
+            head_fields: print_fields(alloc, &head_fields, heads)?,
+            note_fields: print_fields(alloc, &note_fields, notes)?,
+        })
+    }
+
+    /// The number of their bytes.
+    fn len(&self) -> u64
+        requires { made_length self.now < 2 ^ 63 }
+        ensures { result ≡ made_length self.now }
+    {
+        len_of(&self.sheet)
+            + len_of(&self.refs)
+            + len_of(&self.note_cuts)
+            + len_of(&self.sections)
+            + len_of(&self.head_cuts)
+            + len_of(&self.main_fields)
+            + len_of(&self.head_fields)
+            + len_of(&self.note_fields)
+    }
+}
+
+/// The table stream of a document with this text, and the pairs of its parts.
+pub fn write_table(
+    alloc: Global,
+    document: &Document,
+    text: &TableText,
+) -> Result<TableParts, Memory>
+    requires sheet { IsWritable document.now.sheet }
+    requires notes { length (joined_texts document.now.notes) < 2 ^ 32 }
+    requires heads { length (joined_texts document.now.heads) < 2 ^ 32 }
+    requires small { length (entries_bytes (table_entries document.now text.now)) < 2 ^ 32 }
+    ensures { IfOk result (AreWritten (table_entries document.now text.now)) }
+{
+    let made = MadeParts::of(alloc, document, text)?;
+    let carried = &document.carried;
+    let mut table = TableParts::new(alloc);
+    table.put(TablePart::Stshf, made.sheet.as_slice())?;
+    table.put(TablePart::PlcffndRef, made.refs.as_slice())?;
+    table.put(TablePart::PlcffndTxt, made.note_cuts.as_slice())?;
+    table.put(TablePart::PlcfSed, made.sections.as_slice())?;
+    table.put(TablePart::PlcfHdd, made.head_cuts.as_slice())?;
+    table.put(TablePart::PlcfBteChpx, text.characters.as_slice())?;
+    table.put(TablePart::PlcfBtePapx, text.paragraphs.as_slice())?;
+    table.put(TablePart::SttbfFfn, carried.fonts.as_slice())?;
+    table.put(TablePart::PlcfFldMom, made.main_fields.as_slice())?;
+    table.put(TablePart::PlcfFldHdr, made.head_fields.as_slice())?;
+    table.put(TablePart::PlcfFldFtn, made.note_fields.as_slice())?;
+    table.put(TablePart::Dop, carried.dop.as_slice())?;
+    table.put(TablePart::SttbfAssoc, carried.assoc.as_slice())?;
+    table.put(TablePart::Clx, text.clx.as_slice())?;
+    table.put_lists(carried.lst.as_slice(), carried.levels.as_slice())?;
+    table.put(TablePart::PlfLfo, carried.lfo.as_slice())?;
+    Ok(table)
+}
+
+/// The number of bytes of the table stream of a document with this text. The carried parts are not copied.
+pub fn table_stream_len(alloc: Global, document: &Document, text: &TableText) -> Result<u64, Memory>
+    requires sheet { IsWritable document.now.sheet }
+    requires notes { length (joined_texts document.now.notes) < 2 ^ 32 }
+    requires heads { length (joined_texts document.now.heads) < 2 ^ 32 }
+    requires small { length (entries_bytes (table_entries document.now text.now)) < 2 ^ 63 }
+    ensures { IfOk result (λ len. len ≡ length (entries_bytes (table_entries document.now text.now))) }
+{
+    let made = MadeParts::of(alloc, document, text)?;
+    let of_text = len_of(&text.characters) + len_of(&text.paragraphs) + len_of(&text.clx);
+    Ok(made.len() + of_text + carried_len(&document.carried))
+}
+
+/// The number of bytes of the carried parts.
+fn carried_len(carried: &Carried) -> u64
+    ensures { result ≡ carried_length carried.now }
+{
+    len_of(&carried.fonts)
+        + len_of(&carried.dop)
+        + len_of(&carried.assoc)
+        + len_of(&carried.lst)
+        + len_of(&carried.levels)
+        + len_of(&carried.lfo)
+}
+
+/// The number of bytes.
+fn len_of(bytes: &Bytes) -> u64
+    ensures { result ≡ length bytes.now }
+{
+    bytes.as_slice().len() as u64
+}

@@ -1,0 +1,95 @@
+// The full save of a document.
+ghost use Rattle.std.specs.Prelude.{◌≡◌, ◌+◌, ◌^◌, ◌<◌, length, IfOk, MatchResult};
+ghost use Rattle.plain_doc.specs.Sound.{IsSound};
+ghost use Rattle.full_save.specs.WordDocument.{table_stream};
+ghost use Rattle.full_save.specs.Layout.{full_save_image, FitsCompoundFile, IsTooLarge};
+ghost use Rattle.plain_doc.specs.Formed.{IsFormed};
+ghost use Rattle.plain_doc.specs.RightDocument.{IsRightDocument};
+ghost use Rattle.full_save.specs.WordDocument.{full_fib};
+ghost use Rattle.full_save.specs.Made.{IsBodyOf};
+
+use crate::SaveFault;
+use crate::made_parts::{table_stream_len, write_table};
+use crate::streams::{lengths_with, streams_with};
+use crate::word_document::WordBody;
+use cfb_layout::{LayoutFault, sectors_needed, whole};
+use doc_bits::{Bytes, Memory};
+use fib_form::{Fib, KeptFib, Pairs};
+use plain_doc::{Document, documents_are_formed};
+use std::alloc::Global;
+
+/// The sectors that a compound file has at most.
+const MAX_SECTORS: u64 = 13_952;
+
+/// The file of a document.
+pub fn full(alloc: Global, document: &Document) -> Result<Bytes, SaveFault>
+    requires { IsSound document.now }
+    ensures { MatchResult result
+        (λ file. (file ≡ full_save_image document.now) × FitsCompoundFile document.now)
+        (IsTooLarge document.now) }
+{
+    documents_are_formed(document);
+    let body = WordBody::of(alloc, document)?;
+    let table_len = table_stream_len(alloc, document, &body.text)?;
+    let carried = &document.carried;
+    let lengths = lengths_with(alloc, &carried.streams, table_len, body.stream_len())?;
+    let sectors = sectors_needed(&lengths);
+    if MAX_SECTORS < sectors {
+        return Err(SaveFault::TooLarge { sectors });
+    }
+    let file = file_of(alloc, document, &body)?;
+    Ok(file)
+}
+
+/// The file of a document that fits.
+fn file_of(alloc: Global, document: &Document, body: &WordBody) -> Result<Bytes, SaveFault>
+    requires formed { IsFormed document.now }
+    requires right { IsRightDocument document.now }
+    requires body { IsBodyOf document.now body.now }
+    requires fits { FitsCompoundFile document.now }
+    ensures { MatchResult result (λ file. file ≡ full_save_image document.now) (IsTooLarge document.now) }
+{
+    let carried = &document.carried;
+    let table = write_table(alloc, document, &body.text)?;
+    let fib = fib_of(document, body, &table.pairs);
+    let wd = body.stream(alloc, &fib)?;
+    let streams = streams_with(
+        alloc,
+        &carried.streams,
+        table.bytes.as_slice(),
+        wd.as_slice(),
+    )?;
+    match whole(alloc, &streams, carried.clsid) {
+        Ok(file) => Ok(file),
+        Err(LayoutFault::TooLarge { sectors }) => Err(SaveFault::TooLarge { sectors }),
+        Err(LayoutFault::Memory) => Err(SaveFault::Memory),
+    }
+}
+
+/// The number of bytes of the table stream in the full save of a document, whether it fits a file or not.
+pub fn table_len(alloc: Global, document: &Document) -> Result<u64, Memory>
+    requires { IsSound document.now }
+    ensures { IfOk result (λ len. len ≡ length (table_stream document.now)) }
+{
+    documents_are_formed(document);
+    let body = WordBody::of(alloc, document)?;
+    let len = table_stream_len(alloc, document, &body.text)?;
+    Ok(len)
+}
+
+/// The FIB of the full save.
+fn fib_of(document: &Document, body: &WordBody, pairs: &Pairs) -> Fib
+    requires formed { IsFormed document.now }
+    requires right { IsRightDocument document.now }
+    requires body { IsBodyOf document.now body.now }
+    requires pairs { pairs.now ≡ (full_fib document.now).pairs }
+    ensures { result ≡ full_fib document.now }
+{
+    let carried = &document.carried;
+    let kept = KeptFib {
+        lid: carried.lid,
+        lid_fe: carried.lid_fe,
+        flags: carried.flags,
+    };
+    Fib::made(kept, body.cb_mac(), body.text.counts, pairs)
+}

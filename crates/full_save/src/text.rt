@@ -1,0 +1,187 @@
+// The text of a document, as units and runs: the main text, the notes and the header texts, with the marks behind
+// stories.
+ghost use Rattle.std.specs.Prelude.{◌≡◌, ◌+◌, ◌^◌, ◌<◌, ◌≤◌, List, [], ◌∷◌, ◌++◌, length, nat_lt, OnOk, IfOk};
+ghost use Rattle.plain_doc.specs.Collected.{joined_texts};
+ghost use Rattle.full_save.specs.Text.{extra_mark, mark_if, with_mark, text_items};
+ghost use Rattle.full_save.specs.RunsSoFar.{IsTextSoFar, GoesOnBy, IsWholeText, IsTextOf};
+ghost use Rattle.plain_doc.specs.declared.item.Item.{Item as TextItem};
+
+use crate::runs::{CharacterRuns, ParagraphRuns, UNIT_LEN};
+use doc_bits::Memory;
+use fkp_pages::{ChpRuns, PapRuns};
+use plain_doc::{Document, Item, Mark, Texts};
+use prop_map::PropMap;
+use std::alloc::Global;
+
+/// Where the text begins in `WordDocument`.
+pub(crate) const TEXT_AT: u32 = 1024;
+
+const PARAGRAPH_MARK: u16 = 0x0D;
+
+/// A text as units and runs, and the counts of its stories.
+#[derive(Drop)]
+pub(crate) struct SavedText {
+    pub(crate) units: Vec<u16>,
+    pub(crate) characters: ChpRuns,
+    pub(crate) paragraphs: PapRuns,
+    pub(crate) counts: [u32; 3],
+}
+
+/// The text of a document.
+pub(crate) fn text_of(alloc: Global, document: &Document) -> Result<SavedText, Memory>
+    requires { length (text_items document.now) ≤ 500001 }
+    ensures { IfOk result (IsTextOf document.now) }
+{
+    let mut text = TextSoFar::new(alloc);
+    text.push_items(document.main.as_slice())?;
+    let main = text.len();
+    text.push_story(&document.notes)?;
+    let notes = text.len() - main;
+    text.push_story(&document.heads)?;
+    let heads = text.len() - main - notes;
+    text.mark_behind(main)?;
+    let text = text.finish([main, notes, heads])?;
+    Ok(text)
+}
+
+/// The units and the runs of a text so far.
+#[derive(Drop)]
+struct TextSoFar {
+    alloc: Global,
+    units: Vec<u16>,
+    characters: CharacterRuns,
+    paragraphs: ParagraphRuns,
+}
+
+impl TextSoFar {
+    /// No text.
+    fn new(alloc: Global) -> TextSoFar
+        ensures { IsTextSoFar [] result }
+    {
+        TextSoFar {
+            alloc,
+            units: Vec::new(alloc),
+            characters: CharacterRuns::new(alloc, TEXT_AT),
+            paragraphs: ParagraphRuns::new(alloc, TEXT_AT),
+        }
+    }
+
+    /// The number of units.
+    fn len(&self) -> u32
+        requires { length self.now.units.items < 2 ^ 30 }
+        ensures { result ≡ length self.now.units.items }
+    {
+        self.units.len() as u32
+    }
+
+    /// Goes on by an item.
+    fn push(&mut self, item: &Item) -> Result<(), Memory>
+        requires { length self.old.units.items + 1 < 2 ^ 30 }
+        ensures text { OnOk result (GoesOnBy (item.now ∷ []) self.old self.new) }
+        ensures count { OnOk result (length self.new.units.items ≡ length self.old.units.items + 1) }
+    {
+        let at = TEXT_AT + UNIT_LEN * self.len();
+        self.units.push(item.unit)?;
+        self.characters.push(self.alloc, item, at)?;
+        self.paragraphs.push(self.alloc, item, at + UNIT_LEN)?;
+        Ok(())
+    }
+
+    /// Goes on by items.
+    fn push_items(&mut self, items: &[Item]) -> Result<(), Memory>
+        requires { length self.old.units.items + length items.now < 2 ^ 30 }
+        ensures text { OnOk result (GoesOnBy items.now self.old self.new) }
+        ensures count { OnOk result
+            (length self.new.units.items ≡ length self.old.units.items + length items.now) }
+    {
+        for item in items {
+            self.push(item)?;
+        }
+        Ok(())
+    }
+
+    /// Goes on by texts.
+    fn push_texts(&mut self, texts: &Texts) -> Result<(), Memory>
+        requires { length self.old.units.items + length (joined_texts texts.now) < 2 ^ 30 }
+        ensures text { OnOk result (GoesOnBy (joined_texts texts.now) self.old self.new) }
+        ensures count { OnOk result
+            (length self.new.units.items ≡ length self.old.units.items + length (joined_texts texts.now)) }
+    {
+        for k in 0..texts.len() {
+            let text = texts.get(k);
+            self.push_items(text.as_slice())?;
+        }
+        Ok(())
+    }
+
+    /// Goes on by the texts of a story, and a mark behind them where they have items.
+    fn push_story(&mut self, texts: &Texts) -> Result<(), Memory>
+        requires { length self.old.units.items + length (joined_texts texts.now) + 1 < 2 ^ 30 }
+        ensures text { OnOk result (GoesOnBy (with_mark (joined_texts texts.now)) self.old self.new) }
+        ensures count { OnOk result
+            (length self.new.units.items ≡ length self.old.units.items + length (with_mark (joined_texts texts.now))) }
+    {
+        let before = self.len();
+        self.push_texts(texts)?;
+        self.mark_behind(before)?;
+        Ok(())
+    }
+
+    /// Goes on by a mark where units came behind the first `before`.
+    fn mark_behind(&mut self, before: u32) -> Result<(), Memory>
+        requires { length self.old.units.items + 1 < 2 ^ 30 }
+        ensures text { OnOk result
+            (GoesOnBy (mark_if (nat_lt before (length self.old.units.items))) self.old self.new) }
+        ensures count { OnOk result
+            (length self.new.units.items
+            ≡ length self.old.units.items + length (mark_if (nat_lt before (length self.old.units.items)))) }
+    {
+        if before < self.len() {
+            self.push_mark()?;
+            return Ok(());
+        }
+        Ok(())
+    }
+
+    /// Goes on by a mark of style 0 without settings.
+    fn push_mark(&mut self) -> Result<(), Memory>
+        requires { length self.old.units.items + 1 < 2 ^ 30 }
+        ensures text { OnOk result (GoesOnBy (extra_mark ∷ []) self.old self.new) }
+        ensures count { OnOk result (length self.new.units.items ≡ length self.old.units.items + 1) }
+    {
+        let mark = Mark {
+            istd: 0,
+            pap: PropMap::new(self.alloc),
+        };
+        let item = Item {
+            unit: PARAGRAPH_MARK,
+            fld: None,
+            note: None,
+            chp: PropMap::new(self.alloc),
+            mark: Some(mark),
+            sect: None,
+        };
+        self.push(&item)?;
+        Ok(())
+    }
+
+    /// The whole text, with its counts.
+    fn finish(self, counts: [u32; 3]) -> Result<SavedText, Memory>
+        requires { length self.units.items < 2 ^ 30 }
+        ensures { IfOk result (λ text. (done : List TextItem) → IsTextSoFar done self → IsWholeText done counts text) }
+    {
+        let end = TEXT_AT + UNIT_LEN * self.len();
+        let TextSoFar {
+            alloc,
+            units,
+            characters,
+            paragraphs,
+        } = self;
+        Ok(SavedText {
+            units,
+            characters: characters.finish(end)?,
+            paragraphs: paragraphs.finish(alloc, end)?,
+            counts,
+        })
+    }
+}

@@ -1,0 +1,148 @@
+// `WordDocument` of a full save.
+ghost use Rattle.std.specs.Prelude.{◌≡◌, ◌+◌, ◌-◌, ◌*◌, ◌^◌, ◌<◌, ◌≤◌, ◌++◌, max, length, replicate, OnOk, IfOk};
+ghost use Rattle.std.specs.List.{flat_map};
+ghost use Rattle.fib_form.specs.FibBytes.{written_fib};
+ghost use Rattle.cfb_layout.specs.Sectors.{units_for, filled, padded};
+ghost use Rattle.full_save.specs.WordDocument.{units_bytes, one_piece_clx, least_length};
+ghost use Rattle.plain_doc.specs.Formed.{IsFormed};
+ghost use Rattle.plain_doc.specs.RightDocument.{IsRightDocument};
+ghost use Rattle.full_save.specs.Made.{IsBodyOf};
+
+use crate::pages::{append_chpx_pages, append_papx_pages, append_units};
+use crate::runs::UNIT_LEN;
+use crate::sections::append_sepxes;
+use crate::table_text::TableText;
+use crate::text::{TEXT_AT, text_of};
+use doc_bits::{Bytes, Memory};
+use fib_form::Fib;
+use fkp_pages::{Bins, PAGE_LEN, write_bin};
+use piece_table::PieceList;
+use plain_doc::Document;
+use std::alloc::Global;
+
+/// The least length of the stream.
+const LEAST_LEN: usize = 4096;
+
+/// `WordDocument` from the text on, and what the table stream says of it.
+#[derive(Drop)]
+pub(crate) struct WordBody {
+    pub(crate) bytes: Bytes,
+    pub(crate) text: TableText,
+}
+
+impl WordBody {
+    /// That of a document.
+    pub(crate) fn of(alloc: Global, document: &Document) -> Result<WordBody, Memory>
+        requires formed { IsFormed document.now }
+        requires right { IsRightDocument document.now }
+        ensures { IfOk result (IsBodyOf document.now) }
+    {
+        let text = text_of(alloc, document)?;
+        let len = text.units.len() as u32;
+        let end = TEXT_AT + UNIT_LEN * len;
+        let mut bytes = Bytes::new(alloc);
+        append_text(&mut bytes, &text.units)?;
+        let first = pages_for(end);
+        let mut characters = Bins::new(alloc);
+        let second = append_chpx_pages(
+            alloc,
+            &mut bytes,
+            &mut characters,
+            &text.characters,
+            first,
+        )?;
+        let mut paragraphs = Bins::new(alloc);
+        append_papx_pages(alloc, &mut bytes, &mut paragraphs, &text.paragraphs, second)?;
+        let seds = append_sepxes(alloc, &mut bytes, document.main.as_slice(), TEXT_AT)?;
+        let text = TableText {
+            counts: text.counts,
+            seds,
+            characters: write_bin(alloc, &characters, end)?,
+            paragraphs: write_bin(alloc, &paragraphs, end)?,
+            clx: clx_of(alloc, len)?,
+        };
+        Ok(WordBody { bytes, text })
+    }
+
+    /// [MS-DOC] cbMac.
+    pub(crate) fn cb_mac(&self) -> u32
+        requires { length self.now.bytes < 2 ^ 31 }
+        ensures { result ≡ TEXT_AT + length self.now.bytes }
+    {
+        TEXT_AT + self.bytes.as_slice().len() as u32
+    }
+
+    /// The number of bytes of the stream.
+    pub(crate) fn stream_len(&self) -> u64
+        requires { length self.now.bytes < 2 ^ 31 }
+        ensures { result ≡ max (TEXT_AT + length self.now.bytes) least_length }
+    {
+        let len = TEXT_AT as u64 + self.bytes.as_slice().len() as u64;
+        if len < LEAST_LEN as u64 {
+            return LEAST_LEN as u64;
+        }
+        len
+    }
+
+    /// The stream with this FIB.
+    pub(crate) fn stream(&self, alloc: Global, fib: &Fib) -> Result<Bytes, Memory>
+        ensures { IfOk result
+            (λ wd. wd ≡ filled least_length 0 (filled TEXT_AT 0 (written_fib fib.now) ++ self.now.bytes)) }
+    {
+        let mut stream = front_of(alloc, fib)?;
+        stream.push_all(self.bytes.as_slice())?;
+        let len = stream.as_slice().len();
+        push_zeros(&mut stream, LEAST_LEN.saturating_sub(len))?;
+        Ok(stream)
+    }
+}
+
+/// The FIB, and zeros up to the text.
+fn front_of(alloc: Global, fib: &Fib) -> Result<Bytes, Memory>
+    ensures { IfOk result (λ front. front ≡ filled TEXT_AT 0 (written_fib fib.now)) }
+{
+    let mut front = [0u8; TEXT_AT as usize];
+    fib.write(&mut front);
+    let bytes = Bytes::from_slice(alloc, &front)?;
+    Ok(bytes)
+}
+
+/// Appends the text, and zeros up to a page.
+fn append_text(out: &mut Bytes, units: &[u16]) -> Result<(), Memory>
+    requires { length units.now < 2 ^ 31 }
+    ensures { OnOk result (out.new ≡ out.old ++ padded 512 0 (units_bytes units.now)) }
+{
+    append_units(out, units)?;
+    let len = UNIT_LEN as usize * units.len();
+    push_zeros(out, (len + (PAGE_LEN - 1)) / PAGE_LEN * PAGE_LEN - len)?;
+    Ok(())
+}
+
+/// How many pages hold so many bytes.
+fn pages_for(len: u32) -> u32
+    requires { len < 2 ^ 31 }
+    ensures { result ≡ units_for 512 len }
+{
+    (len + (PAGE_LEN as u32 - 1)) / PAGE_LEN as u32
+}
+
+/// Appends zeros.
+fn push_zeros(out: &mut Bytes, count: usize) -> Result<(), Memory>
+    ensures { OnOk result (out.new ≡ out.old ++ replicate count 0) }
+{
+    for _turn in 0..count {
+        out.push_all(&[0])?;
+    }
+    Ok(())
+}
+
+/// The Clx of a text of so many units.
+fn clx_of(alloc: Global, len: u32) -> Result<Bytes, Memory>
+    requires some { 1 ≤ len }
+    requires most { len ≤ 500001 }
+    ensures { IfOk result (λ clx. clx ≡ one_piece_clx len) }
+{
+    let piece = PieceList::one(alloc, TEXT_AT, len)?;
+    let clx = piece.print_clx(alloc)?;
+    Ok(clx)
+}
