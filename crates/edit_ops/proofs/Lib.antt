@@ -3,3 +3,13 @@ pub mod MarkPlaceLemmas
 pub mod OutcomeLemmas
 pub mod FewLemmas
 pub mod CellLemmas
+pub mod FreshLemmas
+pub mod TextLemmas
+pub mod CanMakeLemmas
+pub mod WithoutLemmas
+pub mod JudgeLemmas
+pub mod MakeLemmas
+pub mod RowLemmas
+pub mod SumLemmas
+pub mod FactLemmas
+pub mod RunLemmas

@@ -37,3 +37,7 @@ no_end_is text at within none =
     first_is (λ item. is_some item.mark) text at (length text) nothing within (omega arith)
     (λ k from less. unmarked text k less (none k from))
     (λ less. absurd (omega arith))
+
+-- a read within a list does not look at its default
+pub any_default : (text : List Item) (i : ℕ) (item d : Item) → i < length text → get_or text i d ≡ get_or text i item
+any_default text i item d within = get_or_from_slice_get text i (get_or text i item) d (slice_get-get_or text i item within)

@@ -1,8 +1,8 @@
 -- An edit has one outcome.
 use Rattle.std.proofs.Common.{◌≡◌, ◌∙◌, refl, sym, ap, subst, ℕ, zero, suc, ◌≤◌, length, arith}
 use Rattle.doc_bits.specs.declared.places.Where.{Where}
-use Rattle.doc_bits.specs.declared.places.Where.TheVariants.{File, Wd, Table, Sheet, Main, Note, Head}
-use Rattle.doc_bits.specs.Places.{Place, rank, inner, Upto}
+use Rattle.doc_bits.specs.Places.{Place, Upto}
+use Rattle.doc_bits.proofs.PlaceLemmas.{place_one}
 use Rattle.doc_bits.proofs.RuleLemmas.{first_agrees, hold_or_first}
 use Rattle.plain_doc.specs.declared.document.Document.{Document}
 use Rattle.plain_doc.specs.Sound.{document_rules}
@@ -14,46 +14,6 @@ use Rattle.edit_ops.specs.declared.faults.EditFault.TheVariants.{Range, Code, Ru
 use Rattle.edit_ops.specs.Edits.{document_after, changes_of}
 use Rattle.edit_ops.specs.Causes.{IsEditFault, IsAcceptedEdit, BreaksFirst, IsLimit}
 use Rattle.edit_ops.specs.Laws.{IsCause, EditHasOneOutcome, ChangesAreFew}
-
--- ---- places that are not after one another are one
-
-where_of : ℕ → ℕ → Where
-where_of zero k = File
-where_of (suc zero) k = Wd
-where_of (suc (suc zero)) k = Table
-where_of (suc (suc (suc zero))) k = Sheet
-where_of (suc (suc (suc (suc zero)))) k = Main
-where_of (suc (suc (suc (suc (suc zero))))) k = Note k
-where_of (suc (suc (suc (suc (suc (suc n)))))) k = Head k
-
-where_back : (w : Where) → where_of (rank w) (inner w) ≡ w
-unfolding where_of
-where_back File = refl
-where_back Wd = refl
-where_back Table = refl
-where_back Sheet = refl
-where_back Main = refl
-where_back (Note k) = refl
-where_back (Head k) = refl
-
-record AreOne (p q : Place) : Type 0 where
-  part : p.0 ≡ q.0
-  offset : p.1 ≡ q.1
-
-place_one : (p q : Place) → Upto p q → Upto q p → AreOne p q
-place_one p q a b =
-    let pa = a.part in
-    let pb = b.part in
-    let ranks : rank p.0 ≡ rank q.0 = omega arith in
-    let na = a.number ranks in
-    let nb = b.number (sym ranks) in
-    let inners : inner p.0 ≡ inner q.0 = omega arith in
-    let oa = a.offset ranks inners in
-    let ob = b.offset (sym ranks) (sym inners) in
-    record {
-      part = sym (where_back p.0) ∙ (ap (λ r. where_of r (inner p.0)) ranks ∙ (ap (λ k. where_of (rank q.0) k) inners ∙ where_back q.0));
-      offset = omega arith;
-    }
 
 -- ---- faults
 
@@ -67,7 +27,7 @@ breaks_one d c rule other place there at then a b =
     let ab = first_agrees Upto (document_rules (document_after d c)) rule other (place, at) (there, then) (document_rules-IsSingle (document_after d c)) a.first b.first in
     let ba = first_agrees Upto (document_rules (document_after d c)) other rule (there, then) (place, at) (document_rules-IsSingle (document_after d c)) b.first a.first in
     let one = place_one (place, at) (there, then) ab.1 ba.1 in
-    record { rules = ab.0; places = one.part; offsets = one.offset }
+    record { rules = ab.0; places = ap (λ (p : Place). p.0) one; offsets = ap (λ (p : Place). p.1) one }
 
 rule_one : (rule other : ℕ) (place there : Where) (at then : ℕ) → IsSameFault rule other place there at then → Rule rule place at ≡ Rule other there then
 rule_one rule other place there at then same =

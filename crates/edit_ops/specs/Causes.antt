@@ -37,3 +37,11 @@ IsEditFault document command Code = IsInRange document command × ¬ (HasRightCo
 IsEditFault document command (Rule rule place at) = BreaksFirst document command rule place at × ¬ (IsLimit rule)
 IsEditFault document command (Limit rule place at) = BreaksFirst document command rule place at × IsLimit rule
 IsEditFault document command Memory = ⊤
+
+-- the first rule that a document breaks, as the fault of an edit
+abbrev pub IsJudged : Document → EditFault → Type 0
+IsJudged document Range = ⊥
+IsJudged document Code = ⊥
+IsJudged document (Rule rule place at) = IsFirstPlace (document_rules document) rule (place, at) × ¬ (IsLimit rule)
+IsJudged document (Limit rule place at) = IsFirstPlace (document_rules document) rule (place, at) × IsLimit rule
+IsJudged document Memory = ⊥

@@ -1,13 +1,15 @@
 -- What the definitions imply.
 use Rattle.std.specs.Prelude.{◌≡◌, ◌≤◌, length, ⊤}
 use Rattle.plain_doc.specs.declared.document.Document.{Document}
+use Rattle.plain_doc.specs.Sound.{IsSound}
 use Rattle.edit_script.specs.declared.commands.Command.{Command}
 use Rattle.edit_ops.specs.declared.faults.EditFault.{EditFault}
 use Rattle.edit_ops.specs.declared.faults.EditFault.TheVariants.{Range, Code, Rule, Limit, Memory}
 use Rattle.edit_script.specs.declared.commands.Command.TheVariants.{Insert, Erase, Char, Plain, Para, Style, Field, Note, Split, Merge, Sect, Row, StyleChar, StylePara, Save}
 use Rattle.edit_ops.specs.Edits.{changes_of}
 use Rattle.edit_ops.specs.EditFacts.{edit_facts}
-use Rattle.edit_ops.specs.Causes.{IsEditFault, IsAcceptedEdit}
+use Rattle.edit_ops.specs.Causes.{CanBeTried, IsEditFault, IsAcceptedEdit}
+use Rattle.edit_ops.specs.Makes.{CanMakeAll}
 
 -- a fault for another cause than memory
 abbrev pub IsCause : EditFault → Type 0
@@ -25,6 +27,10 @@ pub record EditHasOneOutcome : Type 0 where
 -- a command makes three changes at most
 abbrev pub ChangesAreFew : Type 0
 ChangesAreFew = (document : Document) (command : Command) → length (changes_of document command) ≤ 3
+
+-- the changes of an edit that may be tried can be made, one after another
+abbrev pub ChangesCanBeMade : Type 0
+ChangesCanBeMade = (document : Document) (command : Command) → IsSound document → CanBeTried document command → CanMakeAll (changes_of document command) document
 
 -- a command that sets codes, clears them or names a style
 abbrev pub IsFormatting : Command → Type 0

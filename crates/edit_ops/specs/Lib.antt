@@ -6,4 +6,6 @@ pub mod Ranges
 pub mod Codes
 pub mod Causes
 pub mod EditFacts
+pub mod Makes
 pub mod Laws
+pub mod Runs

@@ -1,17 +1,32 @@
 //! Edits of a document: what a command changes, whether it may, and the document after it.
 #![tactic(auto)]
 
+mod applying;
 mod changes;
 mod codes;
+mod facts;
 mod faults;
+mod fresh;
+mod judging;
 mod laws;
+mod making;
+mod marks;
+mod modifiers;
 mod places;
+mod planning;
 mod ranges;
+mod rows;
 
+pub use applying::{apply_plain, test};
 pub use changes::{Change, Changes};
 pub use codes::has_right_codes;
 pub use edit_guards::Facts;
 pub use edit_script::{Cells, Command, Script, ScriptFault, read_script};
 pub use faults::EditFault;
-pub use laws::{changes_are_few, edit_has_one_outcome, formatting_moves_no_items};
+pub use laws::{
+    changes_are_few, changes_can_be_made, edit_has_one_outcome, formatting_moves_no_items,
+    runs_are_few,
+};
+pub use making::make;
+pub use planning::changes_of;
 pub use ranges::is_in_range;

@@ -1,0 +1,82 @@
+-- The settings and the items that commands put are well formed.
+use Rattle.std.proofs.Common.{◌≡◌, ◌∙◌, refl, sym, ap, inl, inr, ℕ, ◌+◌, ◌*◌, ◌<◌, ◌≤◌, List, [], ◌∷◌, ◌++◌, length, map, Some, None, arith, length-append, replicate, suc, zero}
+use Rattle.std.specs.Prelude.{slice_index}
+use Rattle.std.specs.List.{flat_map, range_with_len}
+use Rattle.std.proofs.lemmas.List.{length-map}
+use Rattle.std.specs.FinMap.{empty, insert}
+use Rattle.std.proofs.lemmas.List.{length-replicate}
+use Rattle.std.proofs.lemmas.List.FromFn.{length-map-range_with_len}
+use Rattle.std.specs.Option.{option_and_then}
+use Rattle.std.proofs.lemmas.Option.{slice_get_cases, none-some}
+use Rattle.doc_bits.specs.Number.{AreBytes, number_bytes}
+use Rattle.doc_bits.proofs.ByteListLemmas.{one_byte, joined_bytes, no_bytes}
+use Rattle.prop_map.specs.Settings.{Settings}
+use Rattle.prop_map.specs.Formed.{IsPropertyMap, character_groups, paragraph_groups, section_groups}
+use Rattle.prop_map.proofs.LawLemmas.{stay_formed}
+use Rattle.plain_doc.specs.declared.item.Item.{Item}
+use Rattle.plain_doc.specs.declared.item.Mark.{Mark}
+use Rattle.plain_doc.specs.Document.{HasPropertyMaps, IsFormedText}
+use Rattle.plain_doc.proofs.MainLemmas.{maps_there}
+use Rattle.edit_ops.specs.Places.{mark_place, mark_at, section_place, section_at}
+use Rattle.plain_doc.proofs.FormedLemmas.{HasPropertyMaps-from_parts}
+use Rattle.edit_ops.specs.Fresh.{special, unit_item, mark_item, mark_with, cell_settings, row_settings, row_definition, row_edges}
+
+-- ---- settings
+
+pub special_formed : (base : Settings) → IsPropertyMap character_groups base → IsPropertyMap character_groups (special base)
+special_formed base formed =
+    stay_formed character_groups base (0x0855, 1 ∷ []) formed
+    (record {
+      setting = record { entry = record { some = omega arith; word = omega arith; size = refl }; held = refl; sets = refl };
+      bytes = one_byte 1 (omega arith);
+    })
+
+pub in_table_formed : (base : Settings) → IsPropertyMap paragraph_groups base → IsPropertyMap paragraph_groups (insert base 0x2416 (1 ∷ []))
+in_table_formed base formed =
+    stay_formed paragraph_groups base (0x2416, 1 ∷ []) formed
+    (record {
+      setting = record { entry = record { some = omega arith; word = omega arith; size = refl }; held = refl; sets = refl };
+      bytes = one_byte 1 (omega arith);
+    })
+
+pub row_end_formed : (base : Settings) → IsPropertyMap paragraph_groups base → IsPropertyMap paragraph_groups (insert base 0x2417 (1 ∷ []))
+row_end_formed base formed =
+    stay_formed paragraph_groups base (0x2417, 1 ∷ []) formed
+    (record {
+      setting = record { entry = record { some = omega arith; word = omega arith; size = refl }; held = refl; sets = refl };
+      bytes = one_byte 1 (omega arith);
+    })
+
+pub definition_formed : (base : Settings) (value : List ℕ) → length value ≤ 65534 → AreBytes value → IsPropertyMap paragraph_groups base → IsPropertyMap paragraph_groups (insert base 0xD608 value)
+definition_formed base value short bytes formed =
+    stay_formed paragraph_groups base (0xD608, value) formed
+    (record {
+      setting = record { entry = record { some = omega arith; word = omega arith; size = short }; held = refl; sets = refl };
+      bytes = bytes;
+    })
+
+-- ---- items
+
+pub unit_maps : (chp : Settings) (unit : ℕ) → IsPropertyMap character_groups chp → HasPropertyMaps (unit_item chp unit)
+unit_maps chp unit formed = HasPropertyMaps-from_parts (unit_item chp unit) formed tt tt
+
+pub mark_maps : (chp : Settings) (unit : ℕ) (mark : Mark) → IsPropertyMap character_groups chp → IsPropertyMap paragraph_groups mark.pap → HasPropertyMaps (mark_item chp unit mark)
+mark_maps chp unit mark formed pap = HasPropertyMaps-from_parts (mark_item chp unit mark) formed pap tt
+
+-- ---- maps of items that are there
+
+pub mark_formed : (text : List Item) (at : ℕ) (mark : Mark) → IsFormedText text → mark_at text at ≡ Some mark → IsPropertyMap paragraph_groups mark.pap
+mark_formed text at mark formed is = elim (slice_get_cases text (mark_place text at)).1 [
+  | inl w ↦
+      let has : w.0.mark ≡ Some mark = sym (ap (option_and_then (λ item. item.mark)) w.2) ∙ is in
+      (maps_there text (mark_place text at) w.0 formed w.2).pap mark has
+  | inr past ↦ absurd (none-some mark (sym (ap (option_and_then (λ item. item.mark)) past.1) ∙ is))
+]
+
+pub section_formed : (main : List Item) (at : ℕ) (sect : Settings) → IsFormedText main → section_at main at ≡ Some sect → IsPropertyMap section_groups sect
+section_formed main at sect formed is = elim (slice_get_cases main (section_place main at)).1 [
+  | inl w ↦
+      let has : w.0.sect ≡ Some sect = sym (ap (option_and_then (λ item. item.sect)) w.2) ∙ is in
+      (maps_there main (section_place main at) w.0 formed w.2).sect sect has
+  | inr past ↦ absurd (none-some sect (sym (ap (option_and_then (λ item. item.sect)) past.1) ∙ is))
+]

@@ -1,0 +1,11 @@
+use Rattle.std.proofs.Common.{Some}
+use Rattle.prop_map.specs.Formed.{IsPropertyMap, paragraph_groups}
+use Rattle.plain_doc.proofs.FormedLemmas.{ForSome-from_cases}
+use Rattle.edit_ops.proofs.making.modified_end.Goals as goal
+
+pub modified_mark-requires-clause-mark : goal.modified_mark-requires-clause-mark
+modified_mark-requires-clause-mark c = c.requires.mark c.in-Some.mark c.in-Some.is
+
+pub returns-in_ok-modified_mark-in-Some-clause-formed : goal.returns-in_ok-modified_mark-in-Some-clause-formed
+returns-in_ok-modified_mark-in-Some-clause-formed c =
+    ForSome-from_cases (Some c.in_ok-modified_mark-in-Some.field-0) (λ mark. IsPropertyMap paragraph_groups mark.pap) c.in_ok-modified_mark-in-Some.ensures.formed

@@ -1,0 +1,65 @@
+-- How many runs of equal settings a command puts: of characters, and of paragraphs. A fast save writes so many at most.
+use Rattle.std.specs.Prelude.{ℕ, ◌+◌, ◌≤◌, ◌==◌, ◌&&◌, Bool, true, false, List, [], ◌∷◌, length}
+use Rattle.std.specs.List.{filter_map, sum_by}
+use Rattle.plain_doc.specs.declared.item.Item.{Item}
+use Rattle.plain_doc.specs.declared.item.Mark.{Mark}
+use Rattle.plain_doc.specs.declared.document.Document.{Document}
+use Rattle.plain_doc.specs.Stretches.{stretches}
+use Rattle.plain_doc.specs.Settings.{same_settings, is_alike}
+use Rattle.edit_script.specs.declared.commands.Command.{Command}
+use Rattle.edit_script.specs.declared.commands.Command.TheVariants.{Insert, Erase, Char, Plain, Para, Style, Field, Note, Split, Merge, Sect, Row, StyleChar, StylePara, Save}
+use Rattle.edit_ops.specs.declared.changes.Change.{Change}
+use Rattle.edit_ops.specs.declared.changes.Change.TheVariants.{SpliceText, ModifyItems, SetSection, SpliceNotes, SpliceHeads, SetStyleCharacters, SetStyleParagraphs}
+use Rattle.edit_ops.specs.Edits.{changes_of}
+
+-- the next mark has the same style and settings
+abbrev pub is_same_mark : Mark → Mark → Bool
+is_same_mark mark next = (mark.istd == next.istd) && same_settings mark.pap next.pap
+
+-- the marks of a text, in its order
+abbrev pub marks_of : List Item → List Mark
+marks_of text = filter_map (λ item. item.mark) text
+
+-- the stretches of items with equal settings, and those of equal marks
+abbrev pub run_count : List Item → ℕ
+run_count text = length (stretches is_alike text) + length (stretches is_same_mark (marks_of text))
+
+-- the texts that a change puts
+abbrev pub texts_put : Change → List (List Item)
+texts_put (SpliceText story from to fresh) = fresh ∷ []
+texts_put (ModifyItems story from to modifier) = []
+texts_put (SetSection at set) = []
+texts_put (SpliceNotes from to fresh) = fresh
+texts_put (SpliceHeads from to fresh) = fresh
+texts_put (SetStyleCharacters istd set) = []
+texts_put (SetStyleParagraphs istd set) = []
+
+-- the runs of what a command puts
+abbrev pub runs_put : Document → Command → ℕ
+runs_put document command = sum_by (λ change. sum_by run_count (texts_put change)) (changes_of document command)
+
+abbrev pub most_runs_of_section : Bool → ℕ
+most_runs_of_section true = 2
+most_runs_of_section false = 0
+
+-- Profile: the runs that are reckoned for a command, whatever the document is
+abbrev pub most_runs : Command → ℕ
+most_runs (Insert story at text) = 3
+most_runs (Erase story from to) = 0
+most_runs (Char story from to set) = 0
+most_runs (Plain story from to) = 0
+most_runs (Para story at set) = 0
+most_runs (Style story at istd) = 0
+most_runs (Field story at type code result) = 5
+most_runs (Note at text) = 5
+most_runs (Split story at) = 2
+most_runs (Merge story at) = 0
+most_runs (Sect at new set) = most_runs_of_section new
+most_runs (Row story at width cells) = length cells + 2
+most_runs (StyleChar istd set) = 0
+most_runs (StylePara istd set) = 0
+most_runs (Save full) = 0
+
+-- no command puts more runs than are reckoned for it
+abbrev pub RunsAreFew : Type 0
+RunsAreFew = (document : Document) (command : Command) → runs_put document command ≤ most_runs command

@@ -1,0 +1,99 @@
+// Edits tried and made. A copy is changed, judged and put in place.
+ghost use Rattle.std.specs.Prelude.{◌≡◌, IfErr, IfOk, OnOk, MatchResult};
+ghost use Rattle.plain_doc.specs.Sound.{IsSound};
+ghost use Rattle.edit_ops.specs.Causes.{CanBeTried, IsAcceptedEdit, IsEditFault};
+ghost use Rattle.edit_ops.specs.Changes.{all_changed};
+ghost use Rattle.edit_ops.specs.EditFacts.{edit_facts};
+ghost use Rattle.edit_ops.specs.Edits.{document_after, changes_of as planned};
+ghost use Rattle.edit_ops.specs.Makes.{CanMakeAll};
+
+use crate::facts::facts_of;
+use crate::judging::judged;
+use crate::making::make_all;
+use crate::planning::changes_of;
+use crate::{Changes, Command, EditFault, Facts, has_right_codes, is_in_range};
+use doc_bits::Memory;
+use plain_doc::Document;
+use std::alloc::Global;
+
+/// An edit that is accepted: the document after it, and what it does.
+#[derive(Drop)]
+struct Edit {
+    document: Document,
+    facts: Facts,
+}
+
+/// Tries an edit: what it does, or why it is refused. The document stays as it is.
+pub fn test(alloc: Global, document: &Document, command: &Command) -> Result<Facts, EditFault>
+    requires { IsSound document.now }
+    ensures { MatchResult result
+        (λ facts. IsAcceptedEdit document.now command.now × (facts ≡ edit_facts document.now command.now))
+        (IsEditFault document.now command.now) }
+{
+    let edit = edit_of(alloc, document, command)?;
+    Ok(edit.facts)
+}
+
+/// Makes an edit. A save changes nothing.
+pub fn apply_plain(
+    alloc: Global,
+    document: &mut Document,
+    command: &Command,
+) -> Result<(), EditFault>
+    requires { IsSound document.old }
+    ensures ok { OnOk result
+        (IsAcceptedEdit document.old command.now × (document.new ≡ document_after document.old command.now)) }
+    ensures err { IfErr result
+        (λ fault. (document.new ≡ document.old) × IsEditFault document.old command.now fault) }
+    ensures sound { IsSound document.new }
+{
+    let edit = edit_of(alloc, document, command)?;
+    *document = edit.document;
+    Ok(())
+}
+
+/// The edit of a command.
+fn edit_of(alloc: Global, document: &Document, command: &Command) -> Result<Edit, EditFault>
+    requires { IsSound document.now }
+    ensures { MatchResult result
+        (λ edit. IsAcceptedEdit document.now command.now
+        × ((edit.document ≡ document_after document.now command.now)
+        × (edit.facts ≡ edit_facts document.now command.now)))
+        (IsEditFault document.now command.now) }
+{
+    if !is_in_range(document, command) {
+        return Err(EditFault::Range);
+    }
+    if !has_right_codes(command) {
+        return Err(EditFault::Code);
+    }
+    let edit = changed(alloc, document, command)?;
+    judged(&edit.document)?;
+    Ok(edit)
+}
+
+/// The edit of a command, before the document after it is judged.
+fn changed(alloc: Global, document: &Document, command: &Command) -> Result<Edit, Memory>
+    requires sound { IsSound document.now }
+    requires tried { CanBeTried document.now command.now }
+    ensures document { IfOk result (λ edit. edit.document ≡ document_after document.now command.now) }
+    ensures facts { IfOk result (λ edit. edit.facts ≡ edit_facts document.now command.now) }
+{
+    let changes = changes_of(alloc, document, command)?;
+    let facts = facts_of(document, command, &changes);
+    let made = with_changes(alloc, document, changes)?;
+    Ok(Edit {
+        document: made,
+        facts,
+    })
+}
+
+/// A copy of the document, with the changes made.
+fn with_changes(alloc: Global, document: &Document, changes: Changes) -> Result<Document, Memory>
+    requires { CanMakeAll changes document.now }
+    ensures { IfOk result (λ made. made ≡ all_changed changes document.now) }
+{
+    let mut made = document.copy(alloc)?;
+    make_all(alloc, &mut made, changes)?;
+    Ok(made)
+}

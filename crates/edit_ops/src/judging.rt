@@ -1,0 +1,43 @@
+// A changed document judged.
+ghost use Rattle.std.specs.Prelude.{◌≡◌, ◌↔◌, IsTrue, MatchResult};
+ghost use Rattle.plain_doc.specs.declared.document.Document.{Document};
+ghost use Rattle.plain_doc.specs.Sound.{IsSound, NamesFirstRule, document_rules};
+ghost use Rattle.edit_ops.specs.Causes.{IsLimit, IsJudged};
+
+use crate::EditFault;
+use plain_doc::{DocFault, Document, check};
+
+const RULE_ITEMS: u8 = 68;
+
+const RULE_SETTINGS: u8 = 70;
+
+const RULE_STD: u8 = 71;
+
+/// Judges a changed document.
+pub(crate) fn judged(document: &Document) -> Result<(), EditFault>
+    ensures { MatchResult result (λ _. IsSound document.now) (IsJudged document.now) }
+{
+    match check(document) {
+        Ok(()) => Ok(()),
+        Err(fault) => Err(named(fault)),
+    }
+}
+
+/// The fault of an edit whose document breaks this rule first.
+fn named(fault: DocFault) -> EditFault
+    ensures { (document : Document) → NamesFirstRule (document_rules document) fault → IsJudged document result }
+{
+    let DocFault { rule, place, at } = fault;
+    if is_limit(rule) {
+        EditFault::Limit { rule, place, at }
+    } else {
+        EditFault::Rule { rule, place, at }
+    }
+}
+
+/// Whether the rule is one on sizes.
+fn is_limit(rule: u8) -> bool
+    ensures { IsTrue result ↔ IsLimit rule }
+{
+    rule == RULE_ITEMS || rule == RULE_SETTINGS || rule == RULE_STD
+}
