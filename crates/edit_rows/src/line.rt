@@ -1,0 +1,61 @@
+use crate::row_fault::RowFault;
+
+/// What a line says.
+#[derive(Drop)]
+pub(crate) enum Line<'a> {
+    /// Nothing: an empty line, and one that begins with `#`.
+    Nothing,
+    /// A row begins, with no document.
+    Row(&'a str),
+    /// Where what the row prints comes from.
+    From,
+    /// A name stands for a text, so many times, in all commands from here on.
+    Repeat {
+        name: &'a str,
+        count: u32,
+        text: &'a str,
+    },
+    /// The document of the row: the blank one, or that of a file of data.
+    Document(&'a str),
+    /// An edit is tried and made.
+    Do(&'a str),
+    /// The styles are shown.
+    Styles,
+    /// The texts are shown.
+    Texts,
+}
+
+impl<'a> Line<'a> {
+    /// What the line says.
+    pub(crate) fn read(line: &'a str) -> Result<Line<'a>, RowFault> {
+        let (first, rest) = word(line);
+        match first {
+            "" | "#" => Ok(Line::Nothing),
+            "row" => Ok(Line::Row(rest)),
+            "from" => Ok(Line::From),
+            "repeat" => repeat(rest),
+            "document" => Ok(Line::Document(rest)),
+            "do" => Ok(Line::Do(rest)),
+            "styles" => Ok(Line::Styles),
+            "texts" => Ok(Line::Texts),
+            _ => Err(RowFault::NoCommand),
+        }
+    }
+}
+
+/// The first word, and what stands behind the space after it.
+fn word(text: &str) -> (&str, &str) {
+    match text.split_once(' ') {
+        Some(parts) => parts,
+        None => (text, ""),
+    }
+}
+
+fn repeat(rest: &str) -> Result<Line<'_>, RowFault> {
+    let (name, rest) = word(rest);
+    let (count, text) = word(rest);
+    match count.parse::<u32>() {
+        Ok(count) => Ok(Line::Repeat { name, count, text }),
+        Err(_) => Err(RowFault::NoNumber),
+    }
+}
