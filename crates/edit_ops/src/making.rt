@@ -1,5 +1,6 @@
 // Changes made. After want of memory a document is what it was.
-ghost use Rattle.std.specs.Prelude.{◌≡◌, ◌<◌, ◌≤◌, length, map, slice_get, slice_range, option_map, IfOk, OnOk, OnErr, MatchOption};
+ghost use Rattle.std.specs.Prelude.{◌≡◌, ◌<◌, ◌≤◌, length, map, slice_get};
+ghost use Rattle.std.specs.Prelude.{slice_range, option_map, IfOk, OnOk, OnErr, MatchOption};
 ghost use Rattle.std.specs.Option.{ForSome};
 ghost use Rattle.prop_map.specs.Overlay.{overlay};
 ghost use Rattle.std.specs.List.{splice};
@@ -7,7 +8,8 @@ ghost use Rattle.prop_map.specs.Formed.{IsPropertyMap, section_groups, paragraph
 ghost use Rattle.prop_map.specs.Modifiers.{IsFormedModifier};
 ghost use Rattle.plain_doc.specs.Document.{IsFormedText, HasPropertyMaps};
 ghost use Rattle.edit_ops.specs.Ranges.{HasText, HasRange};
-ghost use Rattle.edit_ops.specs.Changes.{changed, changed_at, with_text, map_range, with_section as section_over, all_changed};
+ghost use Rattle.edit_ops.specs.Changes.{changed, changed_at, with_text};
+ghost use Rattle.edit_ops.specs.Changes.{map_range, with_section as section_over, all_changed};
 ghost use Rattle.edit_ops.specs.Changes.{modified_item as item_after, modified_mark as mark_after};
 ghost use Rattle.edit_ops.specs.Makes.{CanMake, CanSplice, CanMakeAll};
 

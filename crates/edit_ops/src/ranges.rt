@@ -4,7 +4,8 @@ ghost use Rattle.std.specs.Option.{option_and_then};
 ghost use Rattle.style_sheet.specs.Chain.{kind_at};
 ghost use Rattle.text_codes.specs.Paragraph.{paragraph_mark};
 ghost use Rattle.edit_ops.specs.Places.{text_at, mark_unit};
-ghost use Rattle.edit_ops.specs.Ranges.{IsInRange, TakesText, HasPlace, HasRange, EndsWithMark, BeginsParagraph, HasText};
+ghost use Rattle.edit_ops.specs.Ranges.{IsInRange, TakesText, HasPlace, HasRange};
+ghost use Rattle.edit_ops.specs.Ranges.{EndsWithMark, BeginsParagraph, HasText};
 
 use crate::Command;
 use crate::places::{mark_place, text_of};

@@ -47,7 +47,8 @@ fn the_first_refuser_is_named(rt: HostRuntime) -> Result<(), Fail> {
     guards.push(Box::new(alloc, UnitQuota::new(3))?)?;
     guards.push(Box::new(alloc, Lenient)?)?;
     guards.push(Box::new(alloc, StyleLock::new(alloc, &[1, 7])?)?)?;
-    // The items and the style of an edit, and who refuses it: 5 and 3 items are left at first, and 2 and 0 behind "ab" and "c".
+    // The items and the style of an edit, and who refuses it: 5 and 3 items are left at first, and 2 and 0 behind "ab"
+    // and "c".
     let rows = [
         (2, 0, None),
         (0, 7, Some(3)),
