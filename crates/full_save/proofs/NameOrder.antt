@@ -2,7 +2,7 @@
 use Rattle.std.specs.Prelude.{slice_index}
 use Rattle.std.proofs.Common.{◌≡◌, ◌≢◌, ◌∙◌, inl, inr, ℕ, zero, suc, ◌<◌, true, false, cond, ltb, lt-ltb, eq-eqb}
 use Rattle.std.proofs.Common.{List, []}
-use Rattle.std.proofs.Common.{◌∷◌, length, refl, sym, ap, subst, arith}
+use Rattle.std.proofs.Common.{◌∷◌, length, sym, ap, subst, arith}
 use Rattle.std.proofs.lemmas.Bool.{cases_order, cases_eq, ne_eqb, ltb-true, false≢true, true≢false}
 use Rattle.cfb_streams.specs.Directory.{upper_case, AreSameNames, IsNameLessAt, ComesBefore}
 use Rattle.cfb_streams.proofs.OrderLemmas.{first_difference}

@@ -1,20 +1,17 @@
 -- How long the two streams of a full save can be, whether or not its file fits.
-use Rattle.std.specs.Prelude.{slice_get, slice_index, slice_index_or, ⊤, All, IsTrue, replicate, nat_lt}
+use Rattle.std.specs.Prelude.{slice_get, slice_index, slice_index_or, ⊤, All, replicate, nat_lt}
 use Rattle.std.specs.Prelude.{if◌then◌else◌, ◌==◌}
-use Rattle.std.specs.List.{flat_map, list_all, range_with_len}
-use Rattle.std.proofs.Common.{◌≡◌, inl, inr, ℕ, zero, suc, ◌+◌, ◌-◌, ◌*◌, ◌/◌, ◌%◌, ◌^◌, ◌<◌, ◌≤◌, Bool, true, false}
-use Rattle.std.proofs.Common.{ltb, ltb-true}
-use Rattle.std.proofs.Common.{cond, List, [], ◌∷◌, ◌++◌, length, map, Some, None, Option, refl, sym, ap, ◌∙◌, subst}
+use Rattle.std.specs.List.{flat_map, list_all}
+use Rattle.std.proofs.Common.{◌≡◌, ℕ, suc, ◌+◌, ◌*◌, ◌%◌, ◌^◌, ◌<◌, ◌≤◌, Bool, true}
+use Rattle.std.proofs.Common.{ltb-true}
+use Rattle.std.proofs.Common.{List, [], ◌∷◌, ◌++◌, length, map, Some, None, Option, refl, ap, subst}
 use Rattle.std.proofs.Common.{arith}
 use Rattle.std.proofs.Common.{length-append}
 use Rattle.std.proofs.lemmas.Bool.{and_parts, cond_both}
 use Rattle.std.proofs.lemmas.List.{length-map, length-replicate}
-use Rattle.std.proofs.lemmas.List.Elements.{All-nil, All-cons, All-head, All-tail}
-use Rattle.std.proofs.lemmas.List.FromFn.{length-range_with_len}
-use Rattle.std.proofs.lemmas.Option.{slice_get_within}
+use Rattle.std.proofs.lemmas.List.Elements.{All-head, All-tail}
 use Rattle.doc_bits.specs.Number.{number_bytes, numbers}
 use Rattle.doc_bits.specs.Plc.{printed_plc}
-use Rattle.doc_bits.proofs.ListLemmas.{All_at, All-from_slice_get}
 use Rattle.doc_bits.proofs.NumberLemmas.{length-number_bytes, length-numbers}
 use Rattle.prop_map.specs.Settings.{Settings}
 use Rattle.prop_map.specs.Printing.{printed_list}
@@ -22,7 +19,7 @@ use Rattle.fib_form.specs.TableEntries.{TableEntry, entry}
 use Rattle.fkp_pages.specs.declared.kind.PageKind.{PageKind}
 use Rattle.fkp_pages.specs.declared.kind.PageKind.TheVariants.{Chpx, Papx}
 use Rattle.fkp_pages.specs.declared.lists.Bin.{Bin}
-use Rattle.fkp_pages.specs.Bin.{bin_fcs, printed_bin}
+use Rattle.fkp_pages.specs.Bin.{printed_bin}
 use Rattle.fkp_pages.specs.PageBytes.{last_fc}
 use Rattle.fkp_pages.specs.InARow.{numbered_bins}
 use Rattle.fkp_pages.proofs.RowLemmas.{length-numbered_bins}
@@ -30,7 +27,7 @@ use Rattle.piece_table.specs.Printing.{pcd_bytes, cps_of, plc_bytes}
 use Rattle.cfb_layout.specs.Sectors.{padded}
 use Rattle.cfb_layout.proofs.BytesLemmas.{length-table, length-padded}
 use Rattle.style_sheet.specs.declared.styles.Style.{Style}
-use Rattle.style_sheet.specs.Sheet.{Sheet, style_at}
+use Rattle.style_sheet.specs.Sheet.{Sheet}
 use Rattle.style_sheet.specs.Counted.{written_counted}
 use Rattle.style_sheet.specs.Formed.{IsFormedSheet}
 use Rattle.style_sheet.specs.Written.{word, written_slot, written_slots, written_front, written_sheet, IsWritable}
@@ -47,7 +44,7 @@ use Rattle.plain_doc.specs.declared.carried.Carried.{Carried}
 use Rattle.plain_doc.specs.declared.document.Document.{Document}
 use Rattle.doc_bits.specs.declared.places.Where.TheVariants.{Main}
 use Rattle.plain_doc.specs.Collected.{joined_texts, entry_before, collected, sections_of, field_of, fields_of}
-use Rattle.plain_doc.specs.Collected.{refs_of, is_auto, cuts_from}
+use Rattle.plain_doc.specs.Collected.{refs_of, is_auto}
 use Rattle.plain_doc.specs.TextLists.{cuts_of}
 use Rattle.plain_doc.specs.Carried.{ArePartsShort}
 use Rattle.plain_doc.specs.Formed.{IsFormed, carried_parts}

@@ -1,38 +1,29 @@
 -- What can be written of the items of a document, and the runs and pages of its text.
-use Rattle.std.specs.Prelude.{slice_get, slice_index, All, min, replicate}
+use Rattle.std.specs.Prelude.{slice_get, All, min}
 use Rattle.std.specs.FinMap.{empty}
-use Rattle.std.proofs.Common.{◌≡◌, ℕ, ◌+◌, ◌-◌, ◌*◌, ◌/◌, ◌≤◌}
-use Rattle.std.proofs.Common.{List, [], ◌∷◌, ◌++◌, length, map, Some, refl, sym, ap}
-use Rattle.std.proofs.Common.{◌∙◌, subst, arith, append_assoc, length-append}
-use Rattle.std.proofs.lemmas.List.{length-map, length-replicate}
+use Rattle.std.proofs.Common.{◌≡◌, ℕ, ◌+◌, ◌*◌, ◌≤◌}
+use Rattle.std.proofs.Common.{List, [], ◌∷◌, ◌++◌, length, map, Some, refl}
+use Rattle.std.proofs.Common.{subst, arith, length-append}
+use Rattle.std.proofs.lemmas.List.{length-map}
 use Rattle.std.proofs.lemmas.List.Concat.{length-flat_map}
 use Rattle.std.proofs.lemmas.List.Elements.{All-nil, All-cons, All-append}
-use Rattle.std.proofs.lemmas.Option.{slice_get_within, same_Some, get_or_from_slice_get}
-use Rattle.doc_bits.specs.Number.{u16_at}
-use Rattle.doc_bits.specs.Rules.{Hold}
+use Rattle.std.proofs.lemmas.Option.{same_Some}
 use Rattle.doc_bits.specs.declared.places.Where.TheVariants.{Main, Note, Head}
-use Rattle.doc_bits.proofs.ListLemmas.{All_at, All-from_slice_get, get-map}
-use Rattle.doc_bits.proofs.NumberLemmas.{number_at-after, number_at-before}
+use Rattle.doc_bits.proofs.ListLemmas.{All_at, All-from_slice_get}
 use Rattle.prop_map.specs.Printing.{printed_list}
 use Rattle.prop_map.proofs.ActingLemmas.{IsPropertyMap-empty}
 use Rattle.prop_map.proofs.EntriesLemmas.{entries-empty}
-use Rattle.fib_form.specs.Fib.{early_form}
-use Rattle.fib_form.specs.FibFields.{fib_fields, AreCounts, IsFib}
-use Rattle.fib_form.specs.FibRules.{fib_rules}
-use Rattle.fib_form.specs.FibBytes.{written_fib}
-use Rattle.fib_form.proofs.FibLemmas.{sum-three, read_back}
-use Rattle.fib_form.proofs.WriteLemmas.{length-written_fib}
+use Rattle.fib_form.specs.FibFields.{AreCounts}
+use Rattle.fib_form.proofs.FibLemmas.{sum-three}
 use Rattle.fkp_pages.specs.declared.kind.PageKind.{PageKind}
-use Rattle.fkp_pages.specs.declared.kind.PageKind.TheVariants.{Chpx, Papx}
 use Rattle.fkp_pages.specs.Pages.{ArePagesOf, AreWholePages}
 use Rattle.fkp_pages.proofs.PackedLemmas.{runs_have_pages}
 use Rattle.fkp_pages.proofs.WholePages.{pages_are_whole}
-use Rattle.cfb_layout.specs.Sectors.{units_for, filled, padded}
-use Rattle.cfb_layout.proofs.BytesLemmas.{length-filled, length-table, entry_at}
+use Rattle.cfb_layout.proofs.BytesLemmas.{length-table}
 use Rattle.plain_doc.specs.declared.item.Mark.{Mark}
 use Rattle.plain_doc.specs.declared.item.Item.{Item}
 use Rattle.plain_doc.specs.declared.document.Document.{Document}
-use Rattle.plain_doc.specs.Collected.{joined_texts, sections_of}
+use Rattle.plain_doc.specs.Collected.{joined_texts}
 use Rattle.plain_doc.specs.Document.{IsFormedItem, IsFormedText}
 use Rattle.plain_doc.specs.Formed.{IsFormed}
 use Rattle.plain_doc.specs.RulesOfItems.{HasShortSettings}
@@ -40,14 +31,8 @@ use Rattle.plain_doc.specs.RightDocument.{IsRightDocument}
 use Rattle.plain_doc.proofs.MainLemmas.{main_ends}
 use Rattle.full_save.specs.Text.{extra_mark, with_mark, note_story, head_story, text_items, text_counts}
 use Rattle.full_save.specs.WordDocument.{text_at, text_bytes, document_runs, document_pages}
-use Rattle.full_save.specs.WordDocument.{first_character_page, first_paragraph_page, pages_end, wd_body, full_text}
-use Rattle.full_save.specs.WordDocument.{full_entries, table_stream, full_fib, wd_stream}
-use Rattle.full_save.specs.Sections.{sepxes}
-use Rattle.fkp_pages.specs.declared.lists.Run.{Run}
-use Rattle.fkp_pages.specs.Rows.{IsRow, row_table}
 use Rattle.plain_doc.proofs.TextListLemmas.{joined_all}
 use Rattle.full_save.proofs.StretchRuns.{IsWritableItem, IsWritableMark, AreTextRuns, text_runs_right}
-use Rattle.full_save.proofs.EntriesFound.{AreAllowed, entries_are_pairs, entries_are_wide}
 
 -- ---- what can be written of its items
 
