@@ -1,5 +1,5 @@
 -- Where the last run of a text ends, and what WordDocument has from the text on.
-use Rattle.std.proofs.Common.{◌≡◌, ◌<◌, ◌≤◌, ◌^◌, ◌+◌, ◌-◌, ◌*◌, ◌/◌, ◌∙◌, ap, refl, sym, subst, ℕ, suc, List, [], ◌∷◌, ◌++◌, length, map, arith}
+use Rattle.std.proofs.Common.{◌≡◌, ◌<◌, ◌≤◌, ◌^◌, ◌+◌, ◌-◌, ◌*◌, ◌∙◌, ap, refl, subst, ℕ, suc, List, [], ◌∷◌, ◌++◌, length, map, arith}
 use Rattle.std.specs.Prelude.{All}
 use Rattle.std.specs.Prelude.{slice_index}
 use Rattle.std.proofs.lemmas.List.{append_assoc, length-append}
@@ -40,7 +40,7 @@ last_of kind at part (next ∷ parts) =
     let len = length-runs_from kind (at + 2 * length part) (next ∷ parts) in
     let e : suc (length later) - 1 ≡ suc (length later - 1) = omega arith in
     let last : last_fc (run_at kind at part ∷ later) ≡ last_fc later =
-        ap (λ (n : ℕ). slice_index (map (λ (run : Run). run.to) (run_at kind at part ∷ later)) n) e in
+    ap (λ (n : ℕ). slice_index (map (λ (run : Run). run.to) (run_at kind at part ∷ later)) n) e in
     last ∙ omega (arith, rest, length-append part (joined_texts (next ∷ parts)))
 
 last_some : (kind : PageKind) (at : ℕ) (parts : List (List Item)) → 0 < length (joined_texts parts) →

@@ -1,5 +1,5 @@
 -- The Clx of one piece without a modifier.
-use Rattle.std.proofs.Common.{◌≡◌, ◌≤◌, ◌<◌, ◌^◌, ◌+◌, ◌∙◌, ap, refl, sym, subst, inl, inr, ℕ, zero, suc, true, List, [], ◌∷◌, ◌++◌, length, map, arith}
+use Rattle.std.proofs.Common.{◌≡◌, ◌<◌, ◌^◌, ◌∙◌, ap, refl, sym, inl, inr, ℕ, true, List, [], ◌∷◌, ◌++◌, length, arith}
 use Rattle.std.specs.Prelude.{All, slice_index_or}
 use Rattle.std.specs.FinMap.{empty}
 use Rattle.std.proofs.lemmas.List.Elements.{All-head, All-cons, All-nil}
@@ -33,7 +33,7 @@ from_parts len [] (first ∷ []) bytes each count pcd spelt =
     elim pcd.names [
       | inl none ↦
           let is : first ≡ pcd_bytes (bare_piece (the_piece len)) 0 =
-              pcd.spelt ∙ ap (λ (prm : ℕ). pcd_bytes (bare_piece (the_piece len)) prm) none.0 in
+          pcd.spelt ∙ ap (λ (prm : ℕ). pcd_bytes (bare_piece (the_piece len)) prm) none.0 in
           spelt ∙ ap (λ (bytes : List ℕ). pcdt_bytes (plc_bytes (len ∷ []) (bytes ∷ []))) is
       | inr named ↦ absurd (cc (named.1.1))
     ]
@@ -51,6 +51,6 @@ one_printable len = record {
   places = All-cons (λ (piece : TextPiece). piece.at < 2 ^ 29) (the_piece len) [] (omega arith) (All-nil (λ (piece : TextPiece). piece.at < 2 ^ 29));
   fit =
       let fits : FitsPages no_modifier =
-          record { chp = let e = none_printed in omega (arith, e); pap = let e = none_printed in omega (arith, e) } in
+      record { chp = let e = none_printed in omega (arith, e); pap = let e = none_printed in omega (arith, e) } in
       All-cons (λ (piece : TextPiece). FitsPages piece.modifier) (the_piece len) [] fits (All-nil (λ (piece : TextPiece). FitsPages piece.modifier));
 }

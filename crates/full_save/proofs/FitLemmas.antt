@@ -1,21 +1,18 @@
 -- The streams of a layout whose file fits are short.
-use Rattle.std.specs.Prelude.{slice_get, slice_index, slice_index_or, filter}
-use Rattle.std.specs.List.{range_with_len}
-use Rattle.std.proofs.Common.{◌≡◌, inl, inr, ℕ, suc, ◌+◌, ◌<◌, ◌≤◌, Bool, List, [], ◌∷◌, map}
-use Rattle.std.proofs.Common.{length, Some, refl}
-use Rattle.std.proofs.Common.{sym, ap, ◌∙◌, subst, arith}
+use Rattle.std.specs.Prelude.{slice_get, slice_index}
+use Rattle.std.proofs.Common.{◌≡◌, inl, inr, ℕ, ◌<◌, ◌≤◌, List}
+use Rattle.std.proofs.Common.{length, Some}
+use Rattle.std.proofs.Common.{ap, ◌∙◌, arith}
 use Rattle.std.proofs.lemmas.Bool.{cases_lt}
 use Rattle.std.proofs.lemmas.Option.{slice_get_within, get_or_from_slice_get}
-use Rattle.doc_bits.proofs.ListLemmas.{map-map, from_map, get-map}
-use Rattle.cfb_streams.specs.Contents.{NamedBytes, HasNamed}
+use Rattle.doc_bits.proofs.ListLemmas.{get-map}
+use Rattle.cfb_streams.specs.Contents.{NamedBytes}
 use Rattle.cfb_layout.specs.Counts.{Fits, sector_counts}
-use Rattle.cfb_layout.specs.Layout.{lengths_of, no_stream, stream_at, contents_of}
+use Rattle.cfb_layout.specs.Layout.{lengths_of}
 use Rattle.cfb_layout.proofs.CountLemmas.{length-sector_counts, sectors-needed, length-lengths_of, counts_stream}
 use Rattle.cfb_layout.proofs.SectorLemmas.{start_room}
 use Rattle.cfb_layout.proofs.PartLemmas.{large_is}
 use Rattle.cfb_layout.specs.Sectors.{units_for}
-use Rattle.full_save.proofs.NameOrder.{same_as_itself}
-use Rattle.full_save.proofs.PutStreams.{filter-map}
 
 pub most_bytes : (lengths : List ℕ) (i : ℕ) → Fits lengths → i < length lengths → slice_index lengths i ≤ 7143424
 most_bytes lengths i fits below = elim (cases_lt (slice_index lengths i) 4096) [

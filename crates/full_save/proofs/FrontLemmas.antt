@@ -1,6 +1,6 @@
 -- The first bytes of WordDocument, as they are written over zeros.
 use Rattle.std.specs.Prelude.{replicate}
-use Rattle.std.proofs.Common.{◌≡◌, ◌-◌, ◌∙◌, ap, sym, ℕ, List, ◌++◌, length, drop, arith}
+use Rattle.std.proofs.Common.{◌≡◌, ◌-◌, ◌∙◌, ap, sym, ℕ, List, ◌++◌, length, drop}
 use Rattle.std.proofs.lemmas.List.{drop-replicate}
 use Rattle.cfb_layout.specs.Sectors.{filled}
 use Rattle.fib_form.specs.Fib.{early_form}

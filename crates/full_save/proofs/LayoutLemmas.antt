@@ -1,19 +1,15 @@
 -- The streams of a layout are in order, and how long they are.
-use Rattle.std.specs.Prelude.{slice_get, max}
-use Rattle.std.specs.List.{sum_by}
-use Rattle.std.proofs.Common.{◌≡◌, ◌≤◌, ◌<◌, ◌^◌, ◌+◌, ◌-◌, ◌∙◌, ap, refl, sym, subst, ℕ, List, [], ◌∷◌, ◌++◌, length, map, sum, arith, Some, replicate}
-use Rattle.std.proofs.lemmas.List.{length-append, length-map, length-replicate}
+use Rattle.std.specs.Prelude.{max}
+use Rattle.std.proofs.Common.{◌≡◌, ◌≤◌, ◌<◌, ◌^◌, ◌+◌, ◌-◌, ℕ, List, ◌++◌, length, sum, arith, replicate}
+use Rattle.std.proofs.lemmas.List.{length-append, length-replicate}
 use Rattle.std.proofs.lemmas.List.Sums.{sum-map}
 use Rattle.cfb_streams.specs.Contents.{NamedBytes, AreStreams}
 use Rattle.cfb_streams.specs.Directory.{AreSameNames}
 use Rattle.cfb_streams.specs.Names.{wd_name, second_table_name}
-use Rattle.cfb_layout.specs.Counts.{Fits}
 use Rattle.cfb_layout.specs.Layout.{lengths_of}
 use Rattle.cfb_layout.specs.Sectors.{filled}
-use Rattle.cfb_layout.proofs.BytesLemmas.{length-filled}
 use Rattle.fib_form.specs.FibFields.{FibFields}
 use Rattle.fib_form.specs.FibBytes.{written_fib}
-use Rattle.fib_form.proofs.WriteLemmas.{length-written_fib}
 use Rattle.plain_doc.specs.declared.document.Document.{Document}
 use Rattle.plain_doc.specs.Carried.{AreCarriedStreams}
 use Rattle.plain_doc.specs.Formed.{IsFormed}
@@ -52,8 +48,8 @@ are_put table wd others ordered carried short_table short_wd =
     let are = put_are_streams (the_wd wd) others with_wd first ordered (omega arith) (omega arith) (omega arith) in
     let sum = total-put (the_wd wd) others with_wd first in
     let second = put_among (the_table table) with_wd are.order
-        (each_put (λ s. ¬ AreSameNames s.name second_table_name) (the_wd wd) others with_wd first
-        (λ i s here. (carried.names i s here).no_second_table) other_names) in
+    (each_put (λ s. ¬ AreSameNames s.name second_table_name) (the_wd wd) others with_wd first
+    (λ i s here. (carried.names i s here).no_second_table) other_names) in
     let one = length-put (the_wd wd) others with_wd first in
     let two = length-put (the_table table) with_wd (saved_streams table wd others) second in
     record {
@@ -107,6 +103,6 @@ unfolding layout_streams
 fits_short document formed right fits =
     let put = (layout_are document formed right).second in
     let short = stream_short (layout_streams document) (length put.front) (the_table (table_stream document)) fits
-        (put_there (the_table (table_stream document)) (put_stream (the_wd (wd_stream document)) document.carried.streams)
-        (layout_streams document) put) in
+    (put_there (the_table (table_stream document)) (put_stream (the_wd (wd_stream document)) document.carried.streams)
+    (layout_streams document) put) in
     omega arith

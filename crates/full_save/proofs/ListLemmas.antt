@@ -1,5 +1,5 @@
 -- Lists that are made as items and texts are gone through.
-use Rattle.std.proofs.Common.{◌≡◌, ◌<◌, ◌≤◌, ◌+◌, ◌∙◌, ap, refl, sym, subst, ℕ, zero, suc, List, [], ◌∷◌, ◌++◌, length, map, take, drop, get_or, Option, Some, None, arith}
+use Rattle.std.proofs.Common.{◌≡◌, ◌<◌, ◌≤◌, ◌+◌, ◌∙◌, ap, refl, sym, ℕ, suc, List, [], ◌∷◌, ◌++◌, length, map, drop, get_or, Option, Some, None, arith}
 use Rattle.std.proofs.lemmas.List.{append_assoc, length-append, append-nil, drop_all}
 use Rattle.std.proofs.Math.Seq.{drop-cons}
 use Rattle.doc_parts.specs.declared.lists.Fld.{Fld}
@@ -44,7 +44,7 @@ pub listed_entry :
 listed_entry what entry from items i d value old mid new h has is listed =
     let more = collected what (from + (i + 1)) (drop (i + 1) items) in
     let left = left_here what from items i d h
-        ∙ ap (λ (o : Option _). entry_before o (from + i) more) has in
+    ∙ ap (λ (o : Option _). entry_before o (from + i) more) has in
     record {
       rest =
           ap (λ (xs : List _). xs ++ map entry more) is
@@ -59,7 +59,7 @@ pub listed_nothing :
 listed_nothing what entry from items i d old new h has listed =
     let more = collected what (from + (i + 1)) (drop (i + 1) items) in
     let left = left_here what from items i d h
-        ∙ ap (λ (o : Option _). entry_before o (from + i) more) has in
+    ∙ ap (λ (o : Option _). entry_before o (from + i) more) has in
     record { rest = ap (λ (xs : List (ℕ × _)). new ++ map entry xs) (sym left) ∙ listed.rest }
 
 -- at the end of the items the list has what all of them have

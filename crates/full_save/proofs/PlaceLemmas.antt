@@ -1,5 +1,5 @@
 -- Going through streams: parts of a list, and the place of a name.
-use Rattle.std.proofs.Common.{◌≡◌, ◌≤◌, ◌<◌, ◌+◌, ◌-◌, ◌∙◌, ap, refl, sym, subst, inl, inr, ℕ, zero, suc, Bool, true, false, List, [], ◌∷◌, ◌++◌, length, map, take, drop, get_or, Some, slice_get, arith}
+use Rattle.std.proofs.Common.{◌≡◌, ◌≤◌, ◌<◌, ◌+◌, ◌-◌, ◌∙◌, ap, refl, sym, subst, inl, inr, ℕ, zero, suc, true, List, [], ◌∷◌, ◌++◌, length, take, drop, get_or, Some, slice_get, arith}
 use Rattle.std.specs.Prelude.{slice_range, option_map}
 use Rattle.std.proofs.Common.{length-drop}
 use Rattle.std.proofs.lemmas.List.{append_assoc, take_more, get_or-drop, drop-drop}
@@ -64,9 +64,9 @@ add_next old others from i to d low high within are =
     let below : i < length others = omega arith in
     let split = range_split others from (i + 1) to (omega arith) (omega arith) in
     let whole : AreStreams (old ++ (slice_range others from (i + 1) ++ slice_range others (i + 1) to)) =
-        subst (λ (part : List NamedBytes). AreStreams (old ++ part)) split are in
+    subst (λ (part : List NamedBytes). AreStreams (old ++ part)) split are in
     let front = streams_front (old ++ slice_range others from (i + 1)) (slice_range others (i + 1) to)
-        (subst AreStreams (sym (append_assoc old (slice_range others from (i + 1)) (slice_range others (i + 1) to))) whole) in
+    (subst AreStreams (sym (append_assoc old (slice_range others from (i + 1)) (slice_range others (i + 1) to))) whole) in
     subst AreStreams
     (ap (λ (part : List NamedBytes). old ++ part) (range_next others from i d low below)
     ∙ sym (append_assoc old (slice_range others from i) (get_or others i d ∷ []))) front
@@ -151,9 +151,9 @@ fronts_are table wd others first second is other are =
     let two = one ++ b in
     let three = two ++ it ∷ [] in
     let whole : three ++ c ≡ saved_streams table wd others =
-        append_assoc two (it ∷ []) c
-        ∙ (append_assoc one b (it ∷ c)
-        ∙ (append_assoc a (that ∷ []) (b ++ (it ∷ c)) ∙ sym (saved_in_parts table wd others first second is other))) in
+    append_assoc two (it ∷ []) c
+    ∙ (append_assoc one b (it ∷ c)
+    ∙ (append_assoc a (that ∷ []) (b ++ (it ∷ c)) ∙ sym (saved_in_parts table wd others first second is other))) in
     let all = subst AreStreams (sym whole) are in
     let fourth = streams_front three c all in
     let third = streams_front two (it ∷ []) fourth in

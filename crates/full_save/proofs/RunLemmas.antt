@@ -1,18 +1,16 @@
 -- Runs that are closed as a text is gone through.
-use Rattle.std.proofs.Common.{◌≡◌, ◌≤◌, ◌<◌, ◌+◌, ◌-◌, ◌*◌, ◌∙◌, ap, refl, sym, subst, inl, inr, ℕ, zero, suc, Bool, true, false, not, List, [], ◌∷◌, ◌++◌, length, take, drop, slice_get, Option, Some, None, arith, ◌⊎◌}
-use Rattle.std.specs.Prelude.{is_some}
+use Rattle.std.proofs.Common.{◌≡◌, ◌≤◌, ◌<◌, ◌+◌, ◌-◌, ◌*◌, ◌∙◌, ap, refl, sym, inl, inr, ℕ, suc, Bool, true, false, List, [], ◌∷◌, ◌++◌, length, slice_get, Option, Some, None, arith}
 use Rattle.std.proofs.lemmas.List.{append_assoc, length-append, append-nil, nil_from_length}
 use Rattle.std.proofs.lemmas.Bool.{cases_lt}
 use Rattle.std.proofs.Math.Seq.{take-append_seam, drop-append_seam}
-use Rattle.doc_bits.proofs.ListLemmas.{slice_get_push, slice_get_before, there_is}
+use Rattle.doc_bits.proofs.ListLemmas.{slice_get_push, slice_get_before}
 use Rattle.fkp_pages.specs.declared.kind.PageKind.{PageKind}
-use Rattle.fkp_pages.specs.declared.kind.PageKind.TheVariants.{Chpx, Papx}
 use Rattle.fkp_pages.specs.declared.lists.Run.{Run}
 use Rattle.plain_doc.specs.declared.item.Item.{Item}
-use Rattle.plain_doc.specs.Stretches.{stretches, joins_next, joins_at, IsJoined, goes_over, BeginsStretch}
+use Rattle.plain_doc.specs.Stretches.{stretches, joins_next, IsJoined, goes_over, BeginsStretch}
 use Rattle.plain_doc.proofs.StretchLemmas.{stretches-first, stretches-nil}
 use Rattle.full_save.specs.Runs.{joins_run, run_at, runs_from, text_runs}
-use Rattle.full_save.specs.RunsSoFar.{RunsSoFar, AreRunsSoFar}
+use Rattle.full_save.specs.RunsSoFar.{AreRunsSoFar}
 
 -- what stands behind a list
 pub slice_get_behind : {A : Type 0} (xs ys : List A) (k : ℕ) → slice_get (xs ++ ys) (length xs + k) ≡ slice_get ys k

@@ -1,5 +1,5 @@
 -- Sepxes and Seds that are made as the items of a main text are gone through.
-use Rattle.std.proofs.Common.{◌≡◌, ◌<◌, ◌≤◌, ◌+◌, ◌*◌, ◌∙◌, ap, refl, sym, subst, ℕ, zero, suc, List, [], ◌∷◌, ◌++◌, length, drop, get_or, Option, Some, None, arith}
+use Rattle.std.proofs.Common.{◌≡◌, ◌<◌, ◌≤◌, ◌+◌, ◌*◌, ◌∙◌, ap, refl, sym, ℕ, List, [], ◌∷◌, ◌++◌, length, drop, get_or, Option, Some, None, arith}
 use Rattle.std.proofs.lemmas.List.{append_assoc, length-append, append-nil, drop_all}
 use Rattle.prop_map.specs.Settings.{Settings}
 use Rattle.doc_parts.specs.declared.lists.Sed.{Sed}
@@ -81,5 +81,5 @@ sepxes_all main base old cp so h are =
     let nothing = ap (λ (items : List Item). collected (λ item. item.sect) cp items) none in (
       sym (append-nil so.out) ∙ (ap (λ (all : List (ℕ × Settings)). so.out ++ sepxes all) (sym nothing) ∙ are.bytes),
       sym (append-nil so.seds)
-      ∙ (ap (λ (all : List (ℕ × Settings)). so.seds ++ seds_from so.start (base + length so.out) all) (sym nothing) ∙ are.places),
+          ∙ (ap (λ (all : List (ℕ × Settings)). so.seds ++ seds_from so.start (base + length so.out) all) (sym nothing) ∙ are.places),
     )

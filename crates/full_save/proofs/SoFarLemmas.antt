@@ -1,5 +1,5 @@
 -- The runs of characters and of paragraphs, one item further and at the end.
-use Rattle.std.proofs.Common.{◌≡◌, ◌≢◌, ◌≤◌, ◌<◌, ◌+◌, ◌-◌, ◌*◌, ◌∙◌, ap, refl, sym, subst, inl, inr, ℕ, Bool, true, false, not, List, [], ◌∷◌, ◌++◌, length, slice_get, Option, Some, None, arith}
+use Rattle.std.proofs.Common.{◌≡◌, ◌≢◌, ◌≤◌, ◌+◌, ◌-◌, ◌*◌, ◌∙◌, ap, refl, sym, subst, ℕ, Bool, true, false, not, List, [], ◌∷◌, ◌++◌, length, slice_get, Option, Some, None, arith}
 use Rattle.std.specs.Prelude.{is_some}
 use Rattle.std.specs.FinMap.{empty}
 use Rattle.std.proofs.lemmas.List.{length-append}
@@ -16,7 +16,7 @@ use Rattle.plain_doc.specs.Stretches.{joins_next, goes_over, IsJoined}
 use Rattle.plain_doc.proofs.SettingsLemmas.{same_settings-Decides}
 use Rattle.full_save.specs.declared.runs.CharacterRuns.{CharacterRuns}
 use Rattle.full_save.specs.declared.runs.ParagraphRuns.{ParagraphRuns}
-use Rattle.full_save.specs.Runs.{joins_run, item_settings, mark_settings, run_at, text_runs}
+use Rattle.full_save.specs.Runs.{item_settings, mark_settings, run_at, text_runs}
 use Rattle.full_save.specs.RunsSoFar.{RunsSoFar, AreRunsSoFar, EndsWith, AreCharactersSoFar, AreParagraphsSoFar}
 use Rattle.full_save.proofs.RunLemmas.{joined_more, grow_part, close_before, close_behind, all_closed, last_closed}
 
@@ -55,8 +55,8 @@ characters_begin at done item old new here closed from chp so =
     let stands = so.are.stands in
     let none : length so.part ≡ 0 = omega arith in
     let grown =
-        grow_part Chpx at done old.closed old.from so.part item
-        (joined_more is_alike so.part item so.are.joined (λ some. absurd (omega arith))) so.are in
+    grow_part Chpx at done old.closed old.from so.part item
+    (joined_more is_alike so.part item so.are.joined (λ some. absurd (omega arith))) so.are in
     record {
       part = so.part ++ item ∷ [];
       are = subst (λ (runs : List Run). AreRunsSoFar Chpx at (done ++ item ∷ []) (record { closed = runs; from = new.from; part = so.part ++ item ∷ [] }))
@@ -72,10 +72,10 @@ pub characters_go_on :
     AreCharactersSoFar at done runs → AreCharactersSoFar at (done ++ item ∷ []) runs
 characters_go_on at done item runs same so =
     let alike : 1 ≤ length so.part → goes_over is_alike so.part (item ∷ []) ≡ true = λ some.
-        let last = last_is so.part some in
-        let chp : last.0.chp ≡ item.chp = so.last last.0 last.1 ∙ same in
-        ap (λ (o : Option Item). joins_next is_alike o (Some item)) last.1
-        ∙ (same_settings-Decides last.0.chp item.chp).1 chp in
+    let last = last_is so.part some in
+    let chp : last.0.chp ≡ item.chp = so.last last.0 last.1 ∙ same in
+    ap (λ (o : Option Item). joins_next is_alike o (Some item)) last.1
+    ∙ (same_settings-Decides last.0.chp item.chp).1 chp in
     record {
       part = so.part ++ item ∷ [];
       are = grow_part Chpx at done runs.closed runs.from so.part item (joined_more is_alike so.part item so.are.joined alike) so.are;
@@ -109,14 +109,14 @@ characters_change at end done item old new here apart other closed from chp so =
     let last = last_is so.part some in
     let has : last.0.chp ≡ old.chp = so.last last.0 last.1 in
     let not_alike : ¬ (same_settings last.0.chp item.chp ≡ true) = λ same.
-        other (sym has ∙ (same_settings-Decides last.0.chp item.chp).0 same) in
+    other (sym has ∙ (same_settings-Decides last.0.chp item.chp).0 same) in
     let ends : goes_over is_alike so.part (item ∷ []) ≡ false =
-        ap (λ (o : Option Item). joins_next is_alike o (Some item)) last.1 ∙ false_from (same_settings last.0.chp item.chp) not_alike in
+    ap (λ (o : Option Item). joins_next is_alike o (Some item)) last.1 ∙ false_from (same_settings last.0.chp item.chp) not_alike in
     let run = run_is Chpx old.from end so.part (0, old.chp)
-        (ap (item_settings Chpx) last.1 ∙ ap (λ (s : Settings). (0, s)) has) (omega arith) in
+    (ap (item_settings Chpx) last.1 ∙ ap (λ (s : Settings). (0, s)) has) (omega arith) in
     let before = close_before Chpx at done old.closed old.from end so.part item some ends here so.are in
     let closed_is : new.closed ≡ old.closed ++ run_at Chpx old.from so.part ∷ [] =
-        closed ∙ ap (λ (r : Run). old.closed ++ r ∷ []) (sym run) in
+    closed ∙ ap (λ (r : Run). old.closed ++ r ∷ []) (sym run) in
     record {
       part = item ∷ [];
       are = subst (λ (rs : List Run). AreRunsSoFar Chpx at (done ++ item ∷ []) (record { closed = rs; from = new.from; part = item ∷ [] }))
@@ -144,7 +144,7 @@ characters_left at end done runs closed here apart is so =
     let last = last_is so.part some in
     let has : last.0.chp ≡ runs.chp = so.last last.0 last.1 in
     let run = run_is Chpx runs.from end so.part (0, runs.chp)
-        (ap (item_settings Chpx) last.1 ∙ ap (λ (s : Settings). (0, s)) has) (omega arith) in
+    (ap (item_settings Chpx) last.1 ∙ ap (λ (s : Settings). (0, s)) has) (omega arith) in
     is ∙ (ap (λ (r : Run). runs.closed ++ r ∷ []) (sym run) ∙ last_closed Chpx at done runs.closed runs.from so.part some so.are)
 
 -- ---- paragraphs
@@ -186,16 +186,16 @@ pub paragraphs_end :
 paragraphs_end at end done item mark old new here has closed from so =
     let part = so.part ++ item ∷ [] in
     let grown =
-        grow_part Papx at done old.closed old.from so.part item
-        (joined_more is_inside so.part item so.are.joined (inside so.part item so.last)) so.are in
+    grow_part Papx at done old.closed old.from so.part item
+    (joined_more is_inside so.part item so.are.joined (inside so.part item so.last)) so.are in
     let stands = grown.stands in
     let some : 1 ≤ length part = omega (arith, length-append so.part (item ∷ [])) in
     let run = run_is Papx old.from end part (mark.istd, mark.pap)
-        (ap (item_settings Papx) (last_push so.part item) ∙ ap mark_settings has) (omega arith) in
+    (ap (item_settings Papx) (last_push so.part item) ∙ ap mark_settings has) (omega arith) in
     let behind = close_behind Papx at (done ++ item ∷ []) old.closed old.from end part some
-        (λ more. marked so.part more item mark has) here grown in
+    (λ more. marked so.part more item mark has) here grown in
     let closed_is : new.closed ≡ old.closed ++ run_at Papx old.from part ∷ [] =
-        closed ∙ ap (λ (r : Run). old.closed ++ r ∷ []) (sym run) in
+    closed ∙ ap (λ (r : Run). old.closed ++ r ∷ []) (sym run) in
     record {
       part = [];
       are = subst (λ (rs : List Run). AreRunsSoFar Papx at (done ++ item ∷ []) (record { closed = rs; from = new.from; part = [] }))
@@ -222,5 +222,5 @@ paragraphs_left at end done runs closed here apart is so =
     let stands = so.are.stands in
     let last = last_is so.part some in
     let run = run_is Papx runs.from end so.part (0, empty)
-        (ap (item_settings Papx) last.1 ∙ ap mark_settings (so.last last.0 last.1)) (omega arith) in
+    (ap (item_settings Papx) last.1 ∙ ap mark_settings (so.last last.0 last.1)) (omega arith) in
     is ∙ (ap (λ (r : Run). runs.closed ++ r ∷ []) (sym run) ∙ last_closed Papx at done runs.closed runs.from so.part some so.are)

@@ -1,7 +1,7 @@
 -- The streams of a full save, by the places of the two that it makes.
-use Rattle.std.proofs.Common.{◌≡◌, ◌≢◌, ◌<◌, ◌≤◌, ◌+◌, ◌-◌, ◌∙◌, ap, refl, sym, subst, inl, inr, ℕ, zero, suc, Bool, true, false, cond, ltb, List, [], ◌∷◌, ◌++◌, length, take, drop, map, Some, slice_get, arith, eq-eqb, lt-ltb}
-use Rattle.std.specs.Prelude.{slice_range, codes}
-use Rattle.std.proofs.lemmas.List.{append_assoc, length-append, take_all}
+use Rattle.std.proofs.Common.{◌≡◌, ◌≢◌, ◌<◌, ◌≤◌, ◌+◌, ◌-◌, ◌∙◌, ap, refl, sym, subst, inl, inr, ℕ, zero, suc, true, false, cond, ltb, List, [], ◌∷◌, ◌++◌, length, take, drop, Some, slice_get, arith, lt-ltb}
+use Rattle.std.specs.Prelude.{slice_range}
+use Rattle.std.proofs.lemmas.List.{take_all}
 use Rattle.std.proofs.Common.{length-drop}
 use Rattle.std.proofs.lemmas.List.Sums.{sum_by-append}
 use Rattle.std.proofs.lemmas.Bool.{cases_lt, cases_eq, ne_eqb, ltb-true, true≢false}
@@ -35,7 +35,7 @@ shorter_before name before =
       | inl e ↦ omega (arith, e)
       | inr ne ↦
           let less : ltb (length name) 6 ≡ true =
-              subst (λ b. cond b (has_less_unit name second_table_name) (ltb (length name) 6) ≡ true) (ne_eqb (length name) 6 ne) before in
+          subst (λ b. cond b (has_less_unit name second_table_name) (ltb (length name) 6) ≡ true) (ne_eqb (length name) 6 ne) before in
           let lt = ltb-true (length name) 6 less in omega (arith, lt)
     ] in
     let apart : length name ≢ 12 = λ e. omega (arith, e, low) in
@@ -102,7 +102,7 @@ place_kept others wd first second order is low =
         | inr end ↦
             let same : first ≡ second = omega arith in
             let there : slice_get (take second others ++ (it ∷ drop second others)) second ≡ Some s =
-                subst (λ (k : ℕ). slice_get (take second others ++ (it ∷ drop second others)) k ≡ Some s) same here in
+            subst (λ (k : ℕ). slice_get (take second others ++ (it ∷ drop second others)) k ≡ Some s) same here in
             let is_it : it ≡ s = same_Some it s (sym (get_put others (drop second others) it second low) ∙ there) in
             subst (λ (x : NamedBytes). is_name_before x.name second_table_name ≡ false) is_it refl
       ];
@@ -114,9 +114,9 @@ pub saved_in_parts :
     IsPlaceFor wd_name others second →
     saved_streams table wd others
     ≡ slice_range others 0 first
-      ++ ((record { name = second_table_name; bytes = table })
-      ∷ (slice_range others first second
-      ++ ((record { name = wd_name; bytes = wd }) ∷ slice_range others second (length others))))
+    ++ ((record { name = second_table_name; bytes = table })
+    ∷ (slice_range others first second
+    ++ ((record { name = wd_name; bytes = wd }) ∷ slice_range others second (length others))))
 saved_in_parts table wd others first second is other =
     let it : NamedBytes = record { name = wd_name; bytes = wd } in
     let that : NamedBytes = record { name = second_table_name; bytes = table } in
@@ -127,9 +127,9 @@ saved_in_parts table wd others first second is other =
     let front = take_more others (it ∷ drop second others) first second order low in
     let back = drop_more others (it ∷ drop second others) first second order low in
     let rest : drop second others ≡ slice_range others second (length others) =
-        sym (take_all (length others - second) (drop second others) (omega (arith, length-drop second others))) in
+    sym (take_all (length others - second) (drop second others) (omega (arith, length-drop second others))) in
     let zero_front : take first others ≡ slice_range others 0 first =
-        let e : first ≡ first - 0 = omega arith in ap (λ (n : ℕ). take n others) e in
+    let e : first ≡ first - 0 = omega arith in ap (λ (n : ℕ). take n others) e in
     ap (λ (streams : List NamedBytes). put_stream that streams) (put_at it others second other)
     ∙ (put
     ∙ (ap (λ (streams : List NamedBytes). streams ++ (that ∷ drop first with_wd)) (front ∙ zero_front)

@@ -1,10 +1,10 @@
 -- A table stream that grows part by part.
-use Rattle.std.proofs.Common.{◌≡◌, ◌+◌, ◌∙◌, ap, refl, sym, subst, ℕ, List, [], ◌∷◌, ◌++◌, length, arith}
+use Rattle.std.proofs.Common.{◌≡◌, ◌+◌, ◌∙◌, ap, refl, sym, ℕ, List, [], ◌∷◌, ◌++◌, length, arith}
 use Rattle.std.proofs.lemmas.List.{append_assoc, length-append, append-nil}
 use Rattle.fib_form.specs.FibFields.{empty_pairs}
 use Rattle.fib_form.specs.TableEntries.{TableEntry}
 use Rattle.full_save.specs.declared.table_parts.TableParts.{TableParts}
-use Rattle.full_save.specs.TableStream.{entry_bytes, entries_bytes, put_pair, pairs_from, entries_pairs, AreWritten}
+use Rattle.full_save.specs.TableStream.{entry_bytes, entries_bytes, put_pair, pairs_from, AreWritten}
 
 -- the pairs with one part more
 pairs_more :
@@ -16,7 +16,7 @@ pairs_more at pairs (first ∷ parts) part =
     let next = at + length (entry_bytes first) in
     let put = put_pair at first pairs in
     let e : next + length (entries_bytes parts) ≡ at + length (entry_bytes first ++ entries_bytes parts) =
-        omega (arith, length-append (entry_bytes first) (entries_bytes parts)) in
+    omega (arith, length-append (entry_bytes first) (entries_bytes parts)) in
     pairs_more next put parts part ∙ ap (λ (n : ℕ). put_pair n part (pairs_from next put parts)) e
 
 -- the bytes with one part more

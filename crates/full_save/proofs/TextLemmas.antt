@@ -1,5 +1,5 @@
 -- A text that goes on by items, and the marks behind stories.
-use Rattle.std.proofs.Common.{◌≡◌, ◌≤◌, ◌<◌, ◌+◌, ◌-◌, ◌∙◌, ap, refl, sym, subst, inl, inr, ℕ, Bool, true, false, ltb, List, [], ◌∷◌, ◌++◌, length, take, drop, get_or, arith, lt-ltb}
+use Rattle.std.proofs.Common.{◌≡◌, ◌≤◌, ◌<◌, ◌+◌, ◌∙◌, ap, refl, sym, subst, inl, inr, ℕ, Bool, true, false, List, [], ◌∷◌, ◌++◌, length, take, drop, get_or, arith, lt-ltb}
 use Rattle.std.specs.Prelude.{nat_lt}
 use Rattle.std.proofs.lemmas.List.{append_assoc, length-append, append-nil, take_more, take-append-drop}
 use Rattle.std.proofs.lemmas.Grind.{flat_map-append}
@@ -8,7 +8,7 @@ use Rattle.plain_doc.specs.declared.item.Item.{Item}
 use Rattle.plain_doc.specs.declared.document.Document.{Document}
 use Rattle.plain_doc.specs.Collected.{joined_texts}
 use Rattle.full_save.specs.declared.text.TextSoFar.{TextSoFar}
-use Rattle.full_save.specs.Text.{extra_mark, with_mark, mark_if, note_story, head_story, text_items}
+use Rattle.full_save.specs.Text.{with_mark, mark_if, note_story, head_story, text_items}
 use Rattle.full_save.specs.RunsSoFar.{IsTextSoFar, GoesOnBy}
 
 pub goes_on_none : (text : TextSoFar) → GoesOnBy [] text text
@@ -59,7 +59,7 @@ joined_next texts k low =
 pub joined_front : (texts : List (List Item)) (k : ℕ) → length (joined_texts (take k texts)) ≤ length (joined_texts texts)
 joined_front texts k =
     let whole = ap joined_texts (sym (take-append-drop k texts))
-        ∙ flat_map-append (λ (text : List Item). text) (take k texts) (drop k texts) in
+    ∙ flat_map-append (λ (text : List Item). text) (take k texts) (drop k texts) in
     let len = ap length whole in
     omega (arith, len, length-append (joined_texts (take k texts)) (joined_texts (drop k texts)))
 

@@ -17,6 +17,6 @@ mod word_document;
 pub use fault::SaveFault;
 pub use made_parts::{table_stream_len, write_table};
 pub use pages::{append_chpx_pages, append_papx_pages, append_units};
-pub use saving::{full, table_len};
+pub use saving::{full, sectors, table_len};
 pub use table_parts::TableParts;
 pub use table_text::TableText;

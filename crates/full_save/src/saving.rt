@@ -2,7 +2,7 @@
 ghost use Rattle.std.specs.Prelude.{◌≡◌, ◌+◌, ◌^◌, ◌<◌, length, IfOk, MatchResult};
 ghost use Rattle.plain_doc.specs.Sound.{IsSound};
 ghost use Rattle.full_save.specs.WordDocument.{table_stream};
-ghost use Rattle.full_save.specs.Layout.{full_save_image, FitsCompoundFile, IsTooLarge};
+ghost use Rattle.full_save.specs.Layout.{full_save_image, sectors_of, FitsCompoundFile, IsTooLarge};
 ghost use Rattle.plain_doc.specs.Formed.{IsFormed};
 ghost use Rattle.plain_doc.specs.RightDocument.{IsRightDocument};
 ghost use Rattle.full_save.specs.WordDocument.{full_fib};
@@ -30,15 +30,37 @@ pub fn full(alloc: Global, document: &Document) -> Result<Bytes, SaveFault>
 {
     documents_are_formed(document);
     let body = WordBody::of(alloc, document)?;
-    let table_len = table_stream_len(alloc, document, &body.text)?;
-    let carried = &document.carried;
-    let lengths = lengths_with(alloc, &carried.streams, table_len, body.stream_len())?;
-    let sectors = sectors_needed(&lengths);
+    let sectors = sectors_with(alloc, document, &body)?;
     if MAX_SECTORS < sectors {
         return Err(SaveFault::TooLarge { sectors });
     }
     let file = file_of(alloc, document, &body)?;
     Ok(file)
+}
+
+/// The number of sectors that the full save of a document needs, whether it fits a file or not.
+pub fn sectors(alloc: Global, document: &Document) -> Result<u64, Memory>
+    requires { IsSound document.now }
+    ensures { IfOk result (λ sectors. sectors ≡ sectors_of document.now) }
+{
+    documents_are_formed(document);
+    let body = WordBody::of(alloc, document)?;
+    let sectors = sectors_with(alloc, document, &body)?;
+    Ok(sectors)
+}
+
+/// The number of sectors of the full save around this WordDocument.
+fn sectors_with(alloc: Global, document: &Document, body: &WordBody) -> Result<u64, Memory>
+    requires formed { IsFormed document.now }
+    requires right { IsRightDocument document.now }
+    requires body { IsBodyOf document.now body.now }
+    ensures { IfOk result (λ sectors. sectors ≡ sectors_of document.now) }
+{
+    let table_len = table_stream_len(alloc, document, &body.text)?;
+    let carried = &document.carried;
+    let lengths = lengths_with(alloc, &carried.streams, table_len, body.stream_len())?;
+    let sectors = sectors_needed(&lengths);
+    Ok(sectors)
 }
 
 /// The file of a document that fits.

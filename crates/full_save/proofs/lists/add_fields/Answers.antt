@@ -1,4 +1,4 @@
-use Rattle.std.proofs.Common.{◌≡◌, ◌+◌, [], get_or, sym, ap, subst, ◌∙◌}
+use Rattle.std.proofs.Common.{◌≡◌, ◌+◌, get_or, sym, ap, subst, ◌∙◌}
 use Rattle.std.specs.Prelude.{option_map}
 use Rattle.plain_doc.specs.Collected.{field_of}
 use Rattle.full_save.proofs.ListLemmas.{IsListedUpTo, listed_entry, listed_nothing, listed_all}

@@ -1,4 +1,4 @@
-use Rattle.std.proofs.Common.{◌≡◌, ◌+◌, sym, ◌∙◌, arith}
+use Rattle.std.proofs.Common.{arith}
 use Rattle.full_save.proofs.MadeLemmas.{table_length}
 use Rattle.full_save.proofs.made_parts.table_stream_len.Goals as goal
 

@@ -1,4 +1,4 @@
-use Rattle.std.proofs.Common.{◌≡◌, ◌<◌, ◌+◌, ◌^◌, [], ◌∷◌, length, ap, subst, ◌∙◌, arith}
+use Rattle.std.proofs.Common.{[], ◌∷◌, length, ap, subst, ◌∙◌, arith}
 use Rattle.fib_form.specs.TableParts.{pair_of}
 use Rattle.fib_form.specs.declared.table_parts.TablePart.TheVariants.{Stshf, PlcffndRef, PlcffndTxt, PlcfSed, PlcfHdd}
 use Rattle.fib_form.specs.declared.table_parts.TablePart.TheVariants.{PlcfBteChpx, PlcfBtePapx, SttbfFfn, PlcfFldMom}
@@ -389,19 +389,19 @@ returns c =
     subst (λ parts. AreWritten parts c.put-15.new.self)
     (λ i.
     entry (pair_of Stshf) (q1 i)
-    ∷     entry (pair_of PlcffndRef) (q2 i)
-    ∷     entry (pair_of PlcffndTxt) (q3 i)
-    ∷     entry (pair_of PlcfSed) (q4 i)
-    ∷     entry (pair_of PlcfHdd) (q5 i)
-    ∷     entry (pair_of PlcfBteChpx) (q6 i)
-    ∷     entry (pair_of PlcfBtePapx) (q7 i)
-    ∷     entry (pair_of SttbfFfn) (q8 i)
-    ∷     entry (pair_of PlcfFldMom) (q9 i)
-    ∷     entry (pair_of PlcfFldHdr) (q10 i)
-    ∷     entry (pair_of PlcfFldFtn) (q11 i)
-    ∷     entry (pair_of Dop) (q12 i)
-    ∷     entry (pair_of SttbfAssoc) (q13 i)
-    ∷     entry (pair_of Clx) (q14 i)
+    ∷ entry (pair_of PlcffndRef) (q2 i)
+    ∷ entry (pair_of PlcffndTxt) (q3 i)
+    ∷ entry (pair_of PlcfSed) (q4 i)
+    ∷ entry (pair_of PlcfHdd) (q5 i)
+    ∷ entry (pair_of PlcfBteChpx) (q6 i)
+    ∷ entry (pair_of PlcfBtePapx) (q7 i)
+    ∷ entry (pair_of SttbfFfn) (q8 i)
+    ∷ entry (pair_of PlcfFldMom) (q9 i)
+    ∷ entry (pair_of PlcfFldHdr) (q10 i)
+    ∷ entry (pair_of PlcfFldFtn) (q11 i)
+    ∷ entry (pair_of Dop) (q12 i)
+    ∷ entry (pair_of SttbfAssoc) (q13 i)
+    ∷ entry (pair_of Clx) (q14 i)
     ∷ record { number = pair_of PlfLst; bytes = q15 i; behind = q16 i }
     ∷ entry (pair_of PlfLfo) (q17 i)
     ∷ []) w16

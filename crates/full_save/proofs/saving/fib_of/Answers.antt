@@ -1,4 +1,4 @@
-use Rattle.std.proofs.Common.{◌≡◌, ◌+◌, List, ℕ, false, length, ap, sym, subst, ◌∙◌, arith}
+use Rattle.std.proofs.Common.{◌+◌, List, ℕ, false, length, ap, sym, subst, ◌∙◌, arith}
 use Rattle.fib_form.specs.FibFields.{AreCounts, ArePairs}
 use Rattle.full_save.specs.declared.table_text.TableText.{TableText}
 use Rattle.full_save.specs.WordDocument.{text_at, full_fib, full_entries}

@@ -1,20 +1,17 @@
-use Rattle.std.proofs.Common.{◌≡◌, ◌≤◌, ◌<◌, ◌^◌, ◌+◌, ℕ, List, length, sum, ap, sym, subst, refl, ◌∙◌, arith}
+use Rattle.std.proofs.Common.{◌≡◌, List, length, ap, sym, subst, ◌∙◌, arith}
 use Rattle.cfb_streams.specs.Contents.{NamedBytes, AreStreams}
-use Rattle.cfb_layout.specs.Counts.{sectors_needed, most_sectors}
+use Rattle.cfb_layout.specs.Counts.{sectors_needed}
 use Rattle.cfb_layout.specs.Layout.{lengths_of, compound_file}
 use Rattle.cfb_layout.specs.Faults.{IsLayoutFault}
 use Rattle.cfb_layout.specs.declared.faults.LayoutFault.TheVariants.{TooLarge}
-use Rattle.fib_form.specs.FibFields.{FibFields}
-use Rattle.plain_doc.proofs.RightLemmas.{sound_is_right}
 use Rattle.full_save.specs.declared.table_text.TableText.{TableText}
 use Rattle.full_save.specs.TableText.{table_entries}
 use Rattle.full_save.specs.TableStream.{entries_bytes, entries_pairs}
-use Rattle.full_save.specs.WordDocument.{table_stream, wd_stream, full_fib, full_text}
+use Rattle.full_save.specs.WordDocument.{table_stream, wd_stream, full_fib}
 use Rattle.full_save.specs.Streams.{saved_streams}
-use Rattle.full_save.specs.Layout.{layout_streams, full_save_image, sectors_of, IsTooLarge}
+use Rattle.full_save.specs.Layout.{layout_streams, full_save_image}
 use Rattle.full_save.proofs.TextLaidOut.{few_items}
-use Rattle.full_save.proofs.StreamLengths.{short_body, short_table}
-use Rattle.full_save.proofs.LayoutLemmas.{layout_are, total_short, length-wd_stream, fits_short, body_stream, wd_of}
+use Rattle.full_save.proofs.LayoutLemmas.{layout_are, fits_short, wd_of}
 use Rattle.full_save.proofs.saving.file_of.Goals as goal
 
 pub write_table-requires-clause-notes : goal.write_table-requires-clause-notes
@@ -60,13 +57,13 @@ streams_with-requires c =
     let formed = c.requires.formed in
     let right = c.requires.right in
     let table : c.as_slice.result.now ≡ table_stream d =
-        c.as_slice.ensures
-        ∙ (c.in_ok-table.ensures.bytes_are ∙ ap (λ (t : TableText). entries_bytes (table_entries d t)) c.requires.body.text) in
+    c.as_slice.ensures
+    ∙ (c.in_ok-table.ensures.bytes_are ∙ ap (λ (t : TableText). entries_bytes (table_entries d t)) c.requires.body.text) in
     let wd : c.as_slice-2.result.now ≡ wd_stream d =
-        c.as_slice-2.ensures
-        ∙ (c.in_ok-wd.ensures ∙ (λ i. wd_of (c.fib_of-fib.ensures i) (c.requires.body.bytes i))) in
+    c.as_slice-2.ensures
+    ∙ (c.in_ok-wd.ensures ∙ (λ i. wd_of (c.fib_of-fib.ensures i) (c.requires.body.bytes i))) in
     let saved : saved_streams c.as_slice.result.now c.as_slice-2.result.now d.carried.streams ≡ layout_streams d =
-        (λ i. saved_streams (table i) (wd i) d.carried.streams) in
+    (λ i. saved_streams (table i) (wd i) d.carried.streams) in
     subst AreStreams (sym saved) (layout_are d formed right).are
 
 pub whole-requires : goal.whole-requires
@@ -76,13 +73,13 @@ whole-requires c =
     let formed = c.requires.formed in
     let right = c.requires.right in
     let table : c.as_slice.result.now ≡ table_stream d =
-        c.as_slice.ensures
-        ∙ (c.in_ok-table.ensures.bytes_are ∙ ap (λ (t : TableText). entries_bytes (table_entries d t)) c.requires.body.text) in
+    c.as_slice.ensures
+    ∙ (c.in_ok-table.ensures.bytes_are ∙ ap (λ (t : TableText). entries_bytes (table_entries d t)) c.requires.body.text) in
     let wd : c.as_slice-2.result.now ≡ wd_stream d =
-        c.as_slice-2.ensures
-        ∙ (c.in_ok-wd.ensures ∙ (λ i. wd_of (c.fib_of-fib.ensures i) (c.requires.body.bytes i))) in
+    c.as_slice-2.ensures
+    ∙ (c.in_ok-wd.ensures ∙ (λ i. wd_of (c.fib_of-fib.ensures i) (c.requires.body.bytes i))) in
     let saved : saved_streams c.as_slice.result.now c.as_slice-2.result.now d.carried.streams ≡ layout_streams d =
-        (λ i. saved_streams (table i) (wd i) d.carried.streams) in
+    (λ i. saved_streams (table i) (wd i) d.carried.streams) in
     let streams : c.in_ok-streams.streams ≡ layout_streams d = c.in_ok-streams.ensures ∙ saved in
     let count = (layout_are d formed right).count in
     let same = ap (λ (xs : List NamedBytes). length xs) streams in
@@ -95,13 +92,13 @@ returns-in-Ok c =
     let formed = c.requires.formed in
     let right = c.requires.right in
     let table : c.as_slice.result.now ≡ table_stream d =
-        c.as_slice.ensures
-        ∙ (c.in_ok-table.ensures.bytes_are ∙ ap (λ (t : TableText). entries_bytes (table_entries d t)) c.requires.body.text) in
+    c.as_slice.ensures
+    ∙ (c.in_ok-table.ensures.bytes_are ∙ ap (λ (t : TableText). entries_bytes (table_entries d t)) c.requires.body.text) in
     let wd : c.as_slice-2.result.now ≡ wd_stream d =
-        c.as_slice-2.ensures
-        ∙ (c.in_ok-wd.ensures ∙ (λ i. wd_of (c.fib_of-fib.ensures i) (c.requires.body.bytes i))) in
+    c.as_slice-2.ensures
+    ∙ (c.in_ok-wd.ensures ∙ (λ i. wd_of (c.fib_of-fib.ensures i) (c.requires.body.bytes i))) in
     let saved : saved_streams c.as_slice.result.now c.as_slice-2.result.now d.carried.streams ≡ layout_streams d =
-        (λ i. saved_streams (table i) (wd i) d.carried.streams) in
+    (λ i. saved_streams (table i) (wd i) d.carried.streams) in
     let streams : c.in_ok-streams.streams ≡ layout_streams d = c.in_ok-streams.ensures ∙ saved in
     c.in-Ok.ensures.1 ∙ ap (λ (xs : List NamedBytes). compound_file xs d.carried.clsid) streams
 
@@ -112,17 +109,16 @@ returns-in-Err-TooLarge c =
     let formed = c.requires.formed in
     let right = c.requires.right in
     let table : c.as_slice.result.now ≡ table_stream d =
-        c.as_slice.ensures
-        ∙ (c.in_ok-table.ensures.bytes_are ∙ ap (λ (t : TableText). entries_bytes (table_entries d t)) c.requires.body.text) in
+    c.as_slice.ensures
+    ∙ (c.in_ok-table.ensures.bytes_are ∙ ap (λ (t : TableText). entries_bytes (table_entries d t)) c.requires.body.text) in
     let wd : c.as_slice-2.result.now ≡ wd_stream d =
-        c.as_slice-2.ensures
-        ∙ (c.in_ok-wd.ensures ∙ (λ i. wd_of (c.fib_of-fib.ensures i) (c.requires.body.bytes i))) in
+    c.as_slice-2.ensures
+    ∙ (c.in_ok-wd.ensures ∙ (λ i. wd_of (c.fib_of-fib.ensures i) (c.requires.body.bytes i))) in
     let saved : saved_streams c.as_slice.result.now c.as_slice-2.result.now d.carried.streams ≡ layout_streams d =
-        (λ i. saved_streams (table i) (wd i) d.carried.streams) in
+    (λ i. saved_streams (table i) (wd i) d.carried.streams) in
     let streams : c.in_ok-streams.streams ≡ layout_streams d = c.in_ok-streams.ensures ∙ saved in
     let lengths = ap (λ (xs : List NamedBytes). sectors_needed (lengths_of xs)) streams in
     let fault : IsLayoutFault (lengths_of c.in_ok-streams.streams) (TooLarge c.in-Err-TooLarge.sectors) =
-        subst (λ f. IsLayoutFault (lengths_of c.in_ok-streams.streams) f) c.in-Err-TooLarge.field-0-is c.in-Err-TooLarge.ensures in
+    subst (λ f. IsLayoutFault (lengths_of c.in_ok-streams.streams) f) c.in-Err-TooLarge.field-0-is c.in-Err-TooLarge.ensures in
     let most = fault.0 in
     (omega (arith, most, lengths), fault.1 ∙ lengths)
-

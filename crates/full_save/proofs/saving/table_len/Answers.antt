@@ -1,18 +1,11 @@
-use Rattle.std.proofs.Common.{◌≡◌, ◌≤◌, ◌<◌, ◌^◌, ◌+◌, ℕ, List, length, sum, ap, sym, subst, refl, ◌∙◌, arith}
-use Rattle.cfb_streams.specs.Contents.{NamedBytes, AreStreams}
-use Rattle.cfb_layout.specs.Counts.{sectors_needed, most_sectors}
-use Rattle.cfb_layout.specs.Layout.{lengths_of, compound_file}
-use Rattle.fib_form.specs.FibFields.{FibFields}
+use Rattle.std.proofs.Common.{length, ap, ◌∙◌, arith}
 use Rattle.plain_doc.proofs.RightLemmas.{sound_is_right}
 use Rattle.full_save.specs.declared.table_text.TableText.{TableText}
 use Rattle.full_save.specs.TableText.{table_entries}
-use Rattle.full_save.specs.TableStream.{entries_bytes, entries_pairs}
-use Rattle.full_save.specs.WordDocument.{table_stream, wd_stream, full_fib, full_text}
-use Rattle.full_save.specs.Streams.{saved_streams}
-use Rattle.full_save.specs.Layout.{layout_streams, full_save_image, sectors_of, IsTooLarge}
+use Rattle.full_save.specs.TableStream.{entries_bytes}
+use Rattle.full_save.specs.WordDocument.{table_stream}
 use Rattle.full_save.proofs.TextLaidOut.{few_items}
-use Rattle.full_save.proofs.StreamLengths.{short_body, short_table}
-use Rattle.full_save.proofs.LayoutLemmas.{layout_are, total_short, length-wd_stream, fits_short, body_stream}
+use Rattle.full_save.proofs.StreamLengths.{short_table}
 use Rattle.full_save.proofs.saving.table_len.Goals as goal
 
 pub of-requires-clause-right : goal.of-requires-clause-right
@@ -59,4 +52,3 @@ returns c =
     let right = sound_is_right d c.requires in
     let table = ap (λ (t : TableText). length (entries_bytes (table_entries d t))) c.in_ok-body.ensures.text in
     c.in_ok-len.ensures ∙ table
-

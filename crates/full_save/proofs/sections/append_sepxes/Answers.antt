@@ -14,7 +14,7 @@ append_sepx-requires-clause-section c =
     let main = c.args.main.now in
     let item = c.index-main-cp.result in
     let here : slice_get main c.loop-cp.cp ≡ Some item =
-        slice_get-get_or main c.loop-cp.cp item c.loop-cp-test.true ∙ ap Some (sym c.index-main-cp.is) in
+    slice_get-get_or main c.loop-cp.cp item c.loop-cp-test.true ∙ ap Some (sym c.index-main-cp.is) in
     All_at HasSavableSection main c.loop-cp.cp item c.requires.sections here c.in-Some.settings c.in-Some.is
 
 pub append_sepx-requires-clause-room : goal.append_sepx-requires-clause-room
@@ -37,9 +37,9 @@ loop-cp-preserved c =
     elim c.match-item.branch [
       | in-Some+in_ok-place+in_ok-add w ↦
           let savable : IsSavableSection w.in-Some.settings =
-              All_at HasSavableSection main cp item c.requires.sections here w.in-Some.settings w.in-Some.is in
+          All_at HasSavableSection main cp item c.requires.sections here w.in-Some.settings w.in-Some.is in
           let short : length (sepx_bytes w.in-Some.settings) ≤ 504 =
-              omega (arith, length-sepx w.in-Some.settings savable.short) in
+          omega (arith, length-sepx w.in-Some.settings savable.short) in
           sepxes_more main c.args.base old cp item w.in-Some.settings
           (record { start = c.loop-cp.start; out = c.loop-cp.out; seds = c.loop-cp.seds })
           (record { start = c.match-item.start; out = c.match-item.out; seds = c.match-item.seds }) c.loop-cp-test.true

@@ -1,4 +1,3 @@
-use Rattle.std.proofs.Common.{[]}
 use Rattle.full_save.proofs.SectionLemmas.{AreSepxesUpTo}
 use Rattle.full_save.proofs.sections.append_sepxes.Given as goal
 

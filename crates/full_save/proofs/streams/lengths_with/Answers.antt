@@ -1,10 +1,7 @@
-use Rattle.std.proofs.Common.{◌≡◌, ◌++◌, ℕ, List, [], ◌∷◌, length, ap, sym, ◌∙◌}
+use Rattle.std.proofs.Common.{◌++◌, ℕ, List, [], ◌∷◌, ap, sym, ◌∙◌}
 use Rattle.std.specs.Prelude.{slice_range}
-use Rattle.std.proofs.lemmas.List.{append_assoc}
-use Rattle.cfb_streams.specs.Contents.{NamedBytes}
-use Rattle.cfb_streams.specs.Names.{wd_name, second_table_name}
 use Rattle.cfb_layout.specs.Layout.{lengths_of}
-use Rattle.full_save.proofs.StreamLemmas.{places_ordered, saved_in_parts}
+use Rattle.full_save.proofs.StreamLemmas.{places_ordered}
 use Rattle.full_save.proofs.PlaceLemmas.{lengths_in_parts}
 use Rattle.full_save.proofs.streams.lengths_with.Goals as goal
 

@@ -1,8 +1,7 @@
-use Rattle.std.proofs.Common.{◌≡◌, ◌++◌, ℕ, List, [], ◌∷◌, ap, sym, subst, ◌∙◌}
+use Rattle.std.proofs.Common.{◌++◌, ℕ, List, [], ◌∷◌, ap, sym, subst, ◌∙◌}
 use Rattle.std.specs.Prelude.{slice_range}
 use Rattle.cfb_streams.specs.Contents.{NamedBytes, AreStreams}
 use Rattle.cfb_streams.specs.Names.{wd_name, second_table_name}
-use Rattle.full_save.specs.Streams.{saved_streams}
 use Rattle.full_save.proofs.StreamLemmas.{places_ordered}
 use Rattle.full_save.proofs.PlaceLemmas.{fronts_are}
 use Rattle.full_save.proofs.streams.streams_with.Goals as goal
@@ -15,8 +14,8 @@ add_range-requires-clause-streams c =
     let that : NamedBytes = record { name = second_table_name; bytes = c.args.table.now } in
     let it : NamedBytes = record { name = wd_name; bytes = c.args.wd.now } in
     let fronts =
-        fronts_are c.args.table.now c.args.wd.now others first second c.place_for-first.ensures c.place_for-second.ensures
-        c.requires in
+    fronts_are c.args.table.now c.args.wd.now others first second c.place_for-first.ensures c.place_for-second.ensures
+    c.requires in
     subst (λ (xs : List NamedBytes). AreStreams (xs ++ slice_range others 0 first)) (sym c.new-streams.ensures) fronts.one
 
 pub add-requires : goal.add-requires
@@ -27,8 +26,8 @@ add-requires c =
     let that : NamedBytes = record { name = second_table_name; bytes = c.args.table.now } in
     let it : NamedBytes = record { name = wd_name; bytes = c.args.wd.now } in
     let fronts =
-        fronts_are c.args.table.now c.args.wd.now others first second c.place_for-first.ensures c.place_for-second.ensures
-        c.requires in
+    fronts_are c.args.table.now c.args.wd.now others first second c.place_for-first.ensures c.place_for-second.ensures
+    c.requires in
     let one = c.in_ok-add_range.ensures ∙ ap (λ (xs : List NamedBytes). xs ++ slice_range others 0 first) c.new-streams.ensures in
     subst (λ (xs : List NamedBytes). AreStreams (xs ++ that ∷ [])) (sym one) fronts.two
 
@@ -45,8 +44,8 @@ add_range-requires-2-clause-streams c =
     let that : NamedBytes = record { name = second_table_name; bytes = c.args.table.now } in
     let it : NamedBytes = record { name = wd_name; bytes = c.args.wd.now } in
     let fronts =
-        fronts_are c.args.table.now c.args.wd.now others first second c.place_for-first.ensures c.place_for-second.ensures
-        c.requires in
+    fronts_are c.args.table.now c.args.wd.now others first second c.place_for-first.ensures c.place_for-second.ensures
+    c.requires in
     let one = c.in_ok-add_range.ensures ∙ ap (λ (xs : List NamedBytes). xs ++ slice_range others 0 first) c.new-streams.ensures in
     let two = c.in_ok-add.ensures.ok ∙ ap (λ (xs : List NamedBytes). xs ++ that ∷ []) one in
     subst (λ (xs : List NamedBytes). AreStreams (xs ++ slice_range others first second)) (sym two) fronts.three
@@ -59,8 +58,8 @@ add-requires-2 c =
     let that : NamedBytes = record { name = second_table_name; bytes = c.args.table.now } in
     let it : NamedBytes = record { name = wd_name; bytes = c.args.wd.now } in
     let fronts =
-        fronts_are c.args.table.now c.args.wd.now others first second c.place_for-first.ensures c.place_for-second.ensures
-        c.requires in
+    fronts_are c.args.table.now c.args.wd.now others first second c.place_for-first.ensures c.place_for-second.ensures
+    c.requires in
     let one = c.in_ok-add_range.ensures ∙ ap (λ (xs : List NamedBytes). xs ++ slice_range others 0 first) c.new-streams.ensures in
     let two = c.in_ok-add.ensures.ok ∙ ap (λ (xs : List NamedBytes). xs ++ that ∷ []) one in
     let three = c.in_ok-add_range-2.ensures ∙ ap (λ (xs : List NamedBytes). xs ++ slice_range others first second) two in
@@ -74,8 +73,8 @@ add_range-requires-3-clause-streams c =
     let that : NamedBytes = record { name = second_table_name; bytes = c.args.table.now } in
     let it : NamedBytes = record { name = wd_name; bytes = c.args.wd.now } in
     let fronts =
-        fronts_are c.args.table.now c.args.wd.now others first second c.place_for-first.ensures c.place_for-second.ensures
-        c.requires in
+    fronts_are c.args.table.now c.args.wd.now others first second c.place_for-first.ensures c.place_for-second.ensures
+    c.requires in
     let one = c.in_ok-add_range.ensures ∙ ap (λ (xs : List NamedBytes). xs ++ slice_range others 0 first) c.new-streams.ensures in
     let two = c.in_ok-add.ensures.ok ∙ ap (λ (xs : List NamedBytes). xs ++ that ∷ []) one in
     let three = c.in_ok-add_range-2.ensures ∙ ap (λ (xs : List NamedBytes). xs ++ slice_range others first second) two in
@@ -93,8 +92,8 @@ returns c =
     let that : NamedBytes = record { name = second_table_name; bytes = c.args.table.now } in
     let it : NamedBytes = record { name = wd_name; bytes = c.args.wd.now } in
     let fronts =
-        fronts_are c.args.table.now c.args.wd.now others first second c.place_for-first.ensures c.place_for-second.ensures
-        c.requires in
+    fronts_are c.args.table.now c.args.wd.now others first second c.place_for-first.ensures c.place_for-second.ensures
+    c.requires in
     let one = c.in_ok-add_range.ensures ∙ ap (λ (xs : List NamedBytes). xs ++ slice_range others 0 first) c.new-streams.ensures in
     let two = c.in_ok-add.ensures.ok ∙ ap (λ (xs : List NamedBytes). xs ++ that ∷ []) one in
     let three = c.in_ok-add_range-2.ensures ∙ ap (λ (xs : List NamedBytes). xs ++ slice_range others first second) two in
@@ -104,4 +103,3 @@ returns c =
     c.in_ok-add_range-3.ensures
     ∙ (ap (λ (xs : List NamedBytes). xs ++ slice_range others second c.count.result) four
     ∙ (ap (λ (xs : List NamedBytes). (((slice_range others 0 first ++ that ∷ []) ++ slice_range others first second) ++ it ∷ []) ++ xs) rest ∙ fronts.whole))
-

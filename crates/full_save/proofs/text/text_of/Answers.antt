@@ -1,4 +1,4 @@
-use Rattle.std.proofs.Common.{◌≡◌, ◌≤◌, ◌+◌, ◌-◌, ◌++◌, ℕ, Bool, List, [], ◌∷◌, length, ap, sym, subst, ◌∙◌, arith}
+use Rattle.std.proofs.Common.{◌≡◌, ◌+◌, ◌-◌, ◌++◌, ℕ, Bool, List, [], ◌∷◌, length, ap, sym, subst, ◌∙◌, arith}
 use Rattle.std.specs.Prelude.{nat_lt}
 use Rattle.std.proofs.lemmas.List.{length-append}
 use Rattle.plain_doc.specs.declared.item.Item.{Item}
@@ -109,23 +109,23 @@ returns c =
     let note_len = c.len.ensures in
     let head_len = c.len-2.ensures in
     let first : IsTextSoFar d.main c.push_items.new.self =
-        subst (λ (xs : List Item). IsTextSoFar xs c.push_items.new.self) c.as_slice.ensures.items
-        (c.in_ok-push_items.ensures.text [] c.new-text.ensures) in
+    subst (λ (xs : List Item). IsTextSoFar xs c.push_items.new.self) c.as_slice.ensures.items
+    (c.in_ok-push_items.ensures.text [] c.new-text.ensures) in
     let second = c.in_ok-push_story.ensures.text d.main first in
     let third = c.in_ok-push_story-2.ensures.text (d.main ++ notes) second in
     let fourth = c.in_ok-mark_behind.ensures.text ((d.main ++ notes) ++ heads) third in
     let whole = c.in_ok-text.ensures
-        (((d.main ++ notes) ++ heads) ++ mark_if (nat_lt c.len-main.result (length c.push_story-2.new.self.units.items))) fourth in
+    (((d.main ++ notes) ++ heads) ++ mark_if (nat_lt c.len-main.result (length c.push_story-2.new.self.units.items))) fourth in
     let both = length-append notes heads in
     let total : length c.push_story-2.new.self.units.items ≡ c.len-main.result + length (notes ++ heads) = omega arith in
     let mark : nat_lt c.len-main.result (length c.push_story-2.new.self.units.items) ≡ nat_lt 0 (length (notes ++ heads)) =
-        ap (λ (n : ℕ). nat_lt c.len-main.result n) total ∙ came_behind c.len-main.result (length (notes ++ heads)) in
+    ap (λ (n : ℕ). nat_lt c.len-main.result n) total ∙ came_behind c.len-main.result (length (notes ++ heads)) in
     let items = ap (λ (b : Bool). ((d.main ++ notes) ++ heads) ++ mark_if b) mark ∙ sym (text_is d) in
     let a : c.len-main.result ≡ length d.main = omega arith in
     let b : c.len.result - c.len-main.result ≡ length notes = omega arith in
     let e : c.len-2.result - c.len-main.result - (c.len.result - c.len-main.result) ≡ length heads = omega arith in
     let given : List ℕ =
-        c.len-main.result ∷ (c.len.result - c.len-main.result) ∷ (c.len-2.result - c.len-main.result - (c.len.result - c.len-main.result)) ∷ [] in
+    c.len-main.result ∷ (c.len.result - c.len-main.result) ∷ (c.len-2.result - c.len-main.result - (c.len.result - c.len-main.result)) ∷ [] in
     let counts : given ≡ length d.main ∷ length notes ∷ length heads ∷ [] = λ i. a i ∷ b i ∷ e i ∷ [] in
     subst (λ (cs : List ℕ). IsWholeText (text_items d) cs c.in_ok-text.text) counts
     (subst (λ (xs : List Item). IsWholeText xs given c.in_ok-text.text) items whole)

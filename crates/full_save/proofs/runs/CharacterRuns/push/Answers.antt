@@ -11,8 +11,8 @@ pub returns : goal.returns
 returns c = λ at done here so.
     let old = c.args.self.now in
     let replaced = ap
-        (λ (chp : Settings). old.closed ++ (record { from = old.from; to = c.args.end; istd = 0; map = chp }) ∷ [])
-        c.replace-chp.ensures.value in
+    (λ (chp : Settings). old.closed ++ (record { from = old.from; to = c.args.end; istd = 0; map = chp }) ∷ [])
+    c.replace-chp.ensures.value in
     characters_change at c.args.end done c.args.item.now old
     (record { closed = c.add.new.self; from = c.args.end; chp = c.replace-chp.new.dest }) here c.if-self-end.false
     (λ same. absurd (cc (c.if-equal.ensures.1 same))) (c.in_ok-add.ensures.ok ∙ replaced) refl

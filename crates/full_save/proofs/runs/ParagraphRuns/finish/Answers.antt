@@ -10,6 +10,6 @@ pub returns : goal.returns
 returns c = λ at done here so.
     let runs = c.args.self in
     let none = ap
-        (λ (map : Settings). runs.closed ++ (record { from = runs.from; to = c.args.end; istd = 0; map = map }) ∷ [])
-        c.new.ensures in
+    (λ (map : Settings). runs.closed ++ (record { from = runs.from; to = c.args.end; istd = 0; map = map }) ∷ [])
+    c.new.ensures in
     paragraphs_left at c.args.end done runs c.add.new.self here c.if-from-end.false (c.in_ok-add.ensures.ok ∙ none) so

@@ -11,7 +11,7 @@ returns-in_ok-add-in-Some c = λ at done here so.
     let old = c.args.self.now in
     let mark = c.in-Some.mark in
     let copied = ap
-        (λ (pap : Settings). old.closed ++ (record { from = old.from; to = c.args.end; istd = mark.istd; map = pap }) ∷ [])
-        c.in_ok-pap-in-Some.ensures in
+    (λ (pap : Settings). old.closed ++ (record { from = old.from; to = c.args.end; istd = mark.istd; map = pap }) ∷ [])
+    c.in_ok-pap-in-Some.ensures in
     paragraphs_end at c.args.end done c.args.item.now mark old (record { closed = c.add.new.self; from = c.args.end })
     here c.in-Some.is (c.in_ok-add-in-Some.ensures.ok ∙ copied) refl so

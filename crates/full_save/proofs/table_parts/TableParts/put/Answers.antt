@@ -1,7 +1,7 @@
-use Rattle.std.proofs.Common.{◌≡◌, ◌++◌, [], length, ap, sym, ◌∙◌}
+use Rattle.std.proofs.Common.{◌≡◌, ◌++◌, length, ap, sym, ◌∙◌}
 use Rattle.std.proofs.lemmas.List.{append-nil}
 use Rattle.fib_form.specs.TableParts.{pair_of}
-use Rattle.fib_form.specs.TableEntries.{TableEntry, entry}
+use Rattle.fib_form.specs.TableEntries.{entry}
 use Rattle.full_save.specs.TableStream.{put_pair}
 use Rattle.full_save.proofs.TableLemmas.{written_more}
 use Rattle.full_save.proofs.table_parts.TableParts.put.Goals as goal

@@ -1,4 +1,4 @@
-use Rattle.std.proofs.Common.{◌≡◌, ◌+◌, ◌++◌, [], ◌∷◌, take, ap, sym, ◌∙◌, arith}
+use Rattle.std.proofs.Common.{◌+◌, ◌++◌, [], ◌∷◌, take, ap, sym, ◌∙◌, arith}
 use Rattle.std.proofs.lemmas.List.{take_more}
 use Rattle.plain_doc.specs.declared.item.Item.{Item}
 use Rattle.full_save.proofs.TextLemmas.{goes_on_both, goes_on_by}
@@ -17,7 +17,7 @@ loop-item-preserved c =
     let i = c.loop-item.item-index in
     let item = c.item-item.result in
     let taken = take_more items i item c.loop-item-test.true
-        ∙ ap (λ (x : Item). take i items ++ x ∷ []) (sym c.item-item.is) in
+    ∙ ap (λ (x : Item). take i items ++ x ∷ []) (sym c.item-item.is) in
     let count = c.loop-item.invariant.1 in
     let more = c.in_ok-push.ensures.count in (
       goes_on_by (take i items ++ item ∷ []) (take (i + 1) items) c.args.self.now c.push.new.self (sym taken)

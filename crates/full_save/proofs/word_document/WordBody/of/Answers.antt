@@ -1,4 +1,4 @@
-use Rattle.std.proofs.Common.{◌≡◌, ◌≤◌, ◌<◌, ◌+◌, ◌*◌, ◌^◌, ◌/◌, ◌++◌, ℕ, List, [], length, ap, sym, subst, ◌∙◌, arith}
+use Rattle.std.proofs.Common.{◌≡◌, ◌≤◌, ◌<◌, ◌+◌, ◌*◌, ◌^◌, ◌++◌, ℕ, List, length, ap, sym, subst, ◌∙◌, arith}
 use Rattle.std.proofs.lemmas.List.{length-map}
 use Rattle.std.specs.Prelude.{All}
 use Rattle.fkp_pages.specs.declared.kind.PageKind.TheVariants.{Chpx, Papx}
@@ -245,17 +245,17 @@ append_sepxes-requires-clause-room c =
     let len : c.len-len.result ≡ length (text_items d) = omega arith in
     let is_text : units_bytes c.deref.result.now ≡ text_bytes d = ap units_bytes (c.deref.ensures.value ∙ text.units) in
     let one : c.append_text.new.out ≡ padded 512 0 (text_bytes d) =
-        c.in_ok-append_text.ensures
-        ∙ (ap (λ (xs : List ℕ). xs ++ padded 512 0 (units_bytes c.deref.result.now)) c.new-bytes.ensures
-        ∙ ap (λ (xs : List ℕ). padded 512 0 xs) is_text) in
+    c.in_ok-append_text.ensures
+    ∙ (ap (λ (xs : List ℕ). xs ++ padded 512 0 (units_bytes c.deref.result.now)) c.new-bytes.ensures
+    ∙ ap (λ (xs : List ℕ). padded 512 0 xs) is_text) in
     let two : c.append_chpx_pages.new.out ≡ padded 512 0 (text_bytes d) ++ (document_pages Chpx d).bytes =
-        c.in_ok-second.ensures.bytes
-        ∙ (ap (λ (xs : List ℕ). xs ++ (pages_of Chpx c.in_ok-text.text.characters).bytes) one
-        ∙ ap (λ (runs : List Run). padded 512 0 (text_bytes d) ++ (pages_of Chpx runs).bytes) text.characters) in
+    c.in_ok-second.ensures.bytes
+    ∙ (ap (λ (xs : List ℕ). xs ++ (pages_of Chpx c.in_ok-text.text.characters).bytes) one
+    ∙ ap (λ (runs : List Run). padded 512 0 (text_bytes d) ++ (pages_of Chpx runs).bytes) text.characters) in
     let three : c.append_papx_pages.new.out ≡ text_and_pages d =
-        c.in_ok-append_papx_pages.ensures.bytes
-        ∙ (ap (λ (xs : List ℕ). xs ++ (pages_of Papx c.in_ok-text.text.paragraphs).bytes) two
-        ∙ ap (λ (runs : List Run). (padded 512 0 (text_bytes d) ++ (document_pages Chpx d).bytes) ++ (pages_of Papx runs).bytes) text.paragraphs) in
+    c.in_ok-append_papx_pages.ensures.bytes
+    ∙ (ap (λ (xs : List ℕ). xs ++ (pages_of Papx c.in_ok-text.text.paragraphs).bytes) two
+    ∙ ap (λ (runs : List Run). (padded 512 0 (text_bytes d) ++ (document_pages Chpx d).bytes) ++ (pages_of Papx runs).bytes) text.paragraphs) in
     let short = pages_short d formed right in
     let size = ap length three in
     omega arith
@@ -275,12 +275,12 @@ write_bin-requires c =
     let vec = c.in_ok-text.text.units.ok.0 in
     let len : c.len-len.result ≡ length (text_items d) = omega arith in
     let number : c.pages_for-first.result ≡ first_character_page d =
-        c.pages_for-first.ensures ∙ ap (λ (n : ℕ). units_for 512 (text_at + 2 * n)) len in
+    c.pages_for-first.ensures ∙ ap (λ (n : ℕ). units_for 512 (text_at + 2 * n)) len in
     let starts = ap (λ (runs : List Run). (pages_of Chpx runs).starts) text.characters in
     let character_bins : c.append_chpx_pages.new.bins ≡ numbered_bins (first_character_page d) (document_pages Chpx d).starts =
-        c.in_ok-second.ensures.bins
-        ∙ (ap (λ (xs : List Bin). xs ++ numbered_bins c.pages_for-first.result (pages_of Chpx c.in_ok-text.text.characters).starts) c.new-characters.ensures
-        ∙ (λ i. numbered_bins (number i) (starts i))) in
+    c.in_ok-second.ensures.bins
+    ∙ (ap (λ (xs : List Bin). xs ++ numbered_bins c.pages_for-first.result (pages_of Chpx c.in_ok-text.text.characters).starts) c.new-characters.ensures
+    ∙ (λ i. numbered_bins (number i) (starts i))) in
     let end : 1024 + 2 * c.len-len.result ≡ text_at + 2 * length (text_items d) = ap (λ (n : ℕ). text_at + 2 * n) len in
     let pages = few_pages Chpx d formed right in
     let small : first_character_page d + length (document_pages Chpx d).starts ≤ 2 ^ 22 = omega arith in
@@ -303,21 +303,21 @@ write_bin-requires-2 c =
     let vec = c.in_ok-text.text.units.ok.0 in
     let len : c.len-len.result ≡ length (text_items d) = omega arith in
     let number : c.pages_for-first.result ≡ first_character_page d =
-        c.pages_for-first.ensures ∙ ap (λ (n : ℕ). units_for 512 (text_at + 2 * n)) len in
+    c.pages_for-first.ensures ∙ ap (λ (n : ℕ). units_for 512 (text_at + 2 * n)) len in
     let starts = ap (λ (runs : List Run). (pages_of Chpx runs).starts) text.characters in
     let character_bins : c.append_chpx_pages.new.bins ≡ numbered_bins (first_character_page d) (document_pages Chpx d).starts =
-        c.in_ok-second.ensures.bins
-        ∙ (ap (λ (xs : List Bin). xs ++ numbered_bins c.pages_for-first.result (pages_of Chpx c.in_ok-text.text.characters).starts) c.new-characters.ensures
-        ∙ (λ i. numbered_bins (number i) (starts i))) in
+    c.in_ok-second.ensures.bins
+    ∙ (ap (λ (xs : List Bin). xs ++ numbered_bins c.pages_for-first.result (pages_of Chpx c.in_ok-text.text.characters).starts) c.new-characters.ensures
+    ∙ (λ i. numbered_bins (number i) (starts i))) in
     let end : 1024 + 2 * c.len-len.result ≡ text_at + 2 * length (text_items d) = ap (λ (n : ℕ). text_at + 2 * n) len in
     let pages = few_pages Chpx d formed right in
     let next : c.in_ok-second.second ≡ first_paragraph_page d =
-        c.in_ok-second.ensures.next ∙ (λ i. number i + length (starts i)) in
+    c.in_ok-second.ensures.next ∙ (λ i. number i + length (starts i)) in
     let later = ap (λ (runs : List Run). (pages_of Papx runs).starts) text.paragraphs in
     let paragraph_bins : c.append_papx_pages.new.bins ≡ numbered_bins (first_paragraph_page d) (document_pages Papx d).starts =
-        c.in_ok-append_papx_pages.ensures.bins
-        ∙ (ap (λ (xs : List Bin). xs ++ numbered_bins c.in_ok-second.second (pages_of Papx c.in_ok-text.text.paragraphs).starts) c.new-paragraphs.ensures
-        ∙ (λ i. numbered_bins (next i) (later i))) in
+    c.in_ok-append_papx_pages.ensures.bins
+    ∙ (ap (λ (xs : List Bin). xs ++ numbered_bins c.in_ok-second.second (pages_of Papx c.in_ok-text.text.paragraphs).starts) c.new-paragraphs.ensures
+    ∙ (λ i. numbered_bins (next i) (later i))) in
     let more = few_pages Papx d formed right in
     let small : first_paragraph_page d + length (document_pages Papx d).starts ≤ 2 ^ 22 = omega arith in
     let printable = bins_printable Papx d (first_paragraph_page d) formed right small in
@@ -340,42 +340,42 @@ returns c =
     let len : c.len-len.result ≡ length (text_items d) = omega arith in
     let is_text : units_bytes c.deref.result.now ≡ text_bytes d = ap units_bytes (c.deref.ensures.value ∙ text.units) in
     let one : c.append_text.new.out ≡ padded 512 0 (text_bytes d) =
-        c.in_ok-append_text.ensures
-        ∙ (ap (λ (xs : List ℕ). xs ++ padded 512 0 (units_bytes c.deref.result.now)) c.new-bytes.ensures
-        ∙ ap (λ (xs : List ℕ). padded 512 0 xs) is_text) in
+    c.in_ok-append_text.ensures
+    ∙ (ap (λ (xs : List ℕ). xs ++ padded 512 0 (units_bytes c.deref.result.now)) c.new-bytes.ensures
+    ∙ ap (λ (xs : List ℕ). padded 512 0 xs) is_text) in
     let two : c.append_chpx_pages.new.out ≡ padded 512 0 (text_bytes d) ++ (document_pages Chpx d).bytes =
-        c.in_ok-second.ensures.bytes
-        ∙ (ap (λ (xs : List ℕ). xs ++ (pages_of Chpx c.in_ok-text.text.characters).bytes) one
-        ∙ ap (λ (runs : List Run). padded 512 0 (text_bytes d) ++ (pages_of Chpx runs).bytes) text.characters) in
+    c.in_ok-second.ensures.bytes
+    ∙ (ap (λ (xs : List ℕ). xs ++ (pages_of Chpx c.in_ok-text.text.characters).bytes) one
+    ∙ ap (λ (runs : List Run). padded 512 0 (text_bytes d) ++ (pages_of Chpx runs).bytes) text.characters) in
     let three : c.append_papx_pages.new.out ≡ text_and_pages d =
-        c.in_ok-append_papx_pages.ensures.bytes
-        ∙ (ap (λ (xs : List ℕ). xs ++ (pages_of Papx c.in_ok-text.text.paragraphs).bytes) two
-        ∙ ap (λ (runs : List Run). (padded 512 0 (text_bytes d) ++ (document_pages Chpx d).bytes) ++ (pages_of Papx runs).bytes) text.paragraphs) in
+    c.in_ok-append_papx_pages.ensures.bytes
+    ∙ (ap (λ (xs : List ℕ). xs ++ (pages_of Papx c.in_ok-text.text.paragraphs).bytes) two
+    ∙ ap (λ (runs : List Run). (padded 512 0 (text_bytes d) ++ (document_pages Chpx d).bytes) ++ (pages_of Papx runs).bytes) text.paragraphs) in
     let number : c.pages_for-first.result ≡ first_character_page d =
-        c.pages_for-first.ensures ∙ ap (λ (n : ℕ). units_for 512 (text_at + 2 * n)) len in
+    c.pages_for-first.ensures ∙ ap (λ (n : ℕ). units_for 512 (text_at + 2 * n)) len in
     let starts = ap (λ (runs : List Run). (pages_of Chpx runs).starts) text.characters in
     let character_bins : c.append_chpx_pages.new.bins ≡ numbered_bins (first_character_page d) (document_pages Chpx d).starts =
-        c.in_ok-second.ensures.bins
-        ∙ (ap (λ (xs : List Bin). xs ++ numbered_bins c.pages_for-first.result (pages_of Chpx c.in_ok-text.text.characters).starts) c.new-characters.ensures
-        ∙ (λ i. numbered_bins (number i) (starts i))) in
+    c.in_ok-second.ensures.bins
+    ∙ (ap (λ (xs : List Bin). xs ++ numbered_bins c.pages_for-first.result (pages_of Chpx c.in_ok-text.text.characters).starts) c.new-characters.ensures
+    ∙ (λ i. numbered_bins (number i) (starts i))) in
     let end : 1024 + 2 * c.len-len.result ≡ text_at + 2 * length (text_items d) = ap (λ (n : ℕ). text_at + 2 * n) len in
     let pages = few_pages Chpx d formed right in
     let next : c.in_ok-second.second ≡ first_paragraph_page d =
-        c.in_ok-second.ensures.next ∙ (λ i. number i + length (starts i)) in
+    c.in_ok-second.ensures.next ∙ (λ i. number i + length (starts i)) in
     let later = ap (λ (runs : List Run). (pages_of Papx runs).starts) text.paragraphs in
     let paragraph_bins : c.append_papx_pages.new.bins ≡ numbered_bins (first_paragraph_page d) (document_pages Papx d).starts =
-        c.in_ok-append_papx_pages.ensures.bins
-        ∙ (ap (λ (xs : List Bin). xs ++ numbered_bins c.in_ok-second.second (pages_of Papx c.in_ok-text.text.paragraphs).starts) c.new-paragraphs.ensures
-        ∙ (λ i. numbered_bins (next i) (later i))) in
+    c.in_ok-append_papx_pages.ensures.bins
+    ∙ (ap (λ (xs : List Bin). xs ++ numbered_bins c.in_ok-second.second (pages_of Papx c.in_ok-text.text.paragraphs).starts) c.new-paragraphs.ensures
+    ∙ (λ i. numbered_bins (next i) (later i))) in
     let more = few_pages Papx d formed right in
     let sections = ap sections_of c.as_slice.ensures.items in
     let place : 1024 + length c.append_papx_pages.new.out ≡ pages_end d = ap (λ (xs : List ℕ). 1024 + length xs) three ∙ pages_end_is d formed right in
     let seds = c.in_ok-seds.ensures.seds ∙ (λ i. seds_from 0 (place i) (sections i)) in
     let positive : 0 < length (text_items d) = omega arith in
     let characters = c.in_ok-write_bin.ensures.bytes
-        ∙ (λ i. printed_bin (character_bins i) ((end ∙ sym (last_fc-text_runs Chpx text_at (text_items d) positive)) i)) in
+    ∙ (λ i. printed_bin (character_bins i) ((end ∙ sym (last_fc-text_runs Chpx text_at (text_items d) positive)) i)) in
     let paragraphs = c.in_ok-write_bin-2.ensures.bytes
-        ∙ (λ i. printed_bin (paragraph_bins i) ((end ∙ sym (last_fc-text_runs Papx text_at (text_items d) positive)) i)) in
+    ∙ (λ i. printed_bin (paragraph_bins i) ((end ∙ sym (last_fc-text_runs Papx text_at (text_items d) positive)) i)) in
     let clx = c.in_ok-clx_of.ensures ∙ ap one_piece_clx len in
     record {
       bytes =
@@ -388,4 +388,3 @@ returns c =
         clx = clx i;
       };
     }
-
