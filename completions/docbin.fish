@@ -5,4 +5,7 @@ complete -c docbin -n '__fish_is_first_arg' -a streams -d 'a line for each strea
 complete -c docbin -n '__fish_is_first_arg' -a check -d 'whether the file is accepted, and how much it has'
 complete -c docbin -n '__fish_is_first_arg' -a show -d 'the styles and texts, line by line'
 complete -c docbin -n '__fish_is_first_arg' -a props -d 'what is in effect at an item of the main text'
-complete -c docbin -n '__fish_seen_subcommand_from text streams check show props; and test (count (commandline -opc)) -eq 2' -F
+complete -c docbin -n '__fish_is_first_arg' -a full -d 'put the full save of the document under a name'
+complete -c docbin -n '__fish_is_first_arg' -a equal -d 'whether the documents of two files are equal'
+complete -c docbin -n '__fish_seen_subcommand_from text streams check show props full equal; and test (count (commandline -opc)) -eq 2' -F
+complete -c docbin -n '__fish_seen_subcommand_from full equal; and test (count (commandline -opc)) -eq 3' -F

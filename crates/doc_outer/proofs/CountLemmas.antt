@@ -1,5 +1,5 @@
 -- On counts that rise in one part of a call after the other.
-use Rattle.std.proofs.Common.{ℕ, ◌+◌, ◌≤◌, min, arith}
+use Rattle.std.proofs.Common.{ℕ, ◌+◌, ◌≤◌, arith}
 use Rattle.std.proofs.Math.Nat.{min-le_left, min-le_right, le-min, le_trans}
 use Rattle.doc_outer.specs.Counts.{Rose, GoesOn, raised, last_count}
 

@@ -1,18 +1,19 @@
 -- A command in whose way nothing stands is served.
-use Rattle.std.proofs.Common.{◌≡◌, ◌≢◌, ◌<◌, ◌≤◌, ◌∙◌, inl, inr, refl, sym, ap, subst, ℕ, List, Option, Some, None, length, arith}
+use Rattle.std.proofs.Common.{◌≡◌, ◌≢◌, ◌<◌, inl, inr, ap, subst, ℕ, List, Some, length, arith}
 use Rattle.doc_bits.specs.Rules.{Rules, Hold, IsSingle}
 use Rattle.doc_bits.specs.Places.{Place, Upto}
 use Rattle.doc_bits.proofs.RuleLemmas.{hold_or_first}
-use Rattle.doc_outer.specs.Held.{Files, file_at}
+use Rattle.doc_outer.specs.Held.{Files}
 use Rattle.plain_doc.specs.declared.document.Document.{Document}
 use Rattle.doc_read.specs.Holds.{all_rules}
 use Rattle.doc_read.proofs.OneDocument.{all_single}
+use Rattle.full_save.specs.Layout.{FitsCompoundFile}
 use Rattle.doc_run.specs.declared.command.View.{View}
 use Rattle.doc_run.specs.declared.command.View.TheVariants.{Text, Check, Show, Props}
-use Rattle.doc_run.specs.Commands.{Request, streams, look, IsCommand}
+use Rattle.doc_run.specs.Commands.{Request, streams, look, full, compare, IsCommand}
 use Rattle.doc_run.specs.Outcomes.{Outcome, says}
 use Rattle.doc_run.specs.Stages.{Judges, ReadsFile}
-use Rattle.doc_run.specs.Endings.{stream_rules, ListsStreams, Shows, ShowsFile, Ends, IsEnding}
+use Rattle.doc_run.specs.Endings.{stream_rules, ListsStreams, Shows, ShowsFile, Saves, SavesFile, Compares, ComparesFiles, ReadsSecond, Ends, IsEnding}
 use Rattle.doc_run.specs.Completeness.{HoldsRight, HasPosition, CanServe}
 use Rattle.doc_run.proofs.CommandLemmas.{command_one}
 use Rattle.doc_run.proofs.OneLemmas.{Says, BreakFirst, settled, streams_break, all_break, streams_single}
@@ -42,6 +43,14 @@ shown (Props pos) document outcome has (inr s) =
     let within : pos < length document.main = has in
     absurd (omega (arith, beyond, within))
 
+saved : (out : List ℕ) (document : Document) (outcome : Outcome) → FitsCompoundFile document → Saves out document outcome → outcome.status ≡ 0
+saved out document outcome fits (inl s) = ap (λ (o : Outcome). o.status) s.ends
+saved out document outcome fits (inr s) = let over = s.over in absurd (omega (arith, fits, over))
+
+compared : (first second : Document) (outcome : Outcome) → first ≡ second → Compares first second outcome → outcome.status ≡ 0
+compared first second outcome same (inl x) = status_of 0 _ outcome x.1
+compared first second outcome same (inr x) = absurd (x.0 same)
+
 served : (command : Request) (files : Files) (outcome : Outcome) → CanServe command files → Ends command (Some files) outcome → outcome.status ≢ 4 → outcome.status ≡ 0
 served (streams file) files outcome can ends calm =
     let lists = read_right file files stream_rules ListsStreams outcome streams_break streams_single can ends calm in
@@ -49,6 +58,14 @@ served (streams file) files outcome can ends calm =
 served (look view file) files outcome can ends calm =
     let shows = read_right file files all_rules (ShowsFile view) outcome all_break all_single can.right ends calm in
     shown view shows.document outcome (can.has shows.document shows.holds) shows.shows
+served (full file out) files outcome can ends calm =
+    let said = read_right file files all_rules (SavesFile out) outcome all_break all_single can.right ends calm in
+    saved out said.document outcome (can.fits said.document said.holds) said.saves
+served (compare first second) files outcome can ends calm =
+    let one = can.right_first in
+    let reads = read_right first files all_rules (ReadsSecond second (Some files)) outcome all_break all_single one ends calm in
+    let said = read_right second files all_rules (ComparesFiles one.bytes) outcome all_break all_single can.right_second reads calm in
+    compared said.first said.second outcome (can.same said.first said.second said.holds_first said.holds_second) said.compares
 
 pub complete : (words : List (List ℕ)) (command : Request) (files : Files) (outcome : Outcome) → IsCommand words command → CanServe command files → IsEnding words (Some files) outcome → outcome.status ≢ 4 → outcome.status ≡ 0
 complete words command files outcome asked can (inl usage) calm = absurd (usage.none command asked)

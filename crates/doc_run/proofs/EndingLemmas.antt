@@ -1,20 +1,29 @@
 -- How the ways to end come about.
-use Rattle.std.proofs.Common.{◌≡◌, ◌≢◌, ◌⊎◌, inl, inr, ap, sym, subst, ℕ, List, Option, Some, None, refl, arith}
+use Rattle.std.proofs.Common.{◌≡◌, ◌≢◌, ◌⊎◌, ◌∙◌, inl, inr, ap, sym, subst, refl, ℕ, List, Option, arith}
 use Rattle.doc_bits.specs.Rules.{Rules}
 use Rattle.doc_bits.specs.Places.{Place}
+use Rattle.doc_outer.specs.Counts.{GoesOn}
 use Rattle.doc_outer.specs.Held.{Files, Told, IsWhole}
+use Rattle.doc_outer.proofs.CountLemmas.{Rose-after}
 use Rattle.plain_doc.specs.declared.document.Document.{Document}
 use Rattle.doc_load.specs.declared.fault.ReadFault.{ReadFault}
 use Rattle.doc_load.specs.declared.fault.ReadFault.TheVariants.{Refused, Memory}
 use Rattle.doc_load.specs.Faults.{IsReadFault}
+use Rattle.doc_read.specs.Holds.{all_rules}
+use Rattle.full_save.specs.declared.fault.SaveFault.{SaveFault}
+use Rattle.full_save.specs.declared.fault.SaveFault.TheVariants.{TooLarge}
+use Rattle.full_save.specs.Layout.{IsTooLarge}
 use Rattle.doc_run.specs.declared.command.View.{View}
 use Rattle.doc_run.specs.declared.command.View.TheVariants.{Text, Check, Show, Props}
 use Rattle.doc_run.specs.declared.stage.Taken.{Taken}
 use Rattle.doc_run.specs.declared.stage.Taken.TheVariants.{Whole}
-use Rattle.doc_run.specs.Outcomes.{Outcome, says, HasCause, StaysAt}
-use Rattle.doc_run.specs.Stages.{IsRefused, Judges}
-use Rattle.doc_run.specs.Reading.{IsTaken}
-use Rattle.doc_run.specs.Endings.{NamesRule, ListsStreams, Shows, ShowsFile}
+use Rattle.doc_run.specs.declared.stage.Reached.{Reached}
+use Rattle.doc_run.specs.declared.stage.Reached.TheVariants as reached
+use Rattle.doc_run.specs.Lines.{too_large_line}
+use Rattle.doc_run.specs.Outcomes.{Outcome, says, HasCause}
+use Rattle.doc_run.specs.Stages.{IsRefused, Judges, ReadsFile}
+use Rattle.doc_run.specs.Reading.{IsTaken, IsOpenedAt, EndsAt, IsReached, IsJudged, status_reached}
+use Rattle.doc_run.specs.Endings.{NamesRule, ListsStreams, Shows, Saves, Compares}
 
 -- the line of a refusal names the first broken rule
 pub names-refused : (rules : Rules Place) (fault : ReadFault) (name : List ℕ) (outcome : Outcome) → IsReadFault rules fault → NamesRule fault name outcome → IsRefused rules name outcome
@@ -22,46 +31,108 @@ names-refused rules (Refused number part offset) name outcome first named =
     record { rule = number; place = (part, offset); first = first; ends = named }
 names-refused rules Memory name outcome first named = absurd named
 
+-- the line of a save that is too large has its sectors
+pub saves_too_large : (out : List ℕ) (document : Document) (fault : SaveFault) (sectors : ℕ) (outcome : Outcome) → IsTooLarge document fault → fault ≡ TooLarge sectors → outcome ≡ says 9 (too_large_line sectors) → Saves out document outcome
+saves_too_large out document fault sectors outcome large is ends =
+    let facts : IsTooLarge document (TooLarge sectors) = subst (λ f. IsTooLarge document f) is large in
+    inr (record { over = facts.0; ends = ends ∙ ap (λ n. says 9 (too_large_line n)) facts.1 })
+
 -- the bytes that were read are those of the name
 pub told_whole : (name : List ℕ) (held : Option Files) (taken : Taken) (bytes read : List ℕ) → IsTaken name held taken → taken ≡ Whole bytes → read ≡ bytes → Told held name (IsWhole read)
 told_whole name held taken bytes read is whole same =
     subst (λ b. Told held name (IsWhole b)) (sym same) (subst (λ t. IsTaken name held t) whole is)
 
--- what every name holds stays where the whole shelf does
-pub all_stay : (name : List ℕ) (held : Option Files) → StaysAt name held held
-all_stay name None = tt
-all_stay name (Some files) = refl
+-- what judging came to is what opening came to
+pub judged_reached : (name : List ℕ) (held : Option Files) (file : List ℕ) (r : Reached) → Told held name (IsWhole file) → IsJudged name file r → IsReached name held r
+judged_reached name held file (reached.Opened document) told j =
+    record { bytes = file; told = told; accepted = j.0; holds = j.1.0; sound = j.1.1 }
+judged_reached name held file (reached.Stopped ending) told j =
+    inr (inr (inr (record { bytes = file; told = told; refused = j })))
+
+pub opened_of : (name : List ℕ) (held : Option Files) (r : Reached) (document : Document) → IsReached name held r → r ≡ reached.Opened document → IsOpenedAt name held document
+opened_of name held r document is e = subst (λ t. IsReached name held t) e is
+
+pub stopped_of : (name : List ℕ) (held : Option Files) (r : Reached) (ending : Outcome) → IsReached name held r → r ≡ reached.Stopped ending → EndsAt name held ending
+stopped_of name held r ending is e = subst (λ t. IsReached name held t) e is
+
+-- an opened document goes to the next stage
+pub goes_on : (name : List ℕ) (held : Option Files) (document : Document) (next : List ℕ → Outcome → Type 0) (outcome : Outcome) (opened : IsOpenedAt name held document) → next opened.bytes outcome → ReadsFile name held all_rules next outcome
+goes_on name held document next outcome opened h =
+    inr (inr (inr (record { bytes = opened.bytes; told = opened.told; goes_on = inr (opened.accepted, h) })))
+
+-- a run that ends at a name ends so whatever the next stage is
+pub ends_there : (name : List ℕ) (held : Option Files) (next : List ℕ → Outcome → Type 0) (outcome : Outcome) → EndsAt name held outcome → ReadsFile name held all_rules next outcome
+ends_there name held next outcome (inl missing) = inl missing
+ends_there name held next outcome (inr (inl fault)) = inr (inl fault)
+ends_there name held next outcome (inr (inr (inl over))) = inr (inr (inl over))
+ends_there name held next outcome (inr (inr (inr r))) =
+    inr (inr (inr (record { bytes = r.bytes; told = r.told; goes_on = inl r.refused })))
 
 -- the statuses that a stage after reading may answer
 abbrev pub IsAfterReading : ℕ → Type 0
-IsAfterReading status = (status ≡ 0) ⊎ ((status ≡ 1) ⊎ (status ≡ 8))
+IsAfterReading status = (status ≡ 0) ⊎ ((status ≡ 1) ⊎ ((status ≡ 8) ⊎ ((status ≡ 9) ⊎ (status ≡ 11))))
 
 after_says : (status : ℕ) (text : List ℕ) (outcome : Outcome) → outcome ≡ says status text → outcome.status ≡ status
 after_says status text outcome e = ap (λ (o : Outcome). o.status) e
-
-shows_status : (view : View) (document : Document) (outcome : Outcome) → Shows view document outcome → IsAfterReading outcome.status
-shows_status Text document outcome s = inl (after_says 0 _ outcome s)
-shows_status Check document outcome s = inl (after_says 0 _ outcome s)
-shows_status Show document outcome s = inl (after_says 0 _ outcome s)
-shows_status (Props pos) document outcome (inl s) = inl (after_says 0 _ outcome s.ends)
-shows_status (Props pos) document outcome (inr s) = inr (inr (after_says 8 _ outcome s.ends))
 
 pub streams_status : (rules : Rules Place) (name file : List ℕ) (outcome : Outcome) → Judges rules name (ListsStreams file) outcome → IsAfterReading outcome.status
 streams_status rules name file outcome (inl x) = inr (inl (after_says 1 _ outcome x.ends))
 streams_status rules name file outcome (inr x) = let l = x.1 in inl (after_says 0 _ outcome l.ends)
 
-pub view_status : (rules : Rules Place) (name file : List ℕ) (view : View) (outcome : Outcome) → Judges rules name (ShowsFile view file) outcome → IsAfterReading outcome.status
-view_status rules name file view outcome (inl x) = inr (inl (after_says 1 _ outcome x.ends))
-view_status rules name file view outcome (inr x) = let l = x.1 in shows_status view l.document outcome l.shows
+pub shows_status : (view : View) (document : Document) (outcome : Outcome) → Shows view document outcome → IsAfterReading outcome.status
+shows_status Text document outcome s = inl (after_says 0 _ outcome s)
+shows_status Check document outcome s = inl (after_says 0 _ outcome s)
+shows_status Show document outcome s = inl (after_says 0 _ outcome s)
+shows_status (Props pos) document outcome (inl s) = inl (after_says 0 _ outcome s.ends)
+shows_status (Props pos) document outcome (inr s) = inr (inr (inl (after_says 8 _ outcome s.ends)))
+
+pub saves_status : (out : List ℕ) (document : Document) (outcome : Outcome) → Saves out document outcome → IsAfterReading outcome.status
+saves_status out document outcome (inl s) = inl (ap (λ (o : Outcome). o.status) s.ends)
+saves_status out document outcome (inr s) = inr (inr (inr (inl (after_says 9 _ outcome s.ends))))
+
+pub compares_status : (first second : Document) (outcome : Outcome) → Compares first second outcome → IsAfterReading outcome.status
+compares_status first second outcome (inl c) = inl (after_says 0 _ outcome c.1)
+compares_status first second outcome (inr c) = inr (inr (inr (inr (after_says 11 _ outcome c.1))))
 
 -- such a status is none of what happens outside
 pub after_reading_inside : (status : ℕ) → IsAfterReading status → (status ≢ 5) × (status ≢ 6)
 after_reading_inside status (inl e) = (λ s. omega (arith, e, s), λ s. omega (arith, e, s))
 after_reading_inside status (inr (inl e)) = (λ s. omega (arith, e, s), λ s. omega (arith, e, s))
-after_reading_inside status (inr (inr e)) = (λ s. omega (arith, e, s), λ s. omega (arith, e, s))
+after_reading_inside status (inr (inr (inl e))) = (λ s. omega (arith, e, s), λ s. omega (arith, e, s))
+after_reading_inside status (inr (inr (inr (inl e)))) = (λ s. omega (arith, e, s), λ s. omega (arith, e, s))
+after_reading_inside status (inr (inr (inr (inr e)))) = (λ s. omega (arith, e, s), λ s. omega (arith, e, s))
+
+no_cause : (status a b c d : ℕ) → (status ≡ 3 → ⊥) → (status ≡ 4 → ⊥) → HasCause status a b c d
+no_cause status a b c d three four = record { missing = λ s. absurd (three s); shelf_fault = λ s. absurd (four s) }
 
 -- and needs no cause
 pub after_reading_caused : (status a b c d : ℕ) → IsAfterReading status → HasCause status a b c d
-after_reading_caused status a b c d (inl e) = record { missing = λ s. absurd (omega (arith, e, s)); shelf_fault = λ s. absurd (omega (arith, e, s)) }
-after_reading_caused status a b c d (inr (inl e)) = record { missing = λ s. absurd (omega (arith, e, s)); shelf_fault = λ s. absurd (omega (arith, e, s)) }
-after_reading_caused status a b c d (inr (inr e)) = record { missing = λ s. absurd (omega (arith, e, s)); shelf_fault = λ s. absurd (omega (arith, e, s)) }
+after_reading_caused status a b c d (inl e) = no_cause status a b c d (λ s. omega (arith, e, s)) (λ s. omega (arith, e, s))
+after_reading_caused status a b c d (inr (inl e)) = no_cause status a b c d (λ s. omega (arith, e, s)) (λ s. omega (arith, e, s))
+after_reading_caused status a b c d (inr (inr (inl e))) = no_cause status a b c d (λ s. omega (arith, e, s)) (λ s. omega (arith, e, s))
+after_reading_caused status a b c d (inr (inr (inr (inl e)))) = no_cause status a b c d (λ s. omega (arith, e, s)) (λ s. omega (arith, e, s))
+after_reading_caused status a b c d (inr (inr (inr (inr e)))) = no_cause status a b c d (λ s. omega (arith, e, s)) (λ s. omega (arith, e, s))
+
+-- judging needs no cause
+pub judged_caused : (name file : List ℕ) (r : Reached) (a b c d : ℕ) → IsJudged name file r → HasCause (status_reached r) a b c d
+judged_caused name file (reached.Opened document) a b c d j = after_reading_caused 0 a b c d (inl refl)
+judged_caused name file (reached.Stopped ending) a b c d j =
+    after_reading_caused ending.status a b c d (inr (inl (after_says 1 _ ending j.ends)))
+
+-- a run that ends at a name has a status of its own
+pub ends_at_inside : (name : List ℕ) (held : Option Files) (outcome : Outcome) → EndsAt name held outcome → (outcome.status ≢ 5) × (outcome.status ≢ 6)
+ends_at_inside name held outcome (inl x) =
+    let e = after_says 3 _ outcome x.ends in (λ s. omega (arith, e, s), λ s. omega (arith, e, s))
+ends_at_inside name held outcome (inr (inl x)) =
+    let e = after_says 4 _ outcome x in (λ s. omega (arith, e, s), λ s. omega (arith, e, s))
+ends_at_inside name held outcome (inr (inr (inl x))) =
+    after_reading_inside outcome.status (inr (inl (after_says 1 _ outcome x.ends)))
+ends_at_inside name held outcome (inr (inr (inr x))) =
+    let r = x.refused in after_reading_inside outcome.status (inr (inl (after_says 1 _ outcome r.ends)))
+
+-- a cause in a later part of a run is a cause in the run
+pub cause_later : (status m0 m1 m2 f0 f1 f2 : ℕ) → GoesOn m0 m1 → GoesOn f0 f1 → HasCause status m1 m2 f1 f2 → HasCause status m0 m2 f0 f2
+cause_later status m0 m1 m2 f0 f1 f2 missed faults cause = record {
+  missing = λ e. Rose-after m0 m1 m2 missed (cause.missing e);
+  shelf_fault = λ e. Rose-after f0 f1 f2 faults (cause.shelf_fault e);
+}

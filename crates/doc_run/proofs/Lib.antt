@@ -1,4 +1,5 @@
 pub mod EndingLemmas
+pub mod PutLemmas
 pub mod ListingLemmas
 pub mod PositionLemmas
 pub mod CommandLemmas

@@ -1,9 +1,9 @@
 -- A run has one ending.
-use Rattle.std.proofs.Common.{◌≡◌, ◌≢◌, ◌<◌, ◌≤◌, ◌∙◌, inl, inr, refl, sym, ap, subst, ℕ, zero, suc, List, Option, Some, None, length, arith}
-use Rattle.doc_bits.specs.declared.places.Where.{Where}
-use Rattle.doc_bits.specs.declared.places.Where.TheVariants.{File, Wd, Table, Sheet, Main, Note, Head}
-use Rattle.doc_bits.specs.Rules.{Rules, Hold, IsSingle, IsFirst}
-use Rattle.doc_bits.specs.Places.{Place, Upto, IsFirstPlace, rank, inner}
+use Rattle.std.proofs.Common.{◌≡◌, ◌≢◌, ◌<◌, ◌∙◌, inl, inr, refl, sym, ap, subst, ℕ, List, Option, Some, None, length, arith}
+use Rattle.doc_bits.specs.declared.places.Where.TheVariants.{File}
+use Rattle.doc_bits.specs.Rules.{Rules, IsSingle, IsFirst}
+use Rattle.doc_bits.specs.Places.{Place, Upto, IsFirstPlace}
+use Rattle.doc_bits.proofs.PlaceLemmas.{place_one}
 use Rattle.doc_bits.proofs.RuleLemmas.{hold_or_first, first_agrees, first_in}
 use Rattle.doc_outer.specs.Held.{Files, IsLonger, file_at}
 use Rattle.cfb_streams.specs.Contents.{Contents}
@@ -17,47 +17,12 @@ use Rattle.doc_read.proofs.OneDocument.{document_one, all_single}
 use Rattle.doc_show.proofs.OneTextLemmas.{lines_one}
 use Rattle.doc_run.specs.declared.command.View.{View}
 use Rattle.doc_run.specs.declared.command.View.TheVariants.{Text, Check, Show, Props}
-use Rattle.doc_run.specs.Commands.{Request, streams, look}
+use Rattle.doc_run.specs.Commands.{Request, streams, look, full, compare}
 use Rattle.doc_run.specs.Lines.{rule_line, missing_line, stream_lines}
 use Rattle.doc_run.specs.Outcomes.{Outcome, says}
 use Rattle.doc_run.specs.Stages.{IsRefused, Judges, ReadsFile}
-use Rattle.doc_run.specs.Endings.{stream_rules, IsListingOf, ListsStreams, ShowsItem, HasNoPosition, Shows, ShowsFile, Ends, IsServed, IsEnding}
+use Rattle.doc_run.specs.Endings.{stream_rules, IsListingOf, ListsStreams, ShowsItem, HasNoPosition, Shows, ShowsFile, Saves, SavesFile, Compares, ComparesFiles, ReadsSecond, Ends, IsEnding}
 use Rattle.doc_run.proofs.CommandLemmas.{command_one}
-
--- the place that a kind and a number name
-where_of : ℕ → ℕ → Where
-where_of zero k = File
-where_of (suc zero) k = Wd
-where_of (suc (suc zero)) k = Table
-where_of (suc (suc (suc zero))) k = Sheet
-where_of (suc (suc (suc (suc zero)))) k = Main
-where_of (suc (suc (suc (suc (suc zero))))) k = Note k
-where_of (suc (suc (suc (suc (suc (suc n)))))) k = Head k
-
-where_back : (part : Where) → where_of (rank part) (inner part) ≡ part
-unfolding where_of
-where_back File = refl
-where_back Wd = refl
-where_back Table = refl
-where_back Sheet = refl
-where_back Main = refl
-where_back (Note k) = refl
-where_back (Head k) = refl
-
--- two places of which each is the other or comes before it are one
-place_one : (p q : Place) → Upto p q → Upto q p → p ≡ q
-place_one p q a b =
-    let pa = a.part in
-    let pb = b.part in
-    let ranks : rank p.0 ≡ rank q.0 = omega arith in
-    let na = a.number ranks in
-    let nb = b.number (sym ranks) in
-    let inners : inner p.0 ≡ inner q.0 = omega arith in
-    let oa = a.offset ranks inners in
-    let ob = b.offset (sym ranks) (sym inners) in
-    let offsets : p.1 ≡ q.1 = omega arith in
-    let parts : p.0 ≡ q.0 = sym (where_back p.0) ∙ (ap (λ r. where_of r (inner p.0)) ranks ∙ (ap (λ k. where_of (rank q.0) k) inners ∙ where_back q.0)) in
-    λ i. (parts i, offsets i)
 
 -- one refusal
 refused_one : (rules : Rules Place) (name : List ℕ) (a b : Outcome) → IsSingle rules → IsRefused rules name a → IsRefused rules name b → a ≡ b
@@ -154,6 +119,54 @@ file_one view file a b x y =
     let e : x.document ≡ y.document = document_one file x.document y.document x.holds y.holds in
     shows_one view y.document a b (subst (λ d. Shows view d a) e x.shows) y.shows
 
+-- one ending of a full save
+saved_one : (out : List ℕ) (document : Document) (a b : Outcome) → Saves out document a → Saves out document b → a ≡ b
+saved_one out document a b (inl x) (inl y) = x.ends ∙ sym y.ends
+saved_one out document a b (inl x) (inr y) = let fits = x.fits in let over = y.over in absurd (omega (arith, fits, over))
+saved_one out document a b (inr x) (inl y) = let fits = y.fits in let over = x.over in absurd (omega (arith, fits, over))
+saved_one out document a b (inr x) (inr y) = x.ends ∙ sym y.ends
+
+file_saved_one : (out file : List ℕ) (a b : Outcome) → SavesFile out file a → SavesFile out file b → a ≡ b
+file_saved_one out file a b x y =
+    let e : x.document ≡ y.document = document_one file x.document y.document x.holds y.holds in
+    saved_one out y.document a b (subst (λ d. Saves out d a) e x.saves) y.saves
+
+-- one answer on two documents
+compared_one : (first second : Document) (a b : Outcome) → Compares first second a → Compares first second b → a ≡ b
+compared_one first second a b (inl x) (inl y) = x.1 ∙ sym y.1
+compared_one first second a b (inl x) (inr y) = absurd (y.0 x.0)
+compared_one first second a b (inr x) (inl y) = absurd (x.0 y.0)
+compared_one first second a b (inr x) (inr y) = x.1 ∙ sym y.1
+
+-- one answer on two files
+files_compared_one : (one other : List ℕ) (a b : Outcome) → ComparesFiles one other a → ComparesFiles one other b → a ≡ b
+files_compared_one one other a b x y =
+    let e : x.first ≡ y.first = document_one one x.first y.first x.holds_first y.holds_first in
+    let f : x.second ≡ y.second = document_one other x.second y.second x.holds_second y.holds_second in
+    let same : Compares y.first y.second a = subst (λ d. Compares d y.second a) e (subst (λ d. Compares x.first d a) f x.compares) in
+    compared_one y.first y.second a b same y.compares
+
+-- what is said of the second file once the first one is accepted
+abbrev SaysSecond : Files → (second one : List ℕ) → Outcome → Type 0
+SaysSecond files second one = Says second all_rules (ComparesFiles one) (file_at files second)
+
+second_one : (files : Files) (second one : List ℕ) (a b : Outcome) → SaysSecond files second one a → SaysSecond files second one b → a ≡ b
+second_one files second one a b x y =
+    says_one second all_rules (ComparesFiles one) (file_at files second) a b all_single (files_compared_one one) x y
+
+-- a stage says what the stage behind it says
+says_map : (name : List ℕ) (rules : List ℕ → Rules Place) (P Q : List ℕ → Outcome → Type 0) (there : Option (List ℕ)) (outcome : Outcome) → ((bytes : List ℕ) → P bytes outcome → Q bytes outcome) → Says name rules P there outcome → Says name rules Q there outcome
+says_map name rules P Q None outcome step said = said
+says_map name rules P Q (Some bytes) outcome step (inl x) = inl x
+says_map name rules P Q (Some bytes) outcome step (inr x) = inr (x.0, step bytes x.1)
+
+both_settled : (first second : List ℕ) (files : Files) (outcome : Outcome) → Ends (compare first second) (Some files) outcome → outcome.status ≢ 4 → Says first all_rules (SaysSecond files second) (file_at files first) outcome
+both_settled first second files outcome ends calm =
+    let next = ReadsSecond second (Some files) in
+    says_map first all_rules next (SaysSecond files second) (file_at files first) outcome
+    (λ one reads. settled second files all_rules (ComparesFiles one) outcome all_break reads calm)
+    (settled first files all_rules next outcome all_break ends calm)
+
 -- one ending of a command
 ends_one : (command : Request) (files : Files) (a b : Outcome) → Ends command (Some files) a → Ends command (Some files) b → a.status ≢ 4 → b.status ≢ 4 → a ≡ b
 ends_one (streams file) files a b x y ca cb =
@@ -162,17 +175,18 @@ ends_one (streams file) files a b x y ca cb =
 ends_one (look view file) files a b x y ca cb =
     says_one file all_rules (ShowsFile view) (file_at files file) a b all_single (file_one view)
     (settled file files all_rules (ShowsFile view) a all_break x ca) (settled file files all_rules (ShowsFile view) b all_break y cb)
+ends_one (full file out) files a b x y ca cb =
+    says_one file all_rules (SavesFile out) (file_at files file) a b all_single (file_saved_one out)
+    (settled file files all_rules (SavesFile out) a all_break x ca) (settled file files all_rules (SavesFile out) b all_break y cb)
+ends_one (compare first second) files a b x y ca cb =
+    says_one first all_rules (SaysSecond files second) (file_at files first) a b all_single (second_one files second)
+    (both_settled first second files a x ca) (both_settled first second files b y cb)
 
 -- one ending of a run
-run_one : (words : List (List ℕ)) (files : Files) (a b : Outcome) → IsEnding words (Some files) a → IsEnding words (Some files) b → a.status ≢ 4 → b.status ≢ 4 → a ≡ b
-run_one words files a b (inl x) (inl y) ca cb = x.ends ∙ sym y.ends
-run_one words files a b (inl x) (inr y) ca cb = absurd (x.none y.command y.asked)
-run_one words files a b (inr x) (inl y) ca cb = absurd (y.none x.command x.asked)
-run_one words files a b (inr x) (inr y) ca cb =
+pub ending_one : (words : List (List ℕ)) (files : Files) (a b : Outcome) → IsEnding words (Some files) a → IsEnding words (Some files) b → a.status ≢ 4 → b.status ≢ 4 → a ≡ b
+ending_one words files a b (inl x) (inl y) ca cb = x.ends ∙ sym y.ends
+ending_one words files a b (inl x) (inr y) ca cb = absurd (x.none y.command y.asked)
+ending_one words files a b (inr x) (inl y) ca cb = absurd (y.none x.command x.asked)
+ending_one words files a b (inr x) (inr y) ca cb =
     let e : x.command ≡ y.command = command_one words x.command y.command x.asked y.asked in
     ends_one y.command files a b (subst (λ c. Ends c (Some files) a) e x.ends) y.ends ca cb
-
-pub ending_one : (words : List (List ℕ)) (files : Files) (a b : Outcome) → IsEnding words (Some files) a → IsEnding words (Some files) b → a.status ≢ 4 → b.status ≢ 4 → (a.status ≡ b.status) × (a.text ≡ b.text)
-ending_one words files a b x y ca cb =
-    let e = run_one words files a b x y ca cb in
-    (ap (λ (o : Outcome). o.status) e, ap (λ (o : Outcome). o.text) e)

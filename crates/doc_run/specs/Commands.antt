@@ -12,11 +12,17 @@ pub data Request : Type 0 where
   streams : (file : List ℕ) → Request
   -- look at the document of a file
   look : (view : View) → (file : List ℕ) → Request
+  -- put the full save of the document of a file under a name
+  full : (file out : List ℕ) → Request
+  -- compare the documents of two files
+  compare : (first second : List ℕ) → Request
 
 -- the command that the program keeps
 abbrev pub request_of : asked.Command → Request
 request_of (asked_for.Streams file) = streams file.now
 request_of (asked_for.Look view file) = look view file.now
+request_of (asked_for.Full file out) = full file.now out.now
+request_of (asked_for.Equal first second) = compare first.now second.now
 
 -- the number of a word of one to nine decimal digits
 pub record IsPosition (word : List ℕ) (pos : ℕ) : Type 0 where
@@ -41,6 +47,8 @@ AsksForView words (Props pos) file = AsksAtPosition words pos file
 abbrev pub IsCommand : List (List ℕ) → Request → Type 0
 IsCommand words (streams file) = words ≡ codes "streams" ∷ file ∷ []
 IsCommand words (look view file) = AsksForView words view file
+IsCommand words (full file out) = words ≡ codes "full" ∷ file ∷ out ∷ []
+IsCommand words (compare first second) = words ≡ codes "equal" ∷ first ∷ second ∷ []
 
 -- the words are no command
 abbrev pub IsNoCommand : List (List ℕ) → Type 0
@@ -50,7 +58,9 @@ IsNoCommand words = (command : Request) → ¬ (IsCommand words command)
 abbrev pub CommandIsOne : Type 0
 CommandIsOne = (words : List (List ℕ)) (a b : Request) → IsCommand words a → IsCommand words b → a ≡ b
 
--- the command puts bytes under the name; none does yet
+-- the command puts bytes under the name
 abbrev pub PutsUnder : Request → List ℕ → Type 0
 PutsUnder (streams file) name = ⊥
 PutsUnder (look view file) name = ⊥
+PutsUnder (full file out) name = name ≡ out
+PutsUnder (compare first second) name = ⊥

@@ -1,5 +1,5 @@
 -- When a run is to give the defined output.
-use Rattle.std.specs.Prelude.{◌≡◌, ◌<◌, ℕ, List, Option, Some, length, ⊤}
+use Rattle.std.specs.Prelude.{◌≡◌, ◌<◌, ℕ, List, Some, length, ⊤}
 use Rattle.doc_bits.specs.Rules.{Rules, Hold}
 use Rattle.doc_bits.specs.Places.{Place}
 use Rattle.doc_outer.specs.Held.{Files, file_at}
@@ -7,7 +7,8 @@ use Rattle.plain_doc.specs.declared.document.Document.{Document}
 use Rattle.doc_read.specs.Holds.{HoldsDocument, all_rules}
 use Rattle.doc_run.specs.declared.command.View.{View}
 use Rattle.doc_run.specs.declared.command.View.TheVariants.{Text, Check, Show, Props}
-use Rattle.doc_run.specs.Commands.{Request, streams, look}
+use Rattle.full_save.specs.Layout.{FitsCompoundFile}
+use Rattle.doc_run.specs.Commands.{Request, streams, look, full, compare}
 use Rattle.doc_run.specs.Endings.{stream_rules}
 
 -- the name holds bytes that break none of the rules
@@ -28,7 +29,20 @@ pub record IsViewable (view : View) (files : Files) (name : List ℕ) : Type 0 w
   pub right : HoldsRight all_rules files name
   pub has : (document : Document) → HoldsDocument right.bytes document → HasPosition view document
 
+-- the document of the name is accepted, and its full save is no larger than a file
+pub record IsSavable (files : Files) (name : List ℕ) : Type 0 where
+  pub right : HoldsRight all_rules files name
+  pub fits : (document : Document) → HoldsDocument right.bytes document → FitsCompoundFile document
+
+-- the documents of the names are accepted, and are equal
+pub record AreEqualFiles (files : Files) (first second : List ℕ) : Type 0 where
+  pub right_first : HoldsRight all_rules files first
+  pub right_second : HoldsRight all_rules files second
+  pub same : (one other : Document) → HoldsDocument right_first.bytes one → HoldsDocument right_second.bytes other → one ≡ other
+
 -- nothing that the command names stands in its way
 abbrev pub CanServe : Request → Files → Type 0
 CanServe (streams file) files = HoldsRight stream_rules files file
 CanServe (look view file) files = IsViewable view files file
+CanServe (full file out) files = IsSavable files file
+CanServe (compare first second) files = AreEqualFiles files first second

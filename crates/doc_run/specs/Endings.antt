@@ -16,9 +16,11 @@ use Rattle.doc_show.specs.Listing.{listing_of}
 use Rattle.doc_show.specs.Properties.{ArePropertyLines}
 use Rattle.doc_run.specs.declared.command.View.{View}
 use Rattle.doc_run.specs.declared.command.View.TheVariants.{Text, Check, Show, Props}
-use Rattle.doc_run.specs.Commands.{Request, streams, look, IsCommand, IsNoCommand}
-use Rattle.doc_run.specs.Lines.{usage_line, rule_line, position_line, stream_lines}
-use Rattle.doc_run.specs.Outcomes.{Outcome, says}
+use Rattle.cfb_layout.specs.Counts.{most_sectors}
+use Rattle.full_save.specs.Layout.{full_save_image, sectors_of, FitsCompoundFile}
+use Rattle.doc_run.specs.Commands.{Request, streams, look, full, compare, IsCommand, IsNoCommand}
+use Rattle.doc_run.specs.Lines.{usage_line, rule_line, position_line, full_line, too_large_line, equal_line, different_line, stream_lines}
+use Rattle.doc_run.specs.Outcomes.{Outcome, says, puts}
 use Rattle.doc_run.specs.Stages.{ReadsFile}
 
 -- the rules of a container, by their places in the file
@@ -67,10 +69,49 @@ pub record ShowsFile (view : View) (file : List ℕ) (outcome : Outcome) : Type 
   pub holds : HoldsDocument file document
   pub shows : Shows view document outcome
 
+-- the full save of a document is put under a name
+pub record PutsFullSave (document : Document) (out : List ℕ) (outcome : Outcome) : Type 0 where
+  pub fits : FitsCompoundFile document
+  pub ends : outcome ≡ puts (full_line (length (full_save_image document))) out (full_save_image document)
+
+-- it needs more sectors than a file has
+pub record NeedsTooMany (document : Document) (outcome : Outcome) : Type 0 where
+  pub over : most_sectors < sectors_of document
+  pub ends : outcome ≡ says 9 (too_large_line (sectors_of document))
+
+-- a document is saved under a name
+abbrev pub Saves : (out : List ℕ) → Document → Outcome → Type 0
+Saves out document outcome = PutsFullSave document out outcome ⊎ NeedsTooMany document outcome
+
+-- the document that a file holds is saved
+pub record SavesFile (out file : List ℕ) (outcome : Outcome) : Type 0 where
+  pub document : Document
+  pub holds : HoldsDocument file document
+  pub saves : Saves out document outcome
+
+-- two documents are equal or not
+abbrev pub Compares : Document → Document → Outcome → Type 0
+Compares first second outcome =
+    ((first ≡ second) × (outcome ≡ says 0 equal_line)) ⊎ ((first ≢ second) × (outcome ≡ says 11 different_line))
+
+-- the same of the documents that two files hold
+pub record ComparesFiles (one other : List ℕ) (outcome : Outcome) : Type 0 where
+  pub first : Document
+  pub second : Document
+  pub holds_first : HoldsDocument one first
+  pub holds_second : HoldsDocument other second
+  pub compares : Compares first second outcome
+
+-- the second file is read once the first one is accepted
+abbrev pub ReadsSecond : (second : List ℕ) → Option Files → (first_file : List ℕ) → Outcome → Type 0
+ReadsSecond second held first_file = ReadsFile second held all_rules (ComparesFiles first_file)
+
 -- how a command ends
 abbrev pub Ends : Request → Option Files → Outcome → Type 0
 Ends (streams file) held = ReadsFile file held stream_rules ListsStreams
 Ends (look view file) held = ReadsFile file held all_rules (ShowsFile view)
+Ends (full file out) held = ReadsFile file held all_rules (SavesFile out)
+Ends (compare first second) held = ReadsFile first held all_rules (ReadsSecond second held)
 
 -- the words are no command
 pub record IsUsage (words : List (List ℕ)) (outcome : Outcome) : Type 0 where
@@ -87,7 +128,7 @@ pub record IsServed (words : List (List ℕ)) (held : Option Files) (outcome : O
 abbrev pub IsEnding : List (List ℕ) → Option Files → Outcome → Type 0
 IsEnding words held outcome = IsUsage words outcome ⊎ IsServed words held outcome
 
--- where what names hold is told, a run has one status and one text, unless the shelf fails
+-- where what names hold is told, a run has one outcome, unless the shelf fails
 abbrev pub EndingIsOne : Type 0
 EndingIsOne =
-    (words : List (List ℕ)) (files : Files) (a b : Outcome) → IsEnding words (Some files) a → IsEnding words (Some files) b → a.status ≢ 4 → b.status ≢ 4 → (a.status ≡ b.status) × (a.text ≡ b.text)
+    (words : List (List ℕ)) (files : Files) (a b : Outcome) → IsEnding words (Some files) a → IsEnding words (Some files) b → a.status ≢ 4 → b.status ≢ 4 → a ≡ b

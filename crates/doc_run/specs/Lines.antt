@@ -11,7 +11,7 @@ use Rattle.doc_show.specs.Story.{line}
 
 -- the commands that are built
 abbrev pub usage_line : List ℕ
-usage_line = line (codes "usage: docbin text FILE | streams FILE | check FILE | show FILE | props FILE POS")
+usage_line = line (codes "usage: docbin text FILE | streams FILE | check FILE | show FILE | props FILE POS | full FILE OUT | equal A B")
 
 -- how a place is named
 abbrev pub place_name : Where → List ℕ
@@ -37,6 +37,21 @@ shelf_fault_line = line (codes "shelf fault")
 -- a position that the main text does not have, and the length that it has
 abbrev pub position_line : ℕ → ℕ → List ℕ
 position_line pos len = line (codes "position " ++ (decimal pos ++ (codes " of " ++ decimal len)))
+
+-- the bytes of a full save
+abbrev pub full_line : ℕ → List ℕ
+full_line count = line (codes "full: " ++ (decimal count ++ codes " bytes"))
+
+-- the sectors of a full save that no file has
+abbrev pub too_large_line : ℕ → List ℕ
+too_large_line sectors = line (codes "full: too large, needs " ++ (decimal sectors ++ codes " sectors"))
+
+-- two documents are equal, or not
+abbrev pub equal_line : List ℕ
+equal_line = line (codes "equal")
+
+abbrev pub different_line : List ℕ
+different_line = line (codes "different")
 
 -- a stream: its size, and its name as it is shown
 abbrev pub stream_line : Stream → List ℕ

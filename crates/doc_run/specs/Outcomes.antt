@@ -1,7 +1,7 @@
 -- How a run ends: its status, what it prints, and what it puts.
-use Rattle.std.specs.Prelude.{◌≡◌, ◌⊎◌, ℕ, List, Option, Some, None, option_map, ⊤}
+use Rattle.std.specs.Prelude.{◌≡◌, ◌≢◌, ◌⊎◌, ℕ, List, Option, Some, None}
 use Rattle.doc_outer.specs.Counts.{Rose}
-use Rattle.doc_outer.specs.Held.{Files, file_at, with_file}
+use Rattle.doc_outer.specs.Held.{Files, held_with}
 
 -- bytes under a name
 pub record PutFile : Type 0 where
@@ -18,6 +18,10 @@ pub record Outcome : Type 0 where
 abbrev pub says : ℕ → List ℕ → Outcome
 says status text = record { status = status; text = text; put = None }
 
+-- the bytes are put under the name, and the text is printed
+abbrev pub puts : (text name bytes : List ℕ) → Outcome
+puts text name bytes = record { status = 0; text = text; put = Some (record { name = name; bytes = bytes }) }
+
 -- a status for a missing name or a failing shelf comes only where its count rose
 pub record HasCause (status missed_before missed_now faults_before faults_now : ℕ) : Type 0 where
   pub missing : status ≡ 3 → Rose missed_before missed_now
@@ -26,11 +30,13 @@ pub record HasCause (status missed_before missed_now faults_before faults_now : 
 -- what names hold after a put, where that is told
 abbrev pub held_after : Option PutFile → Option Files → Option Files
 held_after None held = held
-held_after (Some file) held = option_map (λ files. with_file files file.name file.bytes) held
+held_after (Some file) held = held_with held file.name file.bytes
 
--- the name holds what it held, where that is told
-abbrev pub StaysAt : List ℕ → Option Files → Option Files → Type 0
-StaysAt name None None = ⊤
-StaysAt name (Some before) (Some now) = file_at now name ≡ file_at before name
-StaysAt name None (Some now) = ⊥
-StaysAt name (Some before) None = ⊥
+-- the shelf did not fail, or at least no put did: the count of failed puts is the last number
+abbrev pub IsToldOfPut : (status faults_before faults_now : ℕ) → Type 0
+IsToldOfPut status faults_before faults_now = (status ≢ 4) ⊎ ¬ (Rose faults_before faults_now)
+
+-- the file of the outcome is put, and nothing else is changed; where a put failed, nothing is said here
+abbrev pub LeavesPut : Outcome → (faults_before faults_now : ℕ) → (before now : Option Files) → Type 0
+LeavesPut outcome faults_before faults_now before now =
+    IsToldOfPut outcome.status faults_before faults_now → now ≡ held_after outcome.put before

@@ -23,6 +23,10 @@ pub enum Command<'a> {
     Streams { file: &'a str },
     /// Look at the document of a file.
     Look { view: View, file: &'a str },
+    /// Put the full save of the document of a file under a name.
+    Full { file: &'a str, out: &'a str },
+    /// Compare the documents of two files.
+    Equal { first: &'a str, second: &'a str },
 }
 
 /// The most digits of a position.
@@ -36,13 +40,7 @@ pub(crate) fn command_of(words: &[String]) -> Option<Command<'_>>
 {
     match words {
         [word, file] => command_on(word.as_str(), file.as_str()),
-        [word, file, position] => {
-            let pos = props_position(word.as_str(), position.as_str())?;
-            Some(Command::Look {
-                view: View::Props(pos),
-                file: file.as_str(),
-            })
-        }
+        [word, first, second] => { command_on_two(word.as_str(), first.as_str(), second.as_str()) }
         _ => None,
     }
 }
@@ -58,6 +56,28 @@ fn command_on<'a>(word: &str, file: &'a str) -> Option<Command<'a>>
     }
     let view = view_of(word)?;
     Some(Command::Look { view, file })
+}
+
+/// The command that a word names, where two words stand behind it.
+fn command_on_two<'a>(word: &str, first: &'a str, second: &'a str) -> Option<Command<'a>>
+    ensures { MatchOption result
+        (IsNoCommand (word.now ∷ first.now ∷ second.now ∷ []))
+        (λ command. IsCommand (word.now ∷ first.now ∷ second.now ∷ []) (request_of command)) }
+{
+    if word == "full" {
+        return Some(Command::Full {
+            file: first,
+            out: second,
+        });
+    }
+    if word == "equal" {
+        return Some(Command::Equal { first, second });
+    }
+    let pos = props_position(word, second)?;
+    Some(Command::Look {
+        view: View::Props(pos),
+        file: first,
+    })
 }
 
 /// The view that a word names, where it asks for no more than a file.

@@ -1,12 +1,13 @@
-// How a run ends: its status and what is printed.
-ghost use Rattle.std.specs.Prelude.{◌≡◌, IfOk};
-ghost use Rattle.doc_run.specs.Outcomes.{says};
+// How a run ends: its status, what is printed and what is put.
+ghost use Rattle.std.specs.Prelude.{◌≡◌, IfOk, option_map};
+ghost use Rattle.doc_run.specs.Outcomes.{says, puts};
 ghost use Rattle.doc_run.specs.Endings.{NamesRule};
 
 use crate::lines::rule_line;
-use doc_bits::{Memory, Text};
+use doc_bits::{Bytes, Memory, Text};
 use doc_read::ReadFault;
 use std::alloc::Global;
+use std::marker::Model;
 
 /// The defined output was printed.
 pub const STATUS_DONE: u8 = 0;
@@ -32,26 +33,90 @@ pub const STATUS_MEMORY: u8 = 6;
 /// The main text has no such position.
 pub const STATUS_POSITION: u8 = 8;
 
-/// How a run ends where the sink takes all: its status and what is printed.
+/// A save needs more than a file has.
+pub const STATUS_SAVE: u8 = 9;
+
+/// Two documents differ.
+pub const STATUS_DIFFERENT: u8 = 11;
+
+/// Bytes that are put under a name.
 #[derive(Drop)]
-pub(crate) struct Ending {
-    pub(crate) status: u8,
-    pub(crate) text: Text,
+pub(crate) struct FilePut {
+    pub(crate) name: Text,
+    pub(crate) bytes: Bytes,
 }
 
-/// The ending of a run that prints what was asked for.
-pub(crate) fn done(text: Text) -> Ending
-    ensures { says result.status result.text ≡ says 0 text }
-{
-    Ending {
-        status: STATUS_DONE,
-        text,
+impl Model for FilePut {
+    ghost use Rattle.doc_run.specs.Outcomes.{PutFile};
+
+    ghost Value = { PutFile };
+
+    ghost view = { λ f. record { name = f.name; bytes = f.bytes } };
+}
+
+/// How a run ends where the shelf and the sink take all.
+#[derive(Drop)]
+pub(crate) struct Ending {
+    status: u8,
+    text: Text,
+    file: Option<FilePut>,
+}
+
+impl Model for Ending {
+    ghost use Rattle.doc_run.specs.Outcomes.{Outcome};
+
+    ghost Value = { Outcome };
+
+    ghost view = { λ e. record { status = e.status; text = e.text; put = e.file } };
+}
+
+impl Ending {
+    /// The ending that prints a text and puts nothing.
+    pub(crate) fn new(status: u8, text: Text) -> Ending
+        ensures { result ≡ says status text }
+    {
+        Ending {
+            status,
+            text,
+            file: None,
+        }
+    }
+
+    /// The ending that puts bytes under a name and prints a text.
+    pub(crate) fn with_file(text: Text, file: FilePut) -> Ending
+        ensures { result ≡ puts text file.name file.bytes }
+    {
+        Ending {
+            status: STATUS_DONE,
+            text,
+            file: Some(file),
+        }
+    }
+
+    pub(crate) fn status(&self) -> u8
+        ensures { result ≡ self.now.status }
+    {
+        self.status
+    }
+
+    /// What is printed.
+    pub(crate) fn text(&self) -> &str
+        ensures { result.now ≡ self.now.text }
+    {
+        self.text.as_str()
+    }
+
+    /// What is put before that.
+    pub(crate) fn file(&self) -> Option<&FilePut>
+        ensures { option_map (λ file. file.now) result ≡ self.now.put }
+    {
+        self.file.as_ref()
     }
 }
 
 /// The ending of a file that is refused.
 pub(crate) fn refused(alloc: Global, name: &str, fault: ReadFault) -> Result<Ending, Memory>
-    ensures { IfOk result (λ e. NamesRule fault name.now (says e.status e.text)) }
+    ensures { IfOk result (λ e. NamesRule fault name.now e) }
 {
     match fault {
         ReadFault::Refused {
@@ -60,10 +125,7 @@ pub(crate) fn refused(alloc: Global, name: &str, fault: ReadFault) -> Result<End
             offset,
         } => {
             let text = rule_line(alloc, name, rule, place, offset)?;
-            Ok(Ending {
-                status: STATUS_REFUSED,
-                text,
-            })
+            Ok(Ending::new(STATUS_REFUSED, text))
         }
         ReadFault::Memory => Err(Memory),
     }

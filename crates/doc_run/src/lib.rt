@@ -8,11 +8,12 @@ mod lines;
 mod listing;
 mod look;
 mod run;
+mod save;
 mod stage;
 
 pub use command::{Command, View};
 pub use ending::{
-    STATUS_DONE, STATUS_MEMORY, STATUS_MISSING, STATUS_POSITION, STATUS_REFUSED,
-    STATUS_SHELF_FAULT, STATUS_SINK_FAULT, STATUS_USAGE,
+    STATUS_DIFFERENT, STATUS_DONE, STATUS_MEMORY, STATUS_MISSING, STATUS_POSITION, STATUS_REFUSED,
+    STATUS_SAVE, STATUS_SHELF_FAULT, STATUS_SINK_FAULT, STATUS_USAGE,
 };
 pub use run::docbin_run;

@@ -1,7 +1,7 @@
 // The lines that a run prints.
 ghost use Rattle.std.specs.Prelude.{◌≡◌, IfOk};
 ghost use Rattle.std.specs.String.{string_bytes};
-ghost use Rattle.doc_run.specs.Lines.{usage_line as usage_of, rule_line as rule_of, missing_line as missing_of, shelf_fault_line as shelf_fault_of, position_line as position_of, place_name};
+ghost use Rattle.doc_run.specs.Lines.{usage_line as usage_of, rule_line as rule_of, missing_line as missing_of, shelf_fault_line as shelf_fault_of, position_line as position_of, full_line as full_of, too_large_line as too_large_of, equal_line as equal_of, different_line as different_of, place_name};
 
 use doc_bits::{Memory, Text, Where};
 use std::alloc::Global;
@@ -12,7 +12,7 @@ pub(crate) fn usage_line(alloc: Global) -> Result<Text, Memory>
 {
     let line = String::from_str(
         alloc,
-        "usage: docbin text FILE | streams FILE | check FILE | show FILE | props FILE POS\n",
+        "usage: docbin text FILE | streams FILE | check FILE | show FILE | props FILE POS | full FILE OUT | equal A B\n",
     )?;
     Ok(Text::from_string(line))
 }
@@ -61,6 +61,38 @@ pub(crate) fn position_line(alloc: Global, pos: u32, len: usize) -> Result<Text,
     ensures { IfOk result (λ text. text ≡ position_of pos len) }
 {
     let line = format!(in alloc; "position {pos} of {len}\n")?;
+    Ok(Text::from_string(line))
+}
+
+/// The line for a full save of so many bytes.
+pub(crate) fn full_line(alloc: Global, count: usize) -> Result<Text, Memory>
+    ensures { IfOk result (λ text. text ≡ full_of count) }
+{
+    let line = format!(in alloc; "full: {count} bytes\n")?;
+    Ok(Text::from_string(line))
+}
+
+/// The line for a full save that needs more sectors than a file has.
+pub(crate) fn too_large_line(alloc: Global, sectors: u64) -> Result<Text, Memory>
+    ensures { IfOk result (λ text. text ≡ too_large_of sectors) }
+{
+    let line = format!(in alloc; "full: too large, needs {sectors} sectors\n")?;
+    Ok(Text::from_string(line))
+}
+
+/// The line for two documents that are equal.
+pub(crate) fn equal_line(alloc: Global) -> Result<Text, Memory>
+    ensures { IfOk result (λ text. text ≡ equal_of) }
+{
+    let line = String::from_str(alloc, "equal\n")?;
+    Ok(Text::from_string(line))
+}
+
+/// The line for two documents that are not.
+pub(crate) fn different_line(alloc: Global) -> Result<Text, Memory>
+    ensures { IfOk result (λ text. text ≡ different_of) }
+{
+    let line = String::from_str(alloc, "different\n")?;
     Ok(Text::from_string(line))
 }
 

@@ -1,21 +1,22 @@
-// One run of the program: what it prints is made first, and then put.
-ghost use Rattle.std.specs.Prelude.{◌≡◌, ◌≢◌, ◌⊎◌, ℕ, List, Some, map, IfOk};
+// One run of the program: what it prints is made first; then its file is put, and then it is printed.
+ghost use Rattle.std.specs.Prelude.{◌≡◌, ◌≢◌, ℕ, List, Some, map, IfOk, OnErr};
 ghost use Rattle.std.specs.String.{string_bytes};
-ghost use Rattle.doc_outer.specs.Counts.{Rose};
-ghost use Rattle.doc_outer.specs.Held.{Files};
+ghost use Rattle.doc_outer.specs.Counts.{Rose, GoesOn};
+ghost use Rattle.doc_outer.specs.Held.{Files, StaysAt};
 ghost use Rattle.doc_outer.specs.Written.{Appends, AppendsPrefix};
-ghost use Rattle.doc_run.specs.Commands.{Request, streams, look, IsCommand, CommandIsOne, PutsUnder};
-ghost use Rattle.doc_run.specs.Outcomes.{Outcome, says, HasCause, held_after, StaysAt};
+ghost use Rattle.doc_run.specs.Commands.{Request, streams, look, full, compare as compares, IsCommand, CommandIsOne, PutsUnder};
+ghost use Rattle.doc_run.specs.Outcomes.{Outcome, HasCause, IsToldOfPut, LeavesPut};
 ghost use Rattle.doc_run.specs.Endings.{Ends, IsEnding, EndingIsOne};
 ghost use Rattle.doc_run.specs.Completeness.{CanServe};
 
 use crate::command::{Command, View, command_of};
-use crate::ending::{Ending, STATUS_MEMORY, STATUS_SINK_FAULT, STATUS_USAGE};
-use crate::lines::usage_line;
-use crate::look::{list_streams, look_at_file};
-use crate::stage::{Taken, overlong, take_whole};
+use crate::ending::{Ending, STATUS_MEMORY, STATUS_SHELF_FAULT, STATUS_SINK_FAULT, STATUS_USAGE};
+use crate::lines::{shelf_fault_line, usage_line};
+use crate::look::{compare, list_streams, look_at};
+use crate::save::save_fully;
+use crate::stage::{Reached, Taken, open, overlong, take_whole};
 use doc_bits::Memory;
-use doc_outer::{Shelf, Sink, write_all};
+use doc_outer::{PutFault, Shelf, Sink, write_all};
 use std::alloc::Global;
 
 /// Runs the words of a command over the files of a shelf, and answers the status.
@@ -30,18 +31,20 @@ pub fn docbin_run<S: Shelf, K: Sink>(
         → ((command : Request) → IsCommand (map string_bytes words.now) command → ¬ (PutsUnder command name))
         → StaysAt name (S.held shelf.old) (S.held shelf.new) }
 
-    // The shelf changes at the statuses 0, 4 and 5 alone.
-    ensures unchanged { result ≢ 0 → result ≢ 4 → result ≢ 5 → S.held shelf.new ≡ S.held shelf.old }
+    // The shelf changes at the statuses 0 and 5 alone, and at 4 where a put failed.
+    ensures unchanged { result ≢ 0 → result ≢ 5
+        → IsToldOfPut result (S.put_faults shelf.old) (S.put_faults shelf.new)
+        → S.held shelf.new ≡ S.held shelf.old }
 
     // A run ends in one of the ways that the words and the shelf decide: with its status, its text printed
-    // and its file put.
+    // and its file put. Where a put failed, nothing is said of the name that it was to hold.
     ensures ending { result ≢ 5 → result ≢ 6 → (outcome : Outcome)
         × ((outcome.status ≡ result)
         × (IsEnding (map string_bytes words.now) (S.held shelf.old) outcome
         × (Appends (K.written out.old) (K.written out.new) outcome.text
-        × (S.held shelf.new ≡ held_after outcome.put (S.held shelf.old))))) }
+        × LeavesPut outcome (S.put_faults shelf.old) (S.put_faults shelf.new) (S.held shelf.old) (S.held shelf.new)))) }
 
-    // Words are one command; words and told files have one status and one text.
+    // Words are one command; words and told files have one outcome.
     ensures one_command { CommandIsOne }
     ensures only { EndingIsOne }
 
@@ -57,44 +60,77 @@ pub fn docbin_run<S: Shelf, K: Sink>(
     ensures shelf_fault { result ≡ 4 → Rose (S.faults shelf.old) (S.faults shelf.new) }
     ensures sink_fault { result ≡ 5 → Rose (K.faults out.old) (K.faults out.new) }
 
-    // A sink that fails has taken a prefix of the text of such an outcome, which has its cause; its file was put
-    // or nothing was.
+    // A sink that fails has taken a prefix of the text of such an outcome, which has its cause; its file was put.
     ensures prefix { result ≡ 5 → (outcome : Outcome)
         × (IsEnding (map string_bytes words.now) (S.held shelf.old) outcome
         × (HasCause outcome.status (S.missed shelf.old) (S.missed shelf.new) (S.faults shelf.old) (S.faults shelf.new)
         × (AppendsPrefix (K.written out.old) (K.written out.new) outcome.text
-        × ((S.held shelf.new ≡ S.held shelf.old) ⊎ (S.held shelf.new ≡ held_after outcome.put (S.held shelf.old)))))) }
+        × LeavesPut outcome (S.put_faults shelf.old) (S.put_faults shelf.new) (S.held shelf.old) (S.held shelf.new)))) }
 
     // Without memory nothing is printed.
     ensures nothing { result ≡ 6 → K.written out.new ≡ K.written out.old }
 {
-    let Ok(ending) = ending_of(alloc, words, shelf) else {
+    let Ok(ending) = ending_after_put(alloc, words, shelf) else {
         return STATUS_MEMORY;
     };
-    match write_all(out, ending.text.as_str().as_bytes()) {
-        Ok(()) => ending.status,
+    match write_all(out, ending.text().as_bytes()) {
+        Ok(()) => ending.status(),
         Err(_) => STATUS_SINK_FAULT,
     }
 }
 
-/// The ending of a run, before anything is printed.
-fn ending_of<S: Shelf>(alloc: Global, words: &[String], shelf: &mut S) -> Result<Ending, Memory>
-    ensures kept { S.held shelf.new ≡ S.held shelf.old }
-    ensures ending { IfOk result (λ e.
-        IsEnding (map string_bytes words.now) (S.held shelf.old) (says e.status e.text)) }
+/// The ending of a run once its file was put, and before anything is printed. All texts are made before
+/// the put, so that want of memory leaves the shelf as it was.
+#[tactic(auto, using(crate::proofs::PutLemmas::ending_faulted))]
+fn ending_after_put<S: Shelf>(
+    alloc: Global,
+    words: &[String],
+    shelf: &mut S,
+) -> Result<Ending, Memory>
+    ensures kept { (name : List ℕ)
+        → ((command : Request) → IsCommand (map string_bytes words.now) command → ¬ (PutsUnder command name))
+        → StaysAt name (S.held shelf.old) (S.held shelf.new) }
+    ensures unchanged { IfOk result (λ e. e.status ≢ 0
+        → IsToldOfPut e.status (S.put_faults shelf.old) (S.put_faults shelf.new)
+        → S.held shelf.new ≡ S.held shelf.old) }
+    ensures memory { OnErr result (S.held shelf.new ≡ S.held shelf.old) }
+    ensures ending { IfOk result (λ e. IsEnding (map string_bytes words.now) (S.held shelf.old) e) }
+    ensures leaves { IfOk result (λ e.
+        LeavesPut e (S.put_faults shelf.old) (S.put_faults shelf.new) (S.held shelf.old) (S.held shelf.new)) }
     ensures status { IfOk result (λ e. (e.status ≢ 5) × (e.status ≢ 6)) }
     ensures cause { IfOk result (λ e.
         HasCause e.status (S.missed shelf.old) (S.missed shelf.new) (S.faults shelf.old) (S.faults shelf.new)) }
 {
+    let ending = ending_of(alloc, words, shelf)?;
+    let Some(file) = ending.file() else {
+        return Ok(ending);
+    };
+    let failed = Ending::new(STATUS_SHELF_FAULT, shelf_fault_line(alloc)?);
+    match shelf.put(file.name.as_str(), file.bytes.as_slice()) {
+        Ok(()) => Ok(ending),
+        Err(PutFault::Failed) => Ok(failed),
+        Err(PutFault::Memory) => Err(Memory),
+    }
+}
+
+/// The ending of a run, before anything is put or printed.
+fn ending_of<S: Shelf>(alloc: Global, words: &[String], shelf: &mut S) -> Result<Ending, Memory>
+    ensures kept { S.held shelf.new ≡ S.held shelf.old }
+    ensures ending { IfOk result (λ e. IsEnding (map string_bytes words.now) (S.held shelf.old) e) }
+    ensures status { IfOk result (λ e. (e.status ≢ 5) × (e.status ≢ 6)) }
+    ensures cause { IfOk result (λ e.
+        HasCause e.status (S.missed shelf.old) (S.missed shelf.new) (S.faults shelf.old) (S.faults shelf.new)) }
+    ensures faults { GoesOn (S.faults shelf.old) (S.faults shelf.new) }
+    ensures put_faults { S.put_faults shelf.new ≡ S.put_faults shelf.old }
+{
     match command_of(words) {
         Some(Command::Streams { file }) => serve_streams(alloc, shelf, file),
         Some(Command::Look { view, file }) => serve_view(alloc, shelf, view, file),
+        Some(Command::Full { file, out }) => serve_full(alloc, shelf, file, out),
+        Some(Command::Equal { first, second }) => serve_equal(alloc, shelf, first, second),
         None => {
             let text = usage_line(alloc)?;
-            Ok(Ending {
-                status: STATUS_USAGE,
-                text,
-            })
+            Ok(Ending::new(STATUS_USAGE, text))
         }
     }
 }
@@ -102,10 +138,12 @@ fn ending_of<S: Shelf>(alloc: Global, words: &[String], shelf: &mut S) -> Result
 /// The ending where the streams of a file are asked for.
 fn serve_streams<S: Shelf>(alloc: Global, shelf: &mut S, file: &str) -> Result<Ending, Memory>
     ensures kept { S.held shelf.new ≡ S.held shelf.old }
-    ensures ends { IfOk result (λ e. Ends (streams file.now) (S.held shelf.old) (says e.status e.text)) }
+    ensures ends { IfOk result (λ e. Ends (streams file.now) (S.held shelf.old) e) }
     ensures status { IfOk result (λ e. (e.status ≢ 5) × (e.status ≢ 6)) }
     ensures cause { IfOk result (λ e.
         HasCause e.status (S.missed shelf.old) (S.missed shelf.new) (S.faults shelf.old) (S.faults shelf.new)) }
+    ensures faults { GoesOn (S.faults shelf.old) (S.faults shelf.new) }
+    ensures put_faults { S.put_faults shelf.new ≡ S.put_faults shelf.old }
 {
     match take_whole(alloc, shelf, file)? {
         Taken::Whole(bytes) => list_streams(alloc, file, bytes.as_slice()),
@@ -122,14 +160,62 @@ fn serve_view<S: Shelf>(
     file: &str,
 ) -> Result<Ending, Memory>
     ensures kept { S.held shelf.new ≡ S.held shelf.old }
-    ensures ends { IfOk result (λ e. Ends (look view file.now) (S.held shelf.old) (says e.status e.text)) }
+    ensures ends { IfOk result (λ e. Ends (look view file.now) (S.held shelf.old) e) }
     ensures status { IfOk result (λ e. (e.status ≢ 5) × (e.status ≢ 6)) }
     ensures cause { IfOk result (λ e.
         HasCause e.status (S.missed shelf.old) (S.missed shelf.new) (S.faults shelf.old) (S.faults shelf.new)) }
+    ensures faults { GoesOn (S.faults shelf.old) (S.faults shelf.new) }
+    ensures put_faults { S.put_faults shelf.new ≡ S.put_faults shelf.old }
 {
-    match take_whole(alloc, shelf, file)? {
-        Taken::Whole(bytes) => look_at_file(alloc, view, file, bytes.as_slice()),
-        Taken::Overlong => overlong(alloc, file),
-        Taken::Stopped(ending) => Ok(ending),
+    match open(alloc, shelf, file)? {
+        Reached::Opened(document) => look_at(alloc, view, &document),
+        Reached::Stopped(ending) => Ok(ending),
+    }
+}
+
+/// The ending where the full save of the document of a file is put under a name.
+fn serve_full<S: Shelf>(
+    alloc: Global,
+    shelf: &mut S,
+    file: &str,
+    out: &str,
+) -> Result<Ending, Memory>
+    ensures kept { S.held shelf.new ≡ S.held shelf.old }
+    ensures ends { IfOk result (λ e. Ends (full file.now out.now) (S.held shelf.old) e) }
+    ensures status { IfOk result (λ e. (e.status ≢ 5) × (e.status ≢ 6)) }
+    ensures cause { IfOk result (λ e.
+        HasCause e.status (S.missed shelf.old) (S.missed shelf.new) (S.faults shelf.old) (S.faults shelf.new)) }
+    ensures faults { GoesOn (S.faults shelf.old) (S.faults shelf.new) }
+    ensures put_faults { S.put_faults shelf.new ≡ S.put_faults shelf.old }
+{
+    match open(alloc, shelf, file)? {
+        Reached::Opened(document) => save_fully(alloc, &document, out),
+        Reached::Stopped(ending) => Ok(ending),
+    }
+}
+
+/// The ending where the documents of two files are compared. The first is judged before the second is
+/// looked for.
+fn serve_equal<S: Shelf>(
+    alloc: Global,
+    shelf: &mut S,
+    first: &str,
+    second: &str,
+) -> Result<Ending, Memory>
+    ensures kept { S.held shelf.new ≡ S.held shelf.old }
+    ensures ends { IfOk result (λ e. Ends (compares first.now second.now) (S.held shelf.old) e) }
+    ensures status { IfOk result (λ e. (e.status ≢ 5) × (e.status ≢ 6)) }
+    ensures cause { IfOk result (λ e.
+        HasCause e.status (S.missed shelf.old) (S.missed shelf.new) (S.faults shelf.old) (S.faults shelf.new)) }
+    ensures faults { GoesOn (S.faults shelf.old) (S.faults shelf.new) }
+    ensures put_faults { S.put_faults shelf.new ≡ S.put_faults shelf.old }
+{
+    let document = match open(alloc, shelf, first)? {
+        Reached::Opened(document) => document,
+        Reached::Stopped(ending) => return Ok(ending),
+    };
+    match open(alloc, shelf, second)? {
+        Reached::Opened(other) => compare(alloc, &document, &other),
+        Reached::Stopped(ending) => Ok(ending),
     }
 }

@@ -20,6 +20,10 @@ pub(crate) enum Command<'a> {
     Place { name: &'a str, at: u64 },
     /// A name holds the bytes of a file of data.
     File { name: &'a str, data: &'a str },
+    /// A name holds the full save of the blank document.
+    Blank(&'a str),
+    /// Whether two names hold the same bytes.
+    Same { one: &'a str, other: &'a str },
     /// A name holds zeros.
     Zeros { name: &'a str, len: usize },
     /// The bytes of a name are changed.
@@ -74,6 +78,11 @@ fn plain<'a>(first: &str, words: &mut Words<'a, '_>) -> Result<Command<'a>, RowF
         "file" => Ok(Command::File {
             name: words.word()?,
             data: words.word()?,
+        }),
+        "blank" => Ok(Command::Blank(words.word()?)),
+        "same" => Ok(Command::Same {
+            one: words.word()?,
+            other: words.word()?,
         }),
         "zeros" => Ok(Command::Zeros {
             name: words.word()?,

@@ -38,6 +38,20 @@ impl Files {
         Ok(())
     }
 
+    /// Whether two names hold the same bytes.
+    pub(crate) fn same(&self, one: &str, other: &str) -> Result<bool, RowFault> {
+        Ok(self.bytes(one)? == self.bytes(other)?)
+    }
+
+    fn bytes(&self, name: &str) -> Result<&[u8], RowFault> {
+        for file in &self.files {
+            if file.name.as_str() == name {
+                return Ok(&file.bytes);
+            }
+        }
+        Err(RowFault::NoFile)
+    }
+
     /// Changes the bytes of a name.
     pub(crate) fn change(&mut self, name: &str, edit: &Edit) -> Result<(), RowFault> {
         for file in &mut self.files {

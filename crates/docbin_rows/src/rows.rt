@@ -3,8 +3,10 @@ use crate::command::{Command, EMPTY_WORD};
 use crate::files::Files;
 use crate::places::Places;
 use crate::row_fault::RowFault;
-use doc_outer::{MemShelf, MemSink, Shelf, read_whole};
+use doc_outer::{MemShelf, MemSink, ReadFail, Shelf, read_whole};
 use doc_run::docbin_run;
+use full_save::full;
+use plain_doc::blank;
 use std::alloc::Global;
 
 /// How many bytes the sink has room for where no line says it.
@@ -88,6 +90,15 @@ impl Rows {
                     .hold(name, Vec::from_slice(alloc, bytes.as_slice())?)?,
                 Err(_) => return Err(RowFault::NoData),
             },
+            Command::Blank(name) => self.files.hold(name, blank_file(alloc)?)?,
+            Command::Same { one, other } => {
+                let answer = if self.files.same(one, other)? {
+                    "yes"
+                } else {
+                    "no"
+                };
+                return Ok(format!(in alloc; "same {one} {other}: {answer}\n")?);
+            }
             Command::Zeros { name, len } => self.files.hold(name, vec![in alloc; 0; len]?)?,
             Command::Change { name, edit } => self.files.change(name, &edit)?,
             Command::FailShelf(call) => self.outside.shelf_calls.push(call)?,
@@ -99,7 +110,7 @@ impl Rows {
         Ok(String::new(alloc))
     }
 
-    /// Runs the program over the files of the row, and answers the words, what the sink took, and the status.
+    /// Runs the program over the files of the row, which then has what the shelf holds under the last word, and answers the words, what the sink took, and the status.
     fn run(&mut self, words: &[String]) -> Result<String, RowFault> {
         if !self.has_source {
             return Err(RowFault::NoSource);
@@ -107,9 +118,38 @@ impl Rows {
         let mut shelf = self.files.shelf()?;
         self.outside.prepare(&mut shelf)?;
         let mut sink = self.outside.sink(self.alloc)?;
+        let failing = self.outside.shelf_calls.len();
         self.outside = Outside::new(self.alloc);
         let status = docbin_run(self.alloc, words, &mut shelf, &mut sink);
+        if let Some(name) = words.last() {
+            self.keep(&mut shelf, name.as_str(), failing)?;
+        }
         report(self.alloc, words, sink.written(), status)
+    }
+
+    /// Lets the row have what the shelf holds under a name. A call that is to fail is made once more.
+    fn keep(&mut self, shelf: &mut MemShelf, name: &str, failing: usize) -> Result<(), RowFault> {
+        for _ in 0..=failing {
+            match read_whole(self.alloc, shelf, name) {
+                Ok(bytes) => {
+                    let bytes = Vec::from_slice(self.alloc, bytes.as_slice())?;
+                    return self.files.hold(name, bytes);
+                }
+                Err(ReadFail::Failed) => {}
+                Err(ReadFail::Memory) => return Err(RowFault::Memory),
+                Err(_) => return Ok(()),
+            }
+        }
+        Ok(())
+    }
+}
+
+/// The full save of the blank document.
+fn blank_file(alloc: Global) -> Result<Vec<u8>, RowFault> {
+    let document = blank(alloc)?;
+    match full(alloc, &document) {
+        Ok(bytes) => Ok(Vec::from_slice(alloc, bytes.as_slice())?),
+        Err(_) => Err(RowFault::Memory),
     }
 }
 

@@ -1,6 +1,5 @@
 use Rattle.std.proofs.Common.{inl}
 use Rattle.std.proofs.lemmas.Result.{IfOk-weaker}
-use Rattle.doc_run.specs.Outcomes.{says}
 use Rattle.doc_run.specs.Stages.{Judges}
 use Rattle.doc_run.specs.Endings.{stream_rules, NamesRule, ListsStreams}
 use Rattle.doc_run.proofs.EndingLemmas.{names-refused}
@@ -10,5 +9,5 @@ pub returns-in-Err : goal.returns-in-Err
 returns-in-Err c =
     let file = c.args.file.now in
     let name = c.args.name.now in
-    IfOk-weaker c.refused.result (λ e. NamesRule c.in-Err.fault name (says e.status e.text)) (λ e. Judges (stream_rules file) name (ListsStreams file) (says e.status e.text))
-    (λ e h. inl (names-refused (stream_rules file) c.in-Err.fault name (says e.status e.text) c.in-Err.ensures h)) c.refused.ensures
+    IfOk-weaker c.refused.result (λ e. NamesRule c.in-Err.fault name e) (λ e. Judges (stream_rules file) name (ListsStreams file) e)
+    (λ e h. inl (names-refused (stream_rules file) c.in-Err.fault name e c.in-Err.ensures h)) c.refused.ensures

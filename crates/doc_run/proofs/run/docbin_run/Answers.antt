@@ -1,6 +1,5 @@
-use Rattle.std.proofs.Common.{subst, map}
+use Rattle.std.proofs.Common.{◌∙◌, subst, map}
 use Rattle.std.specs.String.{string_bytes}
-use Rattle.doc_run.specs.Outcomes.{says}
 use Rattle.doc_run.specs.Endings.{IsEnding}
 use Rattle.doc_run.proofs.OneLemmas.{ending_one}
 use Rattle.doc_run.proofs.CompleteLemmas.{complete}
@@ -17,7 +16,7 @@ returns-clause-only g c = ending_one
 
 pub returns-in-Ok-write_all-clause-complete : goal.returns-in-Ok-write_all-clause-complete
 returns-in-Ok-write_all-clause-complete g c command files asked told can no_fault no_sink_fault memory =
-    let status = c.in-Ok.ending.status in
-    let ending = says status c.in-Ok.ending.text in
-    let is = subst (λ held. IsEnding (map string_bytes c.args.words.now) held ending) told c.in-Ok.ensures.ending in
-    complete (map string_bytes c.args.words.now) command files ending asked can is (λ e. no_fault (c.in-Ok.ensures.cause.shelf_fault e))
+    let words = map string_bytes c.args.words.now in
+    let ending = c.in-Ok.ending in
+    let is = subst (λ held. IsEnding words held ending) told c.in-Ok.ensures.ending in
+    c.status.ensures ∙ complete words command files ending asked can is (λ e. no_fault (c.in-Ok.ensures.cause.shelf_fault e))

@@ -1,32 +1,35 @@
-use Rattle.std.proofs.Common.{◌≢◌, inl, inr}
+use Rattle.std.proofs.Common.{◌≢◌}
 use Rattle.std.proofs.lemmas.Result.{IfOk-weaker}
-use Rattle.doc_read.specs.Holds.{all_rules}
 use Rattle.doc_run.specs.Commands.{look}
-use Rattle.doc_run.specs.Outcomes.{says, HasCause}
-use Rattle.doc_run.specs.Stages.{Judges}
-use Rattle.doc_run.specs.Endings.{Ends, ShowsFile}
-use Rattle.doc_run.proofs.EndingLemmas.{told_whole, view_status, after_reading_inside, after_reading_caused}
+use Rattle.doc_run.specs.Outcomes.{HasCause}
+use Rattle.doc_run.specs.Endings.{Ends, Shows, ShowsFile}
+use Rattle.doc_run.proofs.EndingLemmas.{opened_of, goes_on, shows_status, after_reading_inside, after_reading_caused}
 use Rattle.doc_run.proofs.run.serve_view.Goals as goal
 
-pub returns-in-Whole-clause-ends : goal.returns-in-Whole-clause-ends
-returns-in-Whole-clause-ends g c =
+pub returns-in-Opened-clause-ends : goal.returns-in-Opened-clause-ends
+returns-in-Opened-clause-ends g c =
     let name = c.args.file.now in
+    let view = c.args.view in
     let held = g.S.Shelf.held c.args.shelf.now in
-    let read = c.as_slice.result.now in
-    let told = told_whole name held c.in_ok-bytes.field-0 c.in-Whole.bytes read c.in_ok-bytes.ensures.is c.in-Whole.is c.as_slice.ensures in
-    IfOk-weaker c.look_at_file.result (λ e. Judges (all_rules read) name (ShowsFile c.args.view read) (says e.status e.text)) (λ e. Ends (look c.args.view name) held (says e.status e.text))
-    (λ e h. inr (inr (inr (record { bytes = read; told = told; goes_on = h })))) c.look_at_file.ensures
+    let document = c.in-Opened.document in
+    let opened = opened_of name held c.in_ok-document.field-0 document c.in_ok-document.ensures.is c.in-Opened.is in
+    IfOk-weaker c.look_at.result (λ e. Shows view document e) (λ e. Ends (look view name) held e)
+    (λ e h. goes_on name held document (ShowsFile view) e opened (record { document = document; holds = opened.holds; shows = h })) c.look_at.ensures
 
-pub returns-in-Whole-clause-status : goal.returns-in-Whole-clause-status
-returns-in-Whole-clause-status g c =
-    let name = c.args.file.now in
-    let read = c.as_slice.result.now in
-    IfOk-weaker c.look_at_file.result (λ e. Judges (all_rules read) name (ShowsFile c.args.view read) (says e.status e.text)) (λ e. (e.status ≢ 5) × (e.status ≢ 6))
-    (λ e h. after_reading_inside e.status (view_status (all_rules read) name read c.args.view (says e.status e.text) h)) c.look_at_file.ensures
+pub returns-in-Opened-clause-status : goal.returns-in-Opened-clause-status
+returns-in-Opened-clause-status g c =
+    let view = c.args.view in
+    let document = c.in-Opened.document in
+    IfOk-weaker c.look_at.result (λ e. Shows view document e) (λ e. (e.status ≢ 5) × (e.status ≢ 6))
+    (λ e h. after_reading_inside e.status (shows_status view document e h)) c.look_at.ensures
 
-pub returns-in-Whole-clause-cause : goal.returns-in-Whole-clause-cause
-returns-in-Whole-clause-cause g c =
-    let name = c.args.file.now in
-    let read = c.as_slice.result.now in
-    IfOk-weaker c.look_at_file.result (λ e. Judges (all_rules read) name (ShowsFile c.args.view read) (says e.status e.text)) (λ e. HasCause e.status (g.S.Shelf.missed c.args.shelf.now) (g.S.Shelf.missed c.take_whole.new.shelf) (g.S.Shelf.faults c.args.shelf.now) (g.S.Shelf.faults c.take_whole.new.shelf))
-    (λ e h. after_reading_caused e.status _ _ _ _ (view_status (all_rules read) name read c.args.view (says e.status e.text) h)) c.look_at_file.ensures
+pub returns-in-Opened-clause-cause : goal.returns-in-Opened-clause-cause
+returns-in-Opened-clause-cause g c =
+    let view = c.args.view in
+    let document = c.in-Opened.document in
+    let missed = g.S.Shelf.missed in
+    let faults = g.S.Shelf.faults in
+    let before = c.args.shelf.now in
+    let now = c.open.new.shelf in
+    IfOk-weaker c.look_at.result (λ e. Shows view document e) (λ e. HasCause e.status (missed before) (missed now) (faults before) (faults now))
+    (λ e h. after_reading_caused e.status _ _ _ _ (shows_status view document e h)) c.look_at.ensures
