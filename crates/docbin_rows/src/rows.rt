@@ -1,4 +1,6 @@
 // What the lines do.
+ghost use Rattle.plain_doc.specs.Sound.{IsSound};
+
 use crate::command::{Command, EMPTY_WORD};
 use crate::files::Files;
 use crate::places::Places;
@@ -6,7 +8,7 @@ use crate::row_fault::RowFault;
 use doc_outer::{MemShelf, MemSink, ReadFail, Shelf, read_whole};
 use doc_run::docbin_run;
 use full_save::full;
-use plain_doc::blank;
+use plain_doc::{Document, blank, check};
 use std::alloc::Global;
 
 /// How many bytes the sink has room for where no line says it.
@@ -147,7 +149,17 @@ impl Rows {
 /// The full save of the blank document.
 fn blank_file(alloc: Global) -> Result<Vec<u8>, RowFault> {
     let document = blank(alloc)?;
-    match full(alloc, &document) {
+    match check(&document) {
+        Ok(()) => full_file(alloc, &document),
+        Err(_) => Err(RowFault::NoData),
+    }
+}
+
+/// The full save of a document.
+fn full_file(alloc: Global, document: &Document) -> Result<Vec<u8>, RowFault>
+    requires { IsSound document.now }
+{
+    match full(alloc, document) {
         Ok(bytes) => Ok(Vec::from_slice(alloc, bytes.as_slice())?),
         Err(_) => Err(RowFault::Memory),
     }

@@ -30,8 +30,6 @@ mod pieces;
 #[cfg(test)]
 mod puts;
 #[cfg(test)]
-mod refusing;
-#[cfg(test)]
 mod scripts;
 #[cfg(test)]
 mod sheets;
