@@ -1,0 +1,4 @@
+pub mod States
+pub mod Saves
+pub mod Ends
+pub mod Laws

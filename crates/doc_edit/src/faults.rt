@@ -1,0 +1,35 @@
+use doc_bits::Memory;
+use edit_ops::EditFault;
+use thiserror::Error;
+
+/// Why a command stops its script.
+#[derive(Clone, Copy, Debug, PartialEq, Eq, Error)]
+pub enum Stop {
+    /// The edit is refused.
+    #[error("the edit is refused: {0}")]
+    Refused(EditFault),
+    /// The file of a full save needs so many sectors, which is more than 13,952.
+    #[error("{sectors} sectors are needed")]
+    TooLarge { sectors: u64 },
+}
+
+/// Why a script is not run to its end.
+#[derive(Clone, Copy, Debug, PartialEq, Eq, Error)]
+pub enum RunFault {
+    /// The first command that stops it, counted from 0.
+    #[error("command {index}: {stop}")]
+    Stopped { index: usize, stop: Stop },
+    #[error("out of memory")]
+    Memory,
+}
+
+impl From<Memory> for RunFault {
+    ghost use Rattle.std.specs.Prelude.{◌≡◌};
+    ghost use Rattle.doc_edit.specs.declared.faults.RunFault.TheVariants.{Memory};
+
+    ghost from_gives = { λ _ e. e ≡ Memory };
+
+    fn from(_: Memory) -> Self {
+        RunFault::Memory
+    }
+}

@@ -1,0 +1,66 @@
+// The saves of a script. No call takes memory.
+ghost use Rattle.std.specs.Prelude.{◌≡◌, true, false, MatchOption};
+ghost use Rattle.doc_edit.specs.Saves.{save_mode, has_mode, save_count, SavesInFull, IsFirstFastSave};
+
+use edit_ops::{Command, Script};
+
+/// How many saves of each mode a script has.
+#[derive(Clone, Copy, Debug, PartialEq, Eq)]
+pub struct SaveCounts {
+    pub fast: usize,
+    pub full: usize,
+}
+
+/// The saves of each mode among the commands.
+pub fn count_saves(script: &Script) -> SaveCounts
+    ensures fast { result.fast ≡ save_count false script.now }
+    ensures full { result.full ≡ save_count true script.now }
+{
+    SaveCounts {
+        fast: count_mode(script, false),
+        full: count_mode(script, true),
+    }
+}
+
+/// The saves of one mode, full or fast.
+fn count_mode(script: &Script, full: bool) -> usize
+    ensures { result ≡ save_count full script.now }
+{
+    let mut count = 0;
+    for i in 0..script.len() {
+        count += saves_in(script.get(i), full) as usize;
+    }
+    count
+}
+
+/// The first fast save, where there is one.
+pub fn first_fast_save(script: &Script) -> Option<usize>
+    ensures { MatchOption result (SavesInFull script.now) (IsFirstFastSave script.now) }
+{
+    for i in 0..script.len() {
+        if saves_in(script.get(i), false) {
+            return Some(i);
+        }
+    }
+    None
+}
+
+/// Whether the command saves in this mode.
+fn saves_in(command: &Command, full: bool) -> bool
+    ensures { result ≡ has_mode full (save_mode command.now) }
+{
+    match command {
+        Command::Save(mode) => *mode == full,
+        _ => false,
+    }
+}
+
+/// The mode of a save, true for a full one; an edit has none.
+pub(crate) fn mode_of(command: &Command) -> Option<bool>
+    ensures { result ≡ save_mode command.now }
+{
+    match command {
+        Command::Save(full) => Some(*full),
+        _ => None,
+    }
+}
