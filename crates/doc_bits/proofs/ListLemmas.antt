@@ -109,3 +109,13 @@ length_below xs n within distinct =
       | inl low ↦ low
       | inr high ↦ absurd (false≢true (sym (list_any_none (eqb q) xs (All-from_get_or (λ x. eqb q x ≡ false) xs 0 (λ i h. let low = within i h in ne_eqb q (get_or xs i 0) (λ e. absurd (omega arith))))) ∙ any))
     ])
+
+-- ---- the front of a list
+
+-- what stands at a place of the front stands there in the list
+pub slice_get-take : {X : Type 0} (k : ℕ) (xs : List X) (i : ℕ) (x : X) → slice_get (take k xs) i ≡ Some x →
+    slice_get xs i ≡ Some x
+slice_get-take zero xs i x here = absurd (grind (arith, here))
+slice_get-take (suc k) [] i x here = here
+slice_get-take (suc k) (y ∷ ys) zero x here = here
+slice_get-take (suc k) (y ∷ ys) (suc i) x here = slice_get-take k ys i x here

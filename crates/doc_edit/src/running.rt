@@ -5,7 +5,8 @@ ghost use Rattle.edit_script.specs.Scripts.{EndsWithSave};
 ghost use Rattle.full_save.specs.Layout.{FitsCompoundFile};
 ghost use Rattle.doc_edit.specs.Saves.{save_mode, SavesInFull};
 ghost use Rattle.doc_edit.specs.States.{start_of, state_after};
-ghost use Rattle.doc_edit.specs.Ends.{Passes, Stops, StopsEdit, StopsFullSave, HaltsBy, IsSavedImage, IsSavedBy, IsRunFault};
+ghost use Rattle.doc_edit.specs.Ends.{Passes, Stops, StopsEdit, StopsFullSave, HaltsBy, IsSavedImage, IsSavedBy};
+ghost use Rattle.doc_edit.specs.Ends.{IsRunFault};
 
 use crate::saves::mode_of;
 use crate::{RunFault, SaveCounts, Stop, count_saves};

@@ -7,7 +7,7 @@ use Rattle.std.proofs.lemmas.Option.{none-some, slice_get_within, slice_get-get_
 use Rattle.doc_parts.specs.Cps.{AreCpsInOrder}
 use Rattle.doc_parts.specs.Stories.{cut_cps, AreCuts}
 use Rattle.plain_doc.specs.declared.item.Item.{Item}
-use Rattle.plain_doc.proofs.StreamLemmas.{slice_get-take}
+use Rattle.doc_bits.proofs.ListLemmas.{slice_get-take}
 use Rattle.fib_form.specs.declared.table_parts.TablePart.TheVariants.{PlcffndTxt}
 use Rattle.fib_form.specs.declared.stories.StoryKind.TheVariants.{Notes}
 use Rattle.doc_load.specs.Source.{DocSource, part_bytes, story_length}

@@ -18,9 +18,9 @@ use std::alloc::Global;
 
 /// An edit that is accepted: the document after it, and what it does.
 #[derive(Drop)]
-struct Edit {
-    document: Document,
-    facts: Facts,
+pub struct Edit {
+    pub document: Document,
+    pub facts: Facts,
 }
 
 /// Tries an edit: what it does, or why it is refused. The document stays as it is.
@@ -52,8 +52,8 @@ pub fn apply_plain(
     Ok(())
 }
 
-/// The edit of a command.
-fn edit_of(alloc: Global, document: &Document, command: &Command) -> Result<Edit, EditFault>
+/// The edit of a command: the document after it and what it does, or why it is refused. The document stays as it is.
+pub fn edit_of(alloc: Global, document: &Document, command: &Command) -> Result<Edit, EditFault>
     requires { IsSound document.now }
     ensures { MatchResult result
         (λ edit. IsAcceptedEdit document.now command.now

@@ -17,7 +17,7 @@ mod planning;
 mod ranges;
 mod rows;
 
-pub use applying::{apply_plain, test};
+pub use applying::{Edit, apply_plain, edit_of, test};
 pub use changes::{Change, Changes};
 pub use codes::has_right_codes;
 pub use edit_guards::Facts;

@@ -5,6 +5,7 @@ use Rattle.std.specs.Option.{option_map, unwrap_or}
 use Rattle.std.proofs.lemmas.List.{take_more, take_more_same}
 use Rattle.std.proofs.lemmas.List.Sums.{sum_by-take-le}
 use Rattle.std.proofs.lemmas.Option.{get_or_from_slice_get, slice_get-get_or}
+use Rattle.doc_bits.proofs.ListLemmas.{slice_get-take}
 use Rattle.cfb_streams.specs.Contents.{NamedBytes, AreStreams}
 
 -- a stream is its name and its bytes
@@ -45,14 +46,6 @@ pub take_next : {X : Type 0} (xs : List X) (i : ℕ) (x : X) → i < length xs �
     take (i + 1) xs ≡ take i xs ++ x ∷ []
 take_next xs i x within here =
     take_more xs i x within ∙ ap (λ y. take i xs ++ y ∷ []) (get_or_from_slice_get xs i x x here)
-
--- what stands at a place of the front stands there in the list
-pub slice_get-take : {X : Type 0} (k : ℕ) (xs : List X) (i : ℕ) (x : X) → slice_get (take k xs) i ≡ Some x →
-    slice_get xs i ≡ Some x
-slice_get-take zero xs i x here = absurd (grind (arith, here))
-slice_get-take (suc k) [] i x here = here
-slice_get-take (suc k) (y ∷ ys) zero x here = here
-slice_get-take (suc k) (y ∷ ys) (suc i) x here = slice_get-take k ys i x here
 
 -- the front of a list of streams is one
 pub AreStreams-take : (k : ℕ) (streams : List NamedBytes) → AreStreams streams → AreStreams (take k streams)

@@ -1,10 +1,12 @@
 -- What the items of texts have, listed by CPs: it ascends. Where sections begin, where texts are cut, and texts joined.
 use Rattle.std.specs.Prelude.{IsSome, slice_index, slice_get}
 use Rattle.std.proofs.Common.{◌⊎◌, subst, inl, inr, take, All, ◌≡◌, ◌∙◌, refl, sym, ap, ℕ, zero, suc, ◌+◌, ◌<◌, ◌≤◌}
-use Rattle.std.proofs.Common.{List, [], ◌∷◌, length, map, Option, Some, None, arith}
-use Rattle.std.proofs.lemmas.List.{nil_from_length, length-append}
+use Rattle.std.proofs.Common.{List, [], ◌∷◌, ◌++◌, length, map, drop, Option, Some, None, arith}
+use Rattle.std.proofs.lemmas.Grind.{flat_map-append}
+use Rattle.std.proofs.lemmas.List.{nil_from_length, length-append, append-nil, take-append-drop}
+use Rattle.std.proofs.lemmas.List.Concat.{flat_map-cons}
 use Rattle.std.proofs.lemmas.List.Elements.{All-nil, All-append}
-use Rattle.std.proofs.lemmas.Option.{same_Some, none-some}
+use Rattle.std.proofs.lemmas.Option.{same_Some, none-some, slice_get_within}
 use Rattle.doc_bits.proofs.TogetherLemmas.{in_front, in_back}
 use Rattle.prop_map.specs.Settings.{Settings}
 use Rattle.doc_parts.specs.Cps.{AreCpsInOrder}
@@ -13,6 +15,7 @@ use Rattle.doc_parts.proofs.CpLemmas.{Rise, rise_lower, Climb, climb_lower, clim
 use Rattle.plain_doc.specs.declared.item.Item.{Item}
 use Rattle.plain_doc.specs.Collected.{joined_texts, entry_before, collected, cuts_from}
 use Rattle.plain_doc.specs.TextLists.{cuts_of, starts_from}
+use Rattle.plain_doc.proofs.StreamLemmas.{take_next}
 
 -- ---- what items have, by their CPs
 
@@ -226,3 +229,24 @@ pub joined_all : (P : Item → Type 0) (texts : List (List Item)) →
 joined_all P [] each = All-nil P
 joined_all P (text ∷ texts) each =
     All-append P text (joined_texts texts) (each zero text refl) (joined_all P texts (λ k. each (suc k)))
+
+-- ---- texts one after the other
+
+-- one text more
+pub text_joined : (texts : List (List Item)) (k : ℕ) (text : List Item) → slice_get texts k ≡ Some text →
+    joined_texts (take (k + 1) texts) ≡ joined_texts (take k texts) ++ text
+text_joined texts k text there =
+    ap joined_texts (take_next texts k text (slice_get_within texts k text there) there)
+    ∙ (flat_map-append (λ t. t) (take k texts) (text ∷ [])
+    ∙ ap (λ l. joined_texts (take k texts) ++ l) (flat_map-cons (λ t. t) text [] ∙ append-nil text))
+
+-- the first texts have no more items than all
+pub first_joined : (texts : List (List Item)) (k : ℕ) →
+    length (joined_texts (take k texts)) ≤ length (joined_texts texts)
+first_joined texts k =
+    omega (
+      arith,
+      ap (λ l. length (joined_texts l)) (take-append-drop k texts),
+      ap length (flat_map-append (λ t. t) (take k texts) (drop k texts)),
+      length-append (joined_texts (take k texts)) (joined_texts (drop k texts)),
+    )

@@ -13,3 +13,4 @@ pub mod MapLemmas
 pub mod ExistMaps
 pub mod CodeLemmas
 pub mod AcceptedLemmas
+pub mod PrintedLengths

@@ -17,60 +17,13 @@ use Rattle.piece_table.specs.Piece.{UnitPlace}
 use Rattle.piece_table.specs.Changes.{IsModifiedPlace}
 use Rattle.plain_doc.specs.declared.item.Item.{Item}
 use Rattle.plain_doc.specs.declared.item.Mark.{Mark}
-use Rattle.plain_doc.proofs.StreamLemmas.{slice_get-take}
 use Rattle.save_laws.specs.Slots.{shown, loose, last, Slot, note_slots, head_slots, last_slots, whole_text, IsPlaced}
 use Rattle.save_laws.specs.FastSaves.{StandsInEither, IsGivenBy}
 use Rattle.doc_bits.specs.Together.{AreTogether}
 use Rattle.save_laws.specs.Places.{PagedStream, Given, given_of, IsMarkedAfter, IsGivenAfter}
 use Rattle.save_laws.specs.Sessions.{IsSlotAfter, SplicesStayTogether}
 use Rattle.save_laws.specs.Sessions.{ModifiedStayTogether, LongerPlansKeep, MainSplices}
-use Rattle.doc_bits.proofs.TogetherLemmas.{in_front, from_behind, in_back, Beside}
-
--- ---- lists that stand together
-
-together_joined : {A B : Type 0} (P : A → B → Type 0) (xs : List A) (ys : List B) (us : List A) (vs : List B) →
-    AreTogether P xs ys → AreTogether P us vs → AreTogether P (xs ++ us) (ys ++ vs)
-together_joined P xs ys us vs first next = record {
-  len = omega (arith, first.len, next.len, length-append xs us, length-append ys vs);
-  each = λ k x y here there. elim (cases_lt k (length xs)) [
-    | inl low ↦
-        first.each k x y (sym (slice_get_before xs us k low) ∙ here)
-        (sym (slice_get_before ys vs k (omega (arith, low, first.len))) ∙ there)
-    | inr high ↦
-        let n : ℕ = k - length xs in
-        let a : length xs + n ≡ k = omega (arith, high) in
-        let b : length ys + n ≡ k = omega (arith, a, first.len) in
-        next.each n x y (sym (from_behind xs us n) ∙ (ap (slice_get (xs ++ us)) a ∙ here))
-        (sym (from_behind ys vs n) ∙ (ap (slice_get (ys ++ vs)) b ∙ there))
-  ];
-}
-
-together_take : {A B : Type 0} (P : A → B → Type 0) (n : ℕ) (xs : List A) (ys : List B) → AreTogether P xs ys →
-    AreTogether P (take n xs) (take n ys)
-together_take P n xs ys together = record {
-  len = omega (arith, together.len, length-take n xs, length-take n ys);
-  each = λ k x y here there. together.each k x y (slice_get-take n xs k x here) (slice_get-take n ys k y there);
-}
-
-got_drop : {A : Type 0} (n : ℕ) (xs : List A) (k : ℕ) (x : A) → slice_get (drop n xs) k ≡ Some x →
-    slice_get xs (n + k) ≡ Some x
-got_drop n xs k x here = elim (cases_lt n (length xs)) [
-  | inl low ↦
-      let len : length (take n xs) ≡ n = omega (arith, length-take n xs, low) in
-      let at : n + k ≡ length (take n xs) + k = omega (arith, len) in
-      ap (λ l. slice_get l (n + k)) (sym (take-append-drop n xs))
-      ∙ in_back (take n xs) (drop n xs) k (n + k) x here at
-  | inr high ↦
-      let within = slice_get_within (drop n xs) k x here in
-      absurd (omega (arith, within, high, length-drop n xs))
-]
-
-together_drop : {A B : Type 0} (P : A → B → Type 0) (n : ℕ) (xs : List A) (ys : List B) → AreTogether P xs ys →
-    AreTogether P (drop n xs) (drop n ys)
-together_drop P n xs ys together = record {
-  len = omega (arith, together.len, length-drop n xs, length-drop n ys);
-  each = λ k x y here there. together.each (n + k) x y (got_drop n xs k x here) (got_drop n ys k y there);
-}
+use Rattle.doc_bits.proofs.TogetherLemmas.{in_front, from_behind, in_back, Beside, together_joined, together_take, together_drop}
 
 pub splices_stay_together : SplicesStayTogether
 splices_stay_together old plan places fresh slots fresh_slots from to order within together more =

@@ -1,5 +1,6 @@
 pub mod Places
 pub mod Slots
+pub mod Ends
 pub mod Saves
 pub mod Plans
 pub mod KeptPages
