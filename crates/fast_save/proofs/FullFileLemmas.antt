@@ -67,8 +67,8 @@ other_names same = let long = same.long in omega (arith, long)
 
 -- both are short where the file fits
 pub record AreWithin (document : Document) : Type 0 where
-  wd : length (wd_stream document) ≤ 7143424
-  table : length (table_stream document) ≤ 7143424
+  pub wd : length (wd_stream document) ≤ 7143424
+  pub table : length (table_stream document) ≤ 7143424
 
 laid_wd : (document : Document) → IsFormed document →
     IsPutAmong (the_wd document) document.carried.streams (put_stream (the_wd document) document.carried.streams)
@@ -113,7 +113,7 @@ wd_there document formed =
     kept_there (the_table document) with_wd (layout_streams document) (laid_table document formed) (length first.front)
     (the_wd document) (put_there (the_wd document) carried with_wd first)
 
-within : (document : Document) → IsSavable document → AreWithin document
+pub within : (document : Document) → IsSavable document → AreWithin document
 within document is =
     let wd = wd_there document is.formed in
     let table = table_there document is.formed in

@@ -1,2 +1,16 @@
 pub mod ContainerLemmas
 pub mod FullFileLemmas
+pub mod OpenLemmas
+pub mod StartLemmas
+pub mod CommandLemmas
+pub mod CountLemmas
+pub mod EditLemmas
+pub mod FullLemmas
+pub mod GrownLemmas
+pub mod RoomLemmas
+pub mod ResultLemmas
+pub mod SettingRuns
+pub mod AddedBytes
+pub mod CanLemmas
+pub mod FastLemmas
+pub mod HeldLemmas

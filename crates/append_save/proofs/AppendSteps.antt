@@ -1,0 +1,85 @@
+-- What the calls of a save make, as the layout says it.
+use Rattle.std.proofs.Common.{◌≡◌, ◌∙◌, refl, sym, ap, ℕ, ◌+◌, ◌*◌, ◌<◌, ◌≤◌, ◌^◌, true, List, [], ◌++◌, length, map, drop, arith, length-append}
+use Rattle.cfb_layout.specs.Sectors.{units_for, filled, padded}
+use Rattle.fib_form.specs.Fib.{early_form}
+use Rattle.fib_form.specs.FibFields.{FibFields}
+use Rattle.fib_form.specs.FibBytes.{written_fib}
+use Rattle.fkp_pages.specs.declared.kind.PageKind.TheVariants.{Chpx, Papx}
+use Rattle.fkp_pages.specs.Packed.{pages_of}
+use Rattle.plain_doc.specs.declared.item.Item.{Item}
+use Rattle.plain_doc.specs.Collected.{sections_of}
+use Rattle.full_save.specs.Runs.{text_runs}
+use Rattle.full_save.specs.TableStream.{entries_pairs}
+use Rattle.full_save.specs.WordDocument.{units_bytes}
+use Rattle.save_laws.specs.Slots.{story_counts}
+use Rattle.append_save.specs.Saves.{FastSave}
+use Rattle.append_save.specs.JoinedRuns.{joined_runs}
+use Rattle.append_save.specs.PlannedSections.{planned_sepxes}
+use Rattle.append_save.specs.RenewedStreams.{renewed_streams}
+use Rattle.append_save.specs.Appended.{table_name_of, old_wd, added_bytes, fast_entries, fast_table, fast_fib, fast_wd, fast_streams}
+use Rattle.append_save.proofs.PlannedLemmas.{length-planned}
+use Rattle.append_save.proofs.ReadyLemmas.{Ready, is_right}
+use Rattle.append_save.proofs.BodyLemmas.{text_part, text_and_pages, body_is, body_short}
+use Rattle.append_save.proofs.WrittenLemmas.{sections_fit, length-collected}
+
+-- the units and the pages, part by part
+pub pages_made : (save : FastSave) (items : List Item) (none first second third : List ℕ) → items ≡ save.added →
+    none ≡ [] → first ≡ none ++ padded 512 0 (units_bytes (map (λ (item : Item). item.unit) items)) →
+    second ≡ first ++ (pages_of Chpx (text_runs Chpx save.base items)).bytes →
+    third ≡ second ++ (pages_of Papx (joined_runs (text_runs Papx save.base items))).bytes →
+    third ≡ text_and_pages save
+pages_made save items none first second third same empty one two three =
+    let a : first ≡ text_part save =
+    one ∙ (λ i. empty i ++ padded 512 0 (units_bytes (map (λ (item : Item). item.unit) (same i)))) in
+    let b = two ∙ (λ i. a i ++ (pages_of Chpx (text_runs Chpx save.base (same i))).bytes) in
+    three ∙ (λ i. b i ++ (pages_of Papx (joined_runs (text_runs Papx save.base (same i)))).bytes)
+
+-- what is added is short
+pub added_short : (r : Ready) → r.save.base + length (added_bytes r.save) < 2 ^ 30
+added_short r =
+    let d = r.save.document in
+    let sepx = planned_sepxes r.save.places (sections_of d.main) in
+    let whole = ap length (body_is r.save) in
+    let both = length-append (text_and_pages r.save) sepx in
+    let short = body_short r in
+    let planned =
+    length-planned r.save.places (sections_of d.main) (λ k section here. (sections_fit r k section here).short) in
+    let few = length-collected (λ (item : Item). item.sect) 0 d.main in
+    let right = is_right r in
+    let most = right.few in
+    omega (arith, whole, both, short, planned, few, most)
+
+pub fib_made : (save : FastSave) (clx : List ℕ) (fib : FibFields) (mac : ℕ) (counts : List ℕ)
+    (pairs : List (ℕ × ℕ)) →
+    fib ≡ record save.fib {
+      quick_saves = save.fib.quick_saves + 1;
+      complex = true;
+      cb_mac = mac;
+      ccps = counts;
+      pairs = pairs;
+    } → mac ≡ save.base + length (added_bytes save) → counts ≡ story_counts save.document save.ends →
+    pairs ≡ entries_pairs (fast_entries save clx) → fib ≡ fast_fib save clx
+unfolding fast_fib
+fib_made save clx fib mac counts pairs is mac_is counts_is pairs_is = is ∙ (λ i. record {
+  kept = save.fib.kept;
+  quick_saves = save.fib.quick_saves + 1;
+  complex = true;
+  which_table = save.fib.which_table;
+  cb_mac = mac_is i;
+  ccps = counts_is i;
+  pairs = pairs_is i;
+})
+
+pub wd_made : (save : FastSave) (clx : List ℕ) (fib : FibFields) (old added wd : List ℕ) → fib ≡ fast_fib save clx →
+    old ≡ old_wd save → added ≡ added_bytes save →
+    wd ≡ filled save.base 0 (written_fib fib ++ drop early_form.size old) ++ added → wd ≡ fast_wd save clx
+unfolding fast_wd
+wd_made save clx fib old added wd fib_is old_is added_is is =
+    is ∙ (λ i. filled save.base 0 (written_fib (fib_is i) ++ drop early_form.size (old_is i)) ++ added_is i)
+
+pub streams_made : (save : FastSave) (clx name wd table : List ℕ) → name ≡ table_name_of save →
+    wd ≡ fast_wd save clx → table ≡ fast_table save clx →
+    renewed_streams name wd table save.contents.streams ≡ fast_streams save clx
+unfolding fast_streams
+streams_made save clx name wd table name_is wd_is table_is =
+    (λ i. renewed_streams (name_is i) (wd_is i) (table_is i) save.contents.streams)

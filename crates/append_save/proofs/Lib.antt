@@ -1,0 +1,16 @@
+pub mod JoinLemmas
+pub mod JoinSteps
+pub mod SameRuns
+pub mod KeptBinLemmas
+pub mod PlannedLemmas
+pub mod StreamLemmas
+pub mod StreamSteps
+pub mod ReadyLemmas
+pub mod TableLemmas
+pub mod BodyLemmas
+pub mod WrittenLemmas
+pub mod SavedLemmas
+pub mod AppendSteps
+pub mod RunLengths
+pub mod StreamLengths
+pub mod ShortLemmas

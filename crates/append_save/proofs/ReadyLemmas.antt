@@ -1,0 +1,342 @@
+-- What a save that can be appended has: the streams that are there, and the runs that are added.
+use Rattle.std.specs.Prelude.{slice_get, slice_index, slice_range}
+use Rattle.std.proofs.Common.{◌≡◌, ◌∙◌, refl, sym, ap, subst, inl, inr, ℕ, zero, suc, ◌+◌, ◌-◌, ◌*◌, ◌/◌, ◌<◌, ◌≤◌, ◌^◌}
+use Rattle.std.proofs.Common.{List, [], ◌∷◌, length, map, Some, All, arith}
+use Rattle.std.proofs.lemmas.Bool.{cases_lt}
+use Rattle.std.proofs.lemmas.List.{nil_from_length, length-append}
+use Rattle.std.proofs.lemmas.List.Elements.{All-nil}
+use Rattle.std.proofs.lemmas.Option.{none-some}
+use Rattle.doc_bits.proofs.ListLemmas.{All_at, All-from_slice_get}
+use Rattle.doc_bits.specs.declared.places.Where.TheVariants.{Wd}
+use Rattle.doc_bits.specs.Rules.{Hold, Nowhere}
+use Rattle.cfb_streams.specs.Contents.{Contents}
+use Rattle.cfb_streams.specs.Container.{HasContents}
+use Rattle.cfb_streams.specs.Names.{wd_name, table_name}
+use Rattle.cfb_streams.proofs.UniqueLemmas.{contents_unique}
+use Rattle.cfb_layout.specs.Sectors.{units_for}
+use Rattle.fib_form.specs.Fib.{early_form, fib_pair, table_part}
+use Rattle.fib_form.specs.FibFields.{FibFields, fib_fields, pair_at}
+use Rattle.fib_form.specs.FibRules.{fib_rules}
+use Rattle.fib_form.specs.TableParts.{pair_of}
+use Rattle.fib_form.specs.declared.table_parts.TablePart.{TablePart}
+use Rattle.fib_form.specs.declared.table_parts.TablePart.TheVariants.{PlcfBteChpx, PlcfBtePapx}
+use Rattle.fkp_pages.specs.declared.kind.PageKind.{PageKind}
+use Rattle.fkp_pages.specs.declared.kind.PageKind.TheVariants.{Chpx, Papx}
+use Rattle.fkp_pages.specs.declared.lists.Run.{Run}
+use Rattle.fkp_pages.specs.Bin.{IsBinTable, bin_count}
+use Rattle.fkp_pages.specs.Runs.{IsWritableRun, AreRuns, HasFileNumbers}
+use Rattle.fkp_pages.specs.PageBytes.{last_fc}
+use Rattle.fkp_pages.specs.Pages.{first_fc, ArePagesOf, AreWholePages}
+use Rattle.fkp_pages.proofs.PackedLemmas.{runs_have_pages}
+use Rattle.fkp_pages.proofs.WholePages.{pages_are_whole}
+use Rattle.plain_doc.specs.declared.item.Item.{Item}
+use Rattle.plain_doc.specs.Collected.{joined_texts}
+use Rattle.plain_doc.specs.Document.{IsFormedItem, IsFormedText}
+use Rattle.plain_doc.specs.Formed.{IsFormed}
+use Rattle.plain_doc.specs.RightDocument.{IsRightDocument}
+use Rattle.plain_doc.specs.RulesOfItems.{HasShortSettings}
+use Rattle.plain_doc.specs.Stretches.{stretches}
+use Rattle.plain_doc.proofs.CutLemmas.{are_stretches}
+use Rattle.plain_doc.proofs.RightLemmas.{sound_is_right}
+use Rattle.doc_load.specs.Source.{part_bytes}
+use Rattle.doc_load.specs.PairRules.{BreaksPairs}
+use Rattle.doc_load.specs.PartRules.{part_rules}
+use Rattle.doc_load.specs.FileRules.{FileText, HasText, source_of, wd_rules, table_rules, loading_rules, file_rules}
+use Rattle.doc_load.specs.FileRules.{table_stream_name}
+use Rattle.doc_load.proofs.NameLemmas.{named_one}
+use Rattle.doc_load.proofs.PartLemmas.{part-inside, pair-read, table_part-empty}
+use Rattle.doc_load.proofs.RightPlaces.{bin_tables, hold_out}
+use Rattle.doc_load.proofs.TextLemmas.{text_one}
+use Rattle.doc_read.specs.Holds.{FileParts, HasFileParts}
+use Rattle.doc_read.proofs.ExistFits.{text_held}
+use Rattle.full_save.specs.Runs.{joins_run, runs_from, text_runs}
+use Rattle.full_save.proofs.BodyLemmas.{last_fc-text_runs}
+use Rattle.full_save.proofs.StretchRuns.{IsWritableItem, AreTextRuns, text_runs_right}
+use Rattle.save_laws.specs.Places.{PagedStream}
+use Rattle.save_laws.specs.GivenFiles.{stream_of}
+use Rattle.append_save.specs.Saves.{FastSave}
+use Rattle.append_save.specs.JoinedRuns.{joined_runs}
+use Rattle.append_save.specs.RenewedStreams.{bytes_named}
+use Rattle.append_save.specs.OldParts.{StaysWithin, named_part}
+use Rattle.append_save.specs.Appended.{old_wd, old_table, old_bins, old_stream, added_end, added_runs, added_pages}
+use Rattle.append_save.specs.Appended.{first_page}
+use Rattle.append_save.specs.Kept.{CanBeAppended}
+use Rattle.append_save.proofs.JoinLemmas.{joined_are}
+use Rattle.append_save.proofs.StreamLemmas.{named_is}
+
+-- a save that can be appended, of a well-formed document, with well-formed items
+pub record Ready : Type 0 where
+  pub save : FastSave
+  pub can : CanBeAppended save
+  pub formed : IsFormed save.document
+  pub items : IsFormedText save.added
+
+pub is_right : (r : Ready) → IsRightDocument r.save.document
+is_right r = sound_is_right r.save.document r.can.sound
+
+-- ---- the file that is there
+
+abbrev pub the_text : Ready → FileText
+the_text r = r.can.held.parts.text
+
+-- the rules hold of the text and the streams that the file was read by
+record AreHeld (file : List ℕ) (parts : FileParts) : Type 0 where
+  loading : Hold (loading_rules parts.contents)
+  parts_hold : Hold (part_rules (source_of parts.text))
+
+held_rules : (file : List ℕ) (parts : FileParts) → Hold (file_rules file) → HasFileParts file parts → AreHeld file parts
+held_rules file parts h has =
+    let contents : h.1.0 ≡ parts.contents = contents_unique file h.1.0 parts.contents h.1.1.0 has.has_contents in
+    let rest = h.1.1.1 in
+    let text : HasText parts.contents rest.1.0 = subst (λ c. HasText c rest.1.0) contents rest.1.1.0 in
+    let same : rest.1.0 ≡ parts.text =
+    text_one file parts.contents rest.1.0 parts.text has.has_contents text has.has_text in
+    record {
+      loading = subst (λ c. Hold (loading_rules c)) contents rest.0;
+      parts_hold = subst (λ t. Hold (part_rules (source_of t))) same rest.1.1.1;
+    }
+
+rules_held : (r : Ready) → AreHeld r.can.file r.can.held.parts
+rules_held r = held_rules r.can.file r.can.held.parts r.can.held.rules r.can.held.has_parts
+
+pub wd_is : (r : Ready) → old_wd r.save ≡ (the_text r).wd
+wd_is r =
+    let has = r.can.held.has_parts in
+    ap (λ (c : Contents). bytes_named c.streams wd_name) r.can.contents
+    ∙ named_is r.can.file r.can.held.parts.contents wd_name (the_text r).wd has.has_contents has.has_text.has_wd
+
+pub table_is : (r : Ready) → old_table r.save ≡ (the_text r).table
+table_is r =
+    let has = r.can.held.has_parts in
+    let start : old_table r.save ≡ bytes_named r.can.held.parts.contents.streams (table_stream_name (the_text r).wd) =
+    (λ i. bytes_named (r.can.contents i).streams (table_name (r.can.fib i).which_table)) in
+    start
+    ∙ named_is r.can.file r.can.held.parts.contents (table_stream_name (the_text r).wd) (the_text r).table
+    has.has_contents has.has_text.has_table
+
+pub stream_is : (r : Ready) → old_stream r.save ≡ stream_of (source_of (the_text r))
+stream_is r = λ i. record {
+  wd = wd_is r i;
+  characters = table_part (wd_is r i) (table_is r i) (pair_of PlcfBteChpx);
+  paragraphs = table_part (wd_is r i) (table_is r i) (pair_of PlcfBtePapx);
+}
+
+tables_hold : (r : Ready) → Hold (table_rules (the_text r).wd (the_text r).table)
+tables_hold r =
+    let has = r.can.held.has_parts in
+    text_held r.can.file r.can.held.parts.contents (the_text r) (rules_held r).loading has.has_contents has.has_text
+
+bins_are : (r : Ready) → IsBinTable (part_bytes (source_of (the_text r)) PlcfBteChpx)
+    × IsBinTable (part_bytes (source_of (the_text r)) PlcfBtePapx)
+bins_are r = bin_tables (source_of (the_text r)) (rules_held r).parts_hold.0.1
+
+pub old_table_is : (kind : PageKind) (r : Ready) → IsBinTable (old_bins kind r.save)
+old_table_is Chpx r = subst (λ (s : PagedStream). IsBinTable s.characters) (sym (stream_is r)) (bins_are r).0
+old_table_is Papx r = subst (λ (s : PagedStream). IsBinTable s.paragraphs) (sym (stream_is r)) (bins_are r).1
+
+-- WordDocument has a FIB
+pub long_wd : (r : Ready) → early_form.size ≤ length (old_wd r.save)
+long_wd r =
+    let has = r.can.held.has_parts in
+    let h = (rules_held r).loading in
+    let wd : h.1.0 ≡ (the_text r).wd =
+    named_one r.can.file r.can.held.parts.contents wd_name h.1.0 (the_text r).wd has.has_contents h.1.1.0
+    has.has_text.has_wd in
+    let held : Hold (wd_rules r.can.held.parts.contents (the_text r).wd) =
+    subst (λ w. Hold (wd_rules r.can.held.parts.contents w)) wd h.1.1.1 in
+    let rules = hold_out Wd (fib_rules (the_text r).wd) held.0 in
+    let len = ap length (wd_is r) in
+    elim (cases_lt (length (the_text r).wd) early_form.size) [
+      | inl short ↦ absurd (rules.0 (length (the_text r).wd) (refl, short))
+      | inr long ↦ omega (arith, long, len)
+    ]
+
+-- ---- the parts of its table stream
+
+-- a pair by the fields of the FIB
+pair_is : (r : Ready) (part : TablePart) → pair_of part < 93 →
+    pair_at r.save.fib.pairs (pair_of part) ≡ fib_pair (old_wd r.save) (pair_of part)
+pair_is r part below =
+    pair-read (the_text r).wd r.save.fib (pair_of part) below r.can.fib
+    ∙ ap (λ wd. fib_pair wd (pair_of part)) (sym (wd_is r))
+
+bins_within : (r : Ready) (part : TablePart) → pair_of part < 93 →
+    IsBinTable (part_bytes (source_of (the_text r)) part) → StaysWithin r.save.fib (old_table r.save) part
+bins_within r part below is =
+    let wd = (the_text r).wd in
+    let table = (the_text r).table in
+    let none : Nowhere (BreaksPairs wd (length table)) = λ p b. (tables_hold r).0 (Wd, p) (refl, b) in
+    let long = is.table in
+    let some : ¬ ((fib_pair wd (pair_of part)).1 ≡ 0) = λ e.
+    let empty = table_part-empty wd table (pair_of part) e in
+    omega (arith, empty, long) in
+    let inside = part-inside wd (length table) part none some in
+    let pair = pair-read wd r.save.fib (pair_of part) below r.can.fib in
+    let one = ap (λ (p : ℕ × ℕ). p.0) pair in
+    let two = ap (λ (p : ℕ × ℕ). p.1) pair in
+    let len = ap length (table_is r) in
+    omega (arith, inside, one, two, len)
+
+pub characters_within : (r : Ready) → StaysWithin r.save.fib (old_table r.save) PlcfBteChpx
+characters_within r = bins_within r PlcfBteChpx (omega arith) (bins_are r).0
+
+pub paragraphs_within : (r : Ready) → StaysWithin r.save.fib (old_table r.save) PlcfBtePapx
+paragraphs_within r = bins_within r PlcfBtePapx (omega arith) (bins_are r).1
+
+part_named : (r : Ready) (part : TablePart) → pair_of part < 93 →
+    named_part r.save.fib (old_table r.save) part ≡ table_part (old_wd r.save) (old_table r.save) (pair_of part)
+part_named r part below =
+    ap (λ (pair : ℕ × ℕ). slice_range (old_table r.save) pair.0 (pair.0 + pair.1)) (pair_is r part below)
+
+pub characters_named : (r : Ready) → named_part r.save.fib (old_table r.save) PlcfBteChpx ≡ old_bins Chpx r.save
+characters_named r = part_named r PlcfBteChpx (omega arith)
+
+pub paragraphs_named : (r : Ready) → named_part r.save.fib (old_table r.save) PlcfBtePapx ≡ old_bins Papx r.save
+paragraphs_named r = part_named r PlcfBtePapx (omega arith)
+
+-- ---- where the added text stands
+
+pub record IsBase (r : Ready) : Type 0 where
+  pub long : 900 ≤ length (old_wd r.save)
+  pub behind : length (old_wd r.save) ≤ r.save.base
+  pub low : 1024 ≤ r.save.base
+  pub whole : r.save.base ≡ 512 * (r.save.base / 512)
+  pub small : r.save.base + 2 * length r.save.added ≤ 2 ^ 28
+
+pub base_is : (r : Ready) → IsBase r
+base_is r =
+    let long = long_wd r in
+    let len = ap length (wd_is r) in
+    let base = r.can.base in
+    let room = r.can.room in
+    record {
+      long = omega (arith, long);
+      behind = omega (arith, base, len);
+      low = omega (arith, base, len, long);
+      whole = omega (arith, base);
+      small = omega (arith, room);
+    }
+
+-- ---- the runs that are added
+
+pub items_writable : (r : Ready) → All IsWritableItem r.save.added
+items_writable r = All-from_slice_get IsWritableItem r.save.added (λ k item here.
+    let formed = All_at IsFormedItem r.save.added k item r.items.each here in
+    let short = All_at HasShortSettings r.save.added k item r.can.short here in
+    record {
+      unit = formed.unit;
+      formed = formed.maps.chp;
+      short = short.chp;
+      mark = λ mark has. record {
+        istd = formed.style mark has;
+        formed = formed.maps.pap mark has;
+        short = short.pap mark has;
+      };
+    })
+
+first_of : (kind : PageKind) (at : ℕ) (parts : List (List Item)) → 0 < length (joined_texts parts) →
+    first_fc (runs_from kind at parts) ≡ at
+unfolding runs_from
+first_of kind at [] some = absurd (omega (arith, some))
+first_of kind at (part ∷ parts) some = refl
+
+-- runs of items, of which there are some
+pub record AreAdded (kind : PageKind) (r : Ready) : Type 0 where
+  pub right : AreRuns kind (added_runs kind r.save)
+  pub numbers : All HasFileNumbers (added_runs kind r.save)
+  pub some : 0 < length (added_runs kind r.save)
+  pub first : first_fc (added_runs kind r.save) ≡ r.save.base
+  pub last : last_fc (added_runs kind r.save) ≡ added_end r.save
+
+pub text_added : (kind : PageKind) (r : Ready) → 0 < length r.save.added →
+    AreTextRuns kind (text_runs kind r.save.base r.save.added)
+text_added kind r some =
+    let small = (base_is r).small in
+    text_runs_right kind r.save.base r.save.added (items_writable r) some (omega (arith, small))
+
+text_first : (kind : PageKind) (r : Ready) → 0 < length r.save.added →
+    first_fc (text_runs kind r.save.base r.save.added) ≡ r.save.base
+text_first kind r some =
+    let parts = stretches (joins_run kind) r.save.added in
+    let len = ap length (are_stretches (joins_run kind) r.save.added).whole in
+    first_of kind r.save.base parts (omega (arith, some, len))
+
+pub added_are : (kind : PageKind) (r : Ready) → 0 < length r.save.added → AreAdded kind r
+added_are Chpx r some =
+    let runs = text_added Chpx r some in
+    record {
+      right = runs.right;
+      numbers = runs.numbers;
+      some = runs.some;
+      first = text_first Chpx r some;
+      last = last_fc-text_runs Chpx r.save.base r.save.added some;
+    }
+added_are Papx r some =
+    let runs = text_added Papx r some in
+    let joined = joined_are Papx (text_runs Papx r.save.base r.save.added) runs.right runs.numbers runs.some in
+    record {
+      right = joined.right;
+      numbers = joined.numbers;
+      some = joined.some;
+      first = joined.first ∙ text_first Papx r some;
+      last = joined.last ∙ last_fc-text_runs Papx r.save.base r.save.added some;
+    }
+
+-- without items there are none
+no_text : (kind : PageKind) (at : ℕ) → text_runs kind at [] ≡ []
+unfolding stretches runs_from
+no_text kind at = refl
+
+none_added : (kind : PageKind) (save : FastSave) → save.added ≡ [] → added_runs kind save ≡ []
+none_added Chpx save none = ap (λ (items : List Item). text_runs Chpx save.base items) none ∙ no_text Chpx save.base
+none_added Papx save none =
+    ap (λ (items : List Item). joined_runs (text_runs Papx save.base items)) none
+    ∙ ap joined_runs (no_text Papx save.base)
+
+no_runs : (kind : PageKind) → AreRuns kind []
+no_runs kind =
+    record { writable = All-nil (IsWritableRun kind); touch = λ k run next here there. absurd (none-some run here) }
+
+-- there are no runs where there are no items
+pub none_there : (kind : PageKind) (r : Ready) → length r.save.added ≤ 0 → added_runs kind r.save ≡ []
+none_there kind r none = none_added kind r.save (nil_from_length r.save.added (omega (arith, none)))
+
+pub runs_right : (kind : PageKind) (r : Ready) → AreRuns kind (added_runs kind r.save)
+runs_right kind r = elim (cases_lt 0 (length r.save.added)) [
+  | inl some ↦ (added_are kind r some).right
+  | inr none ↦ subst (AreRuns kind) (sym (none_there kind r none)) (no_runs kind)
+]
+
+-- ---- their pages
+
+pub pages_are : (kind : PageKind) (r : Ready) →
+    ArePagesOf kind (added_runs kind r.save) (added_pages kind r.save)
+pages_are kind r = runs_have_pages kind (added_runs kind r.save) (runs_right kind r).writable
+
+pub pages_whole : (kind : PageKind) (r : Ready) → AreWholePages (added_runs kind r.save) (added_pages kind r.save)
+pages_whole kind r =
+    pages_are_whole kind (added_runs kind r.save) (added_pages kind r.save) (runs_right kind r) (pages_are kind r)
+
+-- the numbers of pages are small
+pub record HaveRoom (r : Ready) : Type 0 where
+  pub characters : first_page Chpx r.save + length (added_runs Chpx r.save) ≤ 2 ^ 22
+  pub paragraphs : first_page Papx r.save + length (added_runs Papx r.save) ≤ 2 ^ 22
+  pub low : 2 ≤ first_page Chpx r.save
+  pub pages :
+      512 * (first_page Papx r.save + length (added_pages Papx r.save).starts)
+      ≤ r.save.base + 2 * length r.save.added + 511
+      + 512 * (length (added_runs Chpx r.save) + length (added_runs Papx r.save))
+
+pub have_room : (r : Ready) → HaveRoom r
+have_room r =
+    let room = r.can.room in
+    let few_chp = (pages_whole Chpx r).few in
+    let few_pap = (pages_whole Papx r).few in
+    let base = base_is r in
+    let low = base.low in
+    record {
+      characters = omega (arith, room);
+      paragraphs = omega (arith, room, few_chp);
+      low = omega (arith, low);
+      pages = omega (arith, few_chp, few_pap);
+    }

@@ -1,0 +1,534 @@
+-- WordDocument of a save behind an old stream: what stands where.
+use Rattle.std.specs.Prelude.{slice_get, slice_index, replicate}
+use Rattle.std.proofs.Common.{◌≡◌, ◌∙◌, refl, sym, ap, subst, inl, inr, ℕ, suc, ◌+◌, ◌-◌, ◌*◌, ◌/◌, ◌<◌, ◌≤◌, ◌^◌}
+use Rattle.std.proofs.Common.{List, [], ◌∷◌, ◌++◌, length, map, drop, Some, None, Option, All, arith, append_assoc, length-append}
+use Rattle.std.proofs.lemmas.Bool.{cases_lt}
+use Rattle.std.proofs.lemmas.List.{append-nil, length-map, length-drop, get_or_append_left, get_or-append-add, get_or-drop}
+use Rattle.std.proofs.lemmas.Option.{slice_get_within, get_or_from_slice_get}
+use Rattle.doc_bits.proofs.ListLemmas.{All_at, get-map, from_map}
+use Rattle.doc_bits.proofs.NumberLemmas.{number_at-after, number_at-before}
+use Rattle.doc_bits.specs.Number.{u16_at}
+use Rattle.doc_bits.specs.Rules.{Hold}
+use Rattle.cfb_layout.specs.Sectors.{units_for, filled, padded}
+use Rattle.cfb_layout.proofs.BytesLemmas.{length-filled, entry_at, filled_at}
+use Rattle.fib_form.specs.Fib.{early_form, bit}
+use Rattle.fib_form.specs.FibFields.{FibFields, fib_fields, IsFib, AreCounts, IsKeptFlags}
+use Rattle.fib_form.specs.FibBytes.{written_fib}
+use Rattle.fib_form.specs.FibRules.{fib_rules}
+use Rattle.fib_form.proofs.FibLemmas.{read_back, sum-three}
+use Rattle.fib_form.proofs.WriteLemmas.{length-written_fib}
+use Rattle.fkp_pages.specs.declared.kind.PageKind.{PageKind}
+use Rattle.fkp_pages.specs.declared.kind.PageKind.TheVariants.{Chpx, Papx}
+use Rattle.fkp_pages.specs.declared.lists.Run.{Run}
+use Rattle.fkp_pages.specs.declared.lists.Bin.{Bin}
+use Rattle.fkp_pages.specs.declared.packing.Pages.{Pages}
+use Rattle.fkp_pages.specs.Bin.{ArePrintableBins, bin_fcs, printed_bin}
+use Rattle.fkp_pages.specs.InARow.{numbered_bins}
+use Rattle.fkp_pages.specs.Rows.{IsInRun, IsRow, NamesRow, row_bins}
+use Rattle.fkp_pages.specs.PageBytes.{last_fc}
+use Rattle.fkp_pages.proofs.LongerLemmas.{longer_tables_name_both}
+use Rattle.piece_table.specs.Printing.{IsPrintedClx}
+use Rattle.plain_doc.specs.declared.item.Mark.{Mark}
+use Rattle.plain_doc.specs.declared.item.Item.{Item}
+use Rattle.doc_bits.specs.declared.places.Where.TheVariants.{Main}
+use Rattle.fib_form.specs.declared.fib.KeptFib.{KeptFib}
+use Rattle.prop_map.specs.Settings.{Settings}
+use Rattle.plain_doc.specs.declared.carried.Carried.{Carried}
+use Rattle.plain_doc.specs.Collected.{collected, entry_before, sections_of}
+use Rattle.plain_doc.specs.Document.{IsFormedItem}
+use Rattle.plain_doc.proofs.TextListLemmas.{collected_from}
+use Rattle.save_laws.proofs.FullSections.{FitsSepx}
+use Rattle.plain_doc.proofs.MainLemmas.{main_ends}
+use Rattle.std.proofs.lemmas.List.Concat.{length-flat_map}
+use Rattle.full_save.specs.WordDocument.{units_bytes}
+use Rattle.full_save.specs.TableStream.{entries_bytes, entries_pairs}
+use Rattle.full_save.proofs.StretchRuns.{IsWritableItem, character_run, paragraph_run}
+use Rattle.full_save.proofs.EntriesFound.{AreAllowed, entries_are_pairs, entries_are_wide}
+use Rattle.save_laws.specs.Places.{PagedStream, Given, given_of, fib_end}
+use Rattle.save_laws.specs.Plans.{Plan, AreRunsOf, HaveRow, IsWrittenPlan}
+use Rattle.save_laws.specs.KeptPages.{KeepsBytes, KeepsPages}
+use Rattle.save_laws.specs.Slots.{story_counts}
+use Rattle.save_laws.proofs.SlotLemmas.{length-story_slots, length-loose_if}
+use Rattle.append_save.specs.Saves.{FastSave, plan_of}
+use Rattle.append_save.specs.KeptBins.{kept_bins}
+use Rattle.append_save.specs.PlannedSections.{planned_sepxes}
+use Rattle.append_save.specs.Appended.{old_wd, old_bins, old_stream, added_end, added_runs, added_pages, first_page}
+use Rattle.append_save.specs.Appended.{pages_end, added_bytes, fast_bins, fast_bin_table, fast_entries, fast_table}
+use Rattle.append_save.specs.Appended.{fast_fib, fast_wd, fast_saved_text}
+use Rattle.append_save.proofs.JoinLemmas.{joined_are}
+use Rattle.append_save.proofs.PlannedLemmas.{length-planned}
+use Rattle.append_save.proofs.KeptBinLemmas.{kept_are_first, first_are_before}
+use Rattle.append_save.proofs.ReadyLemmas.{Ready, is_right, base_is, long_wd, the_text, items_writable, added_are, none_there}
+use Rattle.append_save.proofs.ReadyLemmas.{text_added, runs_right, pages_are, pages_whole, have_room, old_table_is}
+use Rattle.append_save.proofs.BodyLemmas.{body_sizes}
+use Rattle.append_save.proofs.TableLemmas.{bins_printable, begins_there, ranges_are_kept}
+
+-- a save with the Clx of its pieces, and room for one more quick save
+pub record Made : Type 0 where
+  pub ready : Ready
+  pub clx : List ℕ
+  pub printed : IsPrintedClx ready.save.pieces clx
+  pub few_saves : ready.save.fib.quick_saves < 15
+
+abbrev pub the_save : Made → FastSave
+the_save m = m.ready.save
+
+abbrev pub new_fib : Made → FibFields
+new_fib m = fast_fib (the_save m) m.clx
+
+abbrev pub new_wd : Made → List ℕ
+new_wd m = fast_wd (the_save m) m.clx
+
+-- ---- its parts
+
+-- FIB and old bytes and zeros; units and zeros; pages of characters; pages of paragraphs; Sepxes
+pub record Parts : Type 0 where
+  pub front : List ℕ
+  pub text : List ℕ
+  pub chp : List ℕ
+  pub pap : List ℕ
+  pub sepx : List ℕ
+
+abbrev pub added_units : Made → List ℕ
+added_units m = map (λ (item : Item). item.unit) (the_save m).added
+
+abbrev pub parts_of : Made → Parts
+parts_of m = record {
+  front = filled (the_save m).base 0 (written_fib (new_fib m) ++ drop early_form.size (old_wd (the_save m)));
+  text = padded 512 0 (units_bytes (added_units m));
+  chp = (added_pages Chpx (the_save m)).bytes;
+  pap = (added_pages Papx (the_save m)).bytes;
+  sepx = planned_sepxes (the_save m).places (sections_of (the_save m).document.main);
+}
+
+abbrev pub joined_parts : Parts → List ℕ
+joined_parts p = p.front ++ (p.text ++ (p.chp ++ (p.pap ++ p.sepx)))
+
+pub wd_parts : (m : Made) → new_wd m ≡ joined_parts (parts_of m)
+unfolding fast_wd added_bytes
+wd_parts m = refl
+
+pub parts_cut : (p : Parts) →
+    (joined_parts p ≡ (p.front ++ p.text) ++ (p.chp ++ (p.pap ++ p.sepx)))
+    × ((joined_parts p ≡ (p.front ++ (p.text ++ p.chp)) ++ (p.pap ++ p.sepx))
+    × (joined_parts p ≡ (p.front ++ (p.text ++ (p.chp ++ p.pap))) ++ (p.sepx ++ [])))
+parts_cut p = (simp (append_assoc) refl, (simp (append_assoc) refl, simp (append_assoc, append-nil) refl))
+
+-- ---- the FIB
+
+pub allowed : (m : Made) → AreAllowed (fast_entries (the_save m) m.clx)
+allowed m = record { bookmarks = refl; main_drawings = refl; header_drawings = refl; endnotes = refl }
+
+pub table_small : (m : Made) → length (entries_bytes (fast_entries (the_save m) m.clx)) < 2 ^ 32
+unfolding fast_table
+table_small m = m.ready.can.table m.clx m.printed
+
+pub counts_by : (r : Ready) → AreCounts (story_counts r.save.document r.save.ends)
+counts_by r =
+    let d = r.save.document in
+    let ends = r.save.ends in
+    let right = is_right r in
+    let some = (main_ends d right).some in
+    let most = right.few in
+    let notes = length-flat_map (λ (text : List Item). text) d.notes in
+    let heads = length-flat_map (λ (text : List Item). text) d.heads in
+    let note_slots = length-story_slots d.notes ends.notes in
+    let head_slots = length-story_slots d.heads ends.heads in
+    let counted = sum-three (story_counts d ends) refl in
+    record {
+      three = refl;
+      main = omega (arith, some);
+      all = omega (
+        arith,
+        counted,
+        some,
+        most,
+        notes,
+        heads,
+        note_slots,
+        head_slots,
+        length-loose_if ends.notes,
+        length-loose_if ends.heads,
+      );
+    }
+
+counts_are : (m : Made) → AreCounts (story_counts (the_save m).document (the_save m).ends)
+counts_are m = counts_by m.ready
+
+pub pairs_count : (m : Made) → length (new_fib m).pairs ≡ early_form.pair_count
+unfolding fast_fib
+pairs_count m = (entries_are_pairs (fast_entries (the_save m) m.clx) (allowed m)).count
+
+-- ---- how long the parts are
+
+pub record Sizes (m : Made) : Type 0 where
+  pub old : length (written_fib (new_fib m) ++ drop early_form.size (old_wd (the_save m))) ≡ length (old_wd (the_save m))
+  pub front : length (parts_of m).front ≡ (the_save m).base
+  pub text : length (parts_of m).text ≡ 512 * ((2 * length (the_save m).added + 511) / 512)
+  pub units : length (units_bytes (added_units m)) ≡ 2 * length (the_save m).added
+  pub chp : length (parts_of m).chp ≡ 512 * length (added_pages Chpx (the_save m)).starts
+  pub pap : length (parts_of m).pap ≡ 512 * length (added_pages Papx (the_save m)).starts
+
+pub sizes : (m : Made) → Sizes m
+sizes m =
+    let r = m.ready in
+    let base = base_is r in
+    let long = base.long in
+    let behind = base.behind in
+    let fib = length-written_fib (new_fib m) (pairs_count m) in
+    let rest = length-drop early_form.size (old_wd (the_save m)) in
+    let both = length-append (written_fib (new_fib m)) (drop early_form.size (old_wd (the_save m))) in
+    let old : length (written_fib (new_fib m) ++ drop early_form.size (old_wd (the_save m)))
+    ≡ length (old_wd (the_save m)) = omega (arith, fib, rest, both, long) in
+    let body = body_sizes r in
+    record {
+      old = old;
+      front = length-filled (the_save m).base 0
+          (written_fib (new_fib m) ++ drop early_form.size (old_wd (the_save m))) (omega (arith, old, behind));
+      text = body.text;
+      units = body.units;
+      chp = (pages_whole Chpx r).size;
+      pap = (pages_whole Papx r).size;
+    }
+
+-- where the pages and the Sepxes begin
+pub record Places (m : Made) : Type 0 where
+  pub characters : length ((parts_of m).front ++ (parts_of m).text) ≡ 512 * first_page Chpx (the_save m)
+  pub paragraphs :
+      length ((parts_of m).front ++ ((parts_of m).text ++ (parts_of m).chp)) ≡ 512 * first_page Papx (the_save m)
+  pub sections :
+      length ((parts_of m).front ++ ((parts_of m).text ++ ((parts_of m).chp ++ (parts_of m).pap)))
+      ≡ pages_end (the_save m)
+
+pub places : (m : Made) → Places m
+places m =
+    let p = parts_of m in
+    let size = sizes m in
+    let whole = (base_is m.ready).whole in
+    let a1 = length-append p.front p.text in
+    let a2 = length-append p.front (p.text ++ p.chp) in
+    let a3 = length-append p.text p.chp in
+    let a4 = length-append p.front (p.text ++ (p.chp ++ p.pap)) in
+    let a5 = length-append p.text (p.chp ++ p.pap) in
+    let a6 = length-append p.chp p.pap in
+    record {
+      characters = omega (arith, a1, size.front, size.text, whole);
+      paragraphs = omega (arith, a2, a3, size.front, size.text, size.chp, whole);
+      sections = omega (arith, a4, a5, a6, size.front, size.text, size.chp, size.pap, whole);
+    }
+
+pub length-collected : {A : Type 0} (what : Item → Option A) (cp : ℕ) (items : List Item) →
+    length (collected what cp items) ≤ length items
+unfolding collected
+length-collected what cp [] = omega arith
+length-collected what cp (item ∷ items) =
+    let rest = length-collected what (cp + 1) items in
+    elim (what item) as (λ o. length (entry_before o cp (collected what (cp + 1) items)) ≤ length (item ∷ items)) [
+      | None ↦ omega (arith, rest)
+      | Some value ↦ omega (arith, rest)
+    ]
+
+-- the settings of sections fit Sepxes
+pub sections_fit : (r : Ready) (k : ℕ) (section : ℕ × Settings) →
+    slice_get (sections_of r.save.document.main) k ≡ Some section → FitsSepx section.1
+sections_fit r k section here =
+    let d = r.save.document in
+    let from = collected_from (λ (item : Item). item.sect) 0 d.main k section here in
+    let formed = All_at IsFormedItem d.main from.index from.item r.formed.main.each from.here in
+    let right = ((is_right r).texts Main d.main refl).short from.index from.item from.here in
+    record { formed = formed.maps.sect section.1 from.has; short = right.sect section.1 from.has }
+
+-- the Sepxes are short
+short_sepxes : (m : Made) → length (parts_of m).sepx ≤ 503 * 500000
+short_sepxes m =
+    let d = (the_save m).document in
+    let planned =
+    length-planned (the_save m).places (sections_of d.main) (λ k section here. (sections_fit m.ready k section here).short) in
+    let few = length-collected (λ (item : Item). item.sect) 0 d.main in
+    let right = is_right m.ready in
+    let most = right.few in
+    omega (arith, planned, few, most)
+
+pub short_added : (m : Made) → length (added_bytes (the_save m)) + (the_save m).base < 2 ^ 30
+unfolding added_bytes
+short_added m =
+    let p = parts_of m in
+    let r = m.ready in
+    let size = sizes m in
+    let room = r.can.room in
+    let chp = (pages_whole Chpx r).few in
+    let pap = (pages_whole Papx r).few in
+    let sepx = short_sepxes m in
+    let a1 = length-append p.text (p.chp ++ (p.pap ++ p.sepx)) in
+    let a2 = length-append p.chp (p.pap ++ p.sepx) in
+    let a3 = length-append p.pap p.sepx in
+    omega (arith, a1, a2, a3, size.text, size.chp, size.pap, room, chp, pap, sepx)
+
+pub length-new_wd : (m : Made) → length (new_wd m) ≡ (the_save m).base + length (added_bytes (the_save m))
+unfolding fast_wd
+length-new_wd m =
+    let size = sizes m in
+    let a = length-append (parts_of m).front (added_bytes (the_save m)) in
+    omega (arith, a, size.front)
+
+-- ---- the FIB is read
+
+-- what a FIB keeps is what the document carries
+abbrev pub kept_of : Carried → KeptFib
+kept_of carried = record { lid = carried.lid; lid_fe = carried.lid_fe; flags = carried.flags }
+
+pub kept_is : (r : Ready) → kept_of r.save.document.carried ≡ r.save.fib.kept
+kept_is r =
+    let held = r.can.held.document_is.carried in
+    let same : kept_of r.save.document.carried ≡ kept_of r.can.saved.carried = ap kept_of r.can.carried in
+    let read : kept_of r.can.saved.carried ≡ (fib_fields (the_text r).wd).kept =
+    (λ i. record { lid = held.lid i; lid_fe = held.lid_fe i; flags = held.flags i }) in
+    same ∙ (read ∙ ap (λ (fib : FibFields). fib.kept) (sym r.can.fib))
+
+pub is_fib : (m : Made) → IsFib (new_fib m)
+unfolding fast_fib
+is_fib m =
+    let save = the_save m in
+    let r = m.ready in
+    let carried = r.formed.carried in
+    let short = short_added m in
+    let few = m.few_saves in
+    let kept = kept_is r in
+    let which = ap (λ (fib : FibFields). fib.which_table) r.can.fib in
+    record {
+      languages = subst (λ (k : KeptFib). (k.lid < 2 ^ 16) × (k.lid_fe < 2 ^ 16)) kept carried.languages;
+      flags = subst (λ (k : KeptFib). IsKeptFlags k.flags) kept carried.flags;
+      quick_saves = omega (arith, few);
+      which_table = omega (arith, which);
+      cb_mac = omega (arith, short);
+      counts = counts_are m;
+      pairs = entries_are_pairs (fast_entries save m.clx) (allowed m);
+      wide = entries_are_wide (fast_entries save m.clx) (table_small m);
+    }
+
+pub record IsFibRead (m : Made) : Type 0 where
+  pub rules : Hold (fib_rules (new_wd m))
+  pub fields : fib_fields (new_wd m) ≡ new_fib m
+
+fib_first : (m : Made) → (more : List ℕ) × (new_wd m ≡ written_fib (new_fib m) ++ more)
+unfolding filled
+fib_first m =
+    let save = the_save m in
+    let fib = written_fib (new_fib m) in
+    let old = drop early_form.size (old_wd save) in
+    let zeros = replicate (save.base - length (fib ++ old)) 0 in
+    let p = parts_of m in
+    let rest = p.text ++ (p.chp ++ (p.pap ++ p.sepx)) in (
+      old ++ (zeros ++ rest),
+      wd_parts m ∙ (append_assoc (fib ++ old) zeros rest ∙ append_assoc fib old (zeros ++ rest)),
+    )
+
+pub fib_read : (m : Made) → IsFibRead m
+fib_read m =
+    let first = fib_first m in
+    let read = read_back (new_fib m) first.0 (is_fib m) in
+    record {
+      rules = subst (λ wd. Hold (fib_rules wd)) (sym first.1) read.0;
+      fields = ap fib_fields first.1 ∙ read.1;
+    }
+
+-- ---- what is kept
+
+bytes_kept : (m : Made) (i : ℕ) → fib_end (old_wd (the_save m)) ≤ i → i < length (old_wd (the_save m)) →
+    slice_index (new_wd m) i ≡ slice_index (old_wd (the_save m)) i
+bytes_kept m i low high =
+    let save = the_save m in
+    let size = sizes m in
+    let base = base_is m.ready in
+    let behind = base.behind in
+    let fib = written_fib (new_fib m) in
+    let old = drop early_form.size (old_wd save) in
+    let p = parts_of m in
+    let rest = p.text ++ (p.chp ++ (p.pap ++ p.sepx)) in
+    let width = length-written_fib (new_fib m) (pairs_count m) in
+    let at : i ≡ length fib + (i - early_form.size) = omega (arith, width, low) in
+    let back : early_form.size + (i - early_form.size) ≡ i = omega (arith, low) in
+    let one : slice_index (new_wd m) i ≡ slice_index p.front i =
+    ap (λ (wd : List ℕ). slice_index wd i) (wd_parts m)
+    ∙ get_or_append_left p.front rest 0 i (omega (arith, size.front, high, behind)) in
+    let two : slice_index p.front i ≡ slice_index (fib ++ old) i =
+    filled_at save.base 0 (fib ++ old) i (omega (arith, size.old, high)) in
+    let three : slice_index (fib ++ old) i ≡ slice_index old (i - early_form.size) =
+    ap (slice_index (fib ++ old)) at ∙ get_or-append-add fib old (i - early_form.size) 0 in
+    let four : slice_index old (i - early_form.size) ≡ slice_index (old_wd save) i =
+    get_or-drop early_form.size (old_wd save) (i - early_form.size) 0 ∙ ap (slice_index (old_wd save)) back in
+    one ∙ (two ∙ (three ∙ four))
+
+pub keeps_bytes : (m : Made) → KeepsBytes (old_wd (the_save m)) (new_wd m)
+keeps_bytes m =
+    let len = length-new_wd m in
+    let behind = (base_is m.ready).behind in
+    record { longer = omega (arith, len, behind); bytes = bytes_kept m; fib = omega arith }
+
+pub keeps_pages : (m : Made) →
+    KeepsPages (old_stream (the_save m)) (fast_saved_text (the_save m) m.clx).stream (the_save m).base
+keeps_pages m = record {
+  bytes = keeps_bytes m;
+  within = (base_is m.ready).behind;
+  characters = ranges_are_kept Chpx m.ready;
+  paragraphs = ranges_are_kept Papx m.ready;
+}
+
+-- ---- what is added
+
+unit_there : (m : Made) (k : ℕ) (item : Item) → slice_get (the_save m).added k ≡ Some item →
+    u16_at (new_wd m) ((the_save m).base + 2 * k) ≡ item.unit
+unfolding padded
+unit_there m k item here =
+    let save = the_save m in
+    let p = parts_of m in
+    let units = added_units m in
+    let zeros : List ℕ = replicate (units_for 512 (length (units_bytes units)) * 512 - length (units_bytes units)) 0 in
+    let rest = p.chp ++ (p.pap ++ p.sepx) in
+    let size = sizes m in
+    let within = slice_get_within save.added k item here in
+    let count = length-map save.added (λ (item : Item). item.unit) in
+    let at : save.base + 2 * k ≡ length p.front + 2 * k = ap (λ n. n + 2 * k) (sym size.front) in
+    let unit : slice_index units k ≡ item.unit =
+    get_or_from_slice_get units k item.unit 0 (get-map (λ (i : Item). i.unit) save.added k item here) in
+    let small = (All_at IsWritableItem save.added k item (items_writable m.ready) here).unit in
+    ap (λ wd. u16_at wd (save.base + 2 * k)) (wd_parts m)
+    ∙ (ap (λ n. u16_at (joined_parts p) n) at
+    ∙ (number_at-after p.front (p.text ++ rest) (2 * k) 2
+    ∙ (number_at-before p.text rest (2 * k) 2 (omega (arith, size.text, within))
+    ∙ (number_at-before (units_bytes units) zeros (2 * k) 2 (omega (arith, size.units, within))
+    ∙ (entry_at 2 units k (2 * k) (omega (arith, count, within)) (omega (arith, unit, small)) refl ∙ unit)))))
+
+runs_of : (m : Made) → AreRunsOf (plan_of (the_save m)) (added_runs Chpx (the_save m)) (added_runs Papx (the_save m))
+runs_of m =
+    let save = the_save m in
+    let items = save.added in
+    record {
+      character = λ k given here.
+          let found = from_map given_of items k given here in
+          let run = character_run save.base items k found.0 found.1.0 in
+          (run.0, (run.1.0, run.1.1 ∙ ap (λ (g : Given). g.chp) found.1.1));
+      paragraph = λ k given mark here marked.
+          let found = from_map given_of items k given here in
+          let own = ap (λ (g : Given). g.mark) found.1.1 ∙ marked in
+          let run = paragraph_run save.base items k found.0 mark found.1.0 own in
+          let some : 0 < length items = omega (arith, slice_get_within items k found.0 found.1.0) in
+          let text = text_added Papx m.ready some in
+          let joined = joined_are Papx _ text.right text.numbers text.some in
+          let covers = joined.covers (save.base + 2 * k) run.0 run.1.0 in (
+            covers.wide,
+            (
+              record { number = covers.number; there = covers.there; from = covers.from; to = covers.to },
+              (covers.istd ∙ run.1.1.0, covers.maps ∙ run.1.1.1),
+            ),
+          );
+    }
+
+some_items : (kind : PageKind) (r : Ready) → 0 < length (added_runs kind r.save) → 0 < length r.save.added
+some_items kind r some = elim (cases_lt 0 (length r.save.added)) [
+  | inl any ↦ any
+  | inr none ↦
+      let runs = ap length (none_there kind r none) in
+      absurd (omega (arith, some, runs))
+]
+
+row_there : (kind : PageKind) (m : Made) → 0 < length (added_runs kind (the_save m)) →
+    IsRow kind (new_wd m) (added_runs kind (the_save m)) (first_page kind (the_save m))
+row_there Chpx m some =
+    let added = added_are Chpx m.ready (some_items Chpx m.ready some) in
+    let p = parts_of m in
+    let room = have_room m.ready in
+    let few = (pages_whole Chpx m.ready).few in
+    record {
+      pages = added_pages Chpx (the_save m);
+      before = p.front ++ p.text;
+      behind = p.pap ++ p.sepx;
+      right = added.right;
+      numbers = added.numbers;
+      pages_are = pages_are Chpx m.ready;
+      some = some;
+      low = room.low;
+      high = omega (arith, room.characters, few);
+      begins = (places m).characters;
+      there = wd_parts m ∙ (parts_cut p).0;
+    }
+row_there Papx m some =
+    let added = added_are Papx m.ready (some_items Papx m.ready some) in
+    let p = parts_of m in
+    let room = have_room m.ready in
+    let few = (pages_whole Papx m.ready).few in
+    let low = room.low in
+    record {
+      pages = added_pages Papx (the_save m);
+      before = p.front ++ (p.text ++ p.chp);
+      behind = p.sepx;
+      right = added.right;
+      numbers = added.numbers;
+      pages_are = pages_are Papx m.ready;
+      some = some;
+      low = omega (arith, low);
+      high = omega (arith, room.paragraphs, few);
+      begins = (places m).paragraphs;
+      there = wd_parts m ∙ (parts_cut p).1.0;
+    }
+
+-- the table names the pages of the row
+named : (kind : PageKind) (m : Made) → 0 < length (added_runs kind (the_save m)) →
+    (row : IsRow kind (new_wd m) (added_runs kind (the_save m)) (first_page kind (the_save m))) →
+    row.pages ≡ added_pages kind (the_save m) → NamesRow row (fast_bin_table kind (the_save m))
+unfolding fast_bin_table
+named kind m some row same =
+    let r = m.ready in
+    let save = the_save m in
+    let runs = added_runs kind save in
+    let first = first_page kind save in
+    let added = added_are kind r (some_items kind r some) in
+    let old = old_bins kind save in
+    let bins = kept_bins old save.base in
+    let own : List Bin = numbered_bins first (added_pages kind save).starts in
+    let more : own ≡ row_bins row = ap (λ (pages : Pages). numbered_bins first pages.starts) (sym same) in
+    let end : added_end save ≡ last_fc runs = sym added.last in
+    let printable : ArePrintableBins (bins ++ row_bins row) (last_fc runs) =
+    subst (λ (n : ℕ). ArePrintableBins (bins ++ row_bins row) n) end
+    (subst (λ (b : List Bin). ArePrintableBins (bins ++ b) (added_end save)) more (bins_printable kind r)) in
+    let begins : save.base ≤ slice_index (bin_fcs (row_bins row) (last_fc runs)) 0 =
+    subst (λ (n : ℕ). save.base ≤ slice_index (bin_fcs (row_bins row) n) 0) end
+    (subst (λ (b : List Bin). save.base ≤ slice_index (bin_fcs b (added_end save)) 0) more (begins_there kind r)) in
+    let both =
+    longer_tables_name_both kind (new_wd m) runs first save.base old bins row
+    (first_are_before old save.base bins (kept_are_first old save.base (old_table_is kind r))) printable begins in
+    let table : printed_bin (bins ++ row_bins row) (last_fc runs) ≡ printed_bin (bins ++ own) (added_end save) =
+    (λ i. printed_bin (bins ++ sym more i) (sym end i)) in
+    subst (λ (t : List ℕ). NamesRow row t) table both.names
+
+have_row : (kind : PageKind) (m : Made) →
+    HaveRow kind (new_wd m) (fast_bin_table kind (the_save m)) (added_runs kind (the_save m))
+unfolding row_there
+have_row Chpx m some =
+    let row = row_there Chpx m some in (first_page Chpx (the_save m), (row, named Chpx m some row refl))
+have_row Papx m some =
+    let row = row_there Papx m some in (first_page Papx (the_save m), (row, named Papx m some row refl))
+
+pub written_plan : (m : Made) → IsWrittenPlan (plan_of (the_save m)) (fast_saved_text (the_save m) m.clx).stream
+written_plan m =
+    let save = the_save m in
+    let base = base_is m.ready in
+    let low = base.low in
+    let size = sizes m in
+    let len = ap length (wd_parts m) in
+    let p = parts_of m in
+    let a1 = length-append p.front (p.text ++ (p.chp ++ (p.pap ++ p.sepx))) in
+    let a2 = length-append p.text (p.chp ++ (p.pap ++ p.sepx)) in
+    let count = length-map save.added given_of in
+    record {
+      behind_fib = omega (arith, low);
+      within = omega (arith, len, a1, a2, count, size.front, size.text);
+      units = λ k given here.
+          let found = from_map given_of save.added k given here in
+          unit_there m k found.0 found.1.0 ∙ ap (λ (g : Given). g.unit) found.1.1;
+      characters = added_runs Chpx save;
+      paragraphs = added_runs Papx save;
+      runs = runs_of m;
+      character_row = have_row Chpx m;
+      paragraph_row = have_row Papx m;
+    }

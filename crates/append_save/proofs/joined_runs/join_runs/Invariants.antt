@@ -1,0 +1,5 @@
+use Rattle.append_save.proofs.JoinSteps.{IsJoinedUpTo}
+use Rattle.append_save.proofs.joined_runs.join_runs.Given as goal
+
+abbrev pub invariant-loop-k : goal.invariant-loop-k
+invariant-loop-k l = IsJoinedUpTo l.runs l.joined l.first l.k

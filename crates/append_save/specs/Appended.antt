@@ -1,0 +1,158 @@
+-- The streams of a save behind an old stream, as functions of what it is made of and of the Clx of its pieces. Each
+-- number is a length; nothing is gone through.
+use Rattle.std.specs.Prelude.{ℕ, ◌+◌, ◌*◌, true, List, ◌++◌, length, map, drop}
+use Rattle.cfb_streams.specs.Contents.{NamedBytes, Contents}
+use Rattle.cfb_streams.specs.Names.{wd_name, table_name}
+use Rattle.cfb_layout.specs.Sectors.{units_for, filled, padded}
+use Rattle.cfb_layout.specs.Layout.{contents_of}
+use Rattle.fib_form.specs.Fib.{early_form, table_part}
+use Rattle.fib_form.specs.FibFields.{FibFields}
+use Rattle.fib_form.specs.FibBytes.{written_fib}
+use Rattle.fib_form.specs.TableParts.{pair_of}
+use Rattle.fib_form.specs.TableEntries.{TableEntry}
+use Rattle.fib_form.specs.declared.table_parts.TablePart.TheVariants.{PlcfBteChpx, PlcfBtePapx}
+use Rattle.fkp_pages.specs.declared.kind.PageKind.{PageKind}
+use Rattle.fkp_pages.specs.declared.kind.PageKind.TheVariants.{Chpx, Papx}
+use Rattle.fkp_pages.specs.declared.lists.Bin.{Bin}
+use Rattle.fkp_pages.specs.declared.lists.Run.{Run}
+use Rattle.fkp_pages.specs.declared.packing.Pages.{Pages}
+use Rattle.fkp_pages.specs.Bin.{printed_bin}
+use Rattle.fkp_pages.specs.Packed.{pages_of}
+use Rattle.fkp_pages.specs.InARow.{numbered_bins}
+use Rattle.plain_doc.specs.Collected.{sections_of}
+use Rattle.doc_parts.specs.declared.lists.Sed.{Sed}
+use Rattle.full_save.specs.declared.table_text.TableText.{TableText}
+use Rattle.full_save.specs.Runs.{text_runs}
+use Rattle.full_save.specs.TableText.{table_entries}
+use Rattle.full_save.specs.TableStream.{entries_bytes, entries_pairs}
+use Rattle.full_save.specs.WordDocument.{units_bytes}
+use Rattle.save_laws.specs.Places.{PagedStream}
+use Rattle.save_laws.specs.Slots.{story_counts}
+use Rattle.save_laws.specs.Saves.{SavedText}
+use Rattle.append_save.specs.Saves.{FastSave}
+use Rattle.append_save.specs.JoinedRuns.{joined_runs}
+use Rattle.append_save.specs.KeptBins.{kept_bins}
+use Rattle.append_save.specs.PlannedSections.{planned_sepxes, planned_seds}
+use Rattle.append_save.specs.RenewedStreams.{bytes_named, renewed_streams}
+
+-- ---- what is there
+
+-- the name of the table stream, which stays
+abbrev pub table_name_of : FastSave → List ℕ
+table_name_of save = table_name save.fib.which_table
+
+abbrev pub old_wd : FastSave → List ℕ
+old_wd save = bytes_named save.contents.streams wd_name
+
+abbrev pub old_table : FastSave → List ℕ
+old_table save = bytes_named save.contents.streams (table_name_of save)
+
+-- the bin table of a kind of pages
+abbrev pub old_bins : PageKind → FastSave → List ℕ
+old_bins Chpx save = table_part (old_wd save) (old_table save) (pair_of PlcfBteChpx)
+old_bins Papx save = table_part (old_wd save) (old_table save) (pair_of PlcfBtePapx)
+
+abbrev pub old_stream : FastSave → PagedStream
+old_stream save = record { wd = old_wd save; characters = old_bins Chpx save; paragraphs = old_bins Papx save }
+
+-- ---- what is added
+
+-- where the added units end
+abbrev pub added_end : FastSave → ℕ
+added_end save = save.base + 2 * length save.added
+
+-- their runs: of characters, and of paragraphs, of which those with equal marks are one
+abbrev pub added_runs : PageKind → FastSave → List Run
+added_runs Chpx save = text_runs Chpx save.base save.added
+added_runs Papx save = joined_runs (text_runs Papx save.base save.added)
+
+abbrev pub added_pages : PageKind → FastSave → Pages
+added_pages kind save = pages_of kind (added_runs kind save)
+
+-- the number of the first page of a kind: a page stands at 512 times its number
+abbrev pub first_page : PageKind → FastSave → ℕ
+first_page Chpx save = units_for 512 (added_end save)
+first_page Papx save = units_for 512 (added_end save) + length (added_pages Chpx save).starts
+
+-- where the pages end and Sepxes begin
+abbrev pub pages_end : FastSave → ℕ
+pages_end save = 512 * (first_page Papx save + length (added_pages Papx save).starts)
+
+-- WordDocument from the added text on: the units and zeros up to a page, the pages, the Sepxes that are written
+unfoldable pub added_bytes : FastSave → List ℕ
+added_bytes save =
+    padded 512 0 (units_bytes (map (λ item. item.unit) save.added))
+    ++ ((added_pages Chpx save).bytes
+    ++ ((added_pages Papx save).bytes ++ planned_sepxes save.places (sections_of save.document.main)))
+
+-- ---- the table stream
+
+-- the ranges of a bin table: the old ones that begin before the added text, and those of the new pages
+abbrev pub fast_bins : PageKind → FastSave → List Bin
+fast_bins kind save =
+    kept_bins (old_bins kind save) save.base ++ numbered_bins (first_page kind save) (added_pages kind save).starts
+
+-- the table ends where the added units do, so the last old range ends at them or at the first new one
+unfoldable pub fast_bin_table : PageKind → FastSave → List ℕ
+fast_bin_table kind save = printed_bin (fast_bins kind save) (added_end save)
+
+abbrev pub fast_seds : FastSave → List Sed
+fast_seds save = planned_seds 0 (pages_end save) save.places (sections_of save.document.main)
+
+-- what the table stream has beside the document
+abbrev pub fast_text : FastSave → List ℕ → TableText
+fast_text save clx = record {
+  counts = story_counts save.document save.ends;
+  seds = fast_seds save;
+  characters = fast_bin_table Chpx save;
+  paragraphs = fast_bin_table Papx save;
+  clx = clx;
+}
+
+abbrev pub fast_entries : FastSave → List ℕ → List TableEntry
+fast_entries save clx = table_entries save.document (fast_text save clx)
+
+unfoldable pub fast_table : FastSave → List ℕ → List ℕ
+fast_table save clx = entries_bytes (fast_entries save clx)
+
+-- ---- WordDocument
+
+-- [MS-DOC] FIB after one more quick save
+unfoldable pub fast_fib : FastSave → List ℕ → FibFields
+fast_fib save clx = record {
+  kept = save.fib.kept;
+  quick_saves = save.fib.quick_saves + 1;
+  complex = true;
+  which_table = save.fib.which_table;
+  cb_mac = save.base + length (added_bytes save);
+  ccps = story_counts save.document save.ends;
+  pairs = entries_pairs (fast_entries save clx);
+}
+
+-- the old stream with its new FIB, zeros up to the added text, and what is added
+unfoldable pub fast_wd : FastSave → List ℕ → List ℕ
+fast_wd save clx =
+    filled save.base 0 (written_fib (fast_fib save clx) ++ drop early_form.size (old_wd save)) ++ added_bytes save
+
+-- ---- the file
+
+unfoldable pub fast_streams : FastSave → List ℕ → List NamedBytes
+fast_streams save clx =
+    renewed_streams (table_name_of save) (fast_wd save clx) (fast_table save clx) save.contents.streams
+
+abbrev pub fast_contents : FastSave → List ℕ → Contents
+fast_contents save clx = contents_of (fast_streams save clx) save.contents.clsid
+
+-- the save in the words of all saves
+abbrev pub fast_saved_text : FastSave → List ℕ → SavedText
+fast_saved_text save clx = record {
+  pieces = save.pieces;
+  clx = clx;
+  stream = record {
+    wd = fast_wd save clx;
+    characters = fast_bin_table Chpx save;
+    paragraphs = fast_bin_table Papx save;
+  };
+  seds = fast_seds save;
+  ends = save.ends;
+}

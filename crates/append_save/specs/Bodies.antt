@@ -1,0 +1,15 @@
+-- What is made on the way to the file.
+use Rattle.std.specs.Prelude.{◌≡◌}
+use Rattle.piece_table.specs.Printing.{IsPrintedClx}
+use Rattle.plain_doc.specs.Document.{IsFormedText}
+use Rattle.append_save.specs.declared.added.AddedBody.{AddedBody}
+use Rattle.append_save.specs.Saves.{FastSave}
+use Rattle.append_save.specs.Appended.{added_bytes, fast_text}
+
+-- WordDocument from the added text on, whose items are well formed, and what the table stream says of the text, with a
+-- Clx of the pieces
+pub record IsAddedBody (save : FastSave) (body : AddedBody) : Type 0 where
+  pub items : IsFormedText save.added
+  pub bytes : body.bytes ≡ added_bytes save
+  pub printed : IsPrintedClx save.pieces body.text.clx
+  pub text : body.text ≡ fast_text save body.text.clx

@@ -1,0 +1,11 @@
+pub mod Saves
+pub mod JoinedRuns
+pub mod KeptBins
+pub mod PlannedSections
+pub mod RenewedStreams
+pub mod OldParts
+pub mod Appended
+pub mod Kept
+pub mod Bodies
+pub mod Answers
+pub mod AppendedLengths

@@ -1,0 +1,18 @@
+//! Saves of a document behind the `WordDocument` that is there: what a fast save writes.
+#![tactic(auto)]
+
+mod added;
+mod fault;
+mod joined_runs;
+mod kept_bins;
+mod laws;
+mod old_streams;
+mod renewed;
+mod runs;
+mod saving;
+mod sections;
+mod word_document;
+
+pub use fault::AppendFault;
+pub use laws::{appended_files_are_short, appended_saves_are_short, counted_saves_fit};
+pub use saving::{EditedText, SavedFile, append};

@@ -1,0 +1,15 @@
+pub mod MarkLemmas
+pub mod PieceLemmas
+pub mod SectionLemmas
+pub mod ModifyLemmas
+pub mod BlockLemmas
+pub mod TextLemmas
+pub mod StepLemmas
+pub mod TextChangeLemmas
+pub mod PutLemmas
+pub mod FitLemmas
+pub mod GrowLemmas
+pub mod EditLemmas
+pub mod PlanLemmas
+pub mod CommandLemmas
+pub mod StartLemmas

@@ -1,0 +1,11 @@
+pub mod StoryMarks
+pub mod AddedText
+pub mod Blocks
+pub mod SessionText
+pub mod SessionChanges
+pub mod TextSteps
+pub mod EditSteps
+pub mod Puts
+pub mod Starts
+pub mod TextEdits
+pub mod SectionPlans

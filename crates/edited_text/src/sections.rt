@@ -1,0 +1,104 @@
+// Where the settings of sections stand, while the main text changes. No place: they are still to be written.
+ghost use Rattle.std.specs.Prelude.{◌≡◌, ◌<◌, ◌++◌, length, replicate, take, slice_get, None, IfOk, OnOk};
+ghost use Rattle.std.specs.Option.{option_and_then};
+ghost use Rattle.plain_doc.specs.RulesOfSheet.{section_count};
+ghost use Rattle.edited_text.specs.SessionText.{section_settings};
+ghost use Rattle.edited_text.specs.SectionPlans.{spliced_plan, set_plan, plan_after, FitsPlan};
+ghost use Rattle.edited_text.specs.TextSteps.{IsRangeOf};
+ghost use Rattle.edited_text.specs.EditSteps.{AreEditSteps};
+ghost use Rattle.edited_text.specs.TextEdits.{IsSectionsEdit};
+
+use doc_bits::{Memory, Story};
+use edit_ops::{Change, Changes};
+use plain_doc::{Document, Item, sections_in};
+use std::alloc::Global;
+
+/// The places after the changes of a command.
+pub(crate) fn sections_after(
+    alloc: Global,
+    places: &[Option<u32>],
+    document: &Document,
+    changes: &Changes,
+) -> Result<Vec<Option<u32>>, Memory>
+    requires steps { AreEditSteps document.now changes.now }
+    requires count { length places.now ≡ length (section_settings document.now.main) }
+    ensures { IfOk result (λ new. IsSectionsEdit document.now changes.now places.now new.items) }
+{
+    let mut new = Vec::new(alloc);
+    new.extend_from_slice(places)?;
+    let main = document.main.as_slice();
+    for k in 0..changes.len() {
+        new = section_step(alloc, new, main, changes.get(k))?;
+    }
+    Ok(new)
+}
+
+/// The places after a change.
+fn section_step(
+    alloc: Global,
+    places: Vec<Option<u32>>,
+    main: &[Item],
+    change: &Change,
+) -> Result<Vec<Option<u32>>, Memory>
+    requires { FitsPlan main.now places.items change.now }
+    ensures { IfOk result (λ new. new.items ≡ plan_after main.now places.items change.now) }
+{
+    match change {
+        Change::SpliceText(Story::Main, from, to, fresh) => {
+            spliced(alloc, &places, main, (*from, *to), fresh.as_slice())
+        }
+        Change::SpliceText(Story::Note(_), _, _, _) => Ok(places),
+        Change::SpliceText(Story::Head(_), _, _, _) => Ok(places),
+        Change::SetSection(at, _) => Ok(unwritten_at(places, main, *at)),
+        Change::ModifyItems(_, _, _, _) => Ok(places),
+        Change::SpliceNotes(_, _, _) => Ok(places),
+        Change::SpliceHeads(_, _, _) => Ok(places),
+        Change::SetStyleCharacters(_, _) => Ok(places),
+        Change::SetStyleParagraphs(_, _) => Ok(places),
+    }
+}
+
+/// The places after a splice of the main text.
+fn spliced(
+    alloc: Global,
+    places: &[Option<u32>],
+    main: &[Item],
+    range: (usize, usize),
+    fresh: &[Item],
+) -> Result<Vec<Option<u32>>, Memory>
+    requires range { IsRangeOf range.0 range.1 main.now }
+    requires count { length places.now ≡ section_count main.now }
+    ensures { IfOk result (λ new. new.items ≡ spliced_plan main.now places.now range.0 range.1 fresh.now) }
+{
+    let from = sections_in(&main[..range.0]);
+    let to = sections_in(&main[..range.1]);
+    let mut new = Vec::new(alloc);
+    new.extend_from_slice(&places[..from])?;
+    put_unwritten(&mut new, sections_in(fresh))?;
+    new.extend_from_slice(&places[to..])?;
+    Ok(new)
+}
+
+/// The places where the settings of the section that ends at an item are set.
+fn unwritten_at(mut places: Vec<Option<u32>>, main: &[Item], at: usize) -> Vec<Option<u32>>
+    requires within { at < length main.now }
+    requires count { length places.items ≡ section_count main.now }
+    ensures { result.items ≡ set_plan places.items (section_count (take at main.now))
+        (option_and_then (λ item. item.sect) (slice_get main.now at)) }
+{
+    if main[at].sect.is_some() {
+        let number = sections_in(&main[..at]);
+        places[number] = None;
+    }
+    places
+}
+
+/// Puts so many sections last whose settings are still to be written.
+fn put_unwritten(places: &mut Vec<Option<u32>>, count: usize) -> Result<(), Memory>
+    ensures { OnOk result (places.new.items ≡ places.old.items ++ replicate count None) }
+{
+    for _k in 0..count {
+        places.push(None)?;
+    }
+    Ok(())
+}

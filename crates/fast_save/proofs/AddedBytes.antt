@@ -1,0 +1,455 @@
+-- What the text that a command adds takes in a fast save: two bytes a unit, and a page a run, where equal marks in a row
+-- are one run. It is no more than is reckoned for the command: where marks behind a story come, a reckoned run is missing.
+use Rattle.std.specs.Prelude.{ℕ, List, Option, ◌⊎◌, MatchOption, slice_get}
+use Rattle.std.specs.List.{sum_by, filter_map}
+use Rattle.std.specs.FinMap.{empty}
+use Rattle.std.proofs.Common.{◌≡◌, ◌∙◌, ◌∷◌, ◌++◌, ◌+◌, ◌*◌, ◌<◌, ◌≤◌, [], refl, sym, ap, subst, inl, inr, zero, suc, Bool, true, false, Some, None, length, replicate, arith, All}
+use Rattle.std.specs.Option.{unwrap_or}
+use Rattle.std.proofs.lemmas.Bool.{cases_lt}
+use Rattle.std.proofs.lemmas.Option.{none-some, same_Some}
+use Rattle.std.proofs.lemmas.List.{length-append, length-replicate, append_assoc, append-nil}
+use Rattle.std.proofs.lemmas.List.Elements.{All-nil, All-cons, All-append, All-head, All-tail, filter_map-append}
+use Rattle.std.proofs.lemmas.List.Sums.{sum_by-cons}
+use Rattle.doc_bits.specs.Together.{AreTogether}
+use Rattle.doc_bits.specs.declared.places.Story.{Story}
+use Rattle.doc_bits.specs.declared.places.Story.TheVariants.{Main, Note as NoteText, Head as HeadText}
+use Rattle.prop_map.specs.Settings.{Settings}
+use Rattle.plain_doc.specs.declared.item.Item.{Item}
+use Rattle.plain_doc.specs.declared.item.Mark.{Mark}
+use Rattle.plain_doc.specs.declared.document.Document.{Document}
+use Rattle.plain_doc.specs.Collected.{joined_texts}
+use Rattle.plain_doc.specs.Stretches.{stretches}
+use Rattle.plain_doc.specs.Settings.{is_alike}
+use Rattle.plain_doc.proofs.TextListLemmas.{empty_joined, length-joined}
+use Rattle.full_save.specs.Text.{extra_mark}
+use Rattle.edit_script.specs.declared.commands.Command.{Command}
+use Rattle.edit_script.specs.declared.commands.Command.TheVariants.{Insert, Erase, Char, Plain, Para, Style, Field, Note, Split, Merge, Sect, Row, StyleChar, StylePara, Save}
+use Rattle.edit_ops.specs.declared.changes.Change.{Change}
+use Rattle.edit_ops.specs.declared.changes.Change.TheVariants.{SpliceText, ModifyItems, SetSection, SpliceNotes, SpliceHeads, SetStyleCharacters, SetStyleParagraphs}
+use Rattle.edit_ops.specs.Places.{items_at, mark_place, section_place, note_number, head_number}
+use Rattle.edit_ops.specs.Ranges.{IsInRange, HasText, HasPlace, BeginsParagraph}
+use Rattle.edit_ops.specs.Fresh.{unit_item, unit_items, plain_end, special, mark_with, note_reference, note_items}
+use Rattle.edit_ops.specs.Fresh.{inserted_items, base_settings, field_items, split_item, section_item, row_items}
+use Rattle.edit_ops.specs.EditFacts.{edit_facts, items_added}
+use Rattle.edit_ops.specs.Edits.{erased, section_changes, changes_of, setting_characters, setting_paragraphs, clearing}
+use Rattle.edit_ops.specs.Edits.{naming_style}
+use Rattle.edit_ops.specs.Runs.{run_count, texts_put, runs_put, most_runs}
+use Rattle.edit_ops.proofs.RunLemmas.{few_runs}
+use Rattle.edited_text.specs.AddedText.{marked_block}
+use Rattle.edited_text.specs.EditSteps.{HasGrownBy, IsBlockOf, NamesEmptyStory, items_put}
+use Rattle.save_bounds.specs.RunCounts.{joined_run_count, marks_of, same_marks}
+use Rattle.save_bounds.proofs.JoinedRunLemmas.{joined_runs_are_fewer, joined_run_counts_add, ends_add_no_run}
+use Rattle.fast_save.proofs.GrownLemmas.{together_tail, joined_sum}
+use Rattle.fast_save.proofs.SettingRuns.{HasCharacters, one_stretch, units_have}
+
+abbrev pub bytes_of : List Item → ℕ
+bytes_of items = 2 * length items + 512 * joined_run_count items
+
+pub bytes-append : (one other : List Item) → bytes_of (one ++ other) ≤ bytes_of one + bytes_of other
+bytes-append one other =
+    let runs = joined_run_counts_add one other in omega (arith, length-append one other, runs)
+
+-- ---- texts without marks behind them
+
+joined_runs_within : (texts : List (List Item)) → joined_run_count (joined_texts texts) ≤ sum_by run_count texts
+unfolding stretches
+joined_runs_within [] = omega arith
+joined_runs_within (text ∷ texts) =
+    let both = joined_run_counts_add text (joined_texts texts) in
+    let fewer = joined_runs_are_fewer text in
+    let more = joined_runs_within texts in
+    omega (arith, both, fewer, more, sum_by-cons run_count text texts)
+
+-- the items that a change puts are those that are counted
+put_length : (change : Change) → length (items_put change) ≡ items_added change
+put_length (SpliceText story from to fresh) = omega (arith, joined_sum (fresh ∷ []))
+put_length (ModifyItems story from to by) = refl
+put_length (SetSection at set) = refl
+put_length (SpliceNotes from to fresh) = joined_sum fresh
+put_length (SpliceHeads from to fresh) = joined_sum fresh
+put_length (SetStyleCharacters istd set) = refl
+put_length (SetStyleParagraphs istd set) = refl
+
+abbrev change_runs : Change → ℕ
+change_runs change = sum_by run_count (texts_put change)
+
+put_bytes : (change : Change) → bytes_of (items_put change) ≤ 2 * items_added change + 512 * change_runs change
+put_bytes change =
+    let runs = joined_runs_within (texts_put change) in omega (arith, put_length change, runs)
+
+-- ---- a block has marks where its story had no items
+
+no_marks : (items : List Item) (marks : ℕ) → marks ≡ 0 → marked_block items marks ≡ items
+no_marks items marks none = ap (marked_block items) none ∙ append-nil items
+
+pub unmarked_story : (document : Document) (change : Change) (block : List Item) → ¬ (NamesEmptyStory document change) →
+    IsBlockOf document change block → block ≡ items_put change
+unmarked_story document change block full is = elim (cases_lt 0 is.marks) [
+  | inl some ↦ absurd (full (is.empty some))
+  | inr none ↦ is.is ∙ no_marks (items_put change) is.marks (omega (arith, none))
+]
+
+pub unmarked_nothing : (document : Document) (change : Change) (block : List Item) → length (items_put change) ≡ 0 →
+    IsBlockOf document change block → block ≡ items_put change
+unmarked_nothing document change block nothing is = elim (cases_lt 0 is.marks) [
+  | inl some ↦ let first = is.first some in absurd (omega (arith, first, nothing))
+  | inr none ↦ is.is ∙ no_marks (items_put change) is.marks (omega (arith, none))
+]
+
+-- a change whose blocks have no marks
+abbrev IsUnmarked : Document → Change → Type 0
+IsUnmarked document change = (block : List Item) → IsBlockOf document change block → block ≡ items_put change
+
+unmarked_bytes : (document : Document) (changes : List Change) (blocks : List (List Item)) →
+    AreTogether (IsBlockOf document) changes blocks → All (IsUnmarked document) changes →
+    bytes_of (joined_texts blocks) ≤ 2 * sum_by items_added changes + 512 * sum_by change_runs changes
+unfolding stretches
+unmarked_bytes document [] [] together all = omega arith
+unmarked_bytes document [] (block ∷ blocks) together all = let len = together.len in absurd (omega (arith, len))
+unmarked_bytes document (change ∷ changes) [] together all = let len = together.len in absurd (omega (arith, len))
+unmarked_bytes document (change ∷ changes) (block ∷ blocks) together all =
+    let same = All-head (IsUnmarked document) change changes all block (together.each 0 change block refl refl) in
+    let first = put_bytes change in
+    let more =
+    unmarked_bytes document changes blocks (together_tail (IsBlockOf document) change changes block blocks together)
+    (All-tail (IsUnmarked document) change changes all) in
+    let both = bytes-append block (joined_texts blocks) in
+    omega (
+      arith,
+      ap bytes_of same,
+      first,
+      more,
+      both,
+      sum_by-cons items_added change changes,
+      sum_by-cons change_runs change changes,
+    )
+
+-- ---- a block that ends as the marks behind it
+
+ended_bytes : (front : List Item) (marks : ℕ) → marks ≤ 2 →
+    bytes_of (marked_block (front ++ extra_mark ∷ []) marks)
+    ≤ 2 * length (front ++ extra_mark ∷ []) + 4 + 512 * joined_run_count (front ++ extra_mark ∷ [])
+ended_bytes front marks few =
+    let items = front ++ extra_mark ∷ [] in
+    let same : marked_block items marks ≡ front ++ extra_mark ∷ replicate marks extra_mark =
+    append_assoc front (extra_mark ∷ []) (replicate marks extra_mark) in
+    omega (
+      arith,
+      ap joined_run_count same,
+      ends_add_no_run front extra_mark marks,
+      length-append items (replicate marks extra_mark),
+      length-replicate marks extra_mark,
+      few,
+    )
+
+-- units without settings and a plain mark: two runs
+unit_marks : (chp : Settings) (units : List ℕ) → marks_of (unit_items chp units) ≡ []
+unit_marks chp [] = refl
+unit_marks chp (unit ∷ units) = unit_marks chp units
+
+plain_text : (units : List ℕ) → joined_run_count (unit_items empty units ++ plain_end ∷ []) ≤ 2
+unfolding stretches
+plain_text units =
+    let items = unit_items empty units ++ plain_end ∷ [] in
+    let all =
+    All-append (HasCharacters empty) (unit_items empty units) (plain_end ∷ []) (units_have empty units)
+    (All-cons (HasCharacters empty) plain_end [] refl (All-nil (HasCharacters empty))) in
+    let one = one_stretch empty items all in
+    let marks : marks_of items ≡ mark_with empty ∷ [] =
+    filter_map-append (λ (item : Item). item.mark) (unit_items empty units) (plain_end ∷ [])
+    ∙ ap (λ (list : List Mark). list ++ mark_with empty ∷ []) (unit_marks empty units) in
+    omega (arith, one, ap (λ (list : List Mark). length (stretches same_marks list)) marks)
+
+one_unit : (item : Item) → item.mark ≡ None → joined_run_count (item ∷ []) ≤ 1
+unfolding stretches
+one_unit item none = rw none (omega arith)
+
+-- ---- stories that have items
+
+full_texts : (texts : List (List Item)) (k at : ℕ) (such : List Item → Type 0) →
+    ((text : List Item) → such text → at < length text) → (found : Option (List Item)) → slice_get texts k ≡ found →
+    MatchOption found ⊥ such → ¬ (joined_texts texts ≡ [])
+full_texts texts k at such within None there has = λ none. absurd has
+full_texts texts k at such within (Some text) there has = λ none.
+    let empty : text ≡ [] = empty_joined texts k text (ap length none) there in
+    let low = within text has in
+    absurd (omega (arith, low, ap length empty))
+
+one_unmarked : (document : Document) (change : Change) → IsUnmarked document change →
+    All (IsUnmarked document) (change ∷ [])
+one_unmarked document change is = All-cons (IsUnmarked document) change [] is (All-nil (IsUnmarked document))
+
+-- items that are put before an item
+pub put_unmarked : (document : Document) (story : Story) (at : ℕ) (items : List Item) (such : List Item → Type 0) →
+    ((text : List Item) → such text → at < length text) → HasText document story such →
+    All (IsUnmarked document) (SpliceText story at at items ∷ [])
+put_unmarked document Main at items such within has =
+    one_unmarked document (SpliceText Main at at items)
+    (λ block is. unmarked_story document (SpliceText Main at at items) block (λ none. none) is)
+put_unmarked document (NoteText k) at items such within has =
+    one_unmarked document (SpliceText (NoteText k) at at items)
+    (λ block is.
+    unmarked_story document (SpliceText (NoteText k) at at items) block
+    (full_texts document.notes k at such within (slice_get document.notes k) refl has) is)
+put_unmarked document (HeadText k) at items such within has =
+    one_unmarked document (SpliceText (HeadText k) at at items)
+    (λ block is.
+    unmarked_story document (SpliceText (HeadText k) at at items) block
+    (full_texts document.heads k at such within (slice_get document.heads k) refl has) is)
+
+nothing_unmarked : (document : Document) (change : Change) → length (items_put change) ≡ 0 → IsUnmarked document change
+nothing_unmarked document change nothing = λ block is. unmarked_nothing document change block nothing is
+
+erased_unmarked : (document : Document) (story : Story) (from to : ℕ) →
+    All (IsUnmarked document) (erased document story from to)
+erased_unmarked document Main from to =
+    let main = SpliceText Main from to [] in
+    let notes = SpliceNotes (note_number document.main from) (note_number document.main to) [] in
+    let heads = SpliceHeads (head_number document.main from) (head_number document.main to) [] in
+    All-cons (IsUnmarked document) main (notes ∷ heads ∷ []) (nothing_unmarked document main refl)
+    (All-cons (IsUnmarked document) notes (heads ∷ []) (nothing_unmarked document notes refl)
+    (one_unmarked document heads (nothing_unmarked document heads refl)))
+erased_unmarked document (NoteText number) from to =
+    let change = SpliceText (NoteText number) from to [] in
+    one_unmarked document change (nothing_unmarked document change refl)
+erased_unmarked document (HeadText number) from to =
+    let change = SpliceText (HeadText number) from to [] in
+    one_unmarked document change (nothing_unmarked document change refl)
+
+section_unmarked : (document : Document) (at : ℕ) (new : Bool) (set : Settings) →
+    All (IsUnmarked document) (section_changes document.main at new set)
+section_unmarked document at false set =
+    let change = SetSection (section_place document.main at) set in
+    one_unmarked document change (nothing_unmarked document change refl)
+section_unmarked document at true set =
+    let main = SpliceText Main at at (section_item document.main at set ∷ []) in
+    let heads = SpliceHeads (head_number document.main at) (head_number document.main at) (replicate 6 []) in
+    All-cons (IsUnmarked document) main (heads ∷ []) (λ block is. unmarked_story document main block (λ none. none) is)
+    (one_unmarked document heads (nothing_unmarked document heads refl))
+
+-- ---- an insertion into an empty header text, and a note
+
+-- two paragraph marks behind units
+first_text : (units : List ℕ) →
+    unit_items empty units ++ plain_end ∷ plain_end ∷ []
+    ≡ (unit_items empty units ++ plain_end ∷ []) ++ extra_mark ∷ []
+first_text units = sym (append_assoc (unit_items empty units) (plain_end ∷ []) (extra_mark ∷ []))
+
+block_ended : (front : List Item) (document : Document) (change : Change) (block : List Item) →
+    items_put change ≡ front ++ extra_mark ∷ [] → IsBlockOf document change block →
+    bytes_of block ≤ 2 * length (front ++ extra_mark ∷ []) + 4 + 512 * joined_run_count (front ++ extra_mark ∷ [])
+block_ended front document change block put is =
+    let same : block ≡ marked_block (front ++ extra_mark ∷ []) is.marks =
+    is.is ∙ ap (λ (items : List Item). marked_block items is.marks) put in
+    let bytes = ended_bytes front is.marks is.few in
+    omega (arith, ap bytes_of same, bytes)
+
+first_bytes : (document : Document) (story : Story) (at : ℕ) (units : List ℕ) (items : List Item) (block : List Item) →
+    items ≡ unit_items empty units ++ plain_end ∷ plain_end ∷ [] → IsBlockOf document (SpliceText story at at items) block →
+    bytes_of block ≤ 2 * length items + 1028
+first_bytes document story at units items block are is =
+    let front = unit_items empty units ++ plain_end ∷ [] in
+    let ended : items ≡ front ++ extra_mark ∷ [] = are ∙ first_text units in
+    let put : items_put (SpliceText story at at items) ≡ front ++ extra_mark ∷ [] = append-nil items ∙ ended in
+    let bytes = block_ended front document (SpliceText story at at items) block put is in
+    let again = ends_add_no_run (unit_items empty units) plain_end 1 in
+    let runs = plain_text units in
+    omega (arith, bytes, again, runs, ap joined_run_count (first_text units), ap length ended)
+
+note_bytes : (document : Document) (number : ℕ) (units : List ℕ) (block : List Item) →
+    IsBlockOf document (SpliceNotes number number (note_items units ∷ [])) block →
+    bytes_of block ≤ 2 * length (note_items units) + 4 + 512 * 3
+note_bytes document number units block is =
+    let first = unit_item (special empty) 0x02 in
+    let front = first ∷ unit_items empty units in
+    let bytes =
+    block_ended front document (SpliceNotes number number (note_items units ∷ [])) block (append-nil (note_items units)) is in
+    let both = joined_run_counts_add (first ∷ []) (unit_items empty units ++ plain_end ∷ []) in
+    let one = one_unit first refl in
+    let runs = plain_text units in
+    omega (arith, bytes, both, one, runs)
+
+one_block : (document : Document) (change : Change) (blocks : List (List Item)) (most : ℕ) →
+    ((block : List Item) → IsBlockOf document change block → bytes_of block ≤ most) →
+    AreTogether (IsBlockOf document) (change ∷ []) blocks → bytes_of (joined_texts blocks) ≤ most
+one_block document change [] most within together = let len = together.len in absurd (omega (arith, len))
+one_block document change (block ∷ []) most within together =
+    let first = within block (together.each 0 change block refl refl) in
+    omega (arith, ap bytes_of (append-nil block), first)
+one_block document change (block ∷ other ∷ blocks) most within together =
+    let len = together.len in absurd (omega (arith, len))
+
+two_blocks : (document : Document) (change next : Change) (blocks : List (List Item)) (most rest : ℕ) →
+    ((block : List Item) → IsBlockOf document change block → bytes_of block ≤ most) →
+    ((block : List Item) → IsBlockOf document next block → bytes_of block ≤ rest) →
+    AreTogether (IsBlockOf document) (change ∷ next ∷ []) blocks → bytes_of (joined_texts blocks) ≤ most + rest
+two_blocks document change next [] most rest within later together = let len = together.len in absurd (omega (arith, len))
+two_blocks document change next (block ∷ blocks) most rest within later together =
+    let first = within block (together.each 0 change block refl refl) in
+    let more =
+    one_block document next blocks rest later
+    (together_tail (IsBlockOf document) change (next ∷ []) block blocks together) in
+    let both = bytes-append block (joined_texts blocks) in
+    omega (arith, first, more, both)
+
+reference_bytes : (document : Document) (at : ℕ) (base : Settings) (block : List Item) →
+    IsBlockOf document (SpliceText Main at at (note_reference base ∷ [])) block → bytes_of block ≤ 2 + 512
+reference_bytes document at base block is =
+    let same =
+    unmarked_story document (SpliceText Main at at (note_reference base ∷ [])) block (λ none. none) is in
+    let one = one_unit (note_reference base) refl in
+    omega (arith, ap bytes_of same, one)
+
+-- ---- the changes of a command
+
+abbrev pub IsWithin : Document → Command → List (List Item) → Type 0
+IsWithin document command blocks =
+    bytes_of (joined_texts blocks) ≤ 2 * (edit_facts document command).units_in + 512 * most_runs command
+
+by_unmarked : (document : Document) (command : Command) (blocks : List (List Item)) →
+    AreTogether (IsBlockOf document) (changes_of document command) blocks →
+    All (IsUnmarked document) (changes_of document command) → IsWithin document command blocks
+by_unmarked document command blocks together all =
+    let bytes = unmarked_bytes document (changes_of document command) blocks together all in
+    let runs = few_runs document command in
+    omega (arith, bytes, runs)
+
+first_items : (items : List Item) (at : ℕ) (units : List ℕ) → length items ≡ 0 →
+    inserted_items items at units ≡ unit_items empty units ++ plain_end ∷ plain_end ∷ []
+first_items [] at units none = refl
+first_items (item ∷ items) at units none = absurd (omega (arith, none))
+
+found_text : (found : Option (List Item)) (text : List Item) → found ≡ Some text → unwrap_or found [] ≡ text
+found_text None text is = absurd (none-some text is)
+found_text (Some other) text is = same_Some other text is
+
+head_insert : (document : Document) (k at : ℕ) (units : List ℕ) (found : Option (List Item)) →
+    slice_get document.heads k ≡ found →
+    MatchOption found ⊥ (λ text. (at < length text) ⊎ ((at ≡ 0) × (length text ≡ 0))) → (blocks : List (List Item)) →
+    AreTogether (IsBlockOf document) (changes_of document (Insert (HeadText k) at units)) blocks →
+    IsWithin document (Insert (HeadText k) at units) blocks
+head_insert document k at units None there has blocks together = absurd has
+head_insert document k at units (Some text) there (inl low) blocks together =
+    let items = inserted_items (items_at document (HeadText k)) at units in
+    let full =
+    full_texts document.heads k at (λ other. at < length other) (λ other is. is) (Some text) there low in
+    by_unmarked document (Insert (HeadText k) at units) blocks together
+    (one_unmarked document (SpliceText (HeadText k) at at items)
+    (λ block is. unmarked_story document (SpliceText (HeadText k) at at items) block full is))
+head_insert document k at units (Some text) there (inr empty) blocks together =
+    let now = items_at document (HeadText k) in
+    let same : now ≡ text = found_text (slice_get document.heads k) text there in
+    let none : length now ≡ 0 = ap length same ∙ empty.1 in
+    let items = inserted_items now at units in
+    let bytes =
+    one_block document (SpliceText (HeadText k) at at items) blocks (2 * length items + 1028)
+    (λ block is. first_bytes document (HeadText k) at units items block (first_items now at units none) is) together in
+    omega (arith, bytes)
+
+pub added_within : (document : Document) (command : Command) → IsInRange document command →
+    (blocks : List (List Item)) → AreTogether (IsBlockOf document) (changes_of document command) blocks →
+    IsWithin document command blocks
+added_within document (Insert Main at text) range blocks together =
+    by_unmarked document (Insert Main at text) blocks together
+    (put_unmarked document Main at (inserted_items document.main at text) (λ other. at < length other) (λ other is. is) range)
+added_within document (Insert (NoteText k) at text) range blocks together =
+    by_unmarked document (Insert (NoteText k) at text) blocks together
+    (put_unmarked document (NoteText k) at (inserted_items (items_at document (NoteText k)) at text)
+    (λ other. at < length other) (λ other is. is) range)
+added_within document (Insert (HeadText k) at text) range blocks together =
+    head_insert document k at text (slice_get document.heads k) refl range blocks together
+added_within document (Erase story from to) range blocks together =
+    by_unmarked document (Erase story from to) blocks together (erased_unmarked document story from to)
+added_within document (Char story from to set) range blocks together =
+    let change = ModifyItems story from to (setting_characters set) in
+    by_unmarked document (Char story from to set) blocks together
+    (one_unmarked document change (nothing_unmarked document change refl))
+added_within document (Plain story from to) range blocks together =
+    let change = ModifyItems story from to clearing in
+    by_unmarked document (Plain story from to) blocks together
+    (one_unmarked document change (nothing_unmarked document change refl))
+added_within document (Para story at set) range blocks together =
+    let mark = mark_place (items_at document story) at in
+    let change = ModifyItems story mark (mark + 1) (setting_paragraphs set) in
+    by_unmarked document (Para story at set) blocks together
+    (one_unmarked document change (nothing_unmarked document change refl))
+added_within document (Style story at istd) range blocks together =
+    let mark = mark_place (items_at document story) at in
+    let change = ModifyItems story mark (mark + 1) (naming_style istd) in
+    by_unmarked document (Style story at istd) blocks together
+    (one_unmarked document change (nothing_unmarked document change refl))
+added_within document (Field story at type code shown) range blocks together =
+    by_unmarked document (Field story at type code shown) blocks together
+    (put_unmarked document story at (field_items (base_settings (items_at document story) at) type code shown)
+    (HasPlace at) (λ other is. is) range)
+added_within document (Note at text) range blocks together =
+    let number = note_number document.main at in
+    let base = base_settings document.main at in
+    let bytes =
+    two_blocks document (SpliceText Main at at (note_reference base ∷ []))
+    (SpliceNotes number number (note_items text ∷ [])) blocks (2 + 512) (2 * length (note_items text) + 4 + 512 * 3)
+    (λ block is. reference_bytes document at base block is) (λ block is. note_bytes document number text block is)
+    together in
+    omega (arith, bytes)
+added_within document (Split story at) range blocks together =
+    by_unmarked document (Split story at) blocks together
+    (put_unmarked document story at (split_item (items_at document story) at ∷ []) (HasPlace at) (λ other is. is) range)
+added_within document (Merge story at) range blocks together =
+    let mark = mark_place (items_at document story) at in
+    by_unmarked document (Merge story at) blocks together (erased_unmarked document story mark (mark + 1))
+added_within document (Sect at new set) range blocks together =
+    by_unmarked document (Sect at new set) blocks together (section_unmarked document at new set)
+added_within document (Row story at width cells) range blocks together =
+    by_unmarked document (Row story at width cells) blocks together
+    (put_unmarked document story at (row_items width cells) (BeginsParagraph at) (λ other is. is.0) range)
+added_within document (StyleChar istd set) range blocks together =
+    let change = SetStyleCharacters istd set in
+    by_unmarked document (StyleChar istd set) blocks together
+    (one_unmarked document change (nothing_unmarked document change refl))
+added_within document (StylePara istd set) range blocks together =
+    let change = SetStyleParagraphs istd set in
+    by_unmarked document (StylePara istd set) blocks together
+    (one_unmarked document change (nothing_unmarked document change refl))
+added_within document (Save full) range blocks together =
+    by_unmarked document (Save full) blocks together (All-nil (IsUnmarked document))
+
+-- a block has the items that are counted, at least
+long_block : (document : Document) (change : Change) (block : List Item) → IsBlockOf document change block →
+    items_added change ≤ length block
+long_block document change block is =
+    omega (
+      arith,
+      ap length is.is,
+      length-append (items_put change) (replicate is.marks extra_mark),
+      put_length change,
+    )
+
+long_blocks : (document : Document) (changes : List Change) (blocks : List (List Item)) →
+    AreTogether (IsBlockOf document) changes blocks → sum_by items_added changes ≤ length (joined_texts blocks)
+long_blocks document [] [] together = omega arith
+long_blocks document [] (block ∷ blocks) together = let len = together.len in absurd (omega (arith, len))
+long_blocks document (change ∷ changes) [] together = let len = together.len in absurd (omega (arith, len))
+long_blocks document (change ∷ changes) (block ∷ blocks) together =
+    let first = long_block document change block (together.each 0 change block refl refl) in
+    let more =
+    long_blocks document changes blocks (together_tail (IsBlockOf document) change changes block blocks together) in
+    omega (arith, length-joined block blocks, sum_by-cons items_added change changes, first, more)
+
+-- the runs of added text after a command
+pub runs_after : (document : Document) (command : Command) (old new : List Item) → IsInRange document command →
+    HasGrownBy document (changes_of document command) old new →
+    joined_run_count new ≤ joined_run_count old + most_runs command
+runs_after document command old new range grown =
+    let within = added_within document command range grown.blocks grown.each in
+    let long = long_blocks document (changes_of document command) grown.blocks grown.each in
+    let both = joined_run_counts_add old (joined_texts grown.blocks) in
+    omega (arith, ap joined_run_count grown.items, within, long, both)
+
+-- what added text takes after a command
+pub bytes_after : (document : Document) (command : Command) (old new : List Item) → IsInRange document command →
+    HasGrownBy document (changes_of document command) old new →
+    bytes_of new ≤ bytes_of old + 2 * (edit_facts document command).units_in + 512 * most_runs command
+bytes_after document command old new range grown =
+    let within = added_within document command range grown.blocks grown.each in
+    let both = bytes-append old (joined_texts grown.blocks) in
+    omega (arith, ap bytes_of grown.items, within, both)

@@ -1,0 +1,165 @@
+-- A session after an edit, and after one that memory was refused.
+use Rattle.std.specs.Prelude.{ℕ, List, Option}
+use Rattle.std.specs.List.{fold, splice}
+use Rattle.std.proofs.Common.{◌≡◌, ◌∙◌, ◌∷◌, ◌+◌, ◌*◌, ◌^◌, ◌<◌, ◌≤◌, [], refl, sym, ap, subst, length, arith}
+use Rattle.doc_bits.specs.declared.places.Story.{Story}
+use Rattle.doc_bits.specs.declared.places.Story.TheVariants.{Main, Note, Head}
+use Rattle.piece_table.specs.Piece.{TextPiece}
+use Rattle.plain_doc.specs.declared.item.Item.{Item}
+use Rattle.plain_doc.specs.declared.document.Document.{Document}
+use Rattle.edit_script.specs.declared.commands.Command.{Command}
+use Rattle.edit_ops.specs.declared.changes.Change.{Change}
+use Rattle.edit_ops.specs.declared.changes.Change.TheVariants.{SpliceText, ModifyItems, SetSection, SpliceNotes, SpliceHeads, SetStyleCharacters, SetStyleParagraphs}
+use Rattle.edit_ops.specs.Changes.{changed, all_changed, with_text, map_range, modified_item}
+use Rattle.edit_ops.specs.Causes.{IsAcceptedEdit}
+use Rattle.edit_ops.specs.Edits.{changes_of, document_after}
+use Rattle.std.specs.Prelude.{All, Bool, false}
+use Rattle.plain_doc.specs.RulesOfItems.{HasShortSettings}
+use Rattle.save_laws.specs.declared.ends.Ends.{Ends}
+use Rattle.save_laws.specs.Ends.{ends_of}
+use Rattle.save_laws.specs.Places.{PagedStream}
+use Rattle.save_laws.specs.FastSaves.{StandsInSession}
+use Rattle.save_bounds.specs.RunCounts.{joined_run_count}
+use Rattle.edited_text.specs.declared.added.Added.{Added}
+use Rattle.edited_text.specs.declared.session_text.SessionText.{SessionText}
+use Rattle.edited_text.specs.AddedText.{plan_of}
+use Rattle.edited_text.specs.SessionText.{IsSessionText, IsSameText, HaveFitModifiers, HaveNoModifiers, HaveModifiersWithin, ArePlannedSections, unwritten_count}
+use Rattle.fast_save.specs.declared.ledgers.Counts.{Counts}
+use Rattle.edited_text.specs.TextEdits.{IsTextEdit, IsSectionsEdit}
+use Rattle.cfb_streams.specs.Names.{wd_name}
+use Rattle.fib_form.specs.FibFields.{fib_fields}
+use Rattle.fast_save.specs.declared.parts.SessionParts.{SessionParts}
+use Rattle.fast_save.specs.Started.{IsReadFile}
+use Rattle.fast_save.specs.Edited.{HasRoom}
+use Rattle.fast_save.proofs.OpenLemmas.{named_short}
+use Rattle.fast_save.specs.Session.{IsSession, IsCounted, saved_stream, bin_length}
+
+-- ---- what is carried along stays
+
+text_carried : (change : List Item → List Item) (story : Story) (document : Document) →
+    (with_text change story document).carried ≡ document.carried
+text_carried change Main document = refl
+text_carried change (Note number) document = refl
+text_carried change (Head number) document = refl
+
+change_carried : (change : Change) (document : Document) → (changed change document).carried ≡ document.carried
+change_carried (SpliceText story from to fresh) document =
+    text_carried (λ (text : List Item). splice text from to fresh) story document
+change_carried (ModifyItems story from to by) document =
+    text_carried (λ (text : List Item). map_range (modified_item by) text from to) story document
+change_carried (SetSection at set) document = refl
+change_carried (SpliceNotes from to fresh) document = refl
+change_carried (SpliceHeads from to fresh) document = refl
+change_carried (SetStyleCharacters istd set) document = refl
+change_carried (SetStyleParagraphs istd set) document = refl
+
+carried_stays : (changes : List Change) (document : Document) → (all_changed changes document).carried ≡ document.carried
+carried_stays [] document = refl
+carried_stays (change ∷ changes) document =
+    carried_stays changes (changed change document) ∙ change_carried change document
+
+-- ---- the session
+
+pub session_edited : (file : List ℕ) (document : Document) (command : Command) (old new : SessionParts) →
+    IsSession file document old → IsAcceptedEdit document command →
+    IsTextEdit document (changes_of document command) old.text new.text →
+    IsSectionsEdit document (changes_of document command) old.text.sections.items new.text.sections.items →
+    new.fib ≡ old.fib → new.container ≡ old.container → IsSession file (document_after document command) new
+session_edited file document command old new is accepted text sections fib container = record {
+  bytes = is.bytes;
+  accepted = is.accepted;
+  saved = is.saved;
+  held = is.held;
+  sound = accepted.sound;
+  carried = carried_stays (changes_of document command) document ∙ is.carried;
+  text = text.text (saved_stream is.held) is.text;
+  fit = text.fit (saved_stream is.held) is.text is.fit;
+  sections = sections.planned is.held.parts.text.wd is.sections;
+  base = text.base ∙ is.base;
+  fib = fib ∙ is.fib;
+  contents = container ∙ is.contents;
+}
+
+-- ---- before an edit
+
+-- WordDocument of the file is short
+wd_short : (file : List ℕ) (document : Document) (parts : SessionParts) → (is : IsSession file document parts) →
+    length is.held.parts.text.wd ≤ 7143936
+wd_short file document parts is =
+    let held = is.held in
+    let read : IsReadFile held.parts.contents (fib_fields held.parts.text.wd) = record {
+      file = file;
+      rules = held.rules;
+      parts = held.parts;
+      has = held.has_parts;
+      contents_are = refl;
+      fib_is = refl;
+    } in
+    named_short held.parts.contents (fib_fields held.parts.text.wd) read wd_name held.parts.text.wd
+    held.has_parts.has_text.has_wd
+
+pub has_room : (file : List ℕ) (document : Document) (parts : SessionParts) (counts : Counts) →
+    IsSession file document parts → IsCounted file parts counts → HasRoom counts →
+    parts.text.added.base + (2 * length parts.text.added.items + 3000000) < 2 ^ 32
+has_room file document parts counts is counted room =
+    omega (arith, wd_short file document parts is, is.base, counted.added, room)
+
+-- ---- after want of memory
+
+-- the text stays, whatever room there is
+module _ (file : List ℕ) (document : Document) (old new : SessionParts) (same : IsSameText old.text new.text)
+    (fib : new.fib ≡ old.fib) (container : new.container ≡ old.container) where
+  places_same : new.text.sections.items ≡ old.text.sections.items
+  places_same = λ i. (same.sections i).items
+
+  same_text : (stream : PagedStream) → IsSessionText stream document old.text → IsSessionText stream document new.text
+  same_text stream is = record {
+    places =
+        subst (λ (a : Added). StandsInSession stream (plan_of a) new.text.pieces.pieces document (ends_of new.text.ends))
+        (sym same.added)
+        (subst
+        (λ (p : List TextPiece). StandsInSession stream (plan_of old.text.added) p document (ends_of new.text.ends))
+        (sym same.pieces)
+        (subst
+        (λ (e : Ends). StandsInSession stream (plan_of old.text.added) old.text.pieces.pieces document (ends_of e))
+        (sym same.ends) is.places));
+    short = subst (λ (added : Added). All HasShortSettings added.items) (sym same.added) is.short;
+    base = omega (arith, is.base, ap (λ (added : Added). added.base) same.added);
+  }
+
+  pub session_stays : IsSession file document old → IsSession file document new
+  session_stays is = record {
+    bytes = is.bytes;
+    accepted = is.accepted;
+    saved = is.saved;
+    held = is.held;
+    sound = is.sound;
+    carried = is.carried;
+    text = same_text (saved_stream is.held) is.text;
+    fit = subst HaveFitModifiers (sym same.pieces) is.fit;
+    sections =
+        subst (λ (places : List (Option ℕ)). ArePlannedSections is.held.parts.text.wd places document)
+        (sym places_same) is.sections;
+    base = ap (λ (added : Added). added.base) same.added ∙ is.base;
+    fib = fib ∙ is.fib;
+    contents = container ∙ is.contents;
+  }
+
+  pub counted_stays : (counts : Counts) → IsCounted file old counts → IsCounted file new counts
+  counted_stays counts is = record {
+    pieces = omega (arith, is.pieces, ap (λ (p : List TextPiece). length p) same.pieces);
+    modified = λ no. subst HaveNoModifiers (sym same.pieces) (is.modified no);
+    printed = subst (HaveModifiersWithin counts.printed) (sym same.pieces) is.printed;
+    sectors = is.sectors;
+    few = is.few;
+    bins = omega (arith, is.bins, ap bin_length fib);
+    added = omega (arith, is.added, ap (λ (added : Added). length added.items) same.added);
+    joined = omega (arith, is.joined, ap (λ (added : Added). joined_run_count added.items) same.added);
+    text = omega (
+      arith,
+      is.text,
+      ap (λ (added : Added). length added.items) same.added,
+      ap (λ (added : Added). joined_run_count added.items) same.added,
+    );
+    unwritten = omega (arith, is.unwritten, ap unwritten_count places_same);
+  }

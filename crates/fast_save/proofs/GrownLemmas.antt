@@ -1,0 +1,158 @@
+-- How much added text grows by a command: by the items that it puts, and by no more marks behind stories than runs are
+-- reckoned for it.
+use Rattle.std.specs.Prelude.{ℕ, List, slice_get}
+use Rattle.std.specs.List.{sum_by}
+use Rattle.std.proofs.Common.{◌≡◌, ◌∙◌, ◌∷◌, ◌++◌, ◌+◌, ◌*◌, ◌<◌, ◌≤◌, [], refl, sym, ap, subst, zero, suc, Some, length, replicate, arith, Bool, true, false}
+use Rattle.std.proofs.lemmas.List.{length-append, length-replicate}
+use Rattle.std.proofs.lemmas.List.Sums.{sum_by-cons}
+use Rattle.doc_bits.specs.Together.{AreTogether}
+use Rattle.doc_bits.specs.declared.places.Story.{Story}
+use Rattle.doc_bits.specs.declared.places.Story.TheVariants.{Main, Note as NoteText, Head as HeadText}
+use Rattle.plain_doc.specs.declared.item.Item.{Item}
+use Rattle.plain_doc.specs.declared.document.Document.{Document}
+use Rattle.plain_doc.specs.Collected.{joined_texts}
+use Rattle.plain_doc.proofs.TextListLemmas.{length-joined}
+use Rattle.full_save.specs.Text.{extra_mark}
+use Rattle.prop_map.specs.Settings.{Settings}
+use Rattle.edit_script.specs.declared.commands.Command.{Command}
+use Rattle.edit_script.specs.declared.commands.Command.TheVariants.{Insert, Erase, Char, Plain, Para, Style, Field, Note, Split, Merge, Sect, Row, StyleChar, StylePara, Save}
+use Rattle.edit_ops.specs.declared.changes.Change.{Change}
+use Rattle.edit_ops.specs.declared.changes.Change.TheVariants.{SpliceText, ModifyItems, SetSection, SpliceNotes, SpliceHeads, SetStyleCharacters, SetStyleParagraphs}
+use Rattle.edit_ops.specs.EditFacts.{edit_facts, items_added}
+use Rattle.edit_ops.specs.Places.{items_at, mark_place, note_number}
+use Rattle.edit_ops.specs.Fresh.{inserted_items, field_items, base_settings, note_reference, note_items, split_item, row_items}
+use Rattle.edit_ops.specs.Edits.{erased, section_changes, changes_of}
+use Rattle.edit_ops.specs.Runs.{most_runs, most_runs_of_section}
+use Rattle.edited_text.specs.AddedText.{marked_block}
+use Rattle.edited_text.specs.EditSteps.{HasGrownBy, IsBlockOf, items_put}
+
+-- ---- the block of a change
+
+-- two marks at most, where there are items
+abbrev marks_most : List Item → ℕ
+marks_most [] = 0
+marks_most (item ∷ items) = 2
+
+abbrev block_most : Change → ℕ
+block_most change = length (items_put change) + marks_most (items_put change)
+
+few_marks : (items : List Item) (marks : ℕ) → marks ≤ 2 → (0 < marks → 0 < length items) → marks ≤ marks_most items
+few_marks [] zero few first = omega arith
+few_marks [] (suc marks) few first = let none = first (omega arith) in omega (arith, none)
+few_marks (item ∷ items) marks few first = few
+
+short_block : (document : Document) (change : Change) (block : List Item) → IsBlockOf document change block →
+    length block ≤ block_most change
+short_block document change block is =
+    let items = items_put change in
+    omega (
+      arith,
+      ap length is.is,
+      length-append items (replicate is.marks extra_mark),
+      length-replicate is.marks extra_mark,
+      few_marks items is.marks is.few is.first,
+    )
+
+pub together_tail : {A B : Type 0} (P : A → B → Type 0) (x : A) (xs : List A) (y : B) (ys : List B) →
+    AreTogether P (x ∷ xs) (y ∷ ys) → AreTogether P xs ys
+together_tail P x xs y ys together = record {
+  len = let len = together.len in omega (arith, len);
+  each = λ k a b here there. together.each (suc k) a b here there;
+}
+
+short_blocks : (document : Document) (changes : List Change) (blocks : List (List Item)) →
+    AreTogether (IsBlockOf document) changes blocks → length (joined_texts blocks) ≤ sum_by block_most changes
+short_blocks document [] [] together = omega arith
+short_blocks document [] (block ∷ blocks) together = let len = together.len in absurd (omega (arith, len))
+short_blocks document (change ∷ changes) [] together = let len = together.len in absurd (omega (arith, len))
+short_blocks document (change ∷ changes) (block ∷ blocks) together =
+    omega (
+      arith,
+      length-joined block blocks,
+      sum_by-cons block_most change changes,
+      short_block document change block (together.each 0 change block refl refl),
+      short_blocks document changes blocks (together_tail (IsBlockOf document) change changes block blocks together),
+    )
+
+-- ---- the changes of a command
+
+pub joined_sum : (texts : List (List Item)) → length (joined_texts texts) ≡ sum_by length texts
+joined_sum [] = refl
+joined_sum (text ∷ texts) =
+    omega (
+      arith,
+      length-joined text texts,
+      joined_sum texts,
+      sum_by-cons (λ (other : List Item). length other) text texts,
+    )
+
+one_joined : (text : List Item) → length (joined_texts (text ∷ [])) ≡ length text
+one_joined text = omega (arith, length-joined text [])
+
+most_marks : (items : List Item) → marks_most items ≤ 2
+most_marks [] = omega arith
+most_marks (item ∷ items) = omega arith
+
+-- a splice of a text
+put_block : (story : Story) (from to : ℕ) (fresh : List Item) →
+    block_most (SpliceText story from to fresh) ≤ length fresh + 2
+put_block story from to fresh = omega (arith, one_joined fresh, most_marks (joined_texts (fresh ∷ [])))
+
+-- a splice of notes
+note_block : (from to : ℕ) (fresh : List (List Item)) →
+    block_most (SpliceNotes from to fresh) ≤ sum_by length fresh + 2
+note_block from to fresh = omega (arith, joined_sum fresh, most_marks (joined_texts fresh))
+
+erased_blocks : (document : Document) (story : Story) (from to : ℕ) → sum_by block_most (erased document story from to) ≤ 0
+erased_blocks document Main from to = omega arith
+erased_blocks document (NoteText number) from to = omega arith
+erased_blocks document (HeadText number) from to = omega arith
+
+section_blocks : (main : List Item) (at : ℕ) (new : Bool) (set : Settings) →
+    sum_by block_most (section_changes main at new set)
+    ≤ sum_by items_added (section_changes main at new set) + most_runs_of_section new
+section_blocks main at false set = omega arith
+section_blocks main at true set = omega arith
+
+pub few_blocks : (document : Document) (command : Command) →
+    sum_by block_most (changes_of document command)
+    ≤ sum_by items_added (changes_of document command) + most_runs command
+few_blocks document (Insert story at text) =
+    let put = put_block story at at (inserted_items (items_at document story) at text) in omega (arith, put)
+few_blocks document (Erase story from to) = let none = erased_blocks document story from to in omega (arith, none)
+few_blocks document (Char story from to set) = omega arith
+few_blocks document (Plain story from to) = omega arith
+few_blocks document (Para story at set) = omega arith
+few_blocks document (Style story at istd) = omega arith
+few_blocks document (Field story at type code shown) =
+    let put = put_block story at at (field_items (base_settings (items_at document story) at) type code shown) in
+    omega (arith, put)
+few_blocks document (Note at text) =
+    let number = note_number document.main at in
+    let put = put_block Main at at (note_reference (base_settings document.main at) ∷ []) in
+    let note = note_block number number (note_items text ∷ []) in
+    omega (arith, put, note)
+few_blocks document (Split story at) =
+    let put = put_block story at at (split_item (items_at document story) at ∷ []) in omega (arith, put)
+few_blocks document (Merge story at) =
+    let mark = mark_place (items_at document story) at in
+    let none = erased_blocks document story mark (mark + 1) in
+    omega (arith, none)
+few_blocks document (Sect at new set) = section_blocks document.main at new set
+few_blocks document (Row story at width cells) =
+    let put = put_block story at at (row_items width cells) in omega (arith, put)
+few_blocks document (StyleChar istd set) = omega arith
+few_blocks document (StylePara istd set) = omega arith
+few_blocks document (Save full) = omega arith
+
+pub grown_within : (document : Document) (command : Command) (old new : List Item) →
+    HasGrownBy document (changes_of document command) old new →
+    length new ≤ length old + (edit_facts document command).units_in + most_runs command
+grown_within document command old new grown =
+    omega (
+      arith,
+      ap length grown.items,
+      length-append old (joined_texts grown.blocks),
+      short_blocks document (changes_of document command) grown.blocks grown.each,
+      few_blocks document command,
+    )

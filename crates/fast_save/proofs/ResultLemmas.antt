@@ -1,0 +1,30 @@
+-- What follows of the value in an `Ok`.
+use Rattle.std.specs.Prelude.{Result, Ok, Err, IfOk, MatchResult}
+use Rattle.std.proofs.Common.{◌≡◌, ◌∙◌, refl, sym, subst, true}
+use Rattle.std.specs.Result.{IsOk}
+use Rattle.doc_bits.specs.Rules.{Hold, IsFirst}
+use Rattle.std.specs.Prelude.{ℕ, List}
+use Rattle.fib_form.specs.FibFields.{FibFields, fib_fields}
+use Rattle.fib_form.specs.FibRules.{fib_rules}
+use Rattle.fib_form.specs.declared.fault.FibFault.{FibFault}
+use Rattle.plain_doc.specs.declared.document.Document.{Document}
+use Rattle.plain_doc.specs.Sound.{IsSound}
+use Rattle.fast_save.proofs.FullLemmas.{no_fib_fault}
+
+pub ok_then : {T E : Type 0} (r : Result T E) (P Q : T → Type 0) → ((x : T) → P x → Q x) → IfOk r P → IfOk r Q
+ok_then (Ok x) P Q follows holds = follows x holds
+ok_then (Err e) P Q follows holds = holds
+
+-- a copy of a sound document
+pub sound_copy : {E : Type 0} (r : Result Document E) (inside view : Document) → inside ≡ view → IsSound inside →
+    IfOk r (λ copy. copy ≡ inside) → IfOk r (λ document. (document ≡ view) × IsSound document)
+sound_copy r inside view same sound copied =
+    ok_then r (λ copy. copy ≡ inside) (λ document. (document ≡ view) × IsSound document)
+    (λ document is. (is ∙ same, subst IsSound (sym is) sound)) copied
+
+-- a FIB is read that breaks no rule
+pub fib_is_read : (wd : List ℕ) (r : Result FibFields FibFault) → Hold (fib_rules wd) →
+    MatchResult r (λ fib. Hold (fib_rules wd) × (fib ≡ fib_fields wd))
+    (λ fault. IsFirst (fib_rules wd) fault.rule fault.offset) → IsOk r
+fib_is_read wd (Ok fib) holds read = refl
+fib_is_read wd (Err fault) holds read = absurd (no_fib_fault wd fault.rule fault.offset holds read)

@@ -1,0 +1,36 @@
+use Rattle.std.proofs.Common.{◌≡◌, ◌∙◌, ap, subst, List, ℕ, length, arith}
+use Rattle.cfb_streams.specs.Names.{table_name}
+use Rattle.cfb_streams.specs.Contents.{HasNamed}
+use Rattle.fib_form.specs.FibFields.{FibFields, pair_at}
+use Rattle.doc_parts.specs.declared.lists.Sed.{Sed}
+use Rattle.doc_load.specs.FileRules.{table_stream_name}
+use Rattle.fast_save.specs.Started.{IsReadFile, written_places}
+use Rattle.fast_save.proofs.OpenLemmas.{named_short, sections_are}
+use Rattle.fast_save.proofs.ResultLemmas.{ok_then}
+use Rattle.fast_save.proofs.parts.section_places.Goals as goal
+
+pub part_of-plc-requires : goal.part_of-plc-requires
+part_of-plc-requires c =
+    let short =
+    named_short c.args.container.now c.args.fib.now c.requires c.table_name.result.now c.named-table.result.now
+    c.named-table.ensures in
+    omega (arith, short)
+
+pub returns-in-Ok : goal.returns-in-Ok
+returns-in-Ok c =
+    let contents = c.args.container.now in
+    let fib = c.args.fib.now in
+    let table = c.named-table.result.now in
+    ok_then c.places_of.result (λ places. places.items ≡ written_places c.in-Ok.seds)
+    (λ places. (file : IsReadFile contents fib) → places.items ≡ written_places file.parts.lists.sections)
+    (λ places is file.
+    let name : c.table_name.result.now ≡ table_stream_name file.parts.text.wd =
+    c.table_name.ensures ∙ ap table_name (c.which_table.ensures.value ∙ ap (λ (f : FibFields). f.which_table) file.fib_is) in
+    let named : HasNamed contents.streams (table_stream_name file.parts.text.wd) table =
+    subst (λ (n : List ℕ). HasNamed contents.streams n table) name c.named-table.ensures in
+    let same : c.in-Ok.seds ≡ file.parts.lists.sections =
+    sections_are contents fib file table c.part_of-plc.result.now c.pair-pair.result c.ccp.result c.in-Ok.seds named
+    (c.pair-pair.ensures ∙ ap (pair_at fib.pairs) c.pair.ensures.number) c.part_of-plc.ensures.bytes c.ccp.ensures.value
+    c.in-Ok.ensures.1 in
+    is ∙ ap written_places same)
+    c.places_of.ensures

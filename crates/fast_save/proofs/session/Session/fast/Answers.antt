@@ -1,0 +1,157 @@
+use Rattle.std.proofs.Common.{◌≡◌, ◌∙◌, refl, sym, ap, subst, List, ℕ, length, arith}
+use Rattle.std.proofs.lemmas.Result.{err_from_is_err_and}
+use Rattle.fib_form.specs.FibFields.{FibFields}
+use Rattle.full_save.specs.WordDocument.{table_stream}
+use Rattle.fast_save.specs.declared.ledgers.Counts.{Counts}
+use Rattle.fast_save.specs.declared.parts.SessionParts.{SessionParts}
+use Rattle.fast_save.specs.Ledgers.{after_fast, sector_bound}
+use Rattle.fast_save.specs.Session.{SessionView, IsSession, IsCounted}
+use Rattle.fast_save.specs.Fast.{CanSaveFast, IsFastFile, IsFastFault, IsHeldFile, AreFastParts, IsSavedFast}
+use Rattle.fast_save.proofs.CanLemmas.{are_small}
+use Rattle.fast_save.proofs.FastLemmas.{AreAfter, session_after_fast, counted_after_fast, saved_fast}
+use Rattle.fast_save.proofs.session.Session.fast.Goals as goal
+
+pub judged-requires-clause-saves : goal.judged-requires-clause-saves
+judged-requires-clause-saves c = omega (arith, ap (λ (fib : FibFields). fib.quick_saves) c.self.invariant.0.fib)
+
+pub returns-in_err-sectors-clause-err : goal.returns-in_err-sectors-clause-err
+returns-in_err-sectors-clause-err c =
+    let p = err_from_is_err_and c.from_residual.result c.from_residual.ensures.1 in
+    let fault = c.in_err-sectors.field-0.0 in
+    let now = c.args.self.now in
+    let is : IsFastFault now.quick_saves now.counts (length (table_stream now.document)) fault =
+    subst
+    (λ (view : SessionView). IsFastFault view.quick_saves view.counts (length (table_stream view.document)) fault)
+    c.self.view_is c.in_err-sectors.ensures in
+    rw (p.1, p.2) (refl, is)
+
+pub appended-requires : goal.appended-requires
+appended-requires c =
+    let inside = c.self.inside in
+    record {
+      file = inside.file;
+      counts = inside.counts;
+      session = c.self.invariant.0;
+      counted = c.self.invariant.1;
+      judged = c.in_ok-sectors.ensures.0;
+    }
+
+pub returns-in_err-file-clause-err : goal.returns-in_err-file-clause-err
+returns-in_err-file-clause-err c =
+    let p = err_from_is_err_and c.from_residual-in_err-file.result c.from_residual-in_err-file.ensures.1 in
+    rw (p.1, p.2, c.in_err-file.ensures) (refl, tt)
+
+pub of_file-requires : goal.of_file-requires
+of_file-requires c =
+    let inside = c.self.inside in
+    let can : CanSaveFast inside.document inside.parts = record {
+      file = inside.file;
+      counts = inside.counts;
+      session = c.self.invariant.0;
+      counted = c.self.invariant.1;
+      judged = c.in_ok-sectors.ensures.0;
+    } in
+    subst (λ (file : List ℕ). IsHeldFile file inside.document) (sym c.as_slice.ensures) (c.in_ok-file.ensures can).held
+
+pub returns-in_err-behind-clause-err : goal.returns-in_err-behind-clause-err
+returns-in_err-behind-clause-err c =
+    let p = err_from_is_err_and c.from_residual-in_err-behind.result c.from_residual-in_err-behind.ensures.1 in
+    rw (p.1, p.2) (refl, tt)
+
+pub invariant_of-self : goal.invariant_of-self
+invariant_of-self c =
+    let inside = c.self.inside in
+    let can : CanSaveFast inside.document inside.parts = record {
+      file = inside.file;
+      counts = inside.counts;
+      session = c.self.invariant.0;
+      counted = c.self.invariant.1;
+      judged = c.in_ok-sectors.ensures.0;
+    } in
+    let file = c.in_ok-file.file in
+    let behind = c.in_ok-behind.behind in
+    let made : IsFastFile can file = c.in_ok-file.ensures can in
+    let are : AreFastParts made.held.holds behind =
+    subst (λ (f : List ℕ). (held : IsHeldFile f inside.document) → AreFastParts held.holds behind) c.as_slice.ensures
+    c.in_ok-behind.ensures made.held in
+    let new : SessionParts = record {
+      text = record {
+        pieces = inside.parts.text.pieces;
+        added = record { base = behind.base; items = c.new.result };
+        ends = behind.ends;
+        sections = behind.places;
+      };
+      fib = behind.fib;
+      container = behind.container;
+    } in
+    let after : AreAfter inside.parts behind new = record {
+      pieces = refl;
+      base = refl;
+      items = c.new.ensures;
+      ends = refl;
+      places = refl;
+      fib = refl;
+      contents = refl;
+    } in
+    let bound = sector_bound inside.counts (length (table_stream inside.document)) in
+    let low = (are_small inside.counts (length (table_stream inside.document)) can.judged.sectors).bins in
+    let counts : c.after_fast-self-inside.result ≡ after_fast bound inside.counts =
+    c.after_fast-self-inside.ensures ∙ ap (λ (n : ℕ). after_fast n inside.counts) c.in_ok-sectors.ensures.1 in (
+      session_after_fast inside.document inside.parts can file made behind are new after,
+      subst (IsCounted file new) (sym counts)
+          (counted_after_fast inside.document inside.parts can file made behind are new after low),
+    )
+
+pub returns-clause-ok : goal.returns-clause-ok
+returns-clause-ok c =
+    let inside = c.self.inside in
+    let can : CanSaveFast inside.document inside.parts = record {
+      file = inside.file;
+      counts = inside.counts;
+      session = c.self.invariant.0;
+      counted = c.self.invariant.1;
+      judged = c.in_ok-sectors.ensures.0;
+    } in
+    let file = c.in_ok-file.file in
+    let behind = c.in_ok-behind.behind in
+    let made : IsFastFile can file = c.in_ok-file.ensures can in
+    let are : AreFastParts made.held.holds behind =
+    subst (λ (f : List ℕ). (held : IsHeldFile f inside.document) → AreFastParts held.holds behind) c.as_slice.ensures
+    c.in_ok-behind.ensures made.held in
+    let new : SessionParts = record {
+      text = record {
+        pieces = inside.parts.text.pieces;
+        added = record { base = behind.base; items = c.new.result };
+        ends = behind.ends;
+        sections = behind.places;
+      };
+      fib = behind.fib;
+      container = behind.container;
+    } in
+    let after : AreAfter inside.parts behind new = record {
+      pieces = refl;
+      base = refl;
+      items = c.new.ensures;
+      ends = refl;
+      places = refl;
+      fib = refl;
+      contents = refl;
+    } in
+    let bound = sector_bound inside.counts (length (table_stream inside.document)) in
+    let counts : c.after_fast-self-inside.result ≡ after_fast bound inside.counts =
+    c.after_fast-self-inside.ensures ∙ ap (λ (n : ℕ). after_fast n inside.counts) c.in_ok-sectors.ensures.1 in
+    let view : Counts → SessionView = λ numbers. record {
+      bytes = file;
+      document = inside.document;
+      counts = numbers;
+      quick_saves = behind.fib.quick_saves;
+    } in
+    let before : SessionView = record {
+      bytes = inside.file;
+      document = inside.document;
+      counts = inside.counts;
+      quick_saves = inside.parts.fib.quick_saves;
+    } in
+    subst (λ (old : SessionView). IsSavedFast old (view c.after_fast-self-inside.result)) c.self.view_is
+    (subst (λ (numbers : Counts). IsSavedFast before (view numbers)) (sym counts)
+    (saved_fast inside.document inside.parts can file made behind are new after))

@@ -1,0 +1,33 @@
+use Rattle.std.proofs.Common.{◌+◌, ap, length, take, arith}
+use Rattle.std.proofs.lemmas.List.{length-append, take_all}
+use Rattle.plain_doc.specs.Collected.{joined_texts}
+use Rattle.plain_doc.proofs.TextListLemmas.{text_joined, first_joined}
+use Rattle.fast_save.proofs.stories.items_of.Goals as goal
+
+pub overflow_add-count : goal.overflow_add-count
+overflow_add-count c =
+    let texts = c.args.texts.now in
+    let k = c.loop-k.k in
+    let text = c.get.result.now in
+    omega (
+      arith,
+      ap length (text_joined texts k text c.get.ensures),
+      first_joined texts (k + 1),
+      length-append (joined_texts (take k texts)) text,
+      c.loop-k.invariant,
+      c.len-count.ensures.len,
+      c.requires,
+    )
+
+pub loop-k-preserved : goal.loop-k-preserved
+loop-k-preserved c =
+    let texts = c.args.texts.now in
+    let k = c.loop-k.k in
+    let text = c.get.result.now in
+    omega (
+      arith,
+      ap length (text_joined texts k text c.get.ensures),
+      length-append (joined_texts (take k texts)) text,
+      c.loop-k.invariant,
+      c.len-count.ensures.len,
+    )

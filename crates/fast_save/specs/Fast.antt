@@ -1,0 +1,146 @@
+-- A fast save: what it is made of, when it is refused, and the session after it.
+use Rattle.std.specs.Prelude.{◌≡◌, ℕ, ◌+◌, ◌*◌, ◌<◌, ◌≤◌, List, length, true}
+use Rattle.doc_bits.specs.Number.{AreBytes}
+use Rattle.cfb_streams.specs.Header.{sector_count}
+use Rattle.cfb_layout.specs.Counts.{most_sectors}
+use Rattle.fib_form.specs.FibFields.{fib_fields}
+use Rattle.plain_doc.specs.declared.document.Document.{Document}
+use Rattle.plain_doc.specs.Sound.{IsSound}
+use Rattle.full_save.specs.WordDocument.{table_stream}
+use Rattle.doc_read.specs.Holds.{FileParts, HasFileParts, HoldsDocument, IsAccepted}
+use Rattle.save_laws.specs.Ends.{ends_of}
+use Rattle.save_laws.specs.Slots.{StoryEnds, story_counts}
+use Rattle.save_laws.specs.KeptPages.{KeepsBytes}
+use Rattle.save_bounds.specs.FastSizes.{SaveCounts}
+use Rattle.append_save.specs.Saves.{FastSave}
+use Rattle.fast_save.specs.declared.fast.FastFault.{FastFault}
+use Rattle.fast_save.specs.declared.fast.FastFault.TheVariants.{Sixteenth, TooManyPieces, TooLarge, Memory}
+use Rattle.fast_save.specs.declared.fast_parts.FastParts.{FastParts}
+use Rattle.fast_save.specs.declared.ledgers.Counts.{Counts}
+use Rattle.fast_save.specs.declared.parts.SessionParts.{SessionParts}
+use Rattle.fast_save.specs.Ledgers.{modifier_bytes, sector_bound, after_fast}
+use Rattle.fast_save.specs.Session.{SessionView, IsSession, IsCounted, text_base, bin_length}
+use Rattle.fast_save.specs.Started.{written_places}
+
+-- ---- when it is refused
+
+-- Profile: the most pieces of a fast save, before the pieces that one more edit adds
+abbrev pub most_pieces : ℕ
+most_pieces = 16384
+
+-- the counts do not refuse it: fewer than fifteen quick saves in a row, few pieces, and few sectors
+pub record IsJudged (quick_saves : ℕ) (counts : Counts) (table_bytes : ℕ) : Type 0 where
+  pub saves : quick_saves < 15
+  pub pieces : counts.pieces + 4 ≤ most_pieces
+  pub sectors : sector_bound counts table_bytes ≤ most_sectors
+
+-- there are too many pieces, with their number
+pub record HasManyPieces (quick_saves : ℕ) (counts : Counts) (pieces : ℕ) : Type 0 where
+  pub saves : quick_saves < 15
+  pub many : most_pieces < counts.pieces + 4
+  pub number : pieces ≡ counts.pieces
+
+-- too many sectors are reckoned, with their number
+pub record HasManySectors (quick_saves : ℕ) (counts : Counts) (table_bytes sectors : ℕ) : Type 0 where
+  pub saves : quick_saves < 15
+  pub few : counts.pieces + 4 ≤ most_pieces
+  pub many : most_sectors < sectors
+  pub number : sectors ≡ sector_bound counts table_bytes
+
+-- there were fifteen quick saves in a row; else too many pieces; else too many sectors. Want of memory is free
+abbrev pub IsFastFault : ℕ → Counts → ℕ → FastFault → Type 0
+IsFastFault quick_saves counts table_bytes (Sixteenth count) = (quick_saves ≡ 15) × (count ≡ 15)
+IsFastFault quick_saves counts table_bytes (TooManyPieces pieces) = HasManyPieces quick_saves counts pieces
+IsFastFault quick_saves counts table_bytes (TooLarge sectors) = HasManySectors quick_saves counts table_bytes sectors
+IsFastFault quick_saves counts table_bytes Memory = Unit {0}
+
+-- ---- what it is made of
+
+-- the document and what a session has beside it
+abbrev pub save_in : Document → SessionParts → FastSave
+save_in document parts = record {
+  fib = parts.fib;
+  contents = parts.container;
+  document = document;
+  pieces = parts.text.pieces.pieces;
+  ends = ends_of parts.text.ends;
+  base = parts.text.added.base;
+  added = parts.text.added.items;
+  places = parts.text.sections.items;
+}
+
+-- the counts in the words of the bounds
+abbrev pub save_counts : Counts → ℕ → SaveCounts
+save_counts counts table_bytes = record {
+  pieces = counts.pieces;
+  prc_bytes = modifier_bytes counts;
+  units = counts.units;
+  runs = counts.runs;
+  sections = counts.sections;
+  table_bytes = table_bytes;
+  sectors = counts.sectors;
+  bin_bytes = counts.bin_bytes;
+}
+
+-- a session whose counts do not refuse a fast save
+pub record CanSaveFast (document : Document) (parts : SessionParts) : Type 0 where
+  pub file : List ℕ
+  pub counts : Counts
+  pub session : IsSession file document parts
+  pub counted : IsCounted file parts counts
+  pub judged : IsJudged parts.fib.quick_saves counts (length (table_stream document))
+
+-- ---- what a session has of the file after it
+
+-- a file that is accepted and holds a sound document
+pub record IsHeldFile (file : List ℕ) (document : Document) : Type 0 where
+  pub accepted : IsAccepted file
+  pub holds : HoldsDocument file document
+  pub sound : IsSound document
+
+-- where text may be added, whether marks stand behind the stories, where the settings of sections stand, the FIB and the
+-- streams
+pub record AreFastParts {file : List ℕ} {document : Document} (holds : HoldsDocument file document) (parts : FastParts) :
+    Type 0 where
+  pub bytes : AreBytes file
+  pub base : parts.base ≡ text_base (length holds.parts.text.wd)
+  pub ends :
+      (ends : StoryEnds) → (fib_fields holds.parts.text.wd).ccps ≡ story_counts document ends →
+      ends_of parts.ends ≡ ends
+  pub places : parts.places.items ≡ written_places holds.parts.lists.sections
+  pub fib : parts.fib ≡ fib_fields holds.parts.text.wd
+  pub contents : parts.container ≡ holds.parts.contents
+
+-- WordDocument keeps the bytes of the old one behind its FIB, and is longer by no more than is reckoned; its FIB tells
+-- of a fast save
+pub record IsBehind (counts : Counts) (old new : List ℕ) : Type 0 where
+  pub keeps : KeepsBytes old new
+  pub grown : length new ≤ length old + 2048 + 2 * counts.units + 512 * counts.runs + 512 * counts.sections
+  pub complex : (fib_fields new).complex ≡ true
+
+-- the file of a fast save: the document is saved behind the old WordDocument, by the pieces that are there, with one quick
+-- save more; the sectors and the bytes of its bin tables are within what is reckoned
+pub record IsFastFile {document : Document} {parts : SessionParts} (can : CanSaveFast document parts) (file : List ℕ) :
+    Type 0 where
+  pub held : IsHeldFile file document
+  pub pieces : held.holds.parts.text.pieces ≡ parts.text.pieces.pieces
+  pub quick_saves : (fib_fields held.holds.parts.text.wd).quick_saves ≡ parts.fib.quick_saves + 1
+  pub behind : IsBehind can.counts can.session.held.parts.text.wd held.holds.parts.text.wd
+  pub sectors : sector_count file ≤ sector_bound can.counts (length (table_stream document))
+  pub bins :
+      bin_length (fib_fields held.holds.parts.text.wd) ≤ can.counts.bin_bytes + 16 * can.counts.runs + 256
+
+-- ---- the session after it
+
+-- the counts did not refuse it; the file is accepted and holds the document, behind the old WordDocument; there is one
+-- quick save more, and the counts are those after a fast save
+pub record IsSavedFast (old new : SessionView) : Type 0 where
+  pub judged : IsJudged old.quick_saves old.counts (length (table_stream old.document))
+  pub accepted : IsAccepted new.bytes
+  pub holds : HoldsDocument new.bytes old.document
+  pub document : new.document ≡ old.document
+  pub quick_saves : new.quick_saves ≡ old.quick_saves + 1
+  pub counts : new.counts ≡ after_fast (sector_bound old.counts (length (table_stream old.document))) old.counts
+  pub before : FileParts
+  pub has_before : HasFileParts old.bytes before
+  pub behind : IsBehind old.counts before.text.wd holds.parts.text.wd

@@ -1,0 +1,163 @@
+// When a fast save is refused, and the file of one.
+ghost use Rattle.std.specs.Prelude.{◌≡◌, ◌<◌, ◌≤◌, ◌+◌, length, MatchResult};
+ghost use Rattle.piece_table.specs.Piece.{ArePieces};
+ghost use Rattle.plain_doc.specs.Document.{IsFormedText};
+ghost use Rattle.plain_doc.specs.Formed.{IsFormed};
+ghost use Rattle.plain_doc.specs.Sound.{IsSound};
+ghost use Rattle.cfb_layout.specs.Counts.{most_sectors};
+ghost use Rattle.full_save.specs.WordDocument.{table_stream};
+ghost use Rattle.fast_save.specs.declared.fast.FastFault.TheVariants.{Sixteenth, TooManyPieces, TooLarge};
+ghost use Rattle.fast_save.specs.declared.fast.FastFault.TheVariants.{Memory as NoMemory};
+ghost use Rattle.fast_save.specs.Ledgers.{sector_bound};
+ghost use Rattle.fast_save.specs.Fast.{IsFastFault, IsJudged, CanSaveFast, IsFastFile, most_pieces};
+
+use crate::ledgers::Counts;
+use crate::parts::SessionParts;
+use append_save::{AppendFault, EditedText, SavedFile, append};
+use doc_bits::{Bytes, Memory};
+use fib_form::Fib;
+use full_save::table_len;
+use plain_doc::{Document, documents_are_formed};
+use std::alloc::Global;
+use thiserror::Error;
+
+/// The most quick saves in a row.
+const MAX_QUICK_SAVES: u8 = 15;
+
+/// The most pieces of a fast save.
+const MAX_PIECES: u64 = 16_384;
+
+/// The pieces that one more edit may add.
+const PIECES_LEFT: u64 = 4;
+
+/// The most sectors of a file.
+const MAX_SECTORS: u64 = 13_952;
+
+/// Why a session is not saved fast.
+#[derive(Clone, Copy, Debug, PartialEq, Eq, Error)]
+pub enum FastFault {
+    /// So many fast saves were made in a row, which is 15.
+    #[error("{count} quick saves in a row")]
+    Sixteenth { count: u8 },
+    /// There are so many pieces, to which an edit might add 4, which is more than 16,384.
+    #[error("{pieces} pieces")]
+    TooManyPieces { pieces: u64 },
+    /// So many sectors are reckoned, which is more than 13,952.
+    #[error("{sectors} sectors are needed")]
+    TooLarge { sectors: u64 },
+    #[error("out of memory")]
+    Memory,
+}
+
+impl From<Memory> for FastFault {
+    ghost use Rattle.std.specs.Prelude.{◌≡◌};
+    ghost use Rattle.fast_save.specs.declared.fast.FastFault.TheVariants.{Memory};
+
+    ghost from_gives = { λ _ e. e ≡ Memory };
+
+    fn from(_: Memory) -> Self {
+        FastFault::Memory
+    }
+}
+
+/// The sectors that are reckoned for a fast save of a document, unless it is refused.
+pub(crate) fn judged(
+    alloc: Global,
+    document: &Document,
+    fib: &Fib,
+    counts: &Counts,
+) -> Result<u64, FastFault>
+    requires sound { IsSound document.now }
+    requires saves { fib.now.quick_saves ≤ 15 }
+    ensures { MatchResult result
+        (λ sectors. IsJudged fib.now.quick_saves counts.now (length (table_stream document.now))
+        × (sectors ≡ sector_bound counts.now (length (table_stream document.now))))
+        (IsFastFault fib.now.quick_saves counts.now (length (table_stream document.now))) }
+{
+    few_saves(fib)?;
+    few_pieces(counts)?;
+    let table_bytes = table_len(alloc, document)?;
+    few_sectors(counts, table_bytes)
+}
+
+/// Refuses the sixteenth fast save in a row.
+fn few_saves(fib: &Fib) -> Result<(), FastFault>
+    requires { fib.now.quick_saves ≤ 15 }
+    ensures { MatchResult result (λ _. fib.now.quick_saves < 15)
+        (λ fault. (fault ≡ Sixteenth 15) × (fib.now.quick_saves ≡ 15)) }
+{
+    let count = fib.quick_saves();
+    if count >= MAX_QUICK_SAVES {
+        return Err(FastFault::Sixteenth { count });
+    }
+    Ok(())
+}
+
+/// Refuses too many pieces.
+fn few_pieces(counts: &Counts) -> Result<(), FastFault>
+    ensures { MatchResult result (λ _. counts.now.pieces + 4 ≤ most_pieces)
+        (λ fault. (fault ≡ TooManyPieces counts.now.pieces) × (most_pieces < counts.now.pieces + 4)) }
+{
+    let pieces = counts.pieces;
+    if pieces > MAX_PIECES - PIECES_LEFT {
+        return Err(FastFault::TooManyPieces { pieces });
+    }
+    Ok(())
+}
+
+/// The sectors that are reckoned, where they are in a file.
+fn few_sectors(counts: &Counts, table_bytes: u64) -> Result<u64, FastFault>
+    ensures { MatchResult result
+        (λ sectors. (sectors ≡ sector_bound counts.now table_bytes)
+        × (sector_bound counts.now table_bytes ≤ most_sectors))
+        (λ fault. (fault ≡ TooLarge (sector_bound counts.now table_bytes))
+        × (most_sectors < sector_bound counts.now table_bytes)) }
+{
+    let sectors = counts.sector_bound(table_bytes);
+    if sectors > MAX_SECTORS {
+        return Err(FastFault::TooLarge { sectors });
+    }
+    Ok(sectors)
+}
+
+/// The file of a document whose text is edited so, saved behind the file that is there.
+pub(crate) fn appended(
+    alloc: Global,
+    document: &Document,
+    parts: &SessionParts,
+) -> Result<Bytes, FastFault>
+    requires { CanSaveFast document.now parts.now }
+    ensures { MatchResult result (λ file. (can : CanSaveFast document.now parts.now) → IsFastFile can file)
+        (λ fault. fault ≡ NoMemory) }
+{
+    parts_are_formed(document, parts);
+    let old = SavedFile {
+        fib: &parts.fib,
+        container: &parts.container,
+    };
+    let text = EditedText {
+        pieces: &parts.text.pieces,
+        ends: parts.text.ends,
+        base: parts.text.added.base,
+        added: &parts.text.added.items,
+        sections: &parts.text.sections,
+    };
+    match append(alloc, &old, document, &text) {
+        Ok(file) => Ok(file),
+        Err(AppendFault::Memory) => Err(FastFault::Memory),
+        // The counts refuse such saves before they are made.
+        Err(AppendFault::Sixteenth) => unreachable!(),
+        Err(AppendFault::TooLarge { .. }) => unreachable!(),
+    }
+}
+
+/// What the types of a document and of its text tell.
+fn parts_are_formed(document: &Document, parts: &SessionParts)
+    ensures document { IsFormed document.now }
+    ensures items { IsFormedText parts.now.text.added.items }
+    ensures pieces { ArePieces parts.now.text.pieces.pieces }
+{
+    documents_are_formed(document);
+    let _ = parts.text.added.items.as_slice();
+    let _ = parts.text.pieces.len();
+}

@@ -1,0 +1,176 @@
+// A session: a document that is edited beside the pieces of its text. After want of memory it is what it was.
+ghost use Rattle.std.specs.Prelude.{◌≡◌, ◌≤◌, length, OnOk, IfOk, IfErr, MatchResult};
+ghost use Rattle.cfb_streams.specs.Header.{sector_count};
+ghost use Rattle.plain_doc.specs.Sound.{IsSound};
+ghost use Rattle.full_save.specs.WordDocument.{table_stream};
+ghost use Rattle.full_save.specs.Layout.{FitsCompoundFile, IsTooLarge};
+ghost use Rattle.doc_load.specs.Faults.{IsReadFault};
+ghost use Rattle.doc_read.specs.Holds.{IsAccepted, all_rules};
+ghost use Rattle.edit_ops.specs.Causes.{IsAcceptedEdit, IsEditFault};
+ghost use Rattle.edit_ops.specs.EditFacts.{edit_facts};
+ghost use Rattle.fast_save.specs.Laws.{IsHeldInFull};
+ghost use Rattle.fast_save.specs.Ledgers.{ledgers_of, AreCountsOf};
+ghost use Rattle.fast_save.specs.Session.{bin_length};
+ghost use Rattle.fast_save.specs.Edited.{HasRoom, session_after};
+ghost use Rattle.fast_save.specs.Started.{IsStarted, session_after_full};
+ghost use Rattle.fast_save.specs.Fast.{IsFastFault, IsSavedFast};
+
+use crate::fast::{FastFault, appended, judged};
+use crate::fast_parts::FastParts;
+use crate::full_parts::parts_in_full;
+use crate::ledgers::{Counts, Ledgers};
+use crate::parts::{SessionParts, bin_bytes, pieces_are_few};
+use doc_bits::{Bytes, Memory};
+use doc_read::{ReadFault, read};
+use edit_ops::{Command, EditFault, Facts, changes_of, edit_of, test};
+use edited_text::Added;
+use full_save::{SaveFault, full, table_len};
+use plain_doc::{Document, Items, documents_are_formed};
+use std::alloc::Global;
+use std::marker::Model;
+
+/// A document that is edited beside the pieces of its text, and the file that was given or last saved.
+#[derive(Drop)]
+pub struct Session {
+    alloc: Global,
+    document: Document,
+    parts: SessionParts,
+    file: Bytes,
+    counts: Counts,
+}
+
+impl Model for Session {
+    ghost use Rattle.fast_save.specs.Session.{SessionView, IsSession, IsCounted};
+    ghost use Rattle.fast_save.specs.Codes.{session_code};
+
+    ghost Value = { SessionView };
+
+    ghost coded = { session_code };
+
+    ghost view = { λ s. record {
+      bytes = s.file;
+      document = s.document;
+      counts = s.counts;
+      quick_saves = s.parts.fib.quick_saves;
+    } };
+
+    ghost invariant = { λ s. IsSession s.file s.document s.parts × IsCounted s.file s.parts s.counts };
+}
+
+impl Session {
+    /// Begins on a file. A file that is refused breaks a rule, and the first is named, at its least place.
+    pub fn start(alloc: Global, file: &[u8]) -> Result<Session, ReadFault>
+        ensures { MatchResult result (IsStarted file.now) (IsReadFault (all_rules file.now)) }
+    {
+        let opened = read(alloc, file)?;
+        let (document, fib, container, pieces) = opened.into_parts();
+        let parts = SessionParts::of_file(alloc, &document, fib, container, pieces)?;
+        let counts = counts_of(&parts, file);
+        let file = Bytes::from_slice(alloc, file)?;
+        Ok(Session {
+            alloc,
+            document,
+            parts,
+            file,
+            counts,
+        })
+    }
+
+    /// What an edit would do, or why it is refused.
+    pub fn test(&self, command: &Command) -> Result<Facts, EditFault>
+        ensures { MatchResult result
+            (λ facts. IsAcceptedEdit self.now.document command.now
+            × (facts ≡ edit_facts self.now.document command.now))
+            (IsEditFault self.now.document command.now) }
+    {
+        test(self.alloc, &self.document, command)
+    }
+
+    /// Makes an edit. The file stays. A refused edit leaves the session as it was.
+    pub fn edit(&mut self, command: &Command) -> Result<(), EditFault>
+        requires { HasRoom self.old.counts }
+        ensures ok { OnOk result
+            (IsAcceptedEdit self.old.document command.now × (self.new ≡ session_after command.now self.old)) }
+        ensures err { IfErr result
+            (λ fault. (self.new ≡ self.old) × IsEditFault self.old.document command.now fault) }
+    {
+        let edit = edit_of(self.alloc, &self.document, command)?;
+        let changes = changes_of(self.alloc, &self.document, command)?;
+        self.parts.text.edit(self.alloc, &self.document, &changes)?;
+        pieces_are_few(&self.parts.text.pieces);
+        self.counts = self.counts.after_edit(command, edit.facts.units_in);
+        self.document = edit.document;
+        Ok(())
+    }
+
+    /// Saves the document in full. A refused save leaves the session as it was.
+    pub fn full(&mut self) -> Result<(), SaveFault>
+        ensures ok { OnOk result
+            (FitsCompoundFile self.old.document
+            × (IsHeldInFull self.old.document × (self.new ≡ session_after_full self.old))) }
+        ensures err { IfErr result (λ fault. (self.new ≡ self.old) × IsTooLarge self.old.document fault) }
+    {
+        documents_are_formed(&self.document);
+        let file = full(self.alloc, &self.document)?;
+        let parts = parts_in_full(self.alloc, &self.document, file.as_slice())?;
+        self.counts = counts_of(&parts, file.as_slice());
+        self.parts = parts;
+        self.file = file;
+        Ok(())
+    }
+
+    /// Saves the document behind the file that is there. A refused save leaves the session as it was.
+    pub fn fast(&mut self) -> Result<(), FastFault>
+        ensures ok { OnOk result (IsSavedFast self.old self.new) }
+        ensures err { IfErr result (λ fault. (self.new ≡ self.old)
+            × IsFastFault self.old.quick_saves self.old.counts (length (table_stream self.old.document)) fault) }
+    {
+        let sectors = judged(self.alloc, &self.document, &self.parts.fib, &self.counts)?;
+        let file = appended(self.alloc, &self.document, &self.parts)?;
+        let behind = FastParts::of_file(self.alloc, &self.document, file.as_slice())?;
+        self.parts.text.added = Added {
+            base: behind.base,
+            items: Items::new(self.alloc),
+        };
+        self.parts.text.ends = behind.ends;
+        self.parts.text.sections = behind.places;
+        self.parts.fib = behind.fib;
+        self.parts.container = behind.container;
+        self.counts = self.counts.after_fast(sectors);
+        self.file = file;
+        Ok(())
+    }
+
+    /// The document now.
+    pub fn document(&self) -> Result<Document, Memory>
+        ensures { IfOk result (λ document. (document ≡ self.now.document) × IsSound document) }
+    {
+        self.document.copy(self.alloc)
+    }
+
+    /// The file that was given or last saved.
+    pub fn bytes(&self) -> &[u8]
+        ensures bytes { result.now ≡ self.now.bytes }
+        ensures accepted { IsAccepted result.now }
+    {
+        self.file.as_slice()
+    }
+
+    /// The numbers that decide whether a fast save is refused.
+    pub fn ledgers(&self) -> Result<Ledgers, Memory>
+        ensures { IfOk result (λ ledgers. ledgers ≡
+            ledgers_of self.now.counts (length (table_stream self.now.document))) }
+    {
+        let table_bytes = table_len(self.alloc, &self.document)?;
+        Ok(self.counts.ledgers(table_bytes))
+    }
+}
+
+/// The counts of a file with these parts, since whose save nothing was added.
+fn counts_of(parts: &SessionParts, file: &[u8]) -> Counts
+    requires { 512 ≤ length file.now }
+    ensures { AreCountsOf parts.now.text.pieces.pieces (sector_count file.now) (bin_length parts.now.fib) result }
+{
+    let sectors = file.len() as u64 / 512 - 1;
+    Counts::of_file(&parts.text.pieces, sectors, bin_bytes(&parts.fib))
+}

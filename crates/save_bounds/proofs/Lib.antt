@@ -1,0 +1,9 @@
+pub mod ClxLemmas
+pub mod BinLemmas
+pub mod RunLemmas
+pub mod JoinedRunLemmas
+pub mod TableLemmas
+pub mod SectorLemmas
+pub mod RenewedLemmas
+pub mod SizeLemmas
+pub mod FileLemmas
