@@ -1,3 +1,11 @@
+pub mod RefuserLemmas
+pub mod NumberLemmas
 pub mod EndLemmas
+pub mod LedgerLemmas
+pub mod RunCountLemmas
+pub mod EditRunLemmas
+pub mod FullSizeLemmas
+pub mod GeneratedLemmas
+pub mod StepLemmas
 pub mod RunLemmas
 pub mod SaveLemmas

@@ -1,16 +1,21 @@
 -- One command more among the saves.
-use Rattle.std.proofs.Common.{◌≡◌, ◌≢◌, ◌∙◌, ◌⊎◌, inl, inr, refl, sym, ap, subst, ℕ, zero, suc, ◌+◌, ◌<◌, ◌≤◌, List, [], ◌∷◌, ◌++◌, length, take, get_or, Bool, true, false, cond, Option, Some, None, arith}
+use Rattle.std.proofs.Common.{◌≡◌, ◌≢◌, ◌∙◌, ◌⊎◌, inl, inr, refl, sym, ap, subst, ℕ, zero, suc, ◌+◌, ◌<◌, ◌≤◌, List, [], ◌∷◌, ◌++◌, take, Bool, true, false, cond, Option, Some, None, arith}
 use mir.Val.{bool_byte}
-use Rattle.std.specs.List.{All, slice_get, sum_by}
+use Rattle.std.specs.List.{slice_get}
 use Rattle.std.proofs.lemmas.Bool.{cases_order}
+use Rattle.std.proofs.lemmas.List.{take_more}
 use Rattle.std.proofs.lemmas.List.Sums.{sum_by-append}
 use Rattle.std.proofs.lemmas.List.Elements.{All-more}
 use Rattle.std.proofs.lemmas.Option.{slice_get_within, get_or_from_slice_get}
 use Rattle.doc_bits.proofs.ListLemmas.{All_at}
 use Rattle.edit_script.specs.declared.commands.Command.{Command}
-use Rattle.edit_script.specs.declared.commands.Command.TheVariants.{Insert, Erase, Char, Plain, Para, Style, Field, Note, Split, Merge, Sect, Row, StyleChar, StylePara, Save}
+use Rattle.edit_script.specs.declared.commands.Command.TheVariants.{Save}
 use Rattle.doc_edit.specs.Saves.{save_mode, has_mode, save_count, SavesInFull, IsFirstFastSave}
-use Rattle.doc_edit.proofs.EndLemmas.{take_at}
+
+take_at : (commands : List Command) (i : ℕ) (command : Command) → slice_get commands i ≡ Some command → take (i + 1) commands ≡ take i commands ++ command ∷ []
+take_at commands i command at =
+    take_more commands i command (slice_get_within commands i command at)
+    ∙ ap (λ c. take i commands ++ c ∷ []) (get_or_from_slice_get commands i command command at)
 
 -- one command as a count
 abbrev counted_once : Bool → Command → ℕ

@@ -1,76 +1,139 @@
--- How a script ends. It stops at the first command that may not be made, or it is accepted, and its last save counts.
-use Rattle.std.specs.Prelude.{◌≡◌, ℕ, ◌<◌, List, length, slice_get, Bool, true, false, Option, Some, None, ⊤}
+-- How a run ends. It stops at the first command that may not be made, or it is accepted, and its last save counts.
+use Rattle.std.specs.Prelude.{◌≡◌, ◌≢◌, ℕ, ◌+◌, ◌<◌, ◌≤◌, List, length, Bool, true, false, Option, Some, None, ⊤}
+use Rattle.edit_guards.specs.Policies.{Policy, AllGrant, IsFirstRefuser}
 use Rattle.plain_doc.specs.declared.document.Document.{Document}
 use Rattle.cfb_layout.specs.Counts.{most_sectors}
 use Rattle.full_save.specs.Layout.{full_save_image, sectors_of, FitsCompoundFile}
 use Rattle.fast_save.specs.Laws.{IsHeldInFull}
 use Rattle.edit_script.specs.declared.commands.Command.{Command}
 use Rattle.edit_ops.specs.Causes.{IsAcceptedEdit, IsEditFault}
+use Rattle.edit_ops.specs.EditFacts.{edit_facts}
 use Rattle.edit_ops.specs.Laws.{IsCause}
 use Rattle.doc_edit.specs.declared.faults.Stop.{Stop}
-use Rattle.doc_edit.specs.declared.faults.Stop.TheVariants.{Refused, TooLarge}
+use Rattle.doc_edit.specs.declared.faults.Stop.TheVariants.{Refused, Guarded, Sixteenth, TooManyPieces, TooLarge}
 use Rattle.doc_edit.specs.declared.faults.RunFault.{RunFault}
 use Rattle.doc_edit.specs.declared.faults.RunFault.TheVariants.{Stopped, Memory}
 use Rattle.doc_edit.specs.declared.running.Saved.{Saved}
-use Rattle.doc_edit.specs.States.{RunState, state_before}
+use Rattle.doc_edit.specs.Ledgers.{most_pieces_added}
 use Rattle.doc_edit.specs.Saves.{save_mode, save_count}
+use Rattle.doc_edit.specs.States.{RunState, fast_sectors}
+use Rattle.doc_edit.specs.Commands.{Commands, listed, command_at, state_before}
 
--- an edit stops the script where it is refused, for another cause than memory
+-- Profile: the most fast saves in a row, and the most pieces of a file
+abbrev pub most_quick_saves : ℕ
+most_quick_saves = 15
+
+abbrev pub most_pieces : ℕ
+most_pieces = 16384
+
+-- the edit is accepted, and each guard allows it
+pub record IsGrantedEdit (state : RunState) (command : Command) : Type 0 where
+  pub accepted : IsAcceptedEdit state.document command
+  pub granted : AllGrant state.policies (edit_facts state.document command)
+
+-- the edit is accepted, and this guard is the first that does not allow it
+pub record IsGuardedEdit (state : RunState) (command : Command) (guard : ℕ) : Type 0 where
+  pub accepted : IsAcceptedEdit state.document command
+  pub refuser : IsFirstRefuser state.policies (edit_facts state.document command) guard
+
+-- an edit stops the run where it is refused, for another cause than memory; else where a guard does not allow it
 abbrev pub StopsEdit : RunState → Command → Stop → Type 0
 StopsEdit state command (Refused fault) = IsCause fault × IsEditFault state.document command fault
+StopsEdit state command (Guarded guard) = IsGuardedEdit state command guard
+StopsEdit state command (Sixteenth count) = ⊥
+StopsEdit state command (TooManyPieces pieces) = ⊥
 StopsEdit state command (TooLarge sectors) = ⊥
 
 -- a full save stops it where its file needs more sectors than one has
 abbrev pub StopsFullSave : RunState → Stop → Type 0
 StopsFullSave state (Refused fault) = ⊥
-StopsFullSave state (TooLarge sectors) = (most_sectors < sectors_of state.document) × (sectors ≡ sectors_of state.document)
+StopsFullSave state (Guarded guard) = ⊥
+StopsFullSave state (Sixteenth count) = ⊥
+StopsFullSave state (TooManyPieces pieces) = ⊥
+StopsFullSave state (TooLarge sectors) =
+    (most_sectors < sectors_of state.document) × (sectors ≡ sectors_of state.document)
+
+-- a fast save has room for one more command's pieces, and is none too many in a row
+pub record HasRoomFast (state : RunState) : Type 0 where
+  pub few : state.quick_saves ≢ most_quick_saves
+  pub pieces : state.counts.pieces + most_pieces_added ≤ most_pieces
+
+-- a fast save stops it where the file counts fifteen in a row; else where it may have too many pieces; else where the
+-- sectors
+-- that are reckoned are too many
+abbrev pub StopsFastSave : RunState → Stop → Type 0
+StopsFastSave state (Refused fault) = ⊥
+StopsFastSave state (Guarded guard) = ⊥
+StopsFastSave state (Sixteenth count) = (state.quick_saves ≡ most_quick_saves) × (count ≡ state.quick_saves)
+StopsFastSave state (TooManyPieces pieces) =
+    (state.quick_saves ≢ most_quick_saves)
+    × ((most_pieces < state.counts.pieces + most_pieces_added) × (pieces ≡ state.counts.pieces))
+StopsFastSave state (TooLarge sectors) =
+    HasRoomFast state × ((most_sectors < fast_sectors state) × (sectors ≡ fast_sectors state))
+
+-- the fast save is made
+pub record PassesFastSave (state : RunState) : Type 0 where
+  pub room : HasRoomFast state
+  pub fits : fast_sectors state ≤ most_sectors
 
 abbrev pub StopsBy : Option Bool → RunState → Command → Stop → Type 0
 StopsBy None state command stop = StopsEdit state command stop
 StopsBy (Some true) state command stop = StopsFullSave state stop
-StopsBy (Some false) state command stop = ⊥
+StopsBy (Some false) state command stop = StopsFastSave state stop
 
--- the command stops the script, for this cause
+-- the command stops the run, for this cause
 abbrev pub Stops : RunState → Command → Stop → Type 0
 Stops state command stop = StopsBy (save_mode command) state command stop
 
 abbrev pub PassesBy : Option Bool → RunState → Command → Type 0
-PassesBy None state command = IsAcceptedEdit state.document command
+PassesBy None state command = IsGrantedEdit state command
 PassesBy (Some true) state command = FitsCompoundFile state.document
-PassesBy (Some false) state command = ⊥
+PassesBy (Some false) state command = PassesFastSave state
 
--- the command is made: the edit is accepted, the file of the save fits. A fast save neither stops a script nor passes
+-- the command is made
 abbrev pub Passes : RunState → Command → Type 0
 Passes state command = PassesBy (save_mode command) state command
 
--- each command before this number passes
-abbrev pub PassesUpTo : RunState → List Command → ℕ → Type 0
-PassesUpTo start commands i = (k : ℕ) (command : Command) → k < i → slice_get commands k ≡ Some command → Passes (state_before start commands k) command
-
--- the script stops at the command of this number, and at none before it
-pub record StopsAt (start : RunState) (commands : List Command) (i : ℕ) (stop : Stop) : Type 0 where
+-- there is a command of this number, and it passes
+pub record PassesAt (start : RunState) (commands : Commands) (i : ℕ) : Type 0 where
   pub command : Command
-  pub there : slice_get commands i ≡ Some command
+  pub there : command_at commands i (state_before start commands i) ≡ Some command
+  pub passes : Passes (state_before start commands i) command
+
+-- each command before this number passes
+abbrev pub PassesUpTo : RunState → Commands → ℕ → Type 0
+PassesUpTo start commands i = (k : ℕ) → k < i → PassesAt start commands k
+
+-- the run stops at the command of this number, and at none before it
+pub record StopsAt (start : RunState) (commands : Commands) (i : ℕ) (stop : Stop) : Type 0 where
+  pub within : i < commands.count
+  pub command : Command
+  pub there : command_at commands i (state_before start commands i) ≡ Some command
   pub before : PassesUpTo start commands i
   pub stops : Stops (state_before start commands i) command stop
 
--- the script does not stop
-abbrev pub IsAcceptedScript : RunState → List Command → Type 0
-IsAcceptedScript start commands = PassesUpTo start commands (length commands)
+-- the run does not stop
+abbrev pub IsAcceptedRun : RunState → Commands → Type 0
+IsAcceptedRun start commands = PassesUpTo start commands commands.count
 
 -- what has been when all commands are made
-abbrev pub end_state : RunState → List Command → RunState
-end_state start commands = state_before start commands (length commands)
+abbrev pub end_state : RunState → Commands → RunState
+end_state start commands = state_before start commands commands.count
 
--- the script is accepted; these are the bytes of its last save, which are accepted and hold the document after all commands, and
+-- a script does not stop
+abbrev pub IsAcceptedScript : RunState → List Command → Type 0
+IsAcceptedScript start script = IsAcceptedRun start (listed script)
+
+-- the script is accepted; these are the bytes of its last save, which are accepted and hold the document after all
+-- commands, and
 -- the counts of its commands
-pub record IsSavedBy (start : RunState) (commands : List Command) (saved : Saved) : Type 0 where
-  pub accepted : IsAcceptedScript start commands
-  pub image : saved.image ≡ full_save_image (end_state start commands).document
-  pub held : IsHeldInFull (end_state start commands).document
-  pub count : saved.commands ≡ length commands
-  pub fast : saved.saves.fast ≡ save_count false commands
-  pub full : saved.saves.full ≡ save_count true commands
+pub record IsSavedBy (start : RunState) (script : List Command) (saved : Saved) : Type 0 where
+  pub accepted : IsAcceptedScript start script
+  pub image : saved.image ≡ full_save_image (end_state start (listed script)).document
+  pub held : IsHeldInFull (end_state start (listed script)).document
+  pub count : saved.commands ≡ length script
+  pub fast : saved.saves.fast ≡ save_count false script
+  pub full : saved.saves.full ≡ save_count true script
 
 -- the full save of the document, which fits, is accepted and holds it
 pub record IsSavedImage (document : Document) (image : List ℕ) : Type 0 where
@@ -78,12 +141,26 @@ pub record IsSavedImage (document : Document) (image : List ℕ) : Type 0 where
   pub is : image ≡ full_save_image document
   pub held : IsHeldInFull document
 
--- the script stops there, or memory is refused, which is free
-abbrev pub IsRunFault : RunState → List Command → RunFault → Type 0
+-- the run stops there, or memory is refused, which is free
+abbrev pub IsRunFault : RunState → Commands → RunFault → Type 0
 IsRunFault start commands (Stopped index stop) = StopsAt start commands index stop
 IsRunFault start commands Memory = ⊤
 
--- the command of this number stops the script for such a cause
+-- the guards were told of the edits before some command, which all pass
+pub record AreToldBefore (start : RunState) (commands : Commands) (policies : List Policy) : Type 0 where
+  pub index : ℕ
+  pub within : index ≤ commands.count
+  pub passed : PassesUpTo start commands index
+  pub told : policies ≡ (state_before start commands index).policies
+
+-- the guards were told of the edits before the command that stops the run; where memory is refused, of
+-- those before some
+-- command
+abbrev pub AreToldUpTo : RunState → Commands → RunFault → List Policy → Type 0
+AreToldUpTo start commands (Stopped index stop) policies = policies ≡ (state_before start commands index).policies
+AreToldUpTo start commands Memory policies = AreToldBefore start commands policies
+
+-- the command of this number stops the run for such a cause
 abbrev pub HaltsBy : ℕ → (Stop → Type 0) → RunFault → Type 0
 HaltsBy index such (Stopped at stop) = (at ≡ index) × such stop
 HaltsBy index such Memory = ⊤

@@ -1,4 +1,9 @@
-pub mod States
+pub mod Ledgers
 pub mod Saves
+pub mod States
+pub mod Commands
+pub mod Generated
 pub mod Ends
+pub mod Steps
+pub mod GeneratedSaves
 pub mod Laws

@@ -1,9 +1,9 @@
 -- The saves among commands.
-use Rattle.std.specs.Prelude.{◌≡◌, ◌≢◌, ℕ, Bool, true, false, List, All, Option, Some, None, take, slice_get}
+use Rattle.std.specs.Prelude.{◌≡◌, ◌≢◌, ℕ, Bool, false, List, All, Option, Some, None, take, slice_get}
 use Rattle.std.specs.Bool.{beq}
 use Rattle.std.specs.List.{count_by}
 use Rattle.edit_script.specs.declared.commands.Command.{Command}
-use Rattle.edit_script.specs.declared.commands.Command.TheVariants.{Insert, Erase, Char, Plain, Para, Style, Field, Note, Split, Merge, Sect, Row, StyleChar, StylePara, Save}
+use Rattle.edit_script.specs.declared.commands.Command.TheVariants.{Save}
 
 -- the mode of a save: true where it is full; an edit has none
 abbrev pub save_mode : Command → Option Bool

@@ -1,22 +1,101 @@
--- What has been so far when a script is run.
-use Rattle.std.specs.Prelude.{ℕ, List, take}
-use Rattle.std.specs.List.{fold}
+-- What has been so far when commands are run.
+use Rattle.std.specs.Prelude.{ℕ, ◌+◌, Bool, true, false, List, length, Option, Some, None}
+use Rattle.edit_guards.specs.Policies.{Policy, policies_after}
 use Rattle.plain_doc.specs.declared.document.Document.{Document}
+use Rattle.full_save.specs.WordDocument.{full_text, table_stream}
+use Rattle.full_save.specs.Layout.{full_save_image, sectors_of}
 use Rattle.edit_script.specs.declared.commands.Command.{Command}
 use Rattle.edit_ops.specs.Edits.{document_after}
+use Rattle.edit_ops.specs.EditFacts.{edit_facts}
+use Rattle.edit_ops.specs.Runs.{most_runs}
+use Rattle.doc_edit.specs.Ledgers.{Counts, after_edit, after_fast, after_full, sections_set, sectors_reckoned}
+use Rattle.doc_edit.specs.Saves.{save_mode}
 
--- what the commands so far have come to: the document now
+-- what has been since the last full save: fast saves, units that were added, and runs and sections that are reckoned
+pub record Since : Type 0 where
+  pub fast_saves : ℕ
+  pub units : ℕ
+  pub runs : ℕ
+  pub sections : ℕ
+
+abbrev pub nothing_since : Since
+nothing_since = record { fast_saves = 0; units = 0; runs = 0; sections = 0 }
+
+-- what the commands so far have come to: the document now, what the guards allow, the fast saves in a row that the file
+-- counts, the ledgers, the file that was given or last saved in full, and what has been since
 pub record RunState : Type 0 where
   pub document : Document
+  pub policies : List Policy
+  pub quick_saves : ℕ
+  pub counts : Counts
+  pub file : List ℕ
+  pub since : Since
 
--- before the first command
-abbrev pub start_of : Document → RunState
-start_of document = record { document = document }
+-- the ledgers after a full save of the document
+unfoldable pub counts_in_full : Document → Counts
+counts_in_full document =
+    after_full (sectors_of document) (length (full_text document).characters + length (full_text document).paragraphs)
 
--- after one command more
+-- before the first command, on the full save of a document
+abbrev pub start_of : Document → List Policy → RunState
+start_of document policies = record {
+  document = document;
+  policies = policies;
+  quick_saves = 0;
+  counts = counts_in_full document;
+  file = full_save_image document;
+  since = nothing_since;
+}
+
+-- the sectors that are reckoned for a fast save now
+unfoldable pub fast_sectors : RunState → ℕ
+fast_sectors state = sectors_reckoned state.counts (length (table_stream state.document))
+
+-- after an edit that adds so many units
+abbrev pub since_edit : Command → ℕ → Since → Since
+since_edit command units since = record {
+  fast_saves = since.fast_saves;
+  units = since.units + units;
+  runs = since.runs + most_runs command;
+  sections = since.sections + sections_set command;
+}
+
+-- after an edit that is accepted and granted
+abbrev pub edited : RunState → Command → RunState
+edited state command = record {
+  document = document_after state.document command;
+  policies = policies_after state.policies (edit_facts state.document command);
+  quick_saves = state.quick_saves;
+  counts = after_edit command (edit_facts state.document command).units_in state.counts;
+  file = state.file;
+  since = since_edit command (edit_facts state.document command).units_in state.since;
+}
+
+-- after a full save: all is as at a start on it
+abbrev pub saved_in_full : RunState → RunState
+saved_in_full state = start_of state.document state.policies
+
+-- after a fast save
+abbrev pub saved_fast : RunState → RunState
+saved_fast state = record {
+  document = state.document;
+  policies = state.policies;
+  quick_saves = state.quick_saves + 1;
+  counts = after_fast (fast_sectors state) state.counts;
+  file = state.file;
+  since = record {
+    fast_saves = state.since.fast_saves + 1;
+    units = state.since.units;
+    runs = state.since.runs;
+    sections = state.since.sections;
+  };
+}
+
+abbrev pub state_by : Option Bool → RunState → Command → RunState
+state_by None state command = edited state command
+state_by (Some true) state command = saved_in_full state
+state_by (Some false) state command = saved_fast state
+
+-- after one command more that passes
 abbrev pub state_after : RunState → Command → RunState
-state_after state command = record { document = document_after state.document command }
-
--- before the command of this number
-abbrev pub state_before : RunState → List Command → ℕ → RunState
-state_before start commands i = fold state_after start (take i commands)
+state_after state command = state_by (save_mode command) state command

@@ -8,7 +8,16 @@ pub enum Stop {
     /// The edit is refused.
     #[error("the edit is refused: {0}")]
     Refused(EditFault),
-    /// The file of a full save needs so many sectors, which is more than 13,952.
+    /// The edit is accepted, and the guard of this index is the first that does not allow it.
+    #[error("guard {guard} does not allow the edit")]
+    Guarded { guard: usize },
+    /// The file counts so many fast saves in a row, which is as many as it can.
+    #[error("{count} fast saves in a row")]
+    Sixteenth { count: u8 },
+    /// The text may stand in so many pieces, which is too near to 16,384.
+    #[error("{pieces} pieces")]
+    TooManyPieces { pieces: u64 },
+    /// The file of a save needs so many sectors, which is more than 13,952.
     #[error("{sectors} sectors are needed")]
     TooLarge { sectors: u64 },
 }

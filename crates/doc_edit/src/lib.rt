@@ -1,12 +1,18 @@
-//! Scripts run over a document: command by command, up to the first one that stops the script.
+//! Commands run over a document: one by one, up to the first one that stops the run.
 #![tactic(auto)]
 
 mod faults;
+mod generated;
 mod laws;
 mod running;
 mod saves;
+mod source;
 
 pub use faults::{RunFault, Stop};
-pub use laws::script_ends_once;
+pub use generated::{generated_command, generated_count};
+pub use laws::{
+    edits_add_few_runs, generated_saves_are_small, script_ends_once,
+    small_documents_have_small_saves, small_saves_are_made,
+};
 pub use running::{Saved, run_script};
 pub use saves::{SaveCounts, count_saves, first_fast_save};

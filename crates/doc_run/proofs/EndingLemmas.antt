@@ -1,5 +1,5 @@
 -- How the ways to end come about.
-use Rattle.std.proofs.Common.{◌≡◌, ◌≢◌, ◌⊎◌, ◌∙◌, inl, inr, ap, sym, subst, refl, ℕ, List, Option, arith}
+use Rattle.std.proofs.Common.{◌≡◌, ◌≢◌, ◌⊎◌, ◌∙◌, inl, inr, ap, sym, subst, ℕ, ◌<◌, List, Option, arith}
 use Rattle.doc_bits.specs.Rules.{Rules}
 use Rattle.doc_bits.specs.Places.{Place}
 use Rattle.doc_outer.specs.Counts.{GoesOn}
@@ -19,10 +19,15 @@ use Rattle.doc_run.specs.declared.stage.Taken.{Taken}
 use Rattle.doc_run.specs.declared.stage.Taken.TheVariants.{Whole}
 use Rattle.doc_run.specs.declared.stage.Reached.{Reached}
 use Rattle.doc_run.specs.declared.stage.Reached.TheVariants as reached
+use Rattle.edit_script.specs.declared.commands.Command.{Command}
+use Rattle.doc_edit.specs.declared.faults.Stop.{Stop}
+use Rattle.doc_edit.specs.declared.faults.Stop.TheVariants as stops
+use Rattle.doc_edit.specs.States.{RunState}
 use Rattle.doc_run.specs.Lines.{too_large_line}
-use Rattle.doc_run.specs.Outcomes.{Outcome, says, HasCause}
+use Rattle.doc_run.specs.Outcomes.{Outcome, says, puts, HasCause}
 use Rattle.doc_run.specs.Stages.{IsRefused, Judges, ReadsFile}
 use Rattle.doc_run.specs.Reading.{IsTaken, IsOpenedAt, EndsAt, IsReached, IsJudged, status_reached}
+use Rattle.doc_run.specs.Edits.{stop_status, Edits, EditsBy}
 use Rattle.doc_run.specs.Endings.{NamesRule, ListsStreams, Shows, Saves, Compares}
 
 -- the line of a refusal names the first broken rule
@@ -68,39 +73,63 @@ ends_there name held next outcome (inr (inr (inl over))) = inr (inr (inl over))
 ends_there name held next outcome (inr (inr (inr r))) =
     inr (inr (inr (record { bytes = r.bytes; told = r.told; goes_on = inl r.refused })))
 
--- the statuses that a stage after reading may answer
+-- a status that a stage after reading may answer: none of those for what happens outside, 3 to 6
 abbrev pub IsAfterReading : ℕ → Type 0
-IsAfterReading status = (status ≡ 0) ⊎ ((status ≡ 1) ⊎ ((status ≡ 8) ⊎ ((status ≡ 9) ⊎ (status ≡ 11))))
+IsAfterReading status = (status < 3) ⊎ (6 < status)
+
+inside : (status : ℕ) (outcome : Outcome) → outcome.status ≡ status → IsAfterReading status → IsAfterReading outcome.status
+inside status outcome e is = subst (λ n. IsAfterReading n) (sym e) is
 
 after_says : (status : ℕ) (text : List ℕ) (outcome : Outcome) → outcome ≡ says status text → outcome.status ≡ status
 after_says status text outcome e = ap (λ (o : Outcome). o.status) e
 
+-- what prints alone after reading
+pub said_inside : (status : ℕ) (text : List ℕ) (outcome : Outcome) → outcome ≡ says status text → IsAfterReading status → IsAfterReading outcome.status
+said_inside status text outcome e is = inside status outcome (after_says status text outcome e) is
+
+-- what puts
+pub put_inside : (text name bytes : List ℕ) (outcome : Outcome) → outcome ≡ puts text name bytes → IsAfterReading outcome.status
+put_inside text name bytes outcome e = inside 0 outcome (ap (λ (o : Outcome). o.status) e) (inl (omega arith))
+
 pub streams_status : (rules : Rules Place) (name file : List ℕ) (outcome : Outcome) → Judges rules name (ListsStreams file) outcome → IsAfterReading outcome.status
-streams_status rules name file outcome (inl x) = inr (inl (after_says 1 _ outcome x.ends))
-streams_status rules name file outcome (inr x) = let l = x.1 in inl (after_says 0 _ outcome l.ends)
+streams_status rules name file outcome (inl x) = said_inside 1 _ outcome x.ends (inl (omega arith))
+streams_status rules name file outcome (inr x) = let l = x.1 in said_inside 0 _ outcome l.ends (inl (omega arith))
 
 pub shows_status : (view : View) (document : Document) (outcome : Outcome) → Shows view document outcome → IsAfterReading outcome.status
-shows_status Text document outcome s = inl (after_says 0 _ outcome s)
-shows_status Check document outcome s = inl (after_says 0 _ outcome s)
-shows_status Show document outcome s = inl (after_says 0 _ outcome s)
-shows_status (Props pos) document outcome (inl s) = inl (after_says 0 _ outcome s.ends)
-shows_status (Props pos) document outcome (inr s) = inr (inr (inl (after_says 8 _ outcome s.ends)))
+shows_status Text document outcome s = said_inside 0 _ outcome s (inl (omega arith))
+shows_status Check document outcome s = said_inside 0 _ outcome s (inl (omega arith))
+shows_status Show document outcome s = said_inside 0 _ outcome s (inl (omega arith))
+shows_status (Props pos) document outcome (inl s) = said_inside 0 _ outcome s.ends (inl (omega arith))
+shows_status (Props pos) document outcome (inr s) = said_inside 8 _ outcome s.ends (inr (omega arith))
 
 pub saves_status : (out : List ℕ) (document : Document) (outcome : Outcome) → Saves out document outcome → IsAfterReading outcome.status
-saves_status out document outcome (inl s) = inl (ap (λ (o : Outcome). o.status) s.ends)
-saves_status out document outcome (inr s) = inr (inr (inr (inl (after_says 9 _ outcome s.ends))))
+saves_status out document outcome (inl s) = put_inside _ _ _ outcome s.ends
+saves_status out document outcome (inr s) = said_inside 9 _ outcome s.ends (inr (omega arith))
 
 pub compares_status : (first second : Document) (outcome : Outcome) → Compares first second outcome → IsAfterReading outcome.status
-compares_status first second outcome (inl c) = inl (after_says 0 _ outcome c.1)
-compares_status first second outcome (inr c) = inr (inr (inr (inr (after_says 11 _ outcome c.1))))
+compares_status first second outcome (inl c) = said_inside 0 _ outcome c.1 (inl (omega arith))
+compares_status first second outcome (inr c) = said_inside 11 _ outcome c.1 (inr (omega arith))
+
+stops_inside : (stop : Stop) → IsAfterReading (stop_status stop)
+stops_inside (stops.Refused fault) = inr (omega arith)
+stops_inside (stops.Guarded guard) = inr (omega arith)
+stops_inside (stops.Sixteenth count) = inr (omega arith)
+stops_inside (stops.TooManyPieces pieces) = inr (omega arith)
+stops_inside (stops.TooLarge sectors) = inr (omega arith)
+
+pub edits_status : (start : RunState) (commands : List Command) (out : List ℕ) (outcome : Outcome) → Edits start commands out outcome → IsAfterReading outcome.status
+edits_status start commands out outcome (inl s) = said_inside (stop_status s.stop) _ outcome s.ends (stops_inside s.stop)
+edits_status start commands out outcome (inr s) = put_inside _ _ _ outcome s.ends
+
+pub edits_by_status : (start : RunState) (out bytes : List ℕ) (outcome : Outcome) → EditsBy start out bytes outcome → IsAfterReading outcome.status
+edits_by_status start out bytes outcome (inl x) = said_inside 7 _ outcome x.ends (inr (omega arith))
+edits_by_status start out bytes outcome (inr (inl x)) = said_inside 7 _ outcome x.ends (inr (omega arith))
+edits_by_status start out bytes outcome (inr (inr x)) = edits_status start x.commands out outcome x.edits
 
 -- such a status is none of what happens outside
 pub after_reading_inside : (status : ℕ) → IsAfterReading status → (status ≢ 5) × (status ≢ 6)
 after_reading_inside status (inl e) = (λ s. omega (arith, e, s), λ s. omega (arith, e, s))
-after_reading_inside status (inr (inl e)) = (λ s. omega (arith, e, s), λ s. omega (arith, e, s))
-after_reading_inside status (inr (inr (inl e))) = (λ s. omega (arith, e, s), λ s. omega (arith, e, s))
-after_reading_inside status (inr (inr (inr (inl e)))) = (λ s. omega (arith, e, s), λ s. omega (arith, e, s))
-after_reading_inside status (inr (inr (inr (inr e)))) = (λ s. omega (arith, e, s), λ s. omega (arith, e, s))
+after_reading_inside status (inr e) = (λ s. omega (arith, e, s), λ s. omega (arith, e, s))
 
 no_cause : (status a b c d : ℕ) → (status ≡ 3 → ⊥) → (status ≡ 4 → ⊥) → HasCause status a b c d
 no_cause status a b c d three four = record { missing = λ s. absurd (three s); shelf_fault = λ s. absurd (four s) }
@@ -108,16 +137,13 @@ no_cause status a b c d three four = record { missing = λ s. absurd (three s); 
 -- and needs no cause
 pub after_reading_caused : (status a b c d : ℕ) → IsAfterReading status → HasCause status a b c d
 after_reading_caused status a b c d (inl e) = no_cause status a b c d (λ s. omega (arith, e, s)) (λ s. omega (arith, e, s))
-after_reading_caused status a b c d (inr (inl e)) = no_cause status a b c d (λ s. omega (arith, e, s)) (λ s. omega (arith, e, s))
-after_reading_caused status a b c d (inr (inr (inl e))) = no_cause status a b c d (λ s. omega (arith, e, s)) (λ s. omega (arith, e, s))
-after_reading_caused status a b c d (inr (inr (inr (inl e)))) = no_cause status a b c d (λ s. omega (arith, e, s)) (λ s. omega (arith, e, s))
-after_reading_caused status a b c d (inr (inr (inr (inr e)))) = no_cause status a b c d (λ s. omega (arith, e, s)) (λ s. omega (arith, e, s))
+after_reading_caused status a b c d (inr e) = no_cause status a b c d (λ s. omega (arith, e, s)) (λ s. omega (arith, e, s))
 
 -- judging needs no cause
 pub judged_caused : (name file : List ℕ) (r : Reached) (a b c d : ℕ) → IsJudged name file r → HasCause (status_reached r) a b c d
-judged_caused name file (reached.Opened document) a b c d j = after_reading_caused 0 a b c d (inl refl)
+judged_caused name file (reached.Opened document) a b c d j = after_reading_caused 0 a b c d (inl (omega arith))
 judged_caused name file (reached.Stopped ending) a b c d j =
-    after_reading_caused ending.status a b c d (inr (inl (after_says 1 _ ending j.ends)))
+    after_reading_caused ending.status a b c d (said_inside 1 _ ending j.ends (inl (omega arith)))
 
 -- a run that ends at a name has a status of its own
 pub ends_at_inside : (name : List ℕ) (held : Option Files) (outcome : Outcome) → EndsAt name held outcome → (outcome.status ≢ 5) × (outcome.status ≢ 6)
@@ -126,9 +152,9 @@ ends_at_inside name held outcome (inl x) =
 ends_at_inside name held outcome (inr (inl x)) =
     let e = after_says 4 _ outcome x in (λ s. omega (arith, e, s), λ s. omega (arith, e, s))
 ends_at_inside name held outcome (inr (inr (inl x))) =
-    after_reading_inside outcome.status (inr (inl (after_says 1 _ outcome x.ends)))
+    after_reading_inside outcome.status (said_inside 1 _ outcome x.ends (inl (omega arith)))
 ends_at_inside name held outcome (inr (inr (inr x))) =
-    let r = x.refused in after_reading_inside outcome.status (inr (inl (after_says 1 _ outcome r.ends)))
+    let r = x.refused in after_reading_inside outcome.status (said_inside 1 _ outcome r.ends (inl (omega arith)))
 
 -- a cause in a later part of a run is a cause in the run
 pub cause_later : (status m0 m1 m2 f0 f1 f2 : ℕ) → GoesOn m0 m1 → GoesOn f0 f1 → HasCause status m1 m2 f1 f2 → HasCause status m0 m2 f0 f2

@@ -17,12 +17,15 @@ use Rattle.doc_read.proofs.OneDocument.{document_one, all_single}
 use Rattle.doc_show.proofs.OneTextLemmas.{lines_one}
 use Rattle.doc_run.specs.declared.command.View.{View}
 use Rattle.doc_run.specs.declared.command.View.TheVariants.{Text, Check, Show, Props}
-use Rattle.doc_run.specs.Commands.{Request, streams, look, full, compare}
+use Rattle.doc_run.specs.Commands.{Request, streams, look, full, compare, edit}
 use Rattle.doc_run.specs.Lines.{rule_line, missing_line, stream_lines}
 use Rattle.doc_run.specs.Outcomes.{Outcome, says}
 use Rattle.doc_run.specs.Stages.{IsRefused, Judges, ReadsFile}
+use Rattle.doc_run.specs.Edits.{EditsFile}
 use Rattle.doc_run.specs.Endings.{stream_rules, IsListingOf, ListsStreams, ShowsItem, HasNoPosition, Shows, ShowsFile, Saves, SavesFile, Compares, ComparesFiles, ReadsSecond, Ends, IsEnding}
 use Rattle.doc_run.proofs.CommandLemmas.{command_one}
+use Rattle.edit_guards.specs.Policies.{Policy}
+use Rattle.doc_run.proofs.EditLemmas.{SaysEdit, edit_says_one, edit_settled}
 
 -- one refusal
 refused_one : (rules : Rules Place) (name : List ℕ) (a b : Outcome) → IsSingle rules → IsRefused rules name a → IsRefused rules name b → a ≡ b
@@ -160,33 +163,43 @@ says_map name rules P Q None outcome step said = said
 says_map name rules P Q (Some bytes) outcome step (inl x) = inl x
 says_map name rules P Q (Some bytes) outcome step (inr x) = inr (x.0, step bytes x.1)
 
-both_settled : (first second : List ℕ) (files : Files) (outcome : Outcome) → Ends (compare first second) (Some files) outcome → outcome.status ≢ 4 → Says first all_rules (SaysSecond files second) (file_at files first) outcome
-both_settled first second files outcome ends calm =
+both_settled : (policies : List Policy) (first second : List ℕ) (files : Files) (outcome : Outcome) → Ends policies (compare first second) (Some files) outcome → outcome.status ≢ 4 → Says first all_rules (SaysSecond files second) (file_at files first) outcome
+both_settled policies first second files outcome ends calm =
     let next = ReadsSecond second (Some files) in
     says_map first all_rules next (SaysSecond files second) (file_at files first) outcome
     (λ one reads. settled second files all_rules (ComparesFiles one) outcome all_break reads calm)
     (settled first files all_rules next outcome all_break ends calm)
 
+pub edit_file_settled : (policies : List Policy) (file script out : List ℕ) (files : Files) (outcome : Outcome) → Ends policies (edit file script out) (Some files) outcome → outcome.status ≢ 4 → Says file all_rules (SaysEdit policies files script out) (file_at files file) outcome
+edit_file_settled policies file script out files outcome ends calm =
+    let next = EditsFile policies script out (Some files) in
+    says_map file all_rules next (SaysEdit policies files script out) (file_at files file) outcome
+    (λ bytes edits. edit_settled policies files script out bytes outcome calm edits)
+    (settled file files all_rules next outcome all_break ends calm)
+
 -- one ending of a command
-ends_one : (command : Request) (files : Files) (a b : Outcome) → Ends command (Some files) a → Ends command (Some files) b → a.status ≢ 4 → b.status ≢ 4 → a ≡ b
-ends_one (streams file) files a b x y ca cb =
+ends_one : (policies : List Policy) (command : Request) (files : Files) (a b : Outcome) → Ends policies command (Some files) a → Ends policies command (Some files) b → a.status ≢ 4 → b.status ≢ 4 → a ≡ b
+ends_one policies (streams file) files a b x y ca cb =
     says_one file stream_rules ListsStreams (file_at files file) a b streams_single lists_one
     (settled file files stream_rules ListsStreams a streams_break x ca) (settled file files stream_rules ListsStreams b streams_break y cb)
-ends_one (look view file) files a b x y ca cb =
+ends_one policies (look view file) files a b x y ca cb =
     says_one file all_rules (ShowsFile view) (file_at files file) a b all_single (file_one view)
     (settled file files all_rules (ShowsFile view) a all_break x ca) (settled file files all_rules (ShowsFile view) b all_break y cb)
-ends_one (full file out) files a b x y ca cb =
+ends_one policies (full file out) files a b x y ca cb =
     says_one file all_rules (SavesFile out) (file_at files file) a b all_single (file_saved_one out)
     (settled file files all_rules (SavesFile out) a all_break x ca) (settled file files all_rules (SavesFile out) b all_break y cb)
-ends_one (compare first second) files a b x y ca cb =
+ends_one policies (compare first second) files a b x y ca cb =
     says_one first all_rules (SaysSecond files second) (file_at files first) a b all_single (second_one files second)
-    (both_settled first second files a x ca) (both_settled first second files b y cb)
+    (both_settled policies first second files a x ca) (both_settled policies first second files b y cb)
+ends_one policies (edit file script out) files a b x y ca cb =
+    says_one file all_rules (SaysEdit policies files script out) (file_at files file) a b all_single (edit_says_one policies files script out)
+    (edit_file_settled policies file script out files a x ca) (edit_file_settled policies file script out files b y cb)
 
 -- one ending of a run
-pub ending_one : (words : List (List ℕ)) (files : Files) (a b : Outcome) → IsEnding words (Some files) a → IsEnding words (Some files) b → a.status ≢ 4 → b.status ≢ 4 → a ≡ b
-ending_one words files a b (inl x) (inl y) ca cb = x.ends ∙ sym y.ends
-ending_one words files a b (inl x) (inr y) ca cb = absurd (x.none y.command y.asked)
-ending_one words files a b (inr x) (inl y) ca cb = absurd (y.none x.command x.asked)
-ending_one words files a b (inr x) (inr y) ca cb =
+pub ending_one : (policies : List Policy) (words : List (List ℕ)) (files : Files) (a b : Outcome) → IsEnding policies words (Some files) a → IsEnding policies words (Some files) b → a.status ≢ 4 → b.status ≢ 4 → a ≡ b
+ending_one policies words files a b (inl x) (inl y) ca cb = x.ends ∙ sym y.ends
+ending_one policies words files a b (inl x) (inr y) ca cb = absurd (x.none y.command y.asked)
+ending_one policies words files a b (inr x) (inl y) ca cb = absurd (y.none x.command x.asked)
+ending_one policies words files a b (inr x) (inr y) ca cb =
     let e : x.command ≡ y.command = command_one words x.command y.command x.asked y.asked in
-    ends_one y.command files a b (subst (λ c. Ends c (Some files) a) e x.ends) y.ends ca cb
+    ends_one policies y.command files a b (subst (λ c. Ends policies c (Some files) a) e x.ends) y.ends ca cb

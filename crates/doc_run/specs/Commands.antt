@@ -16,6 +16,8 @@ pub data Request : Type 0 where
   full : (file out : List ℕ) → Request
   -- compare the documents of two files
   compare : (first second : List ℕ) → Request
+  -- edit the document of a file by a script, and put its last save under a name
+  edit : (file script out : List ℕ) → Request
 
 -- the command that the program keeps
 abbrev pub request_of : asked.Command → Request
@@ -23,6 +25,7 @@ request_of (asked_for.Streams file) = streams file.now
 request_of (asked_for.Look view file) = look view file.now
 request_of (asked_for.Full file out) = full file.now out.now
 request_of (asked_for.Equal first second) = compare first.now second.now
+request_of (asked_for.Edit file script out) = edit file.now script.now out.now
 
 -- the number of a word of one to nine decimal digits
 pub record IsPosition (word : List ℕ) (pos : ℕ) : Type 0 where
@@ -49,6 +52,7 @@ IsCommand words (streams file) = words ≡ codes "streams" ∷ file ∷ []
 IsCommand words (look view file) = AsksForView words view file
 IsCommand words (full file out) = words ≡ codes "full" ∷ file ∷ out ∷ []
 IsCommand words (compare first second) = words ≡ codes "equal" ∷ first ∷ second ∷ []
+IsCommand words (edit file script out) = words ≡ codes "edit" ∷ file ∷ script ∷ out ∷ []
 
 -- the words are no command
 abbrev pub IsNoCommand : List (List ℕ) → Type 0
@@ -64,3 +68,4 @@ PutsUnder (streams file) name = ⊥
 PutsUnder (look view file) name = ⊥
 PutsUnder (full file out) name = name ≡ out
 PutsUnder (compare first second) name = ⊥
+PutsUnder (edit file script out) name = name ≡ out

@@ -1,5 +1,5 @@
 -- When a run is to give the defined output.
-use Rattle.std.specs.Prelude.{◌≡◌, ◌<◌, ℕ, List, Some, length, ⊤}
+use Rattle.std.specs.Prelude.{◌≡◌, ◌<◌, ◌≤◌, ℕ, List, Some, length, ⊤}
 use Rattle.doc_bits.specs.Rules.{Rules, Hold}
 use Rattle.doc_bits.specs.Places.{Place}
 use Rattle.doc_outer.specs.Held.{Files, file_at}
@@ -8,7 +8,14 @@ use Rattle.doc_read.specs.Holds.{HoldsDocument, all_rules}
 use Rattle.doc_run.specs.declared.command.View.{View}
 use Rattle.doc_run.specs.declared.command.View.TheVariants.{Text, Check, Show, Props}
 use Rattle.full_save.specs.Layout.{FitsCompoundFile}
-use Rattle.doc_run.specs.Commands.{Request, streams, look, full, compare}
+use Rattle.doc_run.specs.Commands.{Request, streams, look, full, compare, edit}
+use Rattle.edit_script.specs.declared.commands.Command.{Command}
+use Rattle.edit_script.specs.Scripts.{IsScript}
+use Rattle.edit_guards.specs.Policies.{Policy}
+use Rattle.doc_edit.specs.States.{start_of}
+use Rattle.doc_edit.specs.Saves.{SavesInFull}
+use Rattle.doc_edit.specs.Ends.{IsAcceptedScript}
+use Rattle.doc_run.specs.Stages.{longest_file}
 use Rattle.doc_run.specs.Endings.{stream_rules}
 
 -- the name holds bytes that break none of the rules
@@ -40,9 +47,21 @@ pub record AreEqualFiles (files : Files) (first second : List ℕ) : Type 0 wher
   pub right_second : HoldsRight all_rules files second
   pub same : (one other : Document) → HoldsDocument right_first.bytes one → HoldsDocument right_second.bytes other → one ≡ other
 
+-- the document of the file is accepted, and the script is one that it accepts: each edit is granted by all policies too
+pub record IsEditable (policies : List Policy) (files : Files) (file script : List ℕ) : Type 0 where
+  pub right : HoldsRight all_rules files file
+  pub bytes : List ℕ
+  pub there : file_at files script ≡ Some bytes
+  pub short : length bytes ≤ longest_file
+  pub commands : List Command
+  pub is : IsScript bytes commands
+  pub full : SavesInFull commands
+  pub accepted : (document : Document) → HoldsDocument right.bytes document → IsAcceptedScript (start_of document policies) commands
+
 -- nothing that the command names stands in its way
-abbrev pub CanServe : Request → Files → Type 0
-CanServe (streams file) files = HoldsRight stream_rules files file
-CanServe (look view file) files = IsViewable view files file
-CanServe (full file out) files = IsSavable files file
-CanServe (compare first second) files = AreEqualFiles files first second
+abbrev pub CanServe : List Policy → Request → Files → Type 0
+CanServe policies (streams file) files = HoldsRight stream_rules files file
+CanServe policies (look view file) files = IsViewable view files file
+CanServe policies (full file out) files = IsSavable files file
+CanServe policies (compare first second) files = AreEqualFiles files first second
+CanServe policies (edit file script out) files = IsEditable policies files file script

@@ -18,10 +18,12 @@ use Rattle.doc_run.specs.declared.command.View.{View}
 use Rattle.doc_run.specs.declared.command.View.TheVariants.{Text, Check, Show, Props}
 use Rattle.cfb_layout.specs.Counts.{most_sectors}
 use Rattle.full_save.specs.Layout.{full_save_image, sectors_of, FitsCompoundFile}
-use Rattle.doc_run.specs.Commands.{Request, streams, look, full, compare, IsCommand, IsNoCommand}
+use Rattle.doc_run.specs.Commands.{Request, streams, look, full, compare, edit, IsCommand, IsNoCommand}
 use Rattle.doc_run.specs.Lines.{usage_line, rule_line, position_line, full_line, too_large_line, equal_line, different_line, stream_lines}
 use Rattle.doc_run.specs.Outcomes.{Outcome, says, puts}
 use Rattle.doc_run.specs.Stages.{ReadsFile}
+use Rattle.edit_guards.specs.Policies.{Policy}
+use Rattle.doc_run.specs.Edits.{EditsFile}
 
 -- the rules of a container, by their places in the file
 abbrev pub stream_rules : List ℕ → Rules Place
@@ -106,12 +108,13 @@ pub record ComparesFiles (one other : List ℕ) (outcome : Outcome) : Type 0 whe
 abbrev pub ReadsSecond : (second : List ℕ) → Option Files → (first_file : List ℕ) → Outcome → Type 0
 ReadsSecond second held first_file = ReadsFile second held all_rules (ComparesFiles first_file)
 
--- how a command ends
-abbrev pub Ends : Request → Option Files → Outcome → Type 0
-Ends (streams file) held = ReadsFile file held stream_rules ListsStreams
-Ends (look view file) held = ReadsFile file held all_rules (ShowsFile view)
-Ends (full file out) held = ReadsFile file held all_rules (SavesFile out)
-Ends (compare first second) held = ReadsFile first held all_rules (ReadsSecond second held)
+-- how a command ends, under the guards' policies
+abbrev pub Ends : List Policy → Request → Option Files → Outcome → Type 0
+Ends policies (streams file) held = ReadsFile file held stream_rules ListsStreams
+Ends policies (look view file) held = ReadsFile file held all_rules (ShowsFile view)
+Ends policies (full file out) held = ReadsFile file held all_rules (SavesFile out)
+Ends policies (compare first second) held = ReadsFile first held all_rules (ReadsSecond second held)
+Ends policies (edit file script out) held = ReadsFile file held all_rules (EditsFile policies script out held)
 
 -- the words are no command
 pub record IsUsage (words : List (List ℕ)) (outcome : Outcome) : Type 0 where
@@ -119,16 +122,16 @@ pub record IsUsage (words : List (List ℕ)) (outcome : Outcome) : Type 0 where
   pub ends : outcome ≡ says 2 usage_line
 
 -- the words are a command, which ends so
-pub record IsServed (words : List (List ℕ)) (held : Option Files) (outcome : Outcome) : Type 0 where
+pub record IsServed (policies : List Policy) (words : List (List ℕ)) (held : Option Files) (outcome : Outcome) : Type 0 where
   pub command : Request
   pub asked : IsCommand words command
-  pub ends : Ends command held outcome
+  pub ends : Ends policies command held outcome
 
--- a run over these words and this shelf may end so
-abbrev pub IsEnding : List (List ℕ) → Option Files → Outcome → Type 0
-IsEnding words held outcome = IsUsage words outcome ⊎ IsServed words held outcome
+-- a run over these words and this shelf, under the guards' policies, may end so
+abbrev pub IsEnding : List Policy → List (List ℕ) → Option Files → Outcome → Type 0
+IsEnding policies words held outcome = IsUsage words outcome ⊎ IsServed policies words held outcome
 
 -- where what names hold is told, a run has one outcome, unless the shelf fails
 abbrev pub EndingIsOne : Type 0
 EndingIsOne =
-    (words : List (List ℕ)) (files : Files) (a b : Outcome) → IsEnding words (Some files) a → IsEnding words (Some files) b → a.status ≢ 4 → b.status ≢ 4 → a ≡ b
+    (policies : List Policy) (words : List (List ℕ)) (files : Files) (a b : Outcome) → IsEnding policies words (Some files) a → IsEnding policies words (Some files) b → a.status ≢ 4 → b.status ≢ 4 → a ≡ b

@@ -1,7 +1,9 @@
 pub mod Commands
 pub mod Lines
+pub mod EditLines
 pub mod Outcomes
 pub mod Stages
 pub mod Reading
+pub mod Edits
 pub mod Endings
 pub mod Completeness

@@ -1,5 +1,5 @@
 -- What reading a name, and opening the document of its file, came to.
-use Rattle.std.specs.Prelude.{◌⊎◌, ℕ, List, Option}
+use Rattle.std.specs.Prelude.{◌⊎◌, ℕ, ◌≤◌, List, length, Option, ⊤}
 use Rattle.doc_bits.specs.Rules.{Hold}
 use Rattle.doc_outer.specs.Held.{Files, Told, IsLonger, IsWhole}
 use Rattle.plain_doc.specs.declared.document.Document.{Document}
@@ -17,6 +17,12 @@ abbrev pub IsTaken : (name : List ℕ) → Option Files → Taken → Type 0
 IsTaken name held (taken.Whole bytes) = Told held name (IsWhole bytes)
 IsTaken name held taken.Overlong = Told held name (IsLonger longest_file)
 IsTaken name held (taken.Stopped ending) = IsMissing name held ending ⊎ IsShelfFault ending
+
+-- bytes that were read are no more than a file has
+abbrev pub IsShort : Taken → Type 0
+IsShort (taken.Whole bytes) = length bytes ≤ longest_file
+IsShort taken.Overlong = ⊤
+IsShort (taken.Stopped ending) = ⊤
 
 -- the status of a run that reading ends
 abbrev pub status_taken : Taken → ℕ

@@ -20,13 +20,30 @@ pub enum View {
 #[derive(Clone, Copy)]
 pub enum Command<'a> {
     /// List the streams of the root.
-    Streams { file: &'a str },
+    Streams {
+        file: &'a str,
+    },
     /// Look at the document of a file.
-    Look { view: View, file: &'a str },
+    Look {
+        view: View,
+        file: &'a str,
+    },
     /// Put the full save of the document of a file under a name.
-    Full { file: &'a str, out: &'a str },
+    Full {
+        file: &'a str,
+        out: &'a str,
+    },
     /// Compare the documents of two files.
-    Equal { first: &'a str, second: &'a str },
+    Equal {
+        first: &'a str,
+        second: &'a str,
+    },
+    /// Edit the document of a file by a script, and put its last save under a name.
+    Edit {
+        file: &'a str,
+        script: &'a str,
+        out: &'a str,
+    },
 }
 
 /// The most digits of a position.
@@ -41,6 +58,9 @@ pub(crate) fn command_of(words: &[String]) -> Option<Command<'_>>
     match words {
         [word, file] => command_on(word.as_str(), file.as_str()),
         [word, first, second] => { command_on_two(word.as_str(), first.as_str(), second.as_str()) }
+        [word, file, script, out] => {
+            command_on_three(word.as_str(), file.as_str(), script.as_str(), out.as_str())
+        }
         _ => None,
     }
 }
@@ -78,6 +98,24 @@ fn command_on_two<'a>(word: &str, first: &'a str, second: &'a str) -> Option<Com
         view: View::Props(pos),
         file: first,
     })
+}
+
+/// The command that a word names, where three words stand behind it.
+fn command_on_three<'a>(
+    word: &str,
+    file: &'a str,
+    script: &'a str,
+    out: &'a str,
+) -> Option<Command<'a>>
+    ensures { MatchOption result
+        (IsNoCommand (word.now ∷ file.now ∷ script.now ∷ out.now ∷ []))
+        (λ command. IsCommand (word.now ∷ file.now ∷ script.now ∷ out.now ∷ []) (request_of command)) }
+{
+    if word == "edit" {
+        Some(Command::Edit { file, script, out })
+    } else {
+        None
+    }
 }
 
 /// The view that a word names, where it asks for no more than a file.

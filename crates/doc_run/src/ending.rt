@@ -30,11 +30,20 @@ pub const STATUS_SINK_FAULT: u8 = 5;
 /// There was no memory.
 pub const STATUS_MEMORY: u8 = 6;
 
+/// Bytes are no script.
+pub const STATUS_SCRIPT: u8 = 7;
+
 /// The main text has no such position.
 pub const STATUS_POSITION: u8 = 8;
 
+/// An edit of a script is refused.
+pub const STATUS_EDIT: u8 = 8;
+
 /// A save needs more than a file has.
 pub const STATUS_SAVE: u8 = 9;
+
+/// A guard does not allow an edit.
+pub const STATUS_GUARD: u8 = 10;
 
 /// Two documents differ.
 pub const STATUS_DIFFERENT: u8 = 11;

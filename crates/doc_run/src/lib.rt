@@ -3,6 +3,8 @@
 #![tactic(auto)]
 
 mod command;
+mod edit;
+mod edit_lines;
 mod ending;
 mod lines;
 mod listing;
@@ -13,7 +15,8 @@ mod stage;
 
 pub use command::{Command, View};
 pub use ending::{
-    STATUS_DIFFERENT, STATUS_DONE, STATUS_MEMORY, STATUS_MISSING, STATUS_POSITION, STATUS_REFUSED,
-    STATUS_SAVE, STATUS_SHELF_FAULT, STATUS_SINK_FAULT, STATUS_USAGE,
+    STATUS_DIFFERENT, STATUS_DONE, STATUS_EDIT, STATUS_MEMORY, STATUS_MISSING, STATUS_POSITION,
+    STATUS_REFUSED, STATUS_SAVE, STATUS_SCRIPT, STATUS_SHELF_FAULT, STATUS_SINK_FAULT,
+    STATUS_USAGE,
 };
 pub use run::docbin_run;

@@ -1,7 +1,10 @@
 // The lines that a run prints.
 ghost use Rattle.std.specs.Prelude.{◌≡◌, IfOk};
 ghost use Rattle.std.specs.String.{string_bytes};
-ghost use Rattle.doc_run.specs.Lines.{usage_line as usage_of, rule_line as rule_of, missing_line as missing_of, shelf_fault_line as shelf_fault_of, position_line as position_of, full_line as full_of, too_large_line as too_large_of, equal_line as equal_of, different_line as different_of, place_name};
+ghost use Rattle.doc_run.specs.Lines.{usage_line as usage_of, rule_line as rule_of, missing_line as missing_of};
+ghost use Rattle.doc_run.specs.Lines.{shelf_fault_line as shelf_fault_of, position_line as position_of};
+ghost use Rattle.doc_run.specs.Lines.{full_line as full_of, too_large_line as too_large_of, equal_line as equal_of};
+ghost use Rattle.doc_run.specs.Lines.{different_line as different_of, place_name};
 
 use doc_bits::{Memory, Text, Where};
 use std::alloc::Global;
@@ -12,7 +15,8 @@ pub(crate) fn usage_line(alloc: Global) -> Result<Text, Memory>
 {
     let line = String::from_str(
         alloc,
-        "usage: docbin text FILE | streams FILE | check FILE | show FILE | props FILE POS | full FILE OUT | equal A B\n",
+        "usage: docbin text FILE | streams FILE | check FILE | show FILE | props FILE POS | full FILE OUT \
+         | equal A B | edit FILE SCRIPT OUT\n",
     )?;
     Ok(Text::from_string(line))
 }
@@ -33,7 +37,7 @@ pub(crate) fn rule_line(
 }
 
 /// How a place is named, without its offset.
-fn part_name(alloc: Global, part: Where) -> Result<String, Memory>
+pub(crate) fn part_name(alloc: Global, part: Where) -> Result<String, Memory>
     ensures { IfOk result (λ text. string_bytes text ≡ place_name part) }
 {
     let text = match part {

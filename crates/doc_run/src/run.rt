@@ -4,12 +4,20 @@ ghost use Rattle.std.specs.String.{string_bytes};
 ghost use Rattle.doc_outer.specs.Counts.{Rose, GoesOn};
 ghost use Rattle.doc_outer.specs.Held.{Files, StaysAt};
 ghost use Rattle.doc_outer.specs.Written.{Appends, AppendsPrefix};
-ghost use Rattle.doc_run.specs.Commands.{Request, streams, look, full, compare as compares, IsCommand, CommandIsOne, PutsUnder};
+ghost use Rattle.doc_run.specs.Commands.{Request};
+ghost use Rattle.doc_run.specs.Commands.{IsCommand, CommandIsOne, PutsUnder};
 ghost use Rattle.doc_run.specs.Outcomes.{Outcome, HasCause, IsToldOfPut, LeavesPut};
-ghost use Rattle.doc_run.specs.Endings.{Ends, IsEnding, EndingIsOne};
+ghost use Rattle.plain_doc.specs.Sound.{IsSound};
+ghost use Rattle.doc_edit.specs.States.{start_of};
+ghost use Rattle.doc_read.specs.Holds.{all_rules};
+ghost use Rattle.doc_run.specs.Stages.{ReadsFile};
+ghost use Rattle.doc_run.specs.Edits.{ReadsScript, EditsFile};
+ghost use Rattle.doc_run.specs.Endings.{stream_rules, ListsStreams, ShowsFile, SavesFile, ReadsSecond, IsEnding};
+ghost use Rattle.doc_run.specs.Endings.{EndingIsOne};
 ghost use Rattle.doc_run.specs.Completeness.{CanServe};
 
 use crate::command::{Command, View, command_of};
+use crate::edit::{edit_by, overlong_script};
 use crate::ending::{Ending, STATUS_MEMORY, STATUS_SHELF_FAULT, STATUS_SINK_FAULT, STATUS_USAGE};
 use crate::lines::{shelf_fault_line, usage_line};
 use crate::look::{compare, list_streams, look_at};
@@ -17,14 +25,18 @@ use crate::save::save_fully;
 use crate::stage::{Reached, Taken, open, overlong, take_whole};
 use doc_bits::Memory;
 use doc_outer::{PutFault, Shelf, Sink, write_all};
+use edit_guards::Guard;
+use plain_doc::Document;
 use std::alloc::Global;
 
-/// Runs the words of a command over the files of a shelf, and answers the status.
+/// Runs the words of a command over the files of a shelf, and answers the status. The guards are asked at each edit of
+/// a script, and dropped with the run.
 pub fn docbin_run<S: Shelf, K: Sink>(
     alloc: Global,
     words: &[String],
     shelf: &mut S,
     out: &mut K,
+    guards: Vec<Box<dyn Guard>>,
 ) -> u8
     // A name that the words put nothing under holds what it held.
     ensures kept { (name : List ℕ)
@@ -36,22 +48,22 @@ pub fn docbin_run<S: Shelf, K: Sink>(
         → IsToldOfPut result (S.put_faults shelf.old) (S.put_faults shelf.new)
         → S.held shelf.new ≡ S.held shelf.old }
 
-    // A run ends in one of the ways that the words and the shelf decide: with its status, its text printed
+    // A run ends in one of the ways that the words, the shelf and the guards decide: with its status, its text printed
     // and its file put. Where a put failed, nothing is said of the name that it was to hold.
     ensures ending { result ≢ 5 → result ≢ 6 → (outcome : Outcome)
         × ((outcome.status ≡ result)
-        × (IsEnding (map string_bytes words.now) (S.held shelf.old) outcome
+        × (IsEnding (map (λ b. policy b) guards.items) (map string_bytes words.now) (S.held shelf.old) outcome
         × (Appends (K.written out.old) (K.written out.new) outcome.text
         × LeavesPut outcome (S.put_faults shelf.old) (S.put_faults shelf.new) (S.held shelf.old) (S.held shelf.new)))) }
 
-    // Words are one command; words and told files have one outcome.
+    // Words are one command; words, told files and guards have one outcome.
     ensures one_command { CommandIsOne }
     ensures only { EndingIsOne }
 
     // A command in whose way nothing stands is served, unless a fault rose or memory was refused.
     ensures complete { (command : Request) (files : Files)
         → IsCommand (map string_bytes words.now) command
-        → S.held shelf.old ≡ Some files → CanServe command files
+        → S.held shelf.old ≡ Some files → CanServe (map (λ b. policy b) guards.items) command files
         → ¬ (Rose (S.faults shelf.old) (S.faults shelf.new))
         → ¬ (Rose (K.faults out.old) (K.faults out.new)) → result ≢ 6 → result ≡ 0 }
 
@@ -62,7 +74,7 @@ pub fn docbin_run<S: Shelf, K: Sink>(
 
     // A sink that fails has taken a prefix of the text of such an outcome, which has its cause; its file was put.
     ensures prefix { result ≡ 5 → (outcome : Outcome)
-        × (IsEnding (map string_bytes words.now) (S.held shelf.old) outcome
+        × (IsEnding (map (λ b. policy b) guards.items) (map string_bytes words.now) (S.held shelf.old) outcome
         × (HasCause outcome.status (S.missed shelf.old) (S.missed shelf.new) (S.faults shelf.old) (S.faults shelf.new)
         × (AppendsPrefix (K.written out.old) (K.written out.new) outcome.text
         × LeavesPut outcome (S.put_faults shelf.old) (S.put_faults shelf.new) (S.held shelf.old) (S.held shelf.new)))) }
@@ -70,7 +82,8 @@ pub fn docbin_run<S: Shelf, K: Sink>(
     // Without memory nothing is printed.
     ensures nothing { result ≡ 6 → K.written out.new ≡ K.written out.old }
 {
-    let Ok(ending) = ending_after_put(alloc, words, shelf) else {
+    let mut guards = guards;
+    let Ok(ending) = ending_after_put(alloc, words, shelf, &mut guards) else {
         return STATUS_MEMORY;
     };
     match write_all(out, ending.text().as_bytes()) {
@@ -86,6 +99,7 @@ fn ending_after_put<S: Shelf>(
     alloc: Global,
     words: &[String],
     shelf: &mut S,
+    guards: &mut [Box<dyn Guard>],
 ) -> Result<Ending, Memory>
     ensures kept { (name : List ℕ)
         → ((command : Request) → IsCommand (map string_bytes words.now) command → ¬ (PutsUnder command name))
@@ -94,14 +108,15 @@ fn ending_after_put<S: Shelf>(
         → IsToldOfPut e.status (S.put_faults shelf.old) (S.put_faults shelf.new)
         → S.held shelf.new ≡ S.held shelf.old) }
     ensures memory { OnErr result (S.held shelf.new ≡ S.held shelf.old) }
-    ensures ending { IfOk result (λ e. IsEnding (map string_bytes words.now) (S.held shelf.old) e) }
+    ensures ending { IfOk result (λ e.
+        IsEnding (map (λ b. policy b) guards.old) (map string_bytes words.now) (S.held shelf.old) e) }
     ensures leaves { IfOk result (λ e.
         LeavesPut e (S.put_faults shelf.old) (S.put_faults shelf.new) (S.held shelf.old) (S.held shelf.new)) }
     ensures status { IfOk result (λ e. (e.status ≢ 5) × (e.status ≢ 6)) }
     ensures cause { IfOk result (λ e.
         HasCause e.status (S.missed shelf.old) (S.missed shelf.new) (S.faults shelf.old) (S.faults shelf.new)) }
 {
-    let ending = ending_of(alloc, words, shelf)?;
+    let ending = ending_of(alloc, words, shelf, guards)?;
     let Some(file) = ending.file() else {
         return Ok(ending);
     };
@@ -114,9 +129,15 @@ fn ending_after_put<S: Shelf>(
 }
 
 /// The ending of a run, before anything is put or printed.
-fn ending_of<S: Shelf>(alloc: Global, words: &[String], shelf: &mut S) -> Result<Ending, Memory>
+fn ending_of<S: Shelf>(
+    alloc: Global,
+    words: &[String],
+    shelf: &mut S,
+    guards: &mut [Box<dyn Guard>],
+) -> Result<Ending, Memory>
     ensures kept { S.held shelf.new ≡ S.held shelf.old }
-    ensures ending { IfOk result (λ e. IsEnding (map string_bytes words.now) (S.held shelf.old) e) }
+    ensures ending { IfOk result (λ e.
+        IsEnding (map (λ b. policy b) guards.old) (map string_bytes words.now) (S.held shelf.old) e) }
     ensures status { IfOk result (λ e. (e.status ≢ 5) × (e.status ≢ 6)) }
     ensures cause { IfOk result (λ e.
         HasCause e.status (S.missed shelf.old) (S.missed shelf.new) (S.faults shelf.old) (S.faults shelf.new)) }
@@ -128,6 +149,9 @@ fn ending_of<S: Shelf>(alloc: Global, words: &[String], shelf: &mut S) -> Result
         Some(Command::Look { view, file }) => serve_view(alloc, shelf, view, file),
         Some(Command::Full { file, out }) => serve_full(alloc, shelf, file, out),
         Some(Command::Equal { first, second }) => serve_equal(alloc, shelf, first, second),
+        Some(Command::Edit { file, script, out }) => serve_edit(
+            alloc, shelf, file, script, out, guards,
+        ),
         None => {
             let text = usage_line(alloc)?;
             Ok(Ending::new(STATUS_USAGE, text))
@@ -138,7 +162,7 @@ fn ending_of<S: Shelf>(alloc: Global, words: &[String], shelf: &mut S) -> Result
 /// The ending where the streams of a file are asked for.
 fn serve_streams<S: Shelf>(alloc: Global, shelf: &mut S, file: &str) -> Result<Ending, Memory>
     ensures kept { S.held shelf.new ≡ S.held shelf.old }
-    ensures ends { IfOk result (λ e. Ends (streams file.now) (S.held shelf.old) e) }
+    ensures ends { IfOk result (λ e. ReadsFile file.now (S.held shelf.old) stream_rules ListsStreams e) }
     ensures status { IfOk result (λ e. (e.status ≢ 5) × (e.status ≢ 6)) }
     ensures cause { IfOk result (λ e.
         HasCause e.status (S.missed shelf.old) (S.missed shelf.new) (S.faults shelf.old) (S.faults shelf.new)) }
@@ -160,7 +184,7 @@ fn serve_view<S: Shelf>(
     file: &str,
 ) -> Result<Ending, Memory>
     ensures kept { S.held shelf.new ≡ S.held shelf.old }
-    ensures ends { IfOk result (λ e. Ends (look view file.now) (S.held shelf.old) e) }
+    ensures ends { IfOk result (λ e. ReadsFile file.now (S.held shelf.old) all_rules (ShowsFile view) e) }
     ensures status { IfOk result (λ e. (e.status ≢ 5) × (e.status ≢ 6)) }
     ensures cause { IfOk result (λ e.
         HasCause e.status (S.missed shelf.old) (S.missed shelf.new) (S.faults shelf.old) (S.faults shelf.new)) }
@@ -181,7 +205,7 @@ fn serve_full<S: Shelf>(
     out: &str,
 ) -> Result<Ending, Memory>
     ensures kept { S.held shelf.new ≡ S.held shelf.old }
-    ensures ends { IfOk result (λ e. Ends (full file.now out.now) (S.held shelf.old) e) }
+    ensures ends { IfOk result (λ e. ReadsFile file.now (S.held shelf.old) all_rules (SavesFile out.now) e) }
     ensures status { IfOk result (λ e. (e.status ≢ 5) × (e.status ≢ 6)) }
     ensures cause { IfOk result (λ e.
         HasCause e.status (S.missed shelf.old) (S.missed shelf.new) (S.faults shelf.old) (S.faults shelf.new)) }
@@ -203,7 +227,8 @@ fn serve_equal<S: Shelf>(
     second: &str,
 ) -> Result<Ending, Memory>
     ensures kept { S.held shelf.new ≡ S.held shelf.old }
-    ensures ends { IfOk result (λ e. Ends (compares first.now second.now) (S.held shelf.old) e) }
+    ensures ends { IfOk result (λ e.
+        ReadsFile first.now (S.held shelf.old) all_rules (ReadsSecond second.now (S.held shelf.old)) e) }
     ensures status { IfOk result (λ e. (e.status ≢ 5) × (e.status ≢ 6)) }
     ensures cause { IfOk result (λ e.
         HasCause e.status (S.missed shelf.old) (S.missed shelf.new) (S.faults shelf.old) (S.faults shelf.new)) }
@@ -217,5 +242,57 @@ fn serve_equal<S: Shelf>(
     match open(alloc, shelf, second)? {
         Reached::Opened(other) => compare(alloc, &document, &other),
         Reached::Stopped(ending) => Ok(ending),
+    }
+}
+
+/// The ending where the document of a file is edited by a script. The file is judged before the script is
+/// looked for.
+fn serve_edit<S: Shelf>(
+    alloc: Global,
+    shelf: &mut S,
+    file: &str,
+    script: &str,
+    out: &str,
+    guards: &mut [Box<dyn Guard>],
+) -> Result<Ending, Memory>
+    ensures kept { S.held shelf.new ≡ S.held shelf.old }
+    ensures ends { IfOk result (λ e. ReadsFile file.now (S.held shelf.old) all_rules
+        (EditsFile (map (λ b. policy b) guards.old) script.now out.now (S.held shelf.old)) e) }
+    ensures status { IfOk result (λ e. (e.status ≢ 5) × (e.status ≢ 6)) }
+    ensures cause { IfOk result (λ e.
+        HasCause e.status (S.missed shelf.old) (S.missed shelf.new) (S.faults shelf.old) (S.faults shelf.new)) }
+    ensures faults { GoesOn (S.faults shelf.old) (S.faults shelf.new) }
+    ensures put_faults { S.put_faults shelf.new ≡ S.put_faults shelf.old }
+{
+    let opened = open(alloc, shelf, file)?;
+    match opened {
+        Reached::Opened(document) => edit_by_name(alloc, shelf, document, script, out, guards),
+        Reached::Stopped(ending) => Ok(ending),
+    }
+}
+
+/// The ending where a document is edited by the script of a name.
+fn edit_by_name<S: Shelf>(
+    alloc: Global,
+    shelf: &mut S,
+    document: Document,
+    script: &str,
+    out: &str,
+    guards: &mut [Box<dyn Guard>],
+) -> Result<Ending, Memory>
+    requires { IsSound document }
+    ensures kept { S.held shelf.new ≡ S.held shelf.old }
+    ensures reads { IfOk result (λ e.
+        ReadsScript script.now out.now (S.held shelf.old) (start_of document (map (λ b. policy b) guards.old)) e) }
+    ensures status { IfOk result (λ e. (e.status ≢ 5) × (e.status ≢ 6)) }
+    ensures cause { IfOk result (λ e.
+        HasCause e.status (S.missed shelf.old) (S.missed shelf.new) (S.faults shelf.old) (S.faults shelf.new)) }
+    ensures faults { GoesOn (S.faults shelf.old) (S.faults shelf.new) }
+    ensures put_faults { S.put_faults shelf.new ≡ S.put_faults shelf.old }
+{
+    match take_whole(alloc, shelf, script)? {
+        Taken::Whole(bytes) => edit_by(alloc, document, bytes.as_slice(), out, guards),
+        Taken::Overlong => overlong_script(alloc),
+        Taken::Stopped(ending) => Ok(ending),
     }
 }

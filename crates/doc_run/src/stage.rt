@@ -3,7 +3,7 @@ ghost use Rattle.std.specs.Prelude.{◌≡◌, IfOk};
 ghost use Rattle.doc_outer.specs.Counts.{GoesOn};
 ghost use Rattle.doc_run.specs.Outcomes.{HasCause};
 ghost use Rattle.doc_run.specs.Stages.{BreaksLengthRule};
-ghost use Rattle.doc_run.specs.Reading.{IsTaken, IsReached, IsJudged, status_taken, status_reached};
+ghost use Rattle.doc_run.specs.Reading.{IsTaken, IsShort, IsReached, IsJudged, status_taken, status_reached};
 
 use crate::ending::{Ending, STATUS_MISSING, STATUS_REFUSED, STATUS_SHELF_FAULT, refused};
 use crate::lines::{missing_line, rule_line, shelf_fault_line};
@@ -34,6 +34,7 @@ pub(crate) fn take_whole<S: Shelf>(
 ) -> Result<Taken, Memory>
     ensures kept { S.held shelf.new ≡ S.held shelf.old }
     ensures is { IfOk result (λ t. IsTaken name.now (S.held shelf.old) t) }
+    ensures short { IfOk result (λ t. IsShort t) }
     ensures cause { IfOk result (λ t.
         HasCause (status_taken t) (S.missed shelf.old) (S.missed shelf.new) (S.faults shelf.old) (S.faults shelf.new)) }
     ensures faults { GoesOn (S.faults shelf.old) (S.faults shelf.new) }
@@ -83,7 +84,8 @@ pub(crate) fn open<S: Shelf>(alloc: Global, shelf: &mut S, name: &str) -> Result
     ensures kept { S.held shelf.new ≡ S.held shelf.old }
     ensures is { IfOk result (λ r. IsReached name.now (S.held shelf.old) r) }
     ensures cause { IfOk result (λ r.
-        HasCause (status_reached r) (S.missed shelf.old) (S.missed shelf.new) (S.faults shelf.old) (S.faults shelf.new)) }
+        HasCause (status_reached r) (S.missed shelf.old) (S.missed shelf.new)
+        (S.faults shelf.old) (S.faults shelf.new)) }
     ensures faults { GoesOn (S.faults shelf.old) (S.faults shelf.new) }
     ensures missed { GoesOn (S.missed shelf.old) (S.missed shelf.new) }
     ensures put_faults { S.put_faults shelf.new ≡ S.put_faults shelf.old }

@@ -3,20 +3,31 @@
 
 use doc_outer::{HostShelf, HostSink};
 use doc_run::{STATUS_MEMORY, docbin_run};
+use edit_guards::{Guard, UnitQuota};
 use std::alloc::{AllocError, Global};
 use std::env;
 use std::io::ErrorKind;
 use std::process::ExitCode;
 use std::rt::Env;
 
+/// How many items the edits of a run may add.
+const UNITS: u64 = 1_000_000;
+
 fn main(rt: HostRuntime) -> ExitCode {
     let alloc = rt.alloc();
     let Ok(words) = words(&rt) else {
         return ExitCode::from(STATUS_MEMORY);
     };
+    let mut guards: Vec<Box<dyn Guard>> = Vec::new(alloc);
+    let Ok(quota) = Box::new(alloc, UnitQuota::new(UNITS)) else {
+        return ExitCode::from(STATUS_MEMORY);
+    };
+    if guards.push(quota).is_err() {
+        return ExitCode::from(STATUS_MEMORY);
+    }
     let mut shelf = HostShelf::new(alloc, &rt);
     let mut out = HostSink::new(&rt);
-    let status = docbin_run(alloc, &words, &mut shelf, &mut out);
+    let status = docbin_run(alloc, &words, &mut shelf, &mut out, guards);
     ExitCode::from(status)
 }
 

@@ -17,17 +17,55 @@ pub(crate) enum Command<'a> {
     /// Where what the row prints comes from.
     From,
     /// A number has a name from here on, in all rows.
-    Place { name: &'a str, at: u64 },
+    Place {
+        name: &'a str,
+        at: u64,
+    },
     /// A name holds the bytes of a file of data.
-    File { name: &'a str, data: &'a str },
+    File {
+        name: &'a str,
+        data: &'a str,
+    },
     /// A name holds the full save of the blank document.
     Blank(&'a str),
     /// Whether two names hold the same bytes.
-    Same { one: &'a str, other: &'a str },
+    Same {
+        one: &'a str,
+        other: &'a str,
+    },
+    /// A name holds the rest of the line.
+    Text {
+        name: &'a str,
+        text: &'a str,
+    },
     /// A name holds zeros.
-    Zeros { name: &'a str, len: usize },
+    Zeros {
+        name: &'a str,
+        len: usize,
+    },
+    /// A name holds the bytes of a stream of a file.
+    Take {
+        name: &'a str,
+        file: &'a str,
+        stream: &'a str,
+    },
+    /// The container of a file is made anew with the bytes of a name as one of its streams.
+    Give {
+        file: &'a str,
+        stream: &'a str,
+        name: &'a str,
+    },
+    /// The container of a file is made anew with many streams more.
+    Fill {
+        file: &'a str,
+        count: u64,
+        name: &'a str,
+    },
     /// The bytes of a name are changed.
-    Change { name: &'a str, edit: Edit },
+    Change {
+        name: &'a str,
+        edit: Edit,
+    },
     /// A call of the shelf fails in the next run. Calls are numbered from 1 on.
     FailShelf(u32),
     /// A call of the sink fails in the next run.
@@ -57,6 +95,7 @@ impl<'a> Command<'a> {
         match first {
             "from" => source(words),
             "put" => put(alloc, words, places),
+            "text" => text(line),
             "run" => run(alloc, words),
             _ => {
                 let command = plain(first, &mut words)?;
@@ -84,6 +123,7 @@ fn plain<'a>(first: &str, words: &mut Words<'a, '_>) -> Result<Command<'a>, RowF
             one: words.word()?,
             other: words.word()?,
         }),
+        "take" | "give" | "fill" => of_streams(first, words),
         "zeros" => Ok(Command::Zeros {
             name: words.word()?,
             len: words.number()? as usize,
@@ -98,6 +138,38 @@ fn plain<'a>(first: &str, words: &mut Words<'a, '_>) -> Result<Command<'a>, RowF
         "room" => Ok(Command::Room(small(words)?)),
         "stopped" => Ok(Command::Stopped),
         _ => Err(RowFault::NoCommand),
+    }
+}
+
+/// A command on the streams of a file.
+fn of_streams<'a>(first: &str, words: &mut Words<'a, '_>) -> Result<Command<'a>, RowFault> {
+    match first {
+        "take" => Ok(Command::Take {
+            name: words.word()?,
+            file: words.word()?,
+            stream: words.word()?,
+        }),
+        "give" => Ok(Command::Give {
+            file: words.word()?,
+            stream: words.word()?,
+            name: words.word()?,
+        }),
+        _ => Ok(Command::Fill {
+            file: words.word()?,
+            count: words.number()?,
+            name: words.word()?,
+        }),
+    }
+}
+
+/// A command with a text, which is not cut into words.
+fn text(line: &str) -> Result<Command<'_>, RowFault> {
+    let Some((_, rest)) = line.split_once(' ') else {
+        return Err(RowFault::WordMissing);
+    };
+    match rest.split_once(' ') {
+        Some((name, text)) => Ok(Command::Text { name, text }),
+        None => Err(RowFault::WordMissing),
     }
 }
 

@@ -1,5 +1,6 @@
 use crate::edits::Edit;
 use crate::row_fault::RowFault;
+use crate::streams::{bytes_of, many_streams, one_stream, with_streams};
 use doc_outer::MemShelf;
 use std::alloc::Global;
 
@@ -50,6 +51,26 @@ impl Files {
             }
         }
         Err(RowFault::NoFile)
+    }
+
+    /// Lets a name hold the bytes of a stream of a file.
+    pub(crate) fn take(&mut self, name: &str, file: &str, stream: &str) -> Result<(), RowFault> {
+        let bytes = bytes_of(self.alloc, self.bytes(file)?, stream)?;
+        self.hold(name, bytes)
+    }
+
+    /// Makes the container of a file anew, with the bytes of a name as one of its streams.
+    pub(crate) fn give(&mut self, file: &str, stream: &str, name: &str) -> Result<(), RowFault> {
+        let given = one_stream(self.alloc, stream, self.bytes(name)?)?;
+        let bytes = with_streams(self.alloc, self.bytes(file)?, &given)?;
+        self.hold(file, bytes)
+    }
+
+    /// Makes the container of a file anew, with many streams more of the bytes of a name.
+    pub(crate) fn fill(&mut self, file: &str, count: u64, name: &str) -> Result<(), RowFault> {
+        let given = many_streams(self.alloc, count, self.bytes(name)?)?;
+        let bytes = with_streams(self.alloc, self.bytes(file)?, &given)?;
+        self.hold(file, bytes)
     }
 
     /// Changes the bytes of a name.

@@ -7,6 +7,7 @@ mod files;
 mod places;
 mod row_fault;
 mod rows;
+mod streams;
 mod words;
 
 use doc_outer::HostShelf;

@@ -1,3 +1,5 @@
+use cfb_layout::LayoutFault;
+use cfb_streams::CfbFault;
 use doc_bits::Memory;
 use std::alloc::{AllocError, AllocFailed};
 use thiserror::Error;
@@ -23,6 +25,8 @@ pub(crate) enum RowFault {
     BeyondEnd,
     #[error("the file of data is not read")]
     NoData,
+    #[error("a stream that is not there, or has no room in a container")]
+    NoStream,
     #[error("nothing says where what the row prints comes from")]
     NoSource,
     #[error("out of memory")]
@@ -32,6 +36,24 @@ pub(crate) enum RowFault {
 impl From<Memory> for RowFault {
     fn from(_: Memory) -> Self {
         RowFault::Memory
+    }
+}
+
+impl From<CfbFault> for RowFault {
+    fn from(fault: CfbFault) -> Self {
+        match fault {
+            CfbFault::Memory => RowFault::Memory,
+            CfbFault::Rule { .. } => RowFault::NoStream,
+        }
+    }
+}
+
+impl From<LayoutFault> for RowFault {
+    fn from(fault: LayoutFault) -> Self {
+        match fault {
+            LayoutFault::Memory => RowFault::Memory,
+            LayoutFault::TooLarge { .. } => RowFault::NoStream,
+        }
     }
 }
 

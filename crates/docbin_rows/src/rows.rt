@@ -92,7 +92,6 @@ impl Rows {
                     .hold(name, Vec::from_slice(alloc, bytes.as_slice())?)?,
                 Err(_) => return Err(RowFault::NoData),
             },
-            Command::Blank(name) => self.files.hold(name, blank_file(alloc)?)?,
             Command::Same { one, other } => {
                 let answer = if self.files.same(one, other)? {
                     "yes"
@@ -101,18 +100,35 @@ impl Rows {
                 };
                 return Ok(format!(in alloc; "same {one} {other}: {answer}\n")?);
             }
-            Command::Zeros { name, len } => self.files.hold(name, vec![in alloc; 0; len]?)?,
-            Command::Change { name, edit } => self.files.change(name, &edit)?,
             Command::FailShelf(call) => self.outside.shelf_calls.push(call)?,
             Command::FailSink(call) => self.outside.sink_calls.push(call)?,
             Command::Room(room) => self.outside.room = room,
             Command::Stopped => self.outside.stopped = true,
             Command::Run(words) => return self.run(&words),
+            command => self.make(command)?,
         }
         Ok(String::new(alloc))
     }
 
-    /// Runs the program over the files of the row, which then has what the shelf holds under the last word, and answers the words, what the sink took, and the status.
+    /// Makes or changes a file of the row.
+    fn make(&mut self, command: Command<'_>) -> Result<(), RowFault> {
+        match command {
+            Command::Blank(name) => self.files.hold(name, blank_file(self.alloc)?),
+            Command::Text { name, text } => {
+                let bytes = Vec::from_slice(self.alloc, text.as_bytes())?;
+                self.files.hold(name, bytes)
+            }
+            Command::Zeros { name, len } => self.files.hold(name, vec![in self.alloc; 0; len]?),
+            Command::Take { name, file, stream } => self.files.take(name, file, stream),
+            Command::Give { file, stream, name } => self.files.give(file, stream, name),
+            Command::Fill { file, count, name } => self.files.fill(file, count, name),
+            Command::Change { name, edit } => self.files.change(name, &edit),
+            _ => Err(RowFault::NoCommand),
+        }
+    }
+
+    /// Runs the program over the files of the row, which then has what the shelf holds under the last word, and
+    /// answers the words, what the sink took, and the status.
     fn run(&mut self, words: &[String]) -> Result<String, RowFault> {
         if !self.has_source {
             return Err(RowFault::NoSource);
@@ -122,7 +138,13 @@ impl Rows {
         let mut sink = self.outside.sink(self.alloc)?;
         let failing = self.outside.shelf_calls.len();
         self.outside = Outside::new(self.alloc);
-        let status = docbin_run(self.alloc, words, &mut shelf, &mut sink);
+        let status = docbin_run(
+            self.alloc,
+            words,
+            &mut shelf,
+            &mut sink,
+            Vec::new(self.alloc),
+        );
         if let Some(name) = words.last() {
             self.keep(&mut shelf, name.as_str(), failing)?;
         }

@@ -10,6 +10,8 @@ mod edits;
 #[cfg(test)]
 mod fibs;
 #[cfg(test)]
+mod guarded_runs;
+#[cfg(test)]
 mod guards;
 #[cfg(test)]
 mod hello;
@@ -29,6 +31,8 @@ mod parts;
 mod pieces;
 #[cfg(test)]
 mod puts;
+#[cfg(test)]
+mod runs;
 #[cfg(test)]
 mod saves;
 #[cfg(test)]

@@ -6,5 +6,5 @@ pub returns-in-Ok : goal.returns-in-Ok
 returns-in-Ok c =
     let image = c.in-Ok.ensures in
     let savable : IsSavable c.args.document.now =
-    record { formed = c.documents_are_formed.ensures; sound = c.requires; fits = image.1 } in
-    record { fits = image.1; is = image.0; held = full_saves_hold c.args.document.now savable }
+    record { formed = c.documents_are_formed.ensures; sound = c.requires.sound; fits = c.requires.fits } in
+    record { fits = c.requires.fits; is = image.0; held = full_saves_hold c.args.document.now savable }

@@ -1,4 +1,4 @@
-use Rattle.std.proofs.Common.{◌∙◌, sym, subst, length, ◌≤◌, arith}
+use Rattle.std.proofs.Common.{◌∙◌, sym, subst, arith}
 use Rattle.std.proofs.lemmas.List.{take_all}
 use Rattle.doc_edit.specs.Saves.{SavesInFull}
 use Rattle.doc_edit.proofs.SaveLemmas.{no_fast}

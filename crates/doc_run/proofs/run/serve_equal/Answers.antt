@@ -1,9 +1,10 @@
 use Rattle.std.proofs.Common.{subst}
 use Rattle.std.proofs.lemmas.Result.{IfOk-weaker}
-use Rattle.doc_run.specs.Commands.{compare}
+use Rattle.doc_read.specs.Holds.{all_rules}
+use Rattle.doc_run.specs.Stages.{ReadsFile}
 use Rattle.doc_run.specs.Outcomes.{HasCause}
 use Rattle.doc_run.specs.Reading.{IsReached, status_reached}
-use Rattle.doc_run.specs.Endings.{Ends, Compares, ComparesFiles, ReadsSecond}
+use Rattle.doc_run.specs.Endings.{Compares, ComparesFiles, ReadsSecond}
 use Rattle.doc_run.proofs.EndingLemmas.{opened_of, stopped_of, goes_on, ends_there, cause_later}
 use Rattle.doc_run.proofs.run.serve_equal.Goals as goal
 
@@ -17,7 +18,7 @@ returns-in-Opened-2-clause-ends g c =
     let one = opened_of first held c.in_ok-document.field-0 document c.in_ok-document.ensures.is c.in-Opened.is in
     let reached = subst (λ h. IsReached second h c.in_ok-other.field-0) c.in_ok-document.ensures.kept c.in_ok-other.ensures.is in
     let two = opened_of second held c.in_ok-other.field-0 other reached c.in-Opened-2.is in
-    IfOk-weaker c.compare.result (λ e. Compares document other e) (λ e. Ends (compare first second) held e)
+    IfOk-weaker c.compare.result (λ e. Compares document other e) (λ e. ReadsFile first held all_rules (ReadsSecond second held) e)
     (λ e h. goes_on first held document (ReadsSecond second held) e one (goes_on second held other (ComparesFiles one.bytes) e two (record { first = document; second = other; holds_first = one.holds; holds_second = two.holds; compares = h }))) c.compare.ensures
 
 pub returns-clause-ends : goal.returns-clause-ends

@@ -1,8 +1,9 @@
 use Rattle.std.proofs.Common.{◌≢◌}
 use Rattle.std.proofs.lemmas.Result.{IfOk-weaker}
-use Rattle.doc_run.specs.Commands.{look}
+use Rattle.doc_read.specs.Holds.{all_rules}
+use Rattle.doc_run.specs.Stages.{ReadsFile}
 use Rattle.doc_run.specs.Outcomes.{HasCause}
-use Rattle.doc_run.specs.Endings.{Ends, Shows, ShowsFile}
+use Rattle.doc_run.specs.Endings.{Shows, ShowsFile}
 use Rattle.doc_run.proofs.EndingLemmas.{opened_of, goes_on, shows_status, after_reading_inside, after_reading_caused}
 use Rattle.doc_run.proofs.run.serve_view.Goals as goal
 
@@ -13,7 +14,7 @@ returns-in-Opened-clause-ends g c =
     let held = g.S.Shelf.held c.args.shelf.now in
     let document = c.in-Opened.document in
     let opened = opened_of name held c.in_ok-document.field-0 document c.in_ok-document.ensures.is c.in-Opened.is in
-    IfOk-weaker c.look_at.result (λ e. Shows view document e) (λ e. Ends (look view name) held e)
+    IfOk-weaker c.look_at.result (λ e. Shows view document e) (λ e. ReadsFile name held all_rules (ShowsFile view) e)
     (λ e h. goes_on name held document (ShowsFile view) e opened (record { document = document; holds = opened.holds; shows = h })) c.look_at.ensures
 
 pub returns-in-Opened-clause-status : goal.returns-in-Opened-clause-status

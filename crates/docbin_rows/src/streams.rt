@@ -1,0 +1,90 @@
+// Streams of files: one that is taken out, and containers that are made anew.
+use crate::row_fault::RowFault;
+use cfb_layout::whole;
+use cfb_streams::{Container, Streams, equal_names, name_before};
+use std::alloc::Global;
+
+/// How many streams a container may have.
+const MAX_STREAMS: usize = 1023;
+
+/// The units of a name.
+fn units_of(alloc: Global, name: &str) -> Result<Vec<u16>, RowFault> {
+    let mut units = Vec::new(alloc);
+    for byte in name.as_bytes() {
+        units.push(u16::from(*byte))?;
+    }
+    Ok(units)
+}
+
+/// Puts a stream behind the others, where its name comes after theirs.
+fn add(streams: &mut Streams, name: &[u16], bytes: &[u8]) -> Result<(), RowFault> {
+    if !streams.can_add(name, bytes) {
+        return Err(RowFault::NoStream);
+    }
+    streams.add(name, bytes)?;
+    Ok(())
+}
+
+/// One stream.
+pub(crate) fn one_stream(alloc: Global, name: &str, bytes: &[u8]) -> Result<Streams, RowFault> {
+    let mut streams = Streams::new(alloc);
+    add(&mut streams, &units_of(alloc, name)?, bytes)?;
+    Ok(streams)
+}
+
+/// So many streams of the same bytes: `s0000`, `s0001` and on.
+pub(crate) fn many_streams(alloc: Global, count: u64, bytes: &[u8]) -> Result<Streams, RowFault> {
+    let mut streams = Streams::new(alloc);
+    for number in 0..count {
+        let name = format!(in alloc; "s{number:04}")?;
+        add(&mut streams, &units_of(alloc, name.as_str())?, bytes)?;
+    }
+    Ok(streams)
+}
+
+/// The bytes of a stream of a file.
+pub(crate) fn bytes_of(alloc: Global, file: &[u8], name: &str) -> Result<Vec<u8>, RowFault> {
+    let container = Container::load(alloc, file)?;
+    match container.stream(&units_of(alloc, name)?) {
+        Some(bytes) => Ok(Vec::from_slice(alloc, bytes)?),
+        None => Err(RowFault::NoStream),
+    }
+}
+
+/// The streams of a container and those that are given, which take the place of those of their names.
+fn merged(alloc: Global, container: &Container, given: &Streams) -> Result<Streams, RowFault> {
+    let mut all = Streams::new(alloc);
+    let mut next = 0;
+    for i in 0..container.count() {
+        let name = container.name(i);
+        for k in next..given.count() {
+            if !name_before(given.name(k), name) {
+                break;
+            }
+            add(&mut all, given.name(k), given.bytes(k))?;
+            next = k + 1;
+        }
+        if next >= given.count() || !equal_names(given.name(next), name) {
+            add(&mut all, name, container.bytes(i))?;
+        }
+    }
+    for k in next..given.count() {
+        add(&mut all, given.name(k), given.bytes(k))?;
+    }
+    Ok(all)
+}
+
+/// The container of a file, made anew with the streams that are given.
+pub(crate) fn with_streams(
+    alloc: Global,
+    file: &[u8],
+    given: &Streams,
+) -> Result<Vec<u8>, RowFault> {
+    let container = Container::load(alloc, file)?;
+    let streams = merged(alloc, &container, given)?;
+    if streams.count() > MAX_STREAMS {
+        return Err(RowFault::NoStream);
+    }
+    let made = whole(alloc, &streams, container.clsid())?;
+    Ok(Vec::from_slice(alloc, made.as_slice())?)
+}

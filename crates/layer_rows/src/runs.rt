@@ -1,0 +1,105 @@
+// Commands run over the blank document with guards, and the commands of the generator. What guards allow was worked
+// out by counting the items that are put; the generator's numbers by a program apart from this one.
+use doc_edit::{RunFault, Stop, first_fast_save, generated_command, generated_count, run_script};
+use edit_guards::{Guard, UnitQuota};
+use edit_script::{Command, read_script};
+use plain_doc::{blank, check};
+use std::alloc::Global;
+use std::test::Fail;
+
+/// Three insertions, of two letters and of one each.
+const LETTERS: &str = "[{\"do\":\"insert\",\"story\":\"main\",\"at\":0,\"text\":\"ab\"},\
+    {\"do\":\"insert\",\"story\":\"main\",\"at\":0,\"text\":\"c\"},\
+    {\"do\":\"insert\",\"story\":\"main\",\"at\":0,\"text\":\"d\"},\
+    {\"do\":\"save\",\"mode\":\"full\"}]";
+
+/// Whether the script is run to its end.
+fn runs(alloc: Global, json: &str, guards: &mut [Box<dyn Guard>]) -> Result<bool, RunFault> {
+    let document = blank(alloc)?;
+    let script = match read_script(alloc, json.as_bytes()) {
+        Ok(script) => script,
+        Err(_) => return Ok(false),
+    };
+    if !script.ends_with_save() || first_fast_save(&script).is_some() || check(&document).is_err() {
+        return Ok(false);
+    }
+    run_script(alloc, document, &script, guards)?;
+    Ok(true)
+}
+
+/// The end of a run that a guard stops.
+fn guarded(index: usize, guard: usize) -> Result<bool, RunFault> {
+    Err(RunFault::Stopped {
+        index,
+        stop: Stop::Guarded { guard },
+    })
+}
+
+#[test]
+fn the_guard_of_least_index_stops_a_script(rt: HostRuntime) -> Result<(), Fail> {
+    let alloc = rt.alloc();
+    let mut guards: Vec<Box<dyn Guard>> = Vec::new(alloc);
+    guards.push(Box::new(alloc, UnitQuota::new(5))?)?;
+    guards.push(Box::new(alloc, UnitQuota::new(3))?)?;
+    assert!(rt; runs(alloc, LETTERS, &mut guards) == guarded(2, 1));
+    Ok(())
+}
+
+// A quota of 8 has 4 items left behind the first run and none behind the second one.
+#[test]
+fn guards_are_told_once_of_each_edit(rt: HostRuntime) -> Result<(), Fail> {
+    let alloc = rt.alloc();
+    let mut guards: Vec<Box<dyn Guard>> = Vec::new(alloc);
+    guards.push(Box::new(alloc, UnitQuota::new(8))?)?;
+    assert!(rt; runs(alloc, LETTERS, &mut guards) == Ok(true));
+    assert!(rt; runs(alloc, LETTERS, &mut guards) == Ok(true));
+    assert!(rt; runs(alloc, LETTERS, &mut guards) == guarded(0, 0));
+    Ok(())
+}
+
+/// A command of the generator: the number of its kind, its place, and the number of its units, its end or its style; of
+/// a save 15, and 1 where it is full.
+fn shape(command: &Command) -> (u8, u32, usize) {
+    match command {
+        Command::Insert(_, at, text) => (1, *at, text.as_slice().len()),
+        Command::Char(_, from, to, _) => (3, *from, *to as usize),
+        Command::Style(_, at, istd) => (6, *at, *istd as usize),
+        Command::Split(_, at) => (9, *at, 0),
+        Command::Save(full) => (15, *full as u32, 0),
+        _ => (0, 0, 0),
+    }
+}
+
+/// Whether the command of a number from seed 52, on a main text of 40 items, has this shape.
+fn is_made(alloc: Global, index: usize, quick_saves: u32, expected: (u8, u32, usize)) -> bool {
+    if index >= generated_count(52) {
+        return false;
+    }
+    match generated_command(alloc, 52, index, 40, quick_saves) {
+        Ok(command) => shape(&command) == expected,
+        Err(_) => false,
+    }
+}
+
+#[test]
+fn the_generator_makes_its_commands(rt: HostRuntime) -> Result<(), Fail> {
+    let rows = [
+        (0, 0, (1, 37, 19)),
+        (1, 0, (1, 34, 19)),
+        (2, 0, (9, 3, 0)),
+        (3, 0, (3, 24, 40)),
+        (4, 0, (6, 1, 1)),
+        (50, 0, (15, 0, 0)),
+        (51, 1, (1, 3, 20)),
+        (53, 1, (15, 0, 0)),
+        (53, 7, (15, 1, 0)),
+    ];
+    assert!(rt; generated_count(52) == 54 && generated_count(0) == 0);
+    for (index, quick_saves, expected) in rows {
+        assert!(rt;
+            is_made(rt.alloc(), index, quick_saves, expected),
+            "{index}"
+        );
+    }
+    Ok(())
+}
