@@ -7,7 +7,7 @@ use std::test::Fail;
 
 /// A guard of a kind of its own, which allows each edit.
 #[derive(Drop)]
-pub(crate) struct Lenient;
+struct Lenient;
 
 impl Guard for Lenient {
     ghost policy = { λ _. lock_of [] };

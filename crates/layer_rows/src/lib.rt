@@ -10,8 +10,6 @@ mod edits;
 #[cfg(test)]
 mod fibs;
 #[cfg(test)]
-mod guarded_runs;
-#[cfg(test)]
 mod guards;
 #[cfg(test)]
 mod hello;
@@ -31,8 +29,6 @@ mod parts;
 mod pieces;
 #[cfg(test)]
 mod puts;
-#[cfg(test)]
-mod runs;
 #[cfg(test)]
 mod saves;
 #[cfg(test)]
