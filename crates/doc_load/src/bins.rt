@@ -1,5 +1,5 @@
 // The rules on the bin tables.
-ghost use Rattle.std.specs.Prelude.{◌≡◌, ◌<◌, ◌^◌, ◌+◌, length, MatchResult};
+ghost use Rattle.std.specs.Prelude.{◌≡◌, ◌<◌, ◌^◌, ◌+◌, length, MatchResult, IsErrOf};
 ghost use Rattle.doc_bits.specs.Rules.{Hold, LeastOrNone};
 ghost use Rattle.doc_parts.specs.Table.{IsWholePlc};
 ghost use Rattle.doc_load.specs.Faults.{IsReadFault};
@@ -18,9 +18,10 @@ const PAGE_LEN: usize = 4;
 
 /// Judges the two bin tables.
 pub fn judge_bins(source: &Source<'_>) -> Result<(), ReadFault>
-    ensures { MatchResult result
+    ensures judged { MatchResult result
         (λ _. Hold (rules_of_bins source.now))
         (IsReadFault (rules_of_bins source.now)) }
+    ensures no_memory { ¬ (IsErrOf result ReadFault.Memory) }
 {
     let characters = source.part(TablePart::PlcfBteChpx);
     if let Some(offset) = wrong_bin(characters, source.place(TablePart::PlcfBteChpx)) {

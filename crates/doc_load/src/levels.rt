@@ -1,5 +1,5 @@
 // The rule on lists: their levels stand after the part.
-ghost use Rattle.std.specs.Prelude.{MatchResult};
+ghost use Rattle.std.specs.Prelude.{MatchResult, IsErrOf};
 ghost use Rattle.doc_bits.specs.Rules.{Hold};
 ghost use Rattle.doc_load.specs.Faults.{IsReadFault};
 ghost use Rattle.doc_load.specs.ListRules.{rules_of_lists, HasLevels};
@@ -13,9 +13,10 @@ const RULE_LISTS: u8 = 56;
 
 /// The bytes of the levels of all lists.
 pub fn read_levels<'a>(source: &Source<'a>) -> Result<&'a [u8], ReadFault>
-    ensures { MatchResult result
+    ensures read { MatchResult result
         (λ bytes. Hold (rules_of_lists source.now) × HasLevels source.now bytes.now)
         (IsReadFault (rules_of_lists source.now)) }
+    ensures no_memory { ¬ (IsErrOf result ReadFault.Memory) }
 {
     let part = source.part(TablePart::PlfLst);
     if part.is_empty() {

@@ -1,5 +1,5 @@
 // The rule on what stands after the last text of a story.
-ghost use Rattle.std.specs.Prelude.{◌≡◌, ◌≤◌, length, MatchOption, MatchResult};
+ghost use Rattle.std.specs.Prelude.{◌≡◌, ◌≤◌, length, MatchOption, MatchResult, IsErrOf};
 ghost use Rattle.doc_bits.specs.Rules.{Hold, LeastOrNone, Nowhere, IsLeast};
 ghost use Rattle.doc_load.specs.Faults.{IsReadFault};
 ghost use Rattle.doc_load.specs.NoteRules.{HasNoteCuts};
@@ -18,9 +18,10 @@ const RULE_ENDS: u8 = 55;
 pub fn judge_ends(source: &Source<'_>, notes: &Cuts, heads: &Cuts) -> Result<(), ReadFault>
     requires notes { HasNoteCuts source.now notes.now }
     requires heads { HasHeadCuts source.now heads.now }
-    ensures { MatchResult result
+    ensures judged { MatchResult result
         (λ _. Hold (rules_of_ends source.now))
         (IsReadFault (rules_of_ends source.now)) }
+    ensures no_memory { ¬ (IsErrOf result ReadFault.Memory) }
 {
     let after_notes = loose_place(source, StoryKind::Notes, notes);
     let after_heads = loose_place(source, StoryKind::Heads, heads);

@@ -112,7 +112,7 @@ impl Shelf for MemShelf {
 
     ghost missed = { λ s. s.missed };
 
-    /// Takes no memory.
+    /// Takes no memory. A refusal leaves the buffer as it was.
     fn read_at(&mut self, name: &str, at: u64, buf: &mut [u8]) -> Result<usize, ShelfFault>
         // As every shelf.
         ensures kept { Some self.new.files ≡ Some self.old.files }
@@ -135,6 +135,7 @@ impl Shelf for MemShelf {
         ensures answer { ¬ (FailsNext self.old.plan)
             → result ≡ read_answer (file_at self.old.files name.now) at (length buf.old) }
         ensures after { self.new ≡ store_after self.old result }
+        ensures buffer { OnErr result (buf.new ≡ buf.old) }
     {
         if self.plan.next_fails() {
             self.faults = self.faults.saturating_add(1);

@@ -1,5 +1,5 @@
 // What single values are read as.
-ghost use Rattle.std.specs.Prelude.{◌≡◌, ◌<◌, ◌^◌, ℕ, List, Bool, IfOk, IfSome, OnOk, ◌++◌};
+ghost use Rattle.std.specs.Prelude.{◌≡◌, ◌<◌, ◌^◌, ℕ, List, Bool, IfOk, IfSome, OnOk, IsErrOf, ◌++◌};
 ghost use Rattle.std.specs.Char.Escape.{encode_utf16};
 ghost use Rattle.serde_json.specs.Find.{as_bool};
 ghost use Rattle.serde_json.specs.View.{view};
@@ -25,7 +25,8 @@ fn number_below(limit: u64, value: &Value) -> Option<u64>
 
 /// A place in a text.
 pub fn position_in(value: &Value) -> Result<u32, Misfit>
-    ensures { Gives result (position (view value.now)) }
+    ensures read { Gives result (position (view value.now)) }
+    ensures no_memory { ¬ (IsErrOf result Misfit.Memory) }
 {
     match number_below(1 << 32, value) {
         None => Err(Misfit::Shape),
@@ -35,7 +36,8 @@ pub fn position_in(value: &Value) -> Result<u32, Misfit>
 
 /// A number of 16 bits.
 pub fn short_in(value: &Value) -> Result<u16, Misfit>
-    ensures { Gives result (short_number (view value.now)) }
+    ensures read { Gives result (short_number (view value.now)) }
+    ensures no_memory { ¬ (IsErrOf result Misfit.Memory) }
 {
     match number_below(1 << 16, value) {
         None => Err(Misfit::Shape),
@@ -45,7 +47,8 @@ pub fn short_in(value: &Value) -> Result<u16, Misfit>
 
 /// A number of 8 bits.
 pub fn byte_in(value: &Value) -> Result<u8, Misfit>
-    ensures { Gives result (byte_number (view value.now)) }
+    ensures read { Gives result (byte_number (view value.now)) }
+    ensures no_memory { ¬ (IsErrOf result Misfit.Memory) }
 {
     match number_below(1 << 8, value) {
         None => Err(Misfit::Shape),
@@ -55,7 +58,8 @@ pub fn byte_in(value: &Value) -> Result<u8, Misfit>
 
 /// True or false.
 pub fn bool_in(value: &Value) -> Result<bool, Misfit>
-    ensures { Gives result (as_bool (view value.now)) }
+    ensures read { Gives result (as_bool (view value.now)) }
+    ensures no_memory { ¬ (IsErrOf result Misfit.Memory) }
 {
     match value.as_bool() {
         None => Err(Misfit::Shape),
@@ -65,7 +69,8 @@ pub fn bool_in(value: &Value) -> Result<bool, Misfit>
 
 /// A text of a document, by its name.
 pub fn story_in(value: &Value) -> Result<Story, Misfit>
-    ensures { Gives result (story_of (view value.now)) }
+    ensures read { Gives result (story_of (view value.now)) }
+    ensures no_memory { ¬ (IsErrOf result Misfit.Memory) }
 {
     match value.as_str().and_then(story_named) {
         None => Err(Misfit::Shape),

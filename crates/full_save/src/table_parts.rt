@@ -1,5 +1,6 @@
 // A table stream that grows part by part, and the pairs that name the parts.
-ghost use Rattle.std.specs.Prelude.{◌≡◌, ◌+◌, ◌^◌, ◌<◌, [], ◌∷◌, length, slice_set, OnOk, if◌then◌else◌, ◌==◌};
+ghost use Rattle.std.specs.Prelude.{◌≡◌, ◌+◌, ◌^◌, ◌<◌, [], ◌∷◌, length, slice_set, OnOk, OnErr, if◌then◌else◌, ◌==◌};
+ghost use Rattle.std.specs.Io.{StartsWith};
 ghost use Rattle.fib_form.specs.TableParts.{pair_of};
 ghost use Rattle.fib_form.specs.TableEntries.{entry};
 ghost use Rattle.full_save.specs.TableStream.{AreWritten, WritesPart};
@@ -31,14 +32,16 @@ impl TableParts {
         requires { length self.old.bytes + length bytes.now < 2 ^ 32 }
         ensures part { OnOk result (WritesPart (entry (pair_of part) bytes.now) self.old self.new) }
         ensures count { OnOk result (length self.new.bytes ≡ length self.old.bytes + length bytes.now) }
+        ensures err { OnErr result (self.new ≡ self.old) }
     {
         let at = self.bytes.as_slice().len();
-        put_pair(&mut self.pairs, part, at as u32, bytes.len() as u32);
         self.bytes.push_all(bytes)?;
+        put_pair(&mut self.pairs, part, at as u32, bytes.len() as u32);
         Ok(())
     }
 
-    /// Appends the lists with their levels, which stand right behind them and which no pair names.
+    /// Appends the lists with their levels, which stand right behind them and which no pair names. After want of memory the
+    /// pairs are as they were, and the lists may stand behind what was there.
     pub fn put_lists(&mut self, lists: &[u8], levels: &[u8]) -> Result<(), Memory>
         requires { length self.old.bytes + length lists.now + length levels.now < 2 ^ 32 }
         ensures part { OnOk result (WritesPart
@@ -46,16 +49,18 @@ impl TableParts {
             self.old self.new) }
         ensures count { OnOk result
             (length self.new.bytes ≡ length self.old.bytes + length lists.now + length levels.now) }
+        ensures front { OnErr result (StartsWith self.new.bytes self.old.bytes) }
+        ensures err { OnErr result (self.new.pairs ≡ self.old.pairs) }
     {
         let at = self.bytes.as_slice().len();
+        self.bytes.push_all(lists)?;
+        self.bytes.push_all(levels)?;
         put_pair(
             &mut self.pairs,
             TablePart::PlfLst,
             at as u32,
             lists.len() as u32,
         );
-        self.bytes.push_all(lists)?;
-        self.bytes.push_all(levels)?;
         Ok(())
     }
 }

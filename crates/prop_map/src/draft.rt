@@ -1,5 +1,5 @@
 // A map that is being changed: a tree, so that each change costs the logarithm of its size.
-ghost use Rattle.std.specs.Prelude.{◌≡◌, ℕ, [], ◌∷◌, map as each, OnOk, IfOk};
+ghost use Rattle.std.specs.Prelude.{◌≡◌, ℕ, [], ◌∷◌, map as each, OnOk, OnErr, IfOk};
 ghost use Rattle.std.specs.Option.{option_map, option_or};
 ghost use Rattle.std.specs.FinMap as map;
 ghost use Rattle.sprm_table.specs.Codes.{is_among};
@@ -57,7 +57,8 @@ impl Draft {
 
     /// Puts a value at a code, in place of what stood there.
     pub fn put(&mut self, code: Code, value: Bytes) -> Result<(), Memory>
-        ensures { OnOk result (self.new ≡ map.insert self.old code.0 value) }
+        ensures ok { OnOk result (self.new ≡ map.insert self.old code.0 value) }
+        ensures err { OnErr result (self.new ≡ self.old) }
     {
         self.tree.insert(code.0, value)?;
         Ok(())

@@ -22,6 +22,6 @@ returns c =
     c.in_ok-push_zeros.ensures
     ∙ (ap (λ (n : ℕ). c.append_units.new.out ++ fill (2 * n)) count
     ∙ (ap (λ (front : List ℕ). front ++ fill (2 * length units))
-    (c.in_ok-append_units.ensures ∙ ap (λ (u : List ℕ). c.args.out.now ++ units_bytes u) is)
+    (c.in_ok-append_units.ensures.ok ∙ ap (λ (u : List ℕ). c.args.out.now ++ units_bytes u) is)
     ∙ (append_assoc c.args.out.now bytes (fill (2 * length units))
     ∙ ap (λ (n : ℕ). c.args.out.now ++ (bytes ++ fill n)) (sym len))))

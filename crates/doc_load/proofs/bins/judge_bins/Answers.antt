@@ -6,14 +6,14 @@ use Rattle.doc_load.specs.BinRules.{BreaksBinTable}
 use Rattle.doc_load.proofs.RefusalLemmas.{refused-rule, holds-rule}
 use Rattle.doc_load.proofs.bins.judge_bins.Goals as goal
 
-pub returns-in-Some : goal.returns-in-Some
-returns-in-Some c =
+pub returns-in-Some-clause-judged : goal.returns-in-Some-clause-judged
+returns-in-Some-clause-judged c =
     let source = c.args.source.now in
     let characters = BreaksBinTable (part_bytes source PlcfBteChpx) (part_place source PlcfBteChpx) in
     inl (refused-rule Table 37 characters c.in-Some.offset (rw (c.part-characters.ensures.bytes, c.place.ensures.place) at c.in-Some.ensures))
 
-pub returns-in-Some-wrong_bin : goal.returns-in-Some-wrong_bin
-returns-in-Some-wrong_bin c =
+pub returns-in-Some-wrong_bin-clause-judged : goal.returns-in-Some-wrong_bin-clause-judged
+returns-in-Some-wrong_bin-clause-judged c =
     let source = c.args.source.now in
     let characters = BreaksBinTable (part_bytes source PlcfBteChpx) (part_place source PlcfBteChpx) in
     let paragraphs = BreaksBinTable (part_bytes source PlcfBtePapx) (part_place source PlcfBtePapx) in
@@ -22,8 +22,8 @@ returns-in-Some-wrong_bin c =
       refused-rule Table 38 paragraphs c.in-Some-wrong_bin.offset (rw (c.part-paragraphs.ensures.bytes, c.place-2.ensures.place) at c.in-Some-wrong_bin.ensures),
     )
 
-pub returns : goal.returns
-returns c =
+pub returns-clause-judged : goal.returns-clause-judged
+returns-clause-judged c =
     let source = c.args.source.now in
     let characters = BreaksBinTable (part_bytes source PlcfBteChpx) (part_place source PlcfBteChpx) in
     let paragraphs = BreaksBinTable (part_bytes source PlcfBtePapx) (part_place source PlcfBtePapx) in (

@@ -9,8 +9,8 @@ use Rattle.doc_load.specs.Source.{part_bytes, part_place}
 use Rattle.doc_load.proofs.ListLemmas.{levels_within, levels_empty}
 use Rattle.doc_load.proofs.levels.read_levels.Goals as goal
 
-pub returns-then-is_empty : goal.returns-then-is_empty
-returns-then-is_empty c =
+pub returns-then-is_empty-clause-read : goal.returns-then-is_empty-clause-read
+returns-then-is_empty-clause-read c =
     let source = c.args.source.now in
     let at = part_place source PlfLst in
     let lcb = length (part_bytes source PlfLst) in
@@ -33,8 +33,8 @@ slice_bounds-result-end-in-Ok c =
     let fits : c.place-at.result + length c.part-part.result.now + c.in-Ok.len ≤ length c.table-table.result.now = omega (arith, c.place-at.ensures.place) in
     fits
 
-pub returns-in-Ok : goal.returns-in-Ok
-returns-in-Ok c =
+pub returns-in-Ok-clause-read : goal.returns-in-Ok-clause-read
+returns-in-Ok-clause-read c =
     let source = c.args.source.now in
     let at = part_place source PlfLst in
     let lcb = length (part_bytes source PlfLst) in
@@ -42,8 +42,8 @@ returns-in-Ok c =
     let have : HaveLength source.table at lcb c.in-Ok.len = rw (c.table-table.ensures.bytes, c.place-at.ensures.place, c.part-part.ensures.bytes) at c.in-Ok.ensures.1 in
     (hold_in Table (level_rules source.table at lcb) holds, record { len = c.in-Ok.len; have = have; bytes_are = rw (c.table-table.ensures.bytes, c.place-at.ensures.place, c.part-part.ensures.bytes) refl })
 
-pub returns-in-Err : goal.returns-in-Err
-returns-in-Err c =
+pub returns-in-Err-clause-read : goal.returns-in-Err-clause-read
+returns-in-Err-clause-read c =
     let source = c.args.source.now in
     let at = part_place source PlfLst in
     let lcb = length (part_bytes source PlfLst) in

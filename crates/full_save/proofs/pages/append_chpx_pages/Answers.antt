@@ -1,4 +1,6 @@
 use Rattle.std.proofs.Common.{arith}
+use Rattle.std.proofs.lemmas.Result.{err_from_is_err_and}
+use Rattle.std.proofs.Math.Seq.{take-length}
 use Rattle.fkp_pages.specs.declared.kind.PageKind.TheVariants.{Chpx}
 use Rattle.fkp_pages.proofs.WholePages.{pages_are_whole}
 use Rattle.full_save.proofs.pages.append_chpx_pages.Goals as goal
@@ -9,3 +11,8 @@ append_pages-requires c =
     let few = whole.few in
     let room = c.requires.room in
     omega arith
+
+pub returns-in_err-pages-clause-front : goal.returns-in_err-pages-clause-front
+returns-in_err-pages-clause-front c =
+    let p = err_from_is_err_and c.from_residual.result c.from_residual.ensures.1 in
+    rw p.1 (take-length c.args.out.now)

@@ -1,5 +1,7 @@
 use Rattle.std.proofs.Common.{◌≡◌, ◌++◌, length, ap, ◌∙◌}
+use Rattle.std.proofs.lemmas.Result.{err_from_is_err_and}
 use Rattle.std.proofs.lemmas.List.{append_assoc}
+use Rattle.std.proofs.Math.Seq.{take-append_seam, take-length}
 use Rattle.fib_form.specs.TableEntries.{TableEntry}
 use Rattle.full_save.specs.TableStream.{put_pair}
 use Rattle.full_save.proofs.TableLemmas.{written_more}
@@ -16,3 +18,13 @@ returns-clause-part c = λ parts written.
     (c.in_ok-push_all-2.ensures.ok
     ∙ (ap (λ xs. xs ++ levels) c.in_ok-push_all.ensures.ok ∙ append_assoc old.bytes lists levels))
     (c.put_pair.ensures ∙ ap (λ n. put_pair n part old.pairs) at) written
+
+pub returns-in_err-push_all-clause-front : goal.returns-in_err-push_all-clause-front
+returns-in_err-push_all-clause-front c =
+    let p = err_from_is_err_and c.from_residual.result c.from_residual.ensures.1 in
+    rw (p.1, c.in_err-push_all.ensures.err) (take-length c.args.self.now.bytes)
+
+pub returns-in_err-push_all-2-clause-front : goal.returns-in_err-push_all-2-clause-front
+returns-in_err-push_all-2-clause-front c =
+    let p = err_from_is_err_and c.from_residual-in_err-push_all-2.result c.from_residual-in_err-push_all-2.ensures.1 in
+    rw (p.1, c.in_err-push_all-2.ensures.err ∙ c.in_ok-push_all.ensures.ok) (take-append_seam c.args.self.now.bytes _)

@@ -16,7 +16,7 @@ loop-entry-preserved c = λ code.
     let sorted = subst (λ es. IsTrue (is_sorted nat_cmp es)) (sym c.entries-entry-items.ensures) (true_of _ (entries_sorted c.args.top.now)) in
     let step = rw (← c.entry-item.is) at (put_more items c.loop-entry.entry-index entry code _ (get c.args.self.now code) sorted within (c.loop-entry.invariant code)) in
     let value = c.in_ok-from_slice.ensures ∙ c.as_slice.ensures in
-    ap (λ m. get m code) c.in_ok-put.ensures ∙ (get-insert nat_cmp_total _ _ _ code ∙ rw value step)
+    ap (λ m. get m code) c.in_ok-put.ensures.ok ∙ (get-insert nat_cmp_total _ _ _ code ∙ rw value step)
 
 pub returns : goal.returns
 returns c = λ code.
