@@ -1,6 +1,6 @@
 -- The file of a fast save, and the session after it.
-use Rattle.std.specs.Prelude.{ℕ, List}
-use Rattle.std.proofs.Common.{◌≡◌, ◌∙◌, ◌+◌, ◌*◌, ◌^◌, ◌<◌, ◌≤◌, [], refl, sym, ap, subst, true, length, arith, All}
+use Rattle.std.specs.Prelude.{ℕ, List, min}
+use Rattle.std.proofs.Common.{◌≡◌, ◌∙◌, ◌+◌, ◌-◌, ◌*◌, ◌/◌, ◌^◌, ◌<◌, ◌≤◌, [], refl, sym, ap, subst, true, length, arith, All}
 use Rattle.cfb_streams.specs.Header.{sector_count}
 use Rattle.fib_form.specs.FibFields.{FibFields, fib_fields}
 use Rattle.piece_table.specs.Piece.{TextPiece, ArePieces}
@@ -27,10 +27,10 @@ use Rattle.edited_text.specs.SessionText.{HaveNoModifiers, HaveModifiersWithin, 
 use Rattle.fast_save.specs.declared.fast_parts.FastParts.{FastParts}
 use Rattle.fast_save.specs.declared.ledgers.Counts.{Counts}
 use Rattle.fast_save.specs.declared.parts.SessionParts.{SessionParts}
-use Rattle.fast_save.specs.Ledgers.{sector_bound, after_fast}
+use Rattle.fast_save.specs.Ledgers.{modifier_bytes, sector_bound, after_fast}
 use Rattle.fast_save.specs.Session.{SessionView, IsSession, IsCounted, text_base, bin_length}
 use Rattle.fast_save.specs.Started.{IsOpenFile, written_places}
-use Rattle.fast_save.specs.Fast.{CanSaveFast, IsFastFile, AreFastParts, IsSavedFast, IsBehind, save_in, save_counts}
+use Rattle.fast_save.specs.Fast.{CanSaveFast, IsFastFile, AreFastParts, IsSavedFast, IsBehind, IsWithin, counts_over, save_in, save_counts}
 use Rattle.fast_save.proofs.CanLemmas.{small, wd_is, counted}
 use Rattle.fast_save.proofs.CountLemmas.{no_runs}
 use Rattle.fast_save.proofs.StartLemmas.{opened_stand, AreFileParts, begun, all_written}
@@ -45,10 +45,62 @@ fast_complex : (save : FastSave) (clx : List ℕ) → (fast_fib save clx).comple
 unfolding fast_fib
 fast_complex save clx = refl
 
+-- no fewer sectors are reckoned where more are there, or more bytes of bin tables
+bound_grows : (sectors more front bins most : ℕ) → sectors ≤ more → bins ≤ most →
+    min (sectors + (front + bins + 16384 + 499) / 500 + 8) (2 ^ 64 - 1)
+    ≤ min (more + (front + most + 16384 + 499) / 500 + 8) (2 ^ 64 - 1)
+bound_grows sectors more front bins most fewer less = omega (arith, fewer, less)
+
+-- what is reckoned of the bytes but for those of bin tables
+abbrev bytes_beside : Counts → ℕ → ℕ
+bytes_beside counts table_bytes =
+    2 * counts.units + 528 * counts.runs + 512 * counts.sections + (12 + modifier_bytes counts) * counts.pieces
+    + table_bytes
+
 module _ (document : Document) (parts : SessionParts) (can : CanSaveFast document parts) (formed : IsFormed document)
     (items : IsFormedText parts.text.added.items) (pieces : ArePieces parts.text.pieces.pieces) where
   abbrev save : FastSave
   save = save_in document parts
+
+  abbrev full_table : ℕ
+  full_table = length (table_stream document)
+
+  -- the counts over the old file are no more than the counts
+  abbrev own : Counts
+  own = counts_over can.file can.session.held.parts.text.wd can.counts
+
+  own_bins : bin_length parts.fib ≡ bin_length (fib_fields can.session.held.parts.text.wd)
+  own_bins = ap bin_length can.session.fib
+
+  own_bound : sector_bound own full_table ≤ sector_bound can.counts full_table
+  own_bound =
+      bound_grows (sector_count can.file) can.counts.sectors (bytes_beside can.counts full_table)
+      (bin_length (fib_fields can.session.held.parts.text.wd)) can.counts.bin_bytes can.counted.sectors
+      (omega (arith, own_bins, can.counted.bins))
+
+  can_own : CanSaveFast document parts
+  can_own = record {
+    file = can.file;
+    counts = own;
+    session = can.session;
+    counted = record {
+      pieces = can.counted.pieces;
+      modified = can.counted.modified;
+      printed = can.counted.printed;
+      sectors = omega arith;
+      few = omega (arith, can.counted.sectors, can.counted.few);
+      bins = omega (arith, own_bins);
+      added = can.counted.added;
+      joined = can.counted.joined;
+      text = can.counted.text;
+      unwritten = can.counted.unwritten;
+    };
+    judged = record {
+      saves = can.judged.saves;
+      pieces = can.judged.pieces;
+      sectors = omega (arith, own_bound, can.judged.sectors);
+    };
+  }
 
   pub never_sixteenth : ¬ IsAppendFault save Sixteenth
   never_sixteenth fifteen = absurd (omega (arith, fifteen, can.judged.saves))
@@ -88,13 +140,30 @@ module _ (document : Document) (parts : SessionParts) (can : CanSaveFast documen
               ∙ (ap (λ (f : FibFields). f.complex) made.fib ∙ fast_complex save made.clx);
         }
 
+    new_table : read.holds.parts.text.table ≡ fast_table save made.clx
+    new_table = ap (λ (t : FileText). t.table) read.text_is
+
+    within : IsWithin own full_table file read.holds.parts.text.wd read.holds.parts.text.table
+    unfolding can_own
+    within =
+        let count = counted document parts can_own formed items pieces in
+        let short = appended_saves_are_short (save_counts own full_table) save made.clx count made.printed in
+        let few = appended_files_are_short (save_counts own full_table) save file count made in
+        let sectors = few.sectors in
+        let bins = few.bins in
+        record {
+          table =
+              subst
+              (λ (t : List ℕ).
+              length t
+              ≤ full_table + own.bin_bytes + (12 + modifier_bytes own) * own.pieces + 16 * own.runs + 4096)
+              (sym new_table) short.table;
+          bins = omega (arith, bins, ap (λ (w : List ℕ). bin_length (fib_fields w)) new_wd);
+          sectors = omega (arith, sectors, (small document parts can_own formed items pieces).exact);
+        }
+
     pub fast_file : IsFastFile can file
     fast_file =
-        let short =
-        appended_files_are_short (save_counts can.counts (length (table_stream document))) save file
-        (counted document parts can formed items pieces) made in
-        let sectors = short.sectors in
-        let bins = short.bins in
         record {
           held = record { accepted = read.accepted; holds = read.holds; sound = can.session.sound };
           pieces = ap (λ (t : FileText). t.pieces) read.text_is;
@@ -102,8 +171,7 @@ module _ (document : Document) (parts : SessionParts) (can : CanSaveFast documen
               ap (λ (w : List ℕ). (fib_fields w).quick_saves) new_wd
               ∙ (ap (λ (f : FibFields). f.quick_saves) made.fib ∙ fast_quick_saves save made.clx);
           behind = behind;
-          sectors = omega (arith, sectors, (small document parts can formed items pieces).exact);
-          bins = omega (arith, bins, ap (λ (w : List ℕ). bin_length (fib_fields w)) new_wd);
+          within = within;
         }
 
 -- ---- the session after it
@@ -165,15 +233,20 @@ module _ (document : Document) (parts : SessionParts) (can : CanSaveFast documen
   pub counted_after_fast : can.counts.bin_bytes + 16 * can.counts.runs ≤ 6976000 →
       IsCounted file new (after_fast bound can.counts)
   counted_after_fast low =
-      let sectors = made.sectors in
-      let bins = made.bins in
+      let sectors = made.within.sectors in
+      let bins = made.within.bins in
+      let before = ap bin_length can.session.fib in
+      let grows =
+      bound_grows (sector_count can.file) can.counts.sectors (bytes_beside can.counts (length (table_stream document)))
+      (bin_length (fib_fields can.session.held.parts.text.wd)) can.counts.bin_bytes can.counted.sectors
+      (omega (arith, before, can.counted.bins)) in
       record {
         pieces = omega (arith, can.counted.pieces, ap (λ (p : List TextPiece). length p) after.pieces);
         modified = λ no. subst HaveNoModifiers (sym after.pieces) (can.counted.modified no);
         printed = subst (HaveModifiersWithin can.counts.printed) (sym after.pieces) can.counted.printed;
-        sectors = sectors;
+        sectors = omega (arith, sectors, grows);
         few = can.judged.sectors;
-        bins = omega (arith, bins, low, ap bin_length (after.fib ∙ are.fib));
+        bins = omega (arith, bins, low, before, can.counted.bins, ap bin_length (after.fib ∙ are.fib));
         added = omega (arith, ap length after.items);
         joined = omega (arith, ap joined_run_count after.items, no_runs);
         text = omega (arith, ap length after.items, ap joined_run_count after.items, no_runs);
@@ -201,4 +274,6 @@ module _ (document : Document) (parts : SessionParts) (can : CanSaveFast documen
     before = can.session.held.parts;
     has_before = can.session.held.has_parts;
     behind = made.behind;
+    count = made.quick_saves;
+    within = made.within;
   }

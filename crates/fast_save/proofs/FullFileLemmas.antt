@@ -122,7 +122,7 @@ within document is =
       table = stream_short (layout_streams document) table.0 (the_table document) is.fits table.1;
     }
 
-are_streams : (document : Document) → IsSavable document → AreStreams (layout_streams document)
+pub are_streams : (document : Document) → IsSavable document → AreStreams (layout_streams document)
 are_streams document is =
     let carried = document.carried.streams in
     let with_wd = put_stream (the_wd document) carried in
@@ -137,7 +137,7 @@ are_streams document is =
     (omega arith) (omega arith)
     (omega (arith, total, few, most.wd, most.table))
 
-is_layout : (document : Document) → IsSavable document → IsLayout (layout_streams document) document.carried.clsid
+pub is_layout : (document : Document) → IsSavable document → IsLayout (layout_streams document) document.carried.clsid
 is_layout document is =
     let carried = document.carried.streams in
     let with_wd = put_stream (the_wd document) carried in
@@ -188,7 +188,7 @@ carried_again document formed =
 abbrev the_contents : Document → Contents
 the_contents document = contents_of (layout_streams document) document.carried.clsid
 
-has_layout : (document : Document) → IsFormed document → HasLayout document (the_contents document)
+pub has_layout : (document : Document) → IsFormed document → HasLayout document (the_contents document)
 has_layout document formed =
     let streams = layout_streams document in
     let clsid = document.carried.clsid in

@@ -1,6 +1,6 @@
 -- What follows of the value in an `Ok`.
 use Rattle.std.specs.Prelude.{Result, Ok, Err, IfOk, MatchResult}
-use Rattle.std.proofs.Common.{◌≡◌, ◌∙◌, refl, sym, subst, true}
+use Rattle.std.proofs.Common.{◌≡◌, ◌<◌, ◌∙◌, refl, sym, subst, length, true}
 use Rattle.std.specs.Result.{IsOk}
 use Rattle.doc_bits.specs.Rules.{Hold, IsFirst}
 use Rattle.std.specs.Prelude.{ℕ, List}
@@ -9,6 +9,8 @@ use Rattle.fib_form.specs.FibRules.{fib_rules}
 use Rattle.fib_form.specs.declared.fault.FibFault.{FibFault}
 use Rattle.plain_doc.specs.declared.document.Document.{Document}
 use Rattle.plain_doc.specs.Sound.{IsSound}
+use Rattle.plain_doc.proofs.MainLemmas.{main_ends}
+use Rattle.plain_doc.proofs.RightLemmas.{sound_is_right}
 use Rattle.fast_save.proofs.FullLemmas.{no_fib_fault}
 
 pub ok_then : {T E : Type 0} (r : Result T E) (P Q : T → Type 0) → ((x : T) → P x → Q x) → IfOk r P → IfOk r Q
@@ -28,3 +30,7 @@ pub fib_is_read : (wd : List ℕ) (r : Result FibFields FibFault) → Hold (fib_
     (λ fault. IsFirst (fib_rules wd) fault.rule fault.offset) → IsOk r
 fib_is_read wd (Ok fib) holds read = refl
 fib_is_read wd (Err fault) holds read = absurd (no_fib_fault wd fault.rule fault.offset holds read)
+
+-- the main text of a sound document has an item
+pub some_item : (document : Document) → IsSound document → 0 < length document.main
+some_item document sound = let last = main_ends document (sound_is_right document sound) in last.some

@@ -118,22 +118,35 @@ pub record IsBehind (counts : Counts) (old new : List ℕ) : Type 0 where
   pub grown : length new ≤ length old + 2048 + 2 * counts.units + 512 * counts.runs + 512 * counts.sections
   pub complex : (fib_fields new).complex ≡ true
 
+-- the counts with the sectors of the file itself and the bytes of its own bin tables, in place of what they come to at most
+abbrev pub counts_over : (file wd : List ℕ) → Counts → Counts
+counts_over file wd counts = record counts { sectors = sector_count file; bin_bytes = bin_length (fib_fields wd) }
+
+-- a file with these streams is within what is reckoned: its table stream, the bytes of its bin tables, and its sectors
+pub record IsWithin (counts : Counts) (table_bytes : ℕ) (file wd stream : List ℕ) : Type 0 where
+  pub table :
+      length stream
+      ≤ table_bytes + counts.bin_bytes + (12 + modifier_bytes counts) * counts.pieces + 16 * counts.runs + 4096
+  pub bins : bin_length (fib_fields wd) ≤ counts.bin_bytes + 16 * counts.runs + 256
+  pub sectors : sector_count file ≤ sector_bound counts table_bytes
+
 -- the file of a fast save: the document is saved behind the old WordDocument, by the pieces that are there, with one quick
--- save more; the sectors and the bytes of its bin tables are within what is reckoned
+-- save more, and within what is reckoned over the old file
 pub record IsFastFile {document : Document} {parts : SessionParts} (can : CanSaveFast document parts) (file : List ℕ) :
     Type 0 where
   pub held : IsHeldFile file document
   pub pieces : held.holds.parts.text.pieces ≡ parts.text.pieces.pieces
   pub quick_saves : (fib_fields held.holds.parts.text.wd).quick_saves ≡ parts.fib.quick_saves + 1
   pub behind : IsBehind can.counts can.session.held.parts.text.wd held.holds.parts.text.wd
-  pub sectors : sector_count file ≤ sector_bound can.counts (length (table_stream document))
-  pub bins :
-      bin_length (fib_fields held.holds.parts.text.wd) ≤ can.counts.bin_bytes + 16 * can.counts.runs + 256
+  pub within :
+      IsWithin (counts_over can.file can.session.held.parts.text.wd can.counts) (length (table_stream document)) file
+      held.holds.parts.text.wd held.holds.parts.text.table
 
 -- ---- the session after it
 
--- the counts did not refuse it; the file is accepted and holds the document, behind the old WordDocument; there is one
--- quick save more, and the counts are those after a fast save
+-- the counts did not refuse it; the file is accepted and holds the document, behind the old WordDocument, and is within
+-- what is reckoned over the old file; there is one quick save more, as its FIB says, and the counts are those after a
+-- fast save
 pub record IsSavedFast (old new : SessionView) : Type 0 where
   pub judged : IsJudged old.quick_saves old.counts (length (table_stream old.document))
   pub accepted : IsAccepted new.bytes
@@ -144,3 +157,7 @@ pub record IsSavedFast (old new : SessionView) : Type 0 where
   pub before : FileParts
   pub has_before : HasFileParts old.bytes before
   pub behind : IsBehind old.counts before.text.wd holds.parts.text.wd
+  pub count : (fib_fields holds.parts.text.wd).quick_saves ≡ old.quick_saves + 1
+  pub within :
+      IsWithin (counts_over old.bytes before.text.wd old.counts) (length (table_stream old.document)) new.bytes
+      holds.parts.text.wd holds.parts.text.table

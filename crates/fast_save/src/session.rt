@@ -1,5 +1,5 @@
 // A session: a document that is edited beside the pieces of its text. After want of memory it is what it was.
-ghost use Rattle.std.specs.Prelude.{◌≡◌, ◌≤◌, length, OnOk, IfOk, IfErr, MatchResult};
+ghost use Rattle.std.specs.Prelude.{◌≡◌, ◌<◌, ◌≤◌, length, OnOk, IfOk, IfErr, MatchResult};
 ghost use Rattle.cfb_streams.specs.Header.{sector_count};
 ghost use Rattle.plain_doc.specs.Sound.{IsSound};
 ghost use Rattle.full_save.specs.WordDocument.{table_stream};
@@ -154,6 +154,21 @@ impl Session {
         ensures accepted { IsAccepted result.now }
     {
         self.file.as_slice()
+    }
+
+    /// The number of fast saves in a row that made the file, up to 15.
+    pub fn quick_saves(&self) -> u8
+        ensures { result ≡ self.now.quick_saves }
+    {
+        self.parts.fib.quick_saves()
+    }
+
+    /// The number of items of the main text.
+    pub fn main_len(&self) -> u32
+        ensures len { result ≡ length self.now.document.main }
+        ensures some { 0 < result }
+    {
+        self.document.main.len() as u32
     }
 
     /// The numbers that decide whether a fast save is refused.
