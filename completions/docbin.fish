@@ -8,6 +8,7 @@ complete -c docbin -n '__fish_is_first_arg' -a props -d 'what is in effect at an
 complete -c docbin -n '__fish_is_first_arg' -a full -d 'put the full save of the document under a name'
 complete -c docbin -n '__fish_is_first_arg' -a equal -d 'whether the documents of two files are equal'
 complete -c docbin -n '__fish_is_first_arg' -a edit -d 'edit the document by a script, and put its last save under a name'
+complete -c docbin -n '__fish_is_first_arg' -a gen -d 'make a large document of a number, and put its last save under a name'
 complete -c docbin -n '__fish_seen_subcommand_from text streams check show props full equal edit; and test (count (commandline -opc)) -eq 2' -F
-complete -c docbin -n '__fish_seen_subcommand_from full equal edit; and test (count (commandline -opc)) -eq 3' -F
+complete -c docbin -n '__fish_seen_subcommand_from full equal edit gen; and test (count (commandline -opc)) -eq 3' -F
 complete -c docbin -n '__fish_seen_subcommand_from edit; and test (count (commandline -opc)) -eq 4' -F

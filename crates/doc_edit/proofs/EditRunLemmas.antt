@@ -1,15 +1,17 @@
 -- The runs that edits add to the tables of a full save.
-use Rattle.std.proofs.Common.{◌≡◌, ◌∙◌, refl, sym, ap, ℕ, ◌+◌, ◌≤◌, Bool, true, List, [], ◌∷◌, ◌++◌, length, take, drop, map, Option, Some, None, arith}
+use Rattle.std.proofs.Common.{◌≡◌, ◌∙◌, refl, sym, ap, subst, ℕ, ◌+◌, ◌≤◌, Bool, true, List, [], ◌∷◌, ◌++◌, length, take, drop, map, Option, Some, None, arith}
 use Rattle.std.specs.Prelude.{◌==◌, is_some, not, slice_range}
-use Rattle.std.specs.List.{splice}
+use Rattle.std.specs.List.{slice_get, splice}
 use Rattle.std.specs.Option.{option_map}
 use Rattle.std.proofs.lemmas.List.{drop_more, append_assoc, take-append-drop, map-append}
 use Rattle.std.proofs.lemmas.List.Folds.{drop_split}
 use Rattle.std.proofs.lemmas.Bool.{cond_both, eqb-true}
 use Rattle.std.specs.FinMap.{empty}
 use Rattle.std.proofs.lemmas.Option.{slice_get_within, get_or_from_slice_get}
+use Rattle.doc_bits.specs.declared.places.Story.TheVariants.{Main}
 use Rattle.prop_map.specs.declared.modifiers.Modifier.{Modifier}
-use Rattle.prop_map.specs.Overlay.{modified_characters}
+use Rattle.prop_map.specs.Settings.{Settings}
+use Rattle.prop_map.specs.Overlay.{without, modified_characters}
 use Rattle.prop_map.proofs.MapLemmas.{empty-overlay}
 use Rattle.fkp_pages.specs.declared.kind.PageKind.{PageKind}
 use Rattle.fkp_pages.specs.declared.kind.PageKind.TheVariants.{Chpx, Papx}
@@ -20,10 +22,10 @@ use Rattle.plain_doc.specs.Settings.{same_settings, is_alike, is_inside}
 use Rattle.plain_doc.proofs.SettingsLemmas.{same_settings-Decides}
 use Rattle.full_save.specs.Text.{with_mark, note_story, head_story, text_items}
 use Rattle.full_save.specs.Runs.{joins_run}
-use Rattle.full_save.specs.WordDocument.{text_at}
+use Rattle.full_save.specs.WordDocument.{text_at, document_runs}
 use Rattle.full_save.proofs.StreamLengths.{length-runs_from}
 use Rattle.plain_doc.specs.Stretches.{stretches}
-use Rattle.edit_ops.specs.Fresh.{base_of, base_settings, plain_end, unit_item, unit_items, inserted_items, split_item}
+use Rattle.edit_ops.specs.Fresh.{special_codes, base_of, base_settings, plain_end, unit_item, unit_items, inserted_items, split_item}
 use Rattle.edit_ops.specs.Places.{mark_place}
 use Rattle.edit_ops.specs.Changes.{map_range, modified_item, modified_mark}
 use Rattle.edit_ops.specs.Edits.{setting_characters, naming_style}
@@ -72,7 +74,7 @@ stands_for Chpx item unit = record {
 }
 stands_for Papx item unit = record { joined = refl; alike = λ w. refl }
 
-inserted_are : (main : List Item) (at : ℕ) (text : List ℕ) (there : IsPlainAt main at) → inserted_items main at text ≡ unit_items there.item.chp text
+pub inserted_are : (main : List Item) (at : ℕ) (text : List ℕ) (there : IsPlainAt main at) → inserted_items main at text ≡ unit_items there.item.chp text
 inserted_are [] at text there = let within = slice_get_within [] at there.item there.here in absurd (omega (arith, within))
 inserted_are (first ∷ main) at text there =
     cond_both (length (first ∷ main) == 0) (unit_items empty text ++ plain_end ∷ plain_end ∷ []) (unit_items (base_settings (first ∷ main) at) text)

@@ -1,29 +1,32 @@
 -- How large the full save of a small document is. It belongs to full_save.
-use Rattle.std.proofs.Common.{◌≡◌, ◌∙◌, sym, ap, subst, ℕ, ◌+◌, ◌*◌, ◌/◌, ◌≤◌, List, [], ◌∷◌, ◌++◌, length, arith, length-append}
-use Rattle.std.specs.Prelude.{nat_lt}
+use Rattle.std.proofs.Common.{◌≡◌, ◌∙◌, refl, sym, ap, subst, ℕ, ◌+◌, ◌*◌, ◌/◌, ◌<◌, ◌≤◌, max, Bool, true, false, cond, List, [], ◌∷◌, ◌++◌, length, arith, length-append}
+use Rattle.std.specs.Prelude.{if◌then◌else◌, nat_lt}
 use Rattle.std.proofs.Common.{ltb-true}
 use Rattle.std.proofs.lemmas.Bool.{cond_both}
 use Rattle.fkp_pages.specs.declared.kind.PageKind.{PageKind}
 use Rattle.fkp_pages.specs.declared.kind.PageKind.TheVariants.{Chpx, Papx}
 use Rattle.fkp_pages.specs.PageBytes.{last_fc}
 use Rattle.fkp_pages.specs.InARow.{numbered_bins}
+use Rattle.fkp_pages.specs.Packed.{pages_of}
 use Rattle.fkp_pages.proofs.PrintedBinLemmas.{length-printed_bin}
 use Rattle.fkp_pages.proofs.RowLemmas.{length-numbered_bins}
 use Rattle.cfb_streams.specs.Contents.{NamedBytes}
-use Rattle.cfb_layout.specs.Sectors.{padded}
+use Rattle.cfb_streams.specs.Names.{wd_name, second_table_name}
+use Rattle.cfb_layout.specs.Sectors.{units_for, padded}
 use Rattle.cfb_layout.specs.Counts.{large_len, small_len, mini_counts, large_counts, sector_counts, sectors_needed}
 use Rattle.cfb_layout.specs.Layout.{lengths_of}
 use Rattle.cfb_layout.proofs.BytesLemmas.{length-padded}
 use Rattle.plain_doc.specs.declared.document.Document.{Document}
 use Rattle.plain_doc.specs.Collected.{sections_of}
 use Rattle.plain_doc.specs.Formed.{IsFormed}
+use Rattle.plain_doc.specs.Sound.{IsSound}
 use Rattle.plain_doc.specs.RightDocument.{IsRightDocument}
 use Rattle.plain_doc.proofs.RightLemmas.{sound_is_right}
 use Rattle.full_save.specs.Text.{text_items}
 use Rattle.full_save.specs.Sections.{sepxes}
 use Rattle.full_save.specs.Streams.{put_stream, saved_streams}
 use Rattle.full_save.specs.WordDocument.{text_bytes, document_runs, document_pages, bin_table, wd_body, wd_stream, table_stream, full_text, first_character_page, first_paragraph_page}
-use Rattle.full_save.specs.Layout.{layout_streams}
+use Rattle.full_save.specs.Layout.{layout_streams, sectors_of}
 use Rattle.full_save.proofs.TextLaidOut.{whole_pages, length-pages, length-text}
 use Rattle.full_save.proofs.LayoutLemmas.{length-wd_stream}
 use Rattle.doc_edit.specs.GeneratedSaves.{runs_of, IsSmallDocument, HasSmallSave, SmallDocumentsHaveSmallSaves}

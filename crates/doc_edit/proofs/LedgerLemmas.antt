@@ -1,11 +1,12 @@
 -- How the ledgers grow. It belongs to fast_save, but for what is generated.
-use Rattle.std.proofs.Common.{◌≡◌, refl, subst, ℕ, zero, suc, ◌+◌, ◌*◌, ◌/◌, ◌^◌, ◌-◌, ◌≤◌, min, Bool, true, false, arith}
+use Rattle.std.proofs.Common.{◌≡◌, ◌∙◌, refl, sym, ap, subst, ℕ, zero, suc, ◌+◌, ◌*◌, ◌/◌, ◌^◌, ◌-◌, ◌≤◌, min, Bool, true, false, arith}
 use Rattle.std.specs.Prelude.{if◌then◌else◌}
 use Rattle.std.proofs.Math.Nat.{min-le_left, mul-le-mul_right}
 use Rattle.cfb_layout.specs.Counts.{most_sectors}
 use Rattle.edit_script.specs.declared.commands.Command.{Command}
 use Rattle.edit_ops.specs.Runs.{most_runs}
-use Rattle.doc_edit.specs.Ledgers.{Counts, raised, after_edit, after_fast, sections_set, modifier_bytes, sectors_reckoned}
+use Rattle.fast_save.specs.declared.ledgers.Counts.{Counts}
+use Rattle.fast_save.specs.Ledgers.{raised, after_edit, after_fast, sections_set, modifier_bytes, bytes_reckoned, sector_bound}
 use Rattle.doc_edit.specs.GeneratedSaves.{most_table_bytes, most_bin_bytes, sectors_within, HasGrown, IsSmallEdit, FitsFast, GeneratedSavesAreSmall}
 
 -- a count rises by no more
@@ -50,7 +51,7 @@ within_next : (fast : ℕ) → sectors_within (suc fast) ≡ sectors_within fast
 unfolding sectors_within
 within_next fast = refl
 
-reckoned_within : (fast edits table_bytes : ℕ) (counts : Counts) → HasGrown fast edits counts → edits ≤ 50 → table_bytes ≤ most_table_bytes → sectors_reckoned counts table_bytes ≤ sectors_within (suc fast)
+reckoned_within : (fast edits table_bytes : ℕ) (counts : Counts) → HasGrown fast edits counts → edits ≤ 50 → table_bytes ≤ most_table_bytes → sector_bound counts table_bytes ≤ sectors_within (suc fast)
 reckoned_within fast edits table_bytes counts grown fifty small =
     let pieces = pieces_reckoned (modifier_bytes counts) counts.pieces fast edits (modifier_few counts.modified counts.printed) grown.pieces fifty in
     let sectors = grown.sectors in
@@ -59,9 +60,10 @@ reckoned_within fast edits table_bytes counts grown fifty small =
     let sections = grown.sections in
     let runs = grown.runs in
     let next = within_next fast in
-    omega (arith, pieces, sectors, bins, units, sections, runs, next, fifty, small)
+    let bound = min-le_left (counts.sectors + (bytes_reckoned counts table_bytes + 499) / 500 + 8) (2 ^ 64 - 1) in
+    omega (arith, bound, pieces, sectors, bins, units, sections, runs, next, fifty, small)
 
-pub fast_grows : (fast edits table_bytes : ℕ) (counts : Counts) → HasGrown fast edits counts → edits ≤ 50 → table_bytes ≤ most_table_bytes → HasGrown (fast + 1) 0 (after_fast (sectors_reckoned counts table_bytes) counts)
+pub fast_grows : (fast edits table_bytes : ℕ) (counts : Counts) → HasGrown fast edits counts → edits ≤ 50 → table_bytes ≤ most_table_bytes → HasGrown (fast + 1) 0 (after_fast (sector_bound counts table_bytes) counts)
 fast_grows fast edits table_bytes counts grown fifty small =
     let within = reckoned_within fast edits table_bytes counts grown fifty small in
     let next : suc fast ≡ fast + 1 = omega arith in
@@ -71,7 +73,7 @@ fast_grows fast edits table_bytes counts grown fifty small =
     let more = raised-le counts.bin_bytes (16 * counts.runs + 256) in
     record {
       pieces = omega (arith, pieces, fifty);
-      sectors = subst (λ n. sectors_reckoned counts table_bytes ≤ sectors_within n) next within;
+      sectors = subst (λ n. sector_bound counts table_bytes ≤ sectors_within n) next within;
       bins = omega (arith, bins, runs, more, fifty);
       units = omega arith;
       sections = omega arith;

@@ -1,5 +1,5 @@
 -- How many stretches a list has, and how many a change adds. It belongs to plain_doc.
-use Rattle.std.proofs.Common.{◌≡◌, ◌∙◌, refl, sym, ap, ℕ, ◌+◌, ◌≤◌, Bool, true, false, cond, List, [], ◌∷◌, ◌++◌, length, map, arith}
+use Rattle.std.proofs.Common.{◌≡◌, ◌∙◌, refl, sym, ap, subst, ℕ, ◌+◌, ◌≤◌, Bool, true, false, cond, List, [], ◌∷◌, ◌++◌, length, map, arith}
 use Rattle.std.specs.Prelude.{if◌then◌else◌}
 use Rattle.plain_doc.specs.Stretches.{stretch_from, stretches}
 
@@ -31,7 +31,7 @@ count_none : {A : Type 0} (joins : A → A → Bool) → count joins [] ≡ 0
 unfolding stretches
 count_none joins = refl
 
-count_one : {A : Type 0} (joins : A → A → Bool) (x : A) → count joins (x ∷ []) ≡ 1
+pub count_one : {A : Type 0} (joins : A → A → Bool) (x : A) → count joins (x ∷ []) ≡ 1
 unfolding stretches
 count_one joins x = refl
 

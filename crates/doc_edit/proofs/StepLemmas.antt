@@ -1,121 +1,138 @@
--- States that are alike: a command that is no fast save does the same on both.
-use Rattle.std.proofs.Common.{◌≡◌, ◌≢◌, ◌∙◌, refl, sym, ap, subst, ℕ, ◌<◌, List, Bool, true, false, Option, Some, None}
+-- One command that is made on a session, whatever has been so far.
+use Rattle.std.proofs.Common.{◌≡◌, ◌∙◌, refl, sym, ap, subst, ℕ, ◌+◌, ◌*◌, ◌^◌, ◌-◌, ◌≤◌, List, Bool, true, false, Option, Some, None, arith}
+use Rattle.std.specs.Prelude.{Result, IfErr}
+use Rattle.std.proofs.Math.Nat.{min-le_left}
+use Rattle.std.proofs.lemmas.Result.{IfErr-weaker}
 use Rattle.edit_guards.specs.declared.facts.Facts.{Facts}
 use Rattle.edit_guards.specs.Policies.{Policy, AllGrant, IsFirstRefuser, policies_after}
 use Rattle.plain_doc.specs.declared.document.Document.{Document}
-use Rattle.cfb_layout.specs.Counts.{most_sectors}
-use Rattle.full_save.specs.Layout.{sectors_of, FitsCompoundFile}
+use Rattle.full_save.specs.Layout.{full_save_image, FitsCompoundFile}
+use Rattle.doc_read.specs.Holds.{HoldsDocument}
 use Rattle.edit_script.specs.declared.commands.Command.{Command}
 use Rattle.edit_ops.specs.Edits.{document_after}
 use Rattle.edit_ops.specs.EditFacts.{edit_facts}
-use Rattle.edit_ops.specs.Causes.{IsAcceptedEdit, IsEditFault}
-use Rattle.doc_edit.specs.declared.faults.Stop.{Stop}
-use Rattle.doc_edit.specs.declared.faults.Stop.TheVariants.{Refused, Guarded, TooLarge}
-use Rattle.doc_edit.specs.States.{RunState, start_of, state_by, state_after}
+use Rattle.edit_ops.specs.Causes.{IsAcceptedEdit}
+use Rattle.edit_ops.specs.Runs.{most_runs}
+use Rattle.fast_save.specs.declared.ledgers.Counts.{Counts}
+use Rattle.fast_save.specs.Ledgers.{after_edit, sections_set}
+use Rattle.fast_save.specs.Session.{SessionView}
+use Rattle.fast_save.specs.Edited.{session_after, bytes_added, most_added}
+use Rattle.fast_save.proofs.RoomLemmas.{edits_add_little}
+use Rattle.doc_edit.specs.declared.faults.RunFault.{RunFault}
+use Rattle.doc_edit.specs.declared.faults.RunFault.TheVariants.{Stopped, Memory}
+use Rattle.doc_edit.specs.declared.faults.Stop.TheVariants.{Guarded}
+use Rattle.doc_edit.specs.States.{RunState, counts_in_full, session_in_full, edited, saved_in_full, state_by}
 use Rattle.doc_edit.specs.Saves.{save_mode}
-use Rattle.doc_edit.specs.Commands.{Commands, command_at}
-use Rattle.doc_edit.specs.Ends.{StopsBy, PassesBy, IsGuardedEdit}
-use Rattle.doc_edit.specs.Steps.{IsAlike, MakesBy}
+use Rattle.doc_edit.specs.Files.{IsFileOf}
+use Rattle.doc_edit.specs.Ends.{StopsBy, Stops, StopsEdit, StopsFullSave, PassesBy, HaltsBy}
+use Rattle.doc_edit.specs.Steps.{IsAt, Makes, Halts, HaltsFull, IsFullSave}
 
-pub alike_sym : (one other : RunState) → IsAlike one other → IsAlike other one
-alike_sym one other alike =
-    record { document = sym alike.document; policies = sym alike.policies; quick_saves = sym alike.quick_saves }
+-- ---- an edit
 
-pub alike_trans : (one other third : RunState) → IsAlike one other → IsAlike other third → IsAlike one third
-alike_trans one other third alike more = record {
-  document = alike.document ∙ more.document;
-  policies = alike.policies ∙ more.policies;
-  quick_saves = alike.quick_saves ∙ more.quick_saves;
-}
+-- the counts rise by no more than what the command adds
+added_more : (command : Command) (units : ℕ) (counts : Counts) → bytes_added (after_edit command units counts) ≤ bytes_added counts + (2 * units + 512 * most_runs command + 512 * sections_set command)
+added_more command units counts =
+    let a = min-le_left (counts.units + units) (2 ^ 64 - 1) in
+    let b = min-le_left (counts.runs + most_runs command) (2 ^ 64 - 1) in
+    let c = min-le_left (counts.sections + sections_set command) (2 ^ 64 - 1) in
+    omega (arith, a, b, c)
 
--- the same command comes next
-pub command_alike : (commands : Commands) (i : ℕ) (one other : RunState) → IsAlike one other → command_at commands i one ≡ command_at commands i other
-command_alike commands i one other alike =
-    let documents = alike.document in
-    let counts = alike.quick_saves in
-    λ j. commands.at i (documents j) (counts j)
+-- the file stays
+file_edited : (state : RunState) (command : Command) (bytes : List ℕ) → IsFileOf state bytes → IsFileOf (edited state command) bytes
+file_edited state command bytes file =
+    let within = file.within in
+    let more = added_more command (edit_facts state.document command).units_in state.counts in
+    record { most = file.most; within = omega (arith, within, more); grown = file.grown }
 
--- a fact on the policies and what an edit does
-facts_alike : (P : List Policy → Document → Type 0) (one other : RunState) → IsAlike one other → P one.policies one.document → P other.policies other.document
-facts_alike P one other alike p =
-    subst (λ policies. P policies other.document) alike.policies (subst (λ document. P one.policies document) alike.document p)
-
--- it passes on both
-pub passes_alike : (mode : Option Bool) (command : Command) (one other : RunState) → IsAlike one other → mode ≢ Some false → PassesBy mode one command → PassesBy mode other command
-passes_alike None command one other alike full passes = record {
-  accepted = subst (λ document. IsAcceptedEdit document command) alike.document passes.accepted;
-  granted = facts_alike (λ policies document. AllGrant policies (edit_facts document command)) one other alike passes.granted;
-}
-passes_alike (Some true) command one other alike full passes = subst FitsCompoundFile alike.document passes
-passes_alike (Some false) command one other alike full passes = absurd (full refl)
-
--- it stops both for the same cause
-pub stops_alike : (mode : Option Bool) (command : Command) (one other : RunState) (stop : Stop) → IsAlike one other → mode ≢ Some false → StopsBy mode one command stop → StopsBy mode other command stop
-stops_alike None command one other (Refused fault) alike full stops =
-    (stops.0, subst (λ document. IsEditFault document command fault) alike.document stops.1)
-stops_alike None command one other (Guarded guard) alike full stops = record {
-  accepted = subst (λ document. IsAcceptedEdit document command) alike.document stops.accepted;
-  refuser = facts_alike (λ policies document. IsFirstRefuser policies (edit_facts document command) guard) one other alike stops.refuser;
-}
-stops_alike None command one other stop alike full stops = absurd stops
-stops_alike (Some true) command one other (TooLarge sectors) alike full stops =
-    subst (λ document. (most_sectors < sectors_of document) × (sectors ≡ sectors_of document)) alike.document stops
-stops_alike (Some true) command one other stop alike full stops = absurd stops
-stops_alike (Some false) command one other stop alike full stops = absurd (full refl)
-
--- it leaves what is alike
-pub after_alike : (mode : Option Bool) (command : Command) (one other : RunState) → IsAlike one other → mode ≢ Some false → IsAlike (state_by mode one command) (state_by mode other command)
-after_alike None command one other alike full =
-    let documents = alike.document in
-    let told = alike.policies in
+edited_at : (state : RunState) (command : Command) (session : SessionView) (policies told : List Policy) (facts : Facts) → IsAt state session policies → facts ≡ edit_facts session.document command → told ≡ policies_after policies facts → IsAt (edited state command) (session_after command session) told
+edited_at state command session policies told facts at same noted =
+    let documents = at.document in
+    let counts = at.counts in
+    let policies_were = at.policies_are in
+    let facts_are : facts ≡ edit_facts state.document command = same ∙ ap (λ d. edit_facts d command) documents in
     record {
-      document = ap (λ document. document_after document command) documents;
-      policies = λ j. policies_after (told j) (edit_facts (documents j) command);
-      quick_saves = alike.quick_saves;
+      document = ap (λ d. document_after d command) documents;
+      counts = λ j. after_edit command (edit_facts (documents j) command).units_in (counts j);
+      quick_saves = at.quick_saves;
+      policies_are = noted ∙ (λ j. policies_after (policies_were j) (facts_are j));
+      holds = at.holds;
+      file = file_edited state command session.bytes at.file;
     }
-after_alike (Some true) command one other alike full =
-    record { document = alike.document; policies = alike.policies; quick_saves = refl }
-after_alike (Some false) command one other alike full = absurd (full refl)
 
-none_in_a_row : (mode : Option Bool) (command : Command) (document : Document) (policies : List Policy) → mode ≢ Some false → (state_by mode (start_of document policies) command).quick_saves ≡ 0
-none_in_a_row None command document policies full = refl
-none_in_a_row (Some true) command document policies full = refl
-none_in_a_row (Some false) command document policies full = absurd (full refl)
-
--- what it leaves behind a start is a start
-pub after_start : (command : Command) (document made : Document) (policies told : List Policy) → save_mode command ≢ Some false → MakesBy command (start_of document policies) made told → IsAlike (state_after (start_of document policies) command) (start_of made told)
-after_start command document made policies told full makes = record {
-  document = sym makes.leaves;
-  policies = sym makes.tells;
-  quick_saves = none_in_a_row (save_mode command) command document policies full;
-}
-
--- ---- an edit that is made, and one that a guard does not allow
-
-pub edit_made : (command : Command) (document made : Document) (policies told : List Policy) (facts : Facts) → save_mode command ≡ None → IsAcceptedEdit document command → made ≡ document_after document command → facts ≡ edit_facts document command → AllGrant policies facts → told ≡ policies_after policies facts → MakesBy command (start_of document policies) made told
-edit_made command document made policies told facts mode accepted after same granted noted =
-    let start = start_of document policies in
+pub edit_made : (command : Command) (session made : SessionView) (policies told : List Policy) (facts : Facts) → save_mode command ≡ None → IsAcceptedEdit session.document command → facts ≡ edit_facts session.document command → AllGrant policies facts → made ≡ session_after command session → told ≡ policies_after policies facts → Makes command session policies made told
+edit_made command session made policies told facts mode accepted same granted after noted state at =
+    let facts_are : facts ≡ edit_facts state.document command = same ∙ ap (λ d. edit_facts d command) at.document in
     record {
-      passes = subst (λ m. PassesBy m start command) (sym mode) (record {
-        accepted = accepted;
-        granted = subst (λ f. AllGrant policies f) same granted;
+      passes = subst (λ m. PassesBy m state command) (sym mode) (record {
+        accepted = subst (λ d. IsAcceptedEdit d command) at.document accepted;
+        granted = subst (λ p. AllGrant p (edit_facts state.document command)) at.policies_are (subst (λ f. AllGrant policies f) facts_are granted);
       });
-      leaves = after ∙ sym (ap (λ m. (state_by m start command).document) mode);
-      tells = noted ∙ (ap (policies_after policies) same ∙ sym (ap (λ m. (state_by m start command).policies) mode));
+      leaves = subst (λ m. IsAt (state_by m state command) made told) (sym mode)
+          (subst (λ s. IsAt (edited state command) s told) (sym after) (edited_at state command session policies told facts at same noted));
     }
 
-pub edit_guarded : (command : Command) (document : Document) (policies : List Policy) (facts : Facts) (guard : ℕ) → IsAcceptedEdit document command → facts ≡ edit_facts document command → IsFirstRefuser policies facts guard → IsGuardedEdit (start_of document policies) command guard
-edit_guarded command document policies facts guard accepted same refuser =
-    record { accepted = accepted; refuser = subst (λ f. IsFirstRefuser policies f guard) same refuser }
+-- an edit that stops stops by its mode
+by_edit : (command : Command) (state : RunState) (index : ℕ) (fault : RunFault) → save_mode command ≡ None → HaltsBy index (StopsEdit state command) fault → HaltsBy index (Stops state command) fault
+by_edit command state index Memory mode halts = tt
+by_edit command state index (Stopped at stop) mode halts =
+    (halts.0, subst (λ m. StopsBy m state command stop) (sym mode) halts.1)
 
--- ---- a full save that is made
+pub edit_refused : (command : Command) (session : SessionView) (policies : List Policy) (index : ℕ) (fault : RunFault) → save_mode command ≡ None → ((state : RunState) → state.document ≡ session.document → HaltsBy index (StopsEdit state command) fault) → Halts command session policies index fault
+edit_refused command session policies index fault mode halts state at =
+    by_edit command state index fault mode (halts state (sym at.document))
 
-pub save_made : (command : Command) (document : Document) (policies : List Policy) (full : Bool) → save_mode command ≡ Some full → save_mode command ≢ Some false → FitsCompoundFile document → MakesBy command (start_of document policies) document policies
-save_made command document policies true mode other fits =
-    let start = start_of document policies in
+pub edit_guarded : (command : Command) (session : SessionView) (policies : List Policy) (facts : Facts) (guard index : ℕ) → save_mode command ≡ None → IsAcceptedEdit session.document command → facts ≡ edit_facts session.document command → IsFirstRefuser policies facts guard → Halts command session policies index (Stopped index (Guarded guard))
+edit_guarded command session policies facts guard index mode accepted same refuser state at =
+    let facts_are : facts ≡ edit_facts state.document command = same ∙ ap (λ d. edit_facts d command) at.document in (
+      refl,
+      subst (λ m. StopsBy m state command (Guarded guard)) (sym mode) (record {
+        accepted = subst (λ d. IsAcceptedEdit d command) at.document accepted;
+        refuser = subst (λ p. IsFirstRefuser p (edit_facts state.document command) guard) at.policies_are (subst (λ f. IsFirstRefuser policies f guard) facts_are refuser);
+      }),
+    )
+
+-- ---- a full save
+
+nothing_added : (document : Document) → bytes_added (counts_in_full document) ≡ 0
+unfolding counts_in_full
+nothing_added document = refl
+
+full_at : (state : RunState) (session : SessionView) (policies : List Policy) → IsAt state session policies → HoldsDocument (full_save_image session.document) session.document → IsAt (saved_in_full state) (session_in_full session.document) policies
+full_at state session policies at held =
+    let none = nothing_added state.document in
     record {
-      passes = subst (λ m. PassesBy m start command) (sym mode) fits;
-      leaves = sym (ap (λ m. (state_by m start command).document) mode);
-      tells = sym (ap (λ m. (state_by m start command).policies) mode);
+      document = at.document;
+      counts = ap counts_in_full at.document;
+      quick_saves = refl;
+      policies_are = at.policies_are;
+      holds = subst (λ d. HoldsDocument (full_save_image session.document) d) at.document held;
+      file = record { most = 0; within = omega (arith, none); grown = ap full_save_image at.document };
     }
-save_made command document policies false mode other fits = absurd (other mode)
+
+pub full_made : (command : Command) (session made : SessionView) (policies : List Policy) → save_mode command ≡ Some true → IsFullSave session made → Makes command session policies made policies
+full_made command session made policies mode save state at = record {
+  passes = subst (λ m. PassesBy m state command) (sym mode) (subst FitsCompoundFile at.document save.fits);
+  leaves = subst (λ m. IsAt (state_by m state command) made policies) (sym mode)
+      (subst (λ s. IsAt (saved_in_full state) s policies) (sym save.is) (full_at state session policies at save.held.holds));
+}
+
+by_full : (command : Command) (state : RunState) (index : ℕ) (fault : RunFault) → save_mode command ≡ Some true → HaltsBy index (StopsFullSave state) fault → HaltsBy index (Stops state command) fault
+by_full command state index Memory mode halts = tt
+by_full command state index (Stopped at stop) mode halts =
+    (halts.0, subst (λ m. StopsBy m state command stop) (sym mode) halts.1)
+
+full_refused : (command : Command) (session : SessionView) (policies : List Policy) (index : ℕ) (fault : RunFault) → save_mode command ≡ Some true → HaltsFull session index fault → Halts command session policies index fault
+full_refused command session policies index fault mode halts state at =
+    by_full command state index fault mode (halts state (sym at.document))
+
+pub full_halts : {T : Type 0} (command : Command) (session : SessionView) (policies : List Policy) (index : ℕ) (result : Result T RunFault) → save_mode command ≡ Some true → IfErr result (HaltsFull session index) → IfErr result (Halts command session policies index)
+full_halts command session policies index result mode halts =
+    IfErr-weaker result (HaltsFull session index) (Halts command session policies index)
+    (λ fault. full_refused command session policies index fault mode) halts
+
+-- ---- how much is added
+
+pub added_by : (mode : Option Bool) (state : RunState) (command : Command) → PassesBy mode state command → bytes_added (state_by mode state command).counts ≤ bytes_added state.counts + most_added
+added_by None state command passes = edits_add_little state.document command state.counts passes.accepted
+added_by (Some true) state command passes = let none = nothing_added state.document in omega (arith, none)
+added_by (Some false) state command passes = omega arith

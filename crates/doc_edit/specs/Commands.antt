@@ -1,11 +1,8 @@
--- What a run goes over: commands in order. Each is read off the document so far and the fast saves
--- that the file counts;
--- those of
--- a script are there from the first.
-use Rattle.std.specs.Prelude.{◌≡◌, ◌≢◌, ℕ, zero, suc, false, List, length, slice_get, Option, Some, None}
+-- What a run goes over: commands in order. Each is read off the document so far and the fast saves that the file
+-- counts; those of a script are there from the first.
+use Rattle.std.specs.Prelude.{ℕ, zero, suc, List, length, slice_get, Option, Some, None}
 use Rattle.plain_doc.specs.declared.document.Document.{Document}
 use Rattle.edit_script.specs.declared.commands.Command.{Command}
-use Rattle.doc_edit.specs.Saves.{save_mode}
 use Rattle.doc_edit.specs.States.{RunState, state_after}
 
 -- so many commands, and the command of each number
@@ -30,9 +27,3 @@ unfoldable pub state_before : RunState → Commands → ℕ → RunState
 state_before start commands zero = start
 state_before start commands (suc i) =
     state_on (state_before start commands i) (command_at commands i (state_before start commands i))
-
--- no command is a fast save
-abbrev pub SaveInFull : Commands → Type 0
-SaveInFull commands =
-    (i : ℕ) (document : Document) (quick_saves : ℕ) (command : Command) →
-    commands.at i document quick_saves ≡ Some command → save_mode command ≢ Some false

@@ -1,11 +1,11 @@
 -- How a run ends. It stops at the first command that may not be made, or it is accepted, and its last save counts.
-use Rattle.std.specs.Prelude.{◌≡◌, ◌≢◌, ℕ, ◌+◌, ◌<◌, ◌≤◌, List, length, Bool, true, false, Option, Some, None, ⊤}
+use Rattle.std.specs.Prelude.{◌≡◌, ◌≢◌, ℕ, ◌+◌, ◌-◌, ◌<◌, ◌≤◌, List, length, Bool, true, false, Option, Some, None, ⊤}
 use Rattle.edit_guards.specs.Policies.{Policy, AllGrant, IsFirstRefuser}
-use Rattle.plain_doc.specs.declared.document.Document.{Document}
 use Rattle.cfb_layout.specs.Counts.{most_sectors}
 use Rattle.full_save.specs.Layout.{full_save_image, sectors_of, FitsCompoundFile}
-use Rattle.fast_save.specs.Laws.{IsHeldInFull}
+use Rattle.doc_read.specs.Holds.{HoldsDocument, IsAccepted}
 use Rattle.edit_script.specs.declared.commands.Command.{Command}
+use Rattle.edit_script.specs.declared.commands.Command.TheVariants.{Save}
 use Rattle.edit_ops.specs.Causes.{IsAcceptedEdit, IsEditFault}
 use Rattle.edit_ops.specs.EditFacts.{edit_facts}
 use Rattle.edit_ops.specs.Laws.{IsCause}
@@ -14,9 +14,12 @@ use Rattle.doc_edit.specs.declared.faults.Stop.TheVariants.{Refused, Guarded, Si
 use Rattle.doc_edit.specs.declared.faults.RunFault.{RunFault}
 use Rattle.doc_edit.specs.declared.faults.RunFault.TheVariants.{Stopped, Memory}
 use Rattle.doc_edit.specs.declared.running.Saved.{Saved}
-use Rattle.doc_edit.specs.Ledgers.{most_pieces_added}
+use Rattle.fast_save.specs.Ledgers.{most_pieces_added}
 use Rattle.doc_edit.specs.Saves.{save_mode, save_count}
-use Rattle.doc_edit.specs.States.{RunState, fast_sectors}
+use Rattle.doc_edit.specs.States.{RunState, fast_sectors, most_grown}
+use Rattle.doc_edit.specs.Files.{HasGrownFrom}
+use Rattle.fast_save.specs.Session.{SessionView}
+use Rattle.fast_save.specs.Edited.{bytes_added}
 use Rattle.doc_edit.specs.Commands.{Commands, listed, command_at, state_before}
 
 -- Profile: the most fast saves in a row, and the most pieces of a file
@@ -59,8 +62,7 @@ pub record HasRoomFast (state : RunState) : Type 0 where
   pub pieces : state.counts.pieces + most_pieces_added ≤ most_pieces
 
 -- a fast save stops it where the file counts fifteen in a row; else where it may have too many pieces; else where the
--- sectors
--- that are reckoned are too many
+-- sectors that are reckoned are too many
 abbrev pub StopsFastSave : RunState → Stop → Type 0
 StopsFastSave state (Refused fault) = ⊥
 StopsFastSave state (Guarded guard) = ⊥
@@ -124,22 +126,35 @@ end_state start commands = state_before start commands commands.count
 abbrev pub IsAcceptedScript : RunState → List Command → Type 0
 IsAcceptedScript start script = IsAcceptedRun start (listed script)
 
--- the script is accepted; these are the bytes of its last save, which are accepted and hold the document after all
--- commands, and
--- the counts of its commands
+-- the last command is a save in this mode
+abbrev pub EndsInMode : Bool → RunState → Commands → Type 0
+EndsInMode full start commands =
+    command_at commands (commands.count - 1) (state_before start commands (commands.count - 1)) ≡ Some (Save full)
+
+-- the bytes of the last save, where these have been the commands: they are accepted and hold the document after all
+-- commands. Where that save is full they are the full save of this document. Where it is fast they have grown from the
+-- file that was given or last saved in full, by no more than what the commands since then may add
+pub record IsLastSave (start : RunState) (commands : Commands) (image : List ℕ) : Type 0 where
+  pub accepted : IsAccepted image
+  pub holds : HoldsDocument image (end_state start commands).document
+  pub full : EndsInMode true start commands → image ≡ full_save_image (end_state start commands).document
+  pub fast :
+      EndsInMode false start commands →
+      HasGrownFrom (end_state start commands).file (most_grown (end_state start commands).since)
+      (end_state start commands).quick_saves image
+
+-- the script is accepted; these are the bytes of its last save and the counts of its commands
 pub record IsSavedBy (start : RunState) (script : List Command) (saved : Saved) : Type 0 where
   pub accepted : IsAcceptedScript start script
-  pub image : saved.image ≡ full_save_image (end_state start (listed script)).document
-  pub held : IsHeldInFull (end_state start (listed script)).document
+  pub image : IsLastSave start (listed script) saved.image
   pub count : saved.commands ≡ length script
   pub fast : saved.saves.fast ≡ save_count false script
   pub full : saved.saves.full ≡ save_count true script
 
--- the full save of the document, which fits, is accepted and holds it
-pub record IsSavedImage (document : Document) (image : List ℕ) : Type 0 where
-  pub fits : FitsCompoundFile document
-  pub is : image ≡ full_save_image document
-  pub held : IsHeldInFull document
+-- what a run begins with: nothing was changed since the file was given or last saved
+pub record IsUnchanged (session : SessionView) : Type 0 where
+  pub holds : HoldsDocument session.bytes session.document
+  pub none : bytes_added session.counts ≡ 0
 
 -- the run stops there, or memory is refused, which is free
 abbrev pub IsRunFault : RunState → Commands → RunFault → Type 0
@@ -153,9 +168,8 @@ pub record AreToldBefore (start : RunState) (commands : Commands) (policies : Li
   pub passed : PassesUpTo start commands index
   pub told : policies ≡ (state_before start commands index).policies
 
--- the guards were told of the edits before the command that stops the run; where memory is refused, of
--- those before some
--- command
+-- the guards were told of the edits before the command that stops the run; where memory is refused, of those before
+-- some command
 abbrev pub AreToldUpTo : RunState → Commands → RunFault → List Policy → Type 0
 AreToldUpTo start commands (Stopped index stop) policies = policies ≡ (state_before start commands index).policies
 AreToldUpTo start commands Memory policies = AreToldBefore start commands policies

@@ -2,10 +2,11 @@
 -- fiftieth of
 -- them and after the last.
 use Rattle.std.specs.Prelude.{ℕ, zero, suc, ◌+◌, ◌-◌, ◌*◌, ◌/◌, ◌%◌, ◌^◌, ◌==◌, ◌||◌, nat_lt, min, if◌then◌else◌}
-use Rattle.std.specs.Prelude.{Bool, List, ◌++◌, length, codes, Some, None}
+use Rattle.std.specs.Prelude.{Bool, List, ◌++◌, length, codes, Option, Some, None}
 use Rattle.std.specs.Fmt.{decimal}
 use Rattle.doc_bits.specs.declared.places.Story.TheVariants.{Main}
 use Rattle.plain_doc.specs.Blank.{one_setting}
+use Rattle.plain_doc.specs.declared.document.Document.{Document}
 use Rattle.edit_script.specs.declared.commands.Command.{Command}
 use Rattle.edit_script.specs.declared.commands.Command.TheVariants.{Insert, Char, Style, Split, Save}
 use Rattle.doc_edit.specs.Commands.{Commands}

@@ -1,7 +1,6 @@
 -- That no save of the generator is refused, by the ledgers: how far they have grown since the last full save, by the
--- fast saves
--- since then and the edits since the last save.
-use Rattle.std.specs.Prelude.{◌≡◌, ℕ, zero, suc, ◌+◌, ◌*◌, ◌/◌, ◌<◌, ◌≤◌, Bool, List, [], length, slice_get, Some}
+-- fast saves since then and the edits since the last save.
+use Rattle.std.specs.Prelude.{◌≡◌, ℕ, zero, suc, ◌+◌, ◌*◌, ◌/◌, ◌≤◌, List, [], length, slice_get, Some}
 use Rattle.doc_bits.specs.declared.places.Story.TheVariants.{Main}
 use Rattle.prop_map.specs.Settings.{Settings}
 use Rattle.prop_map.specs.Overlay.{without}
@@ -10,7 +9,6 @@ use Rattle.fkp_pages.specs.declared.kind.PageKind.TheVariants.{Chpx, Papx}
 use Rattle.cfb_layout.specs.Counts.{most_sectors}
 use Rattle.plain_doc.specs.declared.item.Item.{Item}
 use Rattle.plain_doc.specs.declared.document.Document.{Document}
-use Rattle.plain_doc.specs.Blank.{blank_document}
 use Rattle.plain_doc.specs.Collected.{sections_of}
 use Rattle.plain_doc.specs.Formed.{IsFormed}
 use Rattle.plain_doc.specs.Sound.{IsSound}
@@ -19,15 +17,13 @@ use Rattle.full_save.specs.Sections.{sepxes}
 use Rattle.full_save.specs.WordDocument.{document_runs, full_text, table_stream}
 use Rattle.full_save.specs.Layout.{sectors_of}
 use Rattle.edit_script.specs.declared.commands.Command.{Command}
-use Rattle.edit_script.specs.declared.commands.Command.TheVariants.{Insert, Char, Style, Split, Save}
+use Rattle.edit_script.specs.declared.commands.Command.TheVariants.{Insert, Char, Style, Split}
 use Rattle.edit_ops.specs.Fresh.{special_codes}
 use Rattle.edit_ops.specs.Edits.{document_after}
 use Rattle.edit_ops.specs.Runs.{most_runs}
-use Rattle.doc_edit.specs.Ledgers.{Counts, after_edit, after_fast, sections_set, sectors_reckoned, most_pieces_added}
-use Rattle.doc_edit.specs.States.{RunState, start_of}
-use Rattle.doc_edit.specs.Commands.{command_at, state_before}
-use Rattle.doc_edit.specs.Generated.{generated_count, generated}
-use Rattle.doc_edit.specs.Ends.{Passes, PassesUpTo, most_pieces}
+use Rattle.fast_save.specs.declared.ledgers.Counts.{Counts}
+use Rattle.fast_save.specs.Ledgers.{after_edit, after_fast, sections_set, sector_bound, most_pieces_added}
+use Rattle.doc_edit.specs.Ends.{most_pieces}
 
 -- Profile: the most sectors and bytes of bin tables of a full save of what is generated, and the most bytes of Table
 abbrev pub most_full_sectors : ℕ
@@ -68,17 +64,18 @@ pub record IsSmallEdit (command : Command) (added : ℕ) : Type 0 where
 -- a fast save of such ledgers is not refused
 pub record FitsFast (counts : Counts) (table_bytes : ℕ) : Type 0 where
   pub pieces : counts.pieces + most_pieces_added ≤ most_pieces
-  pub sectors : sectors_reckoned counts table_bytes ≤ most_sectors
+  pub sectors : sector_bound counts table_bytes ≤ most_sectors
 
 -- the ledgers grow so by an edit and by a fast save, and the first seven fast saves behind a full one are not refused
 pub record GeneratedSavesAreSmall : Type 0 where
   pub edit :
       (fast edits units : ℕ) (counts : Counts) (command : Command) →
-      HasGrown fast edits counts → IsSmallEdit command units → HasGrown fast (edits + 1) (after_edit command units counts)
+      HasGrown fast edits counts → IsSmallEdit command units →
+      HasGrown fast (edits + 1) (after_edit command units counts)
   pub fast :
       (fast edits table_bytes : ℕ) (counts : Counts) →
       HasGrown fast edits counts → edits ≤ 50 → table_bytes ≤ most_table_bytes →
-      HasGrown (fast + 1) 0 (after_fast (sectors_reckoned counts table_bytes) counts)
+      HasGrown (fast + 1) 0 (after_fast (sector_bound counts table_bytes) counts)
   pub fits :
       (fast edits table_bytes : ℕ) (counts : Counts) →
       HasGrown fast edits counts → edits ≤ 50 → table_bytes ≤ most_table_bytes → fast ≤ 6 →
@@ -95,8 +92,7 @@ pub record IsPlainAt (main : List Item) (at : ℕ) : Type 0 where
   pub plain : without special_codes item.chp ≡ item.chp
 
 -- an insertion takes the settings of the item at its place, so it adds no run of characters or of paragraphs; a split
--- adds one
--- paragraph; a command that sets characters adds two runs of characters; one that names a style adds none
+-- adds one paragraph; a command that sets characters adds two runs of characters; one that names a style adds none
 pub record EditsAddFewRuns : Type 0 where
   pub insertion :
       (kind : PageKind) (document : Document) (at : ℕ) (text : List ℕ) → IsPlainAt document.main at →
@@ -137,24 +133,3 @@ pub record HasSmallSave (document : Document) : Type 0 where
 abbrev pub SmallDocumentsHaveSmallSaves : Type 0
 SmallDocumentsHaveSmallSaves =
     (document : Document) → IsFormed document → IsSound document → IsSmallDocument document → HasSmallSave document
-
--- the generator starts on the full save of the blank document, and no guard is asked
-abbrev pub generator_start : RunState
-generator_start = start_of blank_document []
-
-abbrev pub generated_before : (seed i : ℕ) → RunState
-generated_before seed i = state_before generator_start (generated seed) i
-
--- the documents of a run of the generator have small full saves
-abbrev pub StaySmall : ℕ → Type 0
-StaySmall seed =
-    (i : ℕ) → i < generated_count seed → PassesUpTo generator_start (generated seed) i →
-    HasSmallSave (generated_before seed i).document
-
--- then none of its saves is refused
-abbrev pub SmallSavesAreMade : Type 0
-SmallSavesAreMade =
-    (seed i : ℕ) (full : Bool) → seed ≤ 4000 → StaySmall seed → i < generated_count seed →
-    PassesUpTo generator_start (generated seed) i →
-    command_at (generated seed) i (generated_before seed i) ≡ Some (Save full) →
-    Passes (generated_before seed i) (Save full)

@@ -1,9 +1,11 @@
-pub mod Ledgers
 pub mod Saves
 pub mod States
+pub mod Files
 pub mod Commands
 pub mod Generated
 pub mod Ends
 pub mod Steps
 pub mod GeneratedSaves
+pub mod GeneratedDocuments
+pub mod GeneratedRuns
 pub mod Laws

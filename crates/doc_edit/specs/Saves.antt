@@ -1,5 +1,5 @@
 -- The saves among commands.
-use Rattle.std.specs.Prelude.{◌≡◌, ◌≢◌, ℕ, Bool, false, List, All, Option, Some, None, take, slice_get}
+use Rattle.std.specs.Prelude.{ℕ, Bool, false, List, Option, Some, None}
 use Rattle.std.specs.Bool.{beq}
 use Rattle.std.specs.List.{count_by}
 use Rattle.edit_script.specs.declared.commands.Command.{Command}
@@ -18,12 +18,3 @@ has_mode full (Some mode) = beq mode full
 -- how many commands save in a mode
 abbrev pub save_count : Bool → List Command → ℕ
 save_count full commands = count_by (λ command. has_mode full (save_mode command)) commands
-
--- no save is a fast one
-abbrev pub SavesInFull : List Command → Type 0
-SavesInFull commands = All (λ command. save_mode command ≢ Some false) commands
-
--- the command of this number is a fast save, and none before it is one
-pub record IsFirstFastSave (commands : List Command) (index : ℕ) : Type 0 where
-  pub there : slice_get commands index ≡ Some (Save false)
-  pub before : SavesInFull (take index commands)

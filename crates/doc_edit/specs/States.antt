@@ -1,14 +1,17 @@
 -- What has been so far when commands are run.
-use Rattle.std.specs.Prelude.{ℕ, ◌+◌, Bool, true, false, List, length, Option, Some, None}
+use Rattle.std.specs.Prelude.{ℕ, ◌+◌, ◌*◌, Bool, true, false, List, length, Option, Some, None}
 use Rattle.edit_guards.specs.Policies.{Policy, policies_after}
+use Rattle.cfb_streams.specs.Header.{sector_count}
 use Rattle.plain_doc.specs.declared.document.Document.{Document}
-use Rattle.full_save.specs.WordDocument.{full_text, table_stream}
-use Rattle.full_save.specs.Layout.{full_save_image, sectors_of}
+use Rattle.full_save.specs.WordDocument.{full_fib, table_stream}
+use Rattle.full_save.specs.Layout.{full_save_image}
 use Rattle.edit_script.specs.declared.commands.Command.{Command}
 use Rattle.edit_ops.specs.Edits.{document_after}
 use Rattle.edit_ops.specs.EditFacts.{edit_facts}
 use Rattle.edit_ops.specs.Runs.{most_runs}
-use Rattle.doc_edit.specs.Ledgers.{Counts, after_edit, after_fast, after_full, sections_set, sectors_reckoned}
+use Rattle.fast_save.specs.declared.ledgers.Counts.{Counts}
+use Rattle.fast_save.specs.Ledgers.{after_edit, after_fast, after_full, sections_set, sector_bound}
+use Rattle.fast_save.specs.Session.{SessionView, bin_length}
 use Rattle.doc_edit.specs.Saves.{save_mode}
 
 -- what has been since the last full save: fast saves, units that were added, and runs and sections that are reckoned
@@ -22,34 +25,45 @@ abbrev pub nothing_since : Since
 nothing_since = record { fast_saves = 0; units = 0; runs = 0; sections = 0 }
 
 -- what the commands so far have come to: the document now, what the guards allow, the fast saves in a row that the file
--- counts, the ledgers, the file that was given or last saved in full, and what has been since
+-- counts, the ledgers, the document that the file holds, the file that was given or last saved in full, and what has
+-- been since
 pub record RunState : Type 0 where
   pub document : Document
   pub policies : List Policy
   pub quick_saves : ℕ
   pub counts : Counts
+  pub held : Document
   pub file : List ℕ
   pub since : Since
 
+-- before the first command, on a session to which nothing was added
+abbrev pub start_of : SessionView → List Policy → RunState
+start_of session policies = record {
+  document = session.document;
+  policies = policies;
+  quick_saves = session.quick_saves;
+  counts = session.counts;
+  held = session.document;
+  file = session.bytes;
+  since = nothing_since;
+}
+
 -- the ledgers after a full save of the document
 unfoldable pub counts_in_full : Document → Counts
-counts_in_full document =
-    after_full (sectors_of document) (length (full_text document).characters + length (full_text document).paragraphs)
+counts_in_full document = after_full (sector_count (full_save_image document)) (bin_length (full_fib document))
 
--- before the first command, on the full save of a document
-abbrev pub start_of : Document → List Policy → RunState
-start_of document policies = record {
+-- a session on the full save of a document
+abbrev pub session_in_full : Document → SessionView
+session_in_full document = record {
+  bytes = full_save_image document;
   document = document;
-  policies = policies;
-  quick_saves = 0;
   counts = counts_in_full document;
-  file = full_save_image document;
-  since = nothing_since;
+  quick_saves = 0;
 }
 
 -- the sectors that are reckoned for a fast save now
 unfoldable pub fast_sectors : RunState → ℕ
-fast_sectors state = sectors_reckoned state.counts (length (table_stream state.document))
+fast_sectors state = sector_bound state.counts (length (table_stream state.document))
 
 -- after an edit that adds so many units
 abbrev pub since_edit : Command → ℕ → Since → Since
@@ -67,13 +81,14 @@ edited state command = record {
   policies = policies_after state.policies (edit_facts state.document command);
   quick_saves = state.quick_saves;
   counts = after_edit command (edit_facts state.document command).units_in state.counts;
+  held = state.held;
   file = state.file;
   since = since_edit command (edit_facts state.document command).units_in state.since;
 }
 
 -- after a full save: all is as at a start on it
 abbrev pub saved_in_full : RunState → RunState
-saved_in_full state = start_of state.document state.policies
+saved_in_full state = start_of (session_in_full state.document) state.policies
 
 -- after a fast save
 abbrev pub saved_fast : RunState → RunState
@@ -82,6 +97,7 @@ saved_fast state = record {
   policies = state.policies;
   quick_saves = state.quick_saves + 1;
   counts = after_fast (fast_sectors state) state.counts;
+  held = state.document;
   file = state.file;
   since = record {
     fast_saves = state.since.fast_saves + 1;
@@ -99,3 +115,7 @@ state_by (Some false) state command = saved_fast state
 -- after one command more that passes
 abbrev pub state_after : RunState → Command → RunState
 state_after state command = state_by (save_mode command) state command
+
+-- the bytes by which WordDocument may have grown since the last full save
+abbrev pub most_grown : Since → ℕ
+most_grown since = 2048 * since.fast_saves + (2 * since.units + 512 * since.runs + 512 * since.sections)

@@ -1,11 +1,10 @@
 // The commands of the generator.
-ghost use Rattle.std.specs.Prelude.{◌≡◌, ◌+◌, ◌<◌, ◌≢◌, length, map, min, OnErr, IfErr, IfOk, OnOk};
+ghost use Rattle.std.specs.Prelude.{◌≡◌, ◌+◌, ◌<◌, min, map, IfOk, IfErr, OnOk, OnErr};
 ghost use Rattle.edit_guards.specs.Policies.{Policy};
 ghost use Rattle.doc_bits.specs.declared.places.Story.TheVariants.{Main};
 ghost use Rattle.edit_script.specs.declared.commands.Command.TheVariants.{Insert, Char};
-ghost use Rattle.plain_doc.specs.Sound.{IsSound};
-ghost use Rattle.doc_edit.specs.Generated.{generated};
 ghost use Rattle.plain_doc.specs.Blank.{one_setting};
+ghost use Rattle.doc_edit.specs.Generated.{generated};
 ghost use Rattle.doc_edit.specs.Generated.{next_number as next_of, edit_number as number_of, line_text as line_of};
 ghost use Rattle.doc_edit.specs.Generated.{generated_edit as edit_made, generated_count as count_of};
 ghost use Rattle.doc_edit.specs.Generated.{is_generated_save as saves_at, generated_command as command_of};
@@ -16,7 +15,7 @@ use crate::source::Source;
 use doc_bits::{Memory, Story, Units};
 use edit_guards::Guard;
 use edit_ops::Command;
-use plain_doc::{Document, documents_are_formed};
+use fast_save::Session;
 use prop_map::PropMap;
 use sprm_table::Code;
 use std::alloc::Global;
@@ -25,7 +24,10 @@ use std::alloc::Global;
 const EDITS_A_SAVE: usize = 50;
 
 /// The fast saves before a full one.
-const FAST_A_FULL: u32 = 7;
+const FAST_A_FULL: u8 = 7;
+
+/// The saves up to a full one, and that one.
+pub(crate) const SAVES_IN_TURN: usize = FAST_A_FULL as usize + 1;
 
 /// The most items that are set bold at once.
 const MOST_BOLD: u32 = 20;
@@ -34,6 +36,7 @@ const MOST_BOLD: u32 = 20;
 const SPRM_C_F_BOLD: Code = Code(0x0835);
 
 /// The commands from a seed.
+#[derive(Clone, Copy)]
 pub(crate) struct Generator {
     pub(crate) seed: u32,
 }
@@ -49,13 +52,17 @@ impl Source for Generator {
         &self,
         alloc: Global,
         index: usize,
-        document: &mut Document,
+        session: &mut Session,
         guards: &mut [Box<dyn Guard>],
     ) -> Result<(), RunFault> {
-        documents_are_formed(document);
-        let main_len = document.main.len() as u32;
-        let command = generated_command(alloc, self.seed, index, main_len, 0)?;
-        run_command(alloc, document, guards, &command, index)
+        let command = generated_command(
+            alloc,
+            self.seed,
+            index,
+            session.main_len(),
+            session.quick_saves(),
+        )?;
+        run_command(session, guards, &command, index)
     }
 }
 
@@ -74,7 +81,7 @@ pub fn generated_command(
     seed: u32,
     index: usize,
     main_len: u32,
-    quick_saves: u32,
+    quick_saves: u8,
 ) -> Result<Command, Memory>
     requires within { index < count_of seed }
     requires items { 0 < main_len }

@@ -1,7 +1,8 @@
 // Laws over the definitions alone.
 ghost use Rattle.doc_edit.specs.Laws.{ScriptEndsOnce};
-ghost use Rattle.doc_edit.specs.GeneratedSaves.{GeneratedSavesAreSmall, SmallSavesAreMade, EditsAddFewRuns};
+ghost use Rattle.doc_edit.specs.GeneratedSaves.{GeneratedSavesAreSmall, EditsAddFewRuns};
 ghost use Rattle.doc_edit.specs.GeneratedSaves.{SmallDocumentsHaveSmallSaves};
+ghost use Rattle.doc_edit.specs.GeneratedRuns.{GeneratorIsAccepted};
 
 /// A run stops at one command at most, for one cause, and at none where it is accepted, whatever its
 /// commands come from.
@@ -19,9 +20,9 @@ pub fn edits_add_few_runs()
     ensures { EditsAddFewRuns }
 {}
 
-/// No save of the generator is refused, where the full saves of its documents are small.
-pub fn small_saves_are_made()
-    ensures { SmallSavesAreMade }
+/// No command of the generator is refused, no edit and no save, from any seed up to 4,000.
+pub fn generator_is_accepted()
+    ensures { GeneratorIsAccepted }
 {}
 
 /// A document with as few items and runs as what is generated has a small full save.

@@ -3,6 +3,7 @@
 
 mod faults;
 mod generated;
+mod generating;
 mod laws;
 mod running;
 mod saves;
@@ -10,9 +11,10 @@ mod source;
 
 pub use faults::{RunFault, Stop};
 pub use generated::{generated_command, generated_count};
+pub use generating::{Generated, MOST_SEED, generate};
 pub use laws::{
-    edits_add_few_runs, generated_saves_are_small, script_ends_once,
-    small_documents_have_small_saves, small_saves_are_made,
+    edits_add_few_runs, generated_saves_are_small, generator_is_accepted, script_ends_once,
+    small_documents_have_small_saves,
 };
 pub use running::{Saved, run_script};
-pub use saves::{SaveCounts, count_saves, first_fast_save};
+pub use saves::{SaveCounts, count_saves};

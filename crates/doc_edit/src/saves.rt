@@ -1,6 +1,6 @@
 // The saves of a script. No call takes memory.
-ghost use Rattle.std.specs.Prelude.{◌≡◌, true, false, MatchOption};
-ghost use Rattle.doc_edit.specs.Saves.{save_mode, has_mode, save_count, SavesInFull, IsFirstFastSave};
+ghost use Rattle.std.specs.Prelude.{◌≡◌, true, false};
+ghost use Rattle.doc_edit.specs.Saves.{save_mode, has_mode, save_count};
 
 use edit_ops::{Command, Script};
 
@@ -31,18 +31,6 @@ fn count_mode(script: &Script, full: bool) -> usize
         count += saves_in(script.get(i), full) as usize;
     }
     count
-}
-
-/// The first fast save, where there is one.
-pub fn first_fast_save(script: &Script) -> Option<usize>
-    ensures { MatchOption result (SavesInFull script.now) (IsFirstFastSave script.now) }
-{
-    for i in 0..script.len() {
-        if saves_in(script.get(i), false) {
-            return Some(i);
-        }
-    }
-    None
 }
 
 /// Whether the command saves in this mode.

@@ -1,9 +1,10 @@
 -- Words are one command.
-use Rattle.std.proofs.Common.{◌≡◌, ◌∙◌, sym, ap, ℕ, ◌+◌, ◌*◌, ◌==◌, List, [], ◌∷◌, length, map, get_or, if◌then◌else◌, arith}
+use Rattle.std.proofs.Common.{◌≡◌, ◌∙◌, sym, ap, ℕ, ◌+◌, ◌*◌, ◌==◌, List, [], ◌∷◌, length, map, get_or, if◌then◌else◌}
+use Rattle.std.proofs.Common.{arith}
 use Rattle.std.specs.Prelude.{slice_index, slice_index_or}
 use Rattle.std.specs.Str.Parse.{digits_value}
 use Rattle.doc_run.specs.declared.command.View.TheVariants.{Text, Check, Show, Props}
-use Rattle.doc_run.specs.Commands.{Request, streams, look, full, compare, edit, IsCommand}
+use Rattle.doc_run.specs.Commands.{Request, streams, look, full, compare, edit, generate, IsCommand}
 
 -- the word that stands there
 word_at : ℕ → List (List ℕ) → List ℕ
@@ -22,6 +23,7 @@ decoded words =
     else if letters words == 112 * 256 + 114 then look (Props (digits_value 10 (word_at 2 words))) (word_at 1 words)
     else if letters words == 102 * 256 + 117 then full (word_at 1 words) (word_at 2 words)
     else if letters words == 101 * 256 + 113 then compare (word_at 1 words) (word_at 2 words)
+    else if letters words == 103 * 256 + 101 then generate (digits_value 10 (word_at 1 words)) (word_at 2 words)
     else if letters words == 101 * 256 + 100 then edit (word_at 1 words) (word_at 2 words) (word_at 3 words)
     else streams (word_at 1 words)
 
@@ -35,15 +37,20 @@ is_decoded words (look (Props pos) file) h = ap decoded h.spelt ∙ ap (λ n. lo
 is_decoded words (full file out) h = ap decoded h
 is_decoded words (compare first second) h = ap decoded h
 is_decoded words (edit file script out) h = ap decoded h
+is_decoded words (generate seed out) h = ap decoded h.spelt ∙ ap (λ n. generate n out) (sym h.number.number.value)
 
 pub command_one : (words : List (List ℕ)) (a b : Request) → IsCommand words a → IsCommand words b → a ≡ b
 command_one words a b x y = sym (is_decoded words a x) ∙ is_decoded words b y
 
 -- four words, as they are spelt
-pub four_spelt : {X Y : Type 0} (spelt : X → Y) (words : List X) (a b c d : X) → length words ≡ 4 → a ≡ get_or words 0 a → b ≡ get_or words 1 b → c ≡ get_or words 2 c → d ≡ get_or words 3 d → map spelt words ≡ spelt a ∷ spelt b ∷ spelt c ∷ spelt d ∷ []
+pub four_spelt :
+    {X Y : Type 0} (spelt : X → Y) (words : List X) (a b c d : X) → length words ≡ 4 → a ≡ get_or words 0 a →
+    b ≡ get_or words 1 b → c ≡ get_or words 2 c → d ≡ get_or words 3 d →
+    map spelt words ≡ spelt a ∷ spelt b ∷ spelt c ∷ spelt d ∷ []
 four_spelt spelt [] a b c d four ea eb ec ed = absurd (omega arith)
 four_spelt spelt (w ∷ []) a b c d four ea eb ec ed = absurd (omega arith)
 four_spelt spelt (w ∷ x ∷ []) a b c d four ea eb ec ed = absurd (omega arith)
 four_spelt spelt (w ∷ x ∷ y ∷ []) a b c d four ea eb ec ed = absurd (omega arith)
-four_spelt spelt (w ∷ x ∷ y ∷ z ∷ []) a b c d four ea eb ec ed = λ i. spelt (sym ea i) ∷ spelt (sym eb i) ∷ spelt (sym ec i) ∷ spelt (sym ed i) ∷ []
+four_spelt spelt (w ∷ x ∷ y ∷ z ∷ []) a b c d four ea eb ec ed =
+    λ i. spelt (sym ea i) ∷ spelt (sym eb i) ∷ spelt (sym ec i) ∷ spelt (sym ed i) ∷ []
 four_spelt spelt (w ∷ x ∷ y ∷ z ∷ v ∷ words) a b c d four ea eb ec ed = absurd (omega arith)

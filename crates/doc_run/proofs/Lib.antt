@@ -3,6 +3,9 @@ pub mod PutLemmas
 pub mod ListingLemmas
 pub mod PositionLemmas
 pub mod CommandLemmas
+pub mod AlikeLemmas
+pub mod SessionLemmas
 pub mod EditLemmas
+pub mod GenerateLemmas
 pub mod OneLemmas
 pub mod CompleteLemmas

@@ -1,5 +1,6 @@
 -- The lines of the streams, one after another.
-use Rattle.std.proofs.Common.{◌≡◌, ◌∙◌, ◌+◌, ap, refl, ℕ, List, [], ◌∷◌, ◌++◌, Option, Some, None, option_map, slice_get, length, drop, false}
+use Rattle.std.proofs.Common.{◌≡◌, ◌∙◌, ◌+◌, ap, refl, ℕ, List, [], ◌∷◌, ◌++◌, Option, Some, None, option_map}
+use Rattle.std.proofs.Common.{slice_get, length, drop, false}
 use Rattle.std.specs.Fmt.{decimal}
 use Rattle.std.proofs.lemmas.Option.{none-some, slice_get_within, get_or_from_slice_get}
 use Rattle.std.proofs.lemmas.List.{drop_more}
@@ -14,7 +15,9 @@ value_of None = []
 value_of (Some x) = x
 
 -- a stream of this name and these bytes
-stream_of : (o : Option Stream) (name bytes : List ℕ) → option_map (λ s. s.name) o ≡ Some name → option_map (λ s. s.bytes) o ≡ Some bytes → (s : Stream) × ((o ≡ Some s) × ((s.name ≡ name) × (s.bytes ≡ bytes)))
+stream_of :
+    (o : Option Stream) (name bytes : List ℕ) → option_map (λ s. s.name) o ≡ Some name →
+    option_map (λ s. s.bytes) o ≡ Some bytes → (s : Stream) × ((o ≡ Some s) × ((s.name ≡ name) × (s.bytes ≡ bytes)))
 unfolding value_of
 stream_of None name bytes n b = absurd (none-some name n)
 stream_of (Some s) name bytes n b = (s, (refl, (ap value_of n, ap value_of b)))

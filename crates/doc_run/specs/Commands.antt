@@ -1,6 +1,7 @@
 -- What the words of a run ask for.
 use Rattle.std.specs.Prelude.{◌≡◌, ◌≤◌, List, [], ◌∷◌, ℕ, length, codes}
 use Rattle.std.specs.Str.Parse.{IsNumeral, digits_value}
+use Rattle.doc_edit.specs.GeneratedRuns.{most_seed}
 use Rattle.doc_run.specs.declared.command.View.{View}
 use Rattle.doc_run.specs.declared.command.View.TheVariants.{Text, Check, Show, Props}
 use Rattle.doc_run.specs.declared.command.Command as asked
@@ -18,6 +19,8 @@ pub data Request : Type 0 where
   compare : (first second : List ℕ) → Request
   -- edit the document of a file by a script, and put its last save under a name
   edit : (file script out : List ℕ) → Request
+  -- put what the generator makes of a seed under a name
+  generate : (seed : ℕ) → (out : List ℕ) → Request
 
 -- the command that the program keeps
 abbrev pub request_of : asked.Command → Request
@@ -26,6 +29,7 @@ request_of (asked_for.Look view file) = look view file.now
 request_of (asked_for.Full file out) = full file.now out.now
 request_of (asked_for.Equal first second) = compare first.now second.now
 request_of (asked_for.Edit file script out) = edit file.now script.now out.now
+request_of (asked_for.Gen seed out) = generate seed out.now
 
 -- the number of a word of one to nine decimal digits
 pub record IsPosition (word : List ℕ) (pos : ℕ) : Type 0 where
@@ -33,11 +37,22 @@ pub record IsPosition (word : List ℕ) (pos : ℕ) : Type 0 where
   pub digits : IsNumeral 10 word
   pub value : pos ≡ digits_value 10 word
 
+-- such a number that is no greater than a seed may be
+pub record IsSeed (word : List ℕ) (seed : ℕ) : Type 0 where
+  pub number : IsPosition word seed
+  pub few : seed ≤ most_seed
+
 -- the words ask for the properties at a position of the file
 pub record AsksAtPosition (words : List (List ℕ)) (pos : ℕ) (file : List ℕ) : Type 0 where
   pub position : List ℕ
   pub number : IsPosition position pos
   pub spelt : words ≡ codes "props" ∷ file ∷ position ∷ []
+
+-- the words ask for what the generator makes of a seed
+pub record AsksForGenerated (words : List (List ℕ)) (seed : ℕ) (out : List ℕ) : Type 0 where
+  pub word : List ℕ
+  pub number : IsSeed word seed
+  pub spelt : words ≡ codes "gen" ∷ word ∷ out ∷ []
 
 -- the words ask for a view of the document of a file
 abbrev pub AsksForView : List (List ℕ) → View → (file : List ℕ) → Type 0
@@ -53,6 +68,7 @@ IsCommand words (look view file) = AsksForView words view file
 IsCommand words (full file out) = words ≡ codes "full" ∷ file ∷ out ∷ []
 IsCommand words (compare first second) = words ≡ codes "equal" ∷ first ∷ second ∷ []
 IsCommand words (edit file script out) = words ≡ codes "edit" ∷ file ∷ script ∷ out ∷ []
+IsCommand words (generate seed out) = AsksForGenerated words seed out
 
 -- the words are no command
 abbrev pub IsNoCommand : List (List ℕ) → Type 0
@@ -69,3 +85,4 @@ PutsUnder (look view file) name = ⊥
 PutsUnder (full file out) name = name ≡ out
 PutsUnder (compare first second) name = ⊥
 PutsUnder (edit file script out) name = name ≡ out
+PutsUnder (generate seed out) name = name ≡ out

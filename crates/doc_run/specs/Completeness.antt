@@ -8,12 +8,13 @@ use Rattle.doc_read.specs.Holds.{HoldsDocument, all_rules}
 use Rattle.doc_run.specs.declared.command.View.{View}
 use Rattle.doc_run.specs.declared.command.View.TheVariants.{Text, Check, Show, Props}
 use Rattle.full_save.specs.Layout.{FitsCompoundFile}
-use Rattle.doc_run.specs.Commands.{Request, streams, look, full, compare, edit}
+use Rattle.doc_run.specs.Commands.{Request, streams, look, full, compare, edit, generate}
 use Rattle.edit_script.specs.declared.commands.Command.{Command}
 use Rattle.edit_script.specs.Scripts.{IsScript}
 use Rattle.edit_guards.specs.Policies.{Policy}
 use Rattle.doc_edit.specs.States.{start_of}
-use Rattle.doc_edit.specs.Saves.{SavesInFull}
+use Rattle.fast_save.specs.Session.{SessionView}
+use Rattle.fast_save.specs.Started.{IsStarted}
 use Rattle.doc_edit.specs.Ends.{IsAcceptedScript}
 use Rattle.doc_run.specs.Stages.{longest_file}
 use Rattle.doc_run.specs.Endings.{stream_rules}
@@ -45,9 +46,12 @@ pub record IsSavable (files : Files) (name : List ℕ) : Type 0 where
 pub record AreEqualFiles (files : Files) (first second : List ℕ) : Type 0 where
   pub right_first : HoldsRight all_rules files first
   pub right_second : HoldsRight all_rules files second
-  pub same : (one other : Document) → HoldsDocument right_first.bytes one → HoldsDocument right_second.bytes other → one ≡ other
+  pub same :
+      (one other : Document) → HoldsDocument right_first.bytes one → HoldsDocument right_second.bytes other →
+      one ≡ other
 
--- the document of the file is accepted, and the script is one that it accepts: each edit is granted by all policies too
+-- the file is accepted, and the script is one that a session on it accepts: each edit is granted by all policies too, and
+-- no save is refused
 pub record IsEditable (policies : List Policy) (files : Files) (file script : List ℕ) : Type 0 where
   pub right : HoldsRight all_rules files file
   pub bytes : List ℕ
@@ -55,8 +59,9 @@ pub record IsEditable (policies : List Policy) (files : Files) (file script : Li
   pub short : length bytes ≤ longest_file
   pub commands : List Command
   pub is : IsScript bytes commands
-  pub full : SavesInFull commands
-  pub accepted : (document : Document) → HoldsDocument right.bytes document → IsAcceptedScript (start_of document policies) commands
+  pub accepted :
+      (session : SessionView) → IsStarted right.bytes session →
+      IsAcceptedScript (start_of session policies) commands
 
 -- nothing that the command names stands in its way
 abbrev pub CanServe : List Policy → Request → Files → Type 0
@@ -65,3 +70,4 @@ CanServe policies (look view file) files = IsViewable view files file
 CanServe policies (full file out) files = IsSavable files file
 CanServe policies (compare first second) files = AreEqualFiles files first second
 CanServe policies (edit file script out) files = IsEditable policies files file script
+CanServe policies (generate seed out) files = ⊤

@@ -20,7 +20,8 @@ script_line Memory = []
 
 -- a rule that is broken, and the place
 abbrev pub rule_text : ℕ → Place → List ℕ
-rule_text rule place = codes "rule " ++ (decimal rule ++ (32 ∷ [] ++ (place_name place.0 ++ (32 ∷ [] ++ decimal place.1))))
+rule_text rule place =
+    codes "rule " ++ (decimal rule ++ (32 ∷ [] ++ (place_name place.0 ++ (32 ∷ [] ++ decimal place.1))))
 
 -- why an edit is refused
 abbrev pub cause_text : EditFault → List ℕ
@@ -34,12 +35,16 @@ cause_text NoMemory = []
 abbrev pub stop_line : ℕ → Stop → List ℕ
 stop_line index (Refused fault) = line (codes "edit " ++ (decimal index ++ (codes ": " ++ cause_text fault)))
 stop_line index (Guarded guard) = line (codes "edit " ++ (decimal index ++ (codes ": guard " ++ decimal guard)))
-stop_line index (Sixteenth count) = line (codes "save " ++ (decimal index ++ (codes ": sixteenth, count " ++ decimal count)))
-stop_line index (TooManyPieces pieces) = line (codes "save " ++ (decimal index ++ (codes ": pieces " ++ decimal pieces)))
+stop_line index (Sixteenth count) =
+    line (codes "save " ++ (decimal index ++ (codes ": sixteenth, count " ++ decimal count)))
+stop_line index (TooManyPieces pieces) =
+    line (codes "save " ++ (decimal index ++ (codes ": pieces " ++ decimal pieces)))
 stop_line index (TooLarge sectors) =
     line (codes "save " ++ (decimal index ++ (codes ": too large, needs " ++ (decimal sectors ++ codes " sectors"))))
 
 -- how many commands were made, and how many saves of each mode
 abbrev pub edited_line : (commands fast full : ℕ) → List ℕ
 edited_line commands fast full =
-    line (codes "edit: " ++ (decimal commands ++ (codes " commands, fast " ++ (decimal fast ++ (codes ", full " ++ decimal full)))))
+    line
+    (codes "edit: "
+    ++ (decimal commands ++ (codes " commands, fast " ++ (decimal fast ++ (codes ", full " ++ decimal full)))))

@@ -1,9 +1,9 @@
 -- How a run may end, command by command. The ways exclude each other.
-use Rattle.std.specs.Prelude.{◌≡◌, ◌≢◌, ◌⊎◌, ◌<◌, ◌≤◌, ℕ, List, Option, Some, length}
+use Rattle.std.specs.Prelude.{◌≡◌, ◌≢◌, ◌⊎◌, ◌<◌, ◌≤◌, ℕ, false, List, Option, Some, length}
 use Rattle.doc_bits.specs.declared.places.Where.TheVariants.{File}
 use Rattle.doc_bits.specs.Rules.{Rules}
 use Rattle.doc_bits.specs.Places.{Place, rules_in}
-use Rattle.doc_outer.specs.Held.{Files}
+use Rattle.doc_outer.specs.Held.{Files, file_at}
 use Rattle.cfb_streams.specs.Contents.{Contents}
 use Rattle.cfb_streams.specs.Container.{container_rules, HasContents}
 use Rattle.plain_doc.specs.declared.document.Document.{Document}
@@ -18,12 +18,19 @@ use Rattle.doc_run.specs.declared.command.View.{View}
 use Rattle.doc_run.specs.declared.command.View.TheVariants.{Text, Check, Show, Props}
 use Rattle.cfb_layout.specs.Counts.{most_sectors}
 use Rattle.full_save.specs.Layout.{full_save_image, sectors_of, FitsCompoundFile}
-use Rattle.doc_run.specs.Commands.{Request, streams, look, full, compare, edit, IsCommand, IsNoCommand}
-use Rattle.doc_run.specs.Lines.{usage_line, rule_line, position_line, full_line, too_large_line, equal_line, different_line, stream_lines}
-use Rattle.doc_run.specs.Outcomes.{Outcome, says, puts}
+use Rattle.doc_run.specs.Commands.{Request, streams, look, full, compare, edit, generate, IsCommand, IsNoCommand}
+use Rattle.doc_run.specs.Lines.{usage_line, rule_line, position_line, full_line, too_large_line, equal_line}
+use Rattle.doc_run.specs.Lines.{different_line, stream_lines}
+use Rattle.edit_script.specs.declared.commands.Command.{Command}
+use Rattle.edit_script.specs.Scripts.{IsScript}
+use Rattle.doc_run.specs.Outcomes.{Outcome, says, puts, AreAlike}
 use Rattle.doc_run.specs.Stages.{ReadsFile}
 use Rattle.edit_guards.specs.Policies.{Policy}
-use Rattle.doc_run.specs.Edits.{EditsFile}
+use Rattle.doc_run.specs.Edits.{SavesLast, EditsFile}
+use Rattle.doc_edit.specs.Generated.{generated}
+use Rattle.doc_edit.specs.GeneratedRuns.{generator_start}
+use Rattle.doc_edit.specs.Ends.{EndsInMode}
+use Rattle.doc_run.specs.Generates.{EndsGenerated}
 
 -- the rules of a container, by their places in the file
 abbrev pub stream_rules : List ℕ → Rules Place
@@ -115,6 +122,7 @@ Ends policies (look view file) held = ReadsFile file held all_rules (ShowsFile v
 Ends policies (full file out) held = ReadsFile file held all_rules (SavesFile out)
 Ends policies (compare first second) held = ReadsFile first held all_rules (ReadsSecond second held)
 Ends policies (edit file script out) held = ReadsFile file held all_rules (EditsFile policies script out held)
+Ends policies (generate seed out) held = EndsGenerated seed out
 
 -- the words are no command
 pub record IsUsage (words : List (List ℕ)) (outcome : Outcome) : Type 0 where
@@ -122,7 +130,8 @@ pub record IsUsage (words : List (List ℕ)) (outcome : Outcome) : Type 0 where
   pub ends : outcome ≡ says 2 usage_line
 
 -- the words are a command, which ends so
-pub record IsServed (policies : List Policy) (words : List (List ℕ)) (held : Option Files) (outcome : Outcome) : Type 0 where
+pub record IsServed (policies : List Policy) (words : List (List ℕ)) (held : Option Files) (outcome : Outcome) :
+    Type 0 where
   pub command : Request
   pub asked : IsCommand words command
   pub ends : Ends policies command held outcome
@@ -131,7 +140,37 @@ pub record IsServed (policies : List Policy) (words : List (List ℕ)) (held : O
 abbrev pub IsEnding : List Policy → List (List ℕ) → Option Files → Outcome → Type 0
 IsEnding policies words held outcome = IsUsage words outcome ⊎ IsServed policies words held outcome
 
--- where what names hold is told, a run has one outcome, unless the shelf fails
-abbrev pub EndingIsOne : Type 0
-EndingIsOne =
-    (policies : List Policy) (words : List (List ℕ)) (files : Files) (a b : Outcome) → IsEnding policies words (Some files) a → IsEnding policies words (Some files) b → a.status ≢ 4 → b.status ≢ 4 → a ≡ b
+-- the words ask for an edit by a script whose last save is a fast one
+pub record EditsFast (words : List (List ℕ)) (files : Files) : Type 0 where
+  pub file : List ℕ
+  pub script : List ℕ
+  pub out : List ℕ
+  pub asked : IsCommand words (edit file script out)
+  pub bytes : List ℕ
+  pub there : file_at files script ≡ Some bytes
+  pub commands : List Command
+  pub is : IsScript bytes commands
+  pub last : SavesLast false commands
+
+-- they ask for what the generator makes of a seed from which the last save is a fast one
+pub record GeneratesFast (words : List (List ℕ)) : Type 0 where
+  pub seed : ℕ
+  pub out : List ℕ
+  pub asked : IsCommand words (generate seed out)
+  pub last : EndsInMode false generator_start (generated seed)
+
+-- the last save of what the words ask for is a fast one
+abbrev pub EndsFast : List (List ℕ) → Files → Type 0
+EndsFast words files = EditsFast words files ⊎ GeneratesFast words
+
+-- where what names hold is told, a run has one status, one text and one name for what it puts, unless the shelf fails.
+-- What it puts is one too, but for the bytes of a last save that is fast
+pub record EndingIsOne : Type 0 where
+  pub alike :
+      (policies : List Policy) (words : List (List ℕ)) (files : Files) (a b : Outcome) →
+      IsEnding policies words (Some files) a → IsEnding policies words (Some files) b →
+      a.status ≢ 4 → b.status ≢ 4 → AreAlike a b
+  pub same :
+      (policies : List Policy) (words : List (List ℕ)) (files : Files) (a b : Outcome) →
+      IsEnding policies words (Some files) a → IsEnding policies words (Some files) b →
+      a.status ≢ 4 → b.status ≢ 4 → ¬ (EndsFast words files) → a ≡ b

@@ -4,6 +4,8 @@ pub mod EditLines
 pub mod Outcomes
 pub mod Stages
 pub mod Reading
+pub mod Sessions
 pub mod Edits
+pub mod Generates
 pub mod Endings
 pub mod Completeness

@@ -11,7 +11,7 @@ use Rattle.doc_show.specs.Story.{line}
 
 -- the commands that are built
 abbrev pub usage_line : List ℕ
-usage_line = line (codes "usage: docbin text FILE | streams FILE | check FILE | show FILE | props FILE POS | full FILE OUT | equal A B | edit FILE SCRIPT OUT")
+usage_line = line (codes "usage: docbin text FILE | streams FILE | check FILE | show FILE | props FILE POS | full FILE OUT | equal A B | edit FILE SCRIPT OUT | gen N OUT")
 
 -- how a place is named
 abbrev pub place_name : Where → List ℕ
@@ -26,7 +26,8 @@ place_name (Head number) = codes "Head " ++ decimal number
 -- the first broken rule, and its least place
 abbrev pub rule_line : List ℕ → ℕ → Place → List ℕ
 rule_line name rule place =
-    line (name ++ (codes ": rule " ++ (decimal rule ++ (32 ∷ [] ++ (place_name place.0 ++ (32 ∷ [] ++ decimal place.1))))))
+    line
+    (name ++ (codes ": rule " ++ (decimal rule ++ (32 ∷ [] ++ (place_name place.0 ++ (32 ∷ [] ++ decimal place.1))))))
 
 abbrev pub missing_line : List ℕ → List ℕ
 missing_line name = line (name ++ codes ": missing")
@@ -52,6 +53,14 @@ equal_line = line (codes "equal")
 
 abbrev pub different_line : List ℕ
 different_line = line (codes "different")
+
+-- what the generator made of a seed: the items of all texts, the marks of the main text, and the saves of each mode
+abbrev pub generated_line : (seed units paragraphs fast full : ℕ) → List ℕ
+generated_line seed units paragraphs fast full =
+    line (codes "gen " ++ (decimal seed
+    ++ (codes ": units " ++ (decimal units
+    ++ (codes " paragraphs " ++ (decimal paragraphs
+    ++ (codes " fast " ++ (decimal fast ++ (codes " full " ++ decimal full)))))))))
 
 -- a stream: its size, and its name as it is shown
 abbrev pub stream_line : Stream → List ℕ

@@ -1,5 +1,5 @@
 -- How a run ends: its status, what it prints, and what it puts.
-use Rattle.std.specs.Prelude.{◌≡◌, ◌≢◌, ◌⊎◌, ℕ, List, Option, Some, None}
+use Rattle.std.specs.Prelude.{◌≡◌, ◌≢◌, ◌⊎◌, ℕ, List, Option, Some, None, option_map}
 use Rattle.doc_outer.specs.Counts.{Rose}
 use Rattle.doc_outer.specs.Held.{Files, held_with}
 
@@ -21,6 +21,16 @@ says status text = record { status = status; text = text; put = None }
 -- the bytes are put under the name, and the text is printed
 abbrev pub puts : (text name bytes : List ℕ) → Outcome
 puts text name bytes = record { status = 0; text = text; put = Some (record { name = name; bytes = bytes }) }
+
+-- the name under which bytes are put
+abbrev pub put_name : Outcome → Option (List ℕ)
+put_name outcome = option_map (λ file. file.name) outcome.put
+
+-- one status, one text, and one name for what is put
+pub record AreAlike (one other : Outcome) : Type 0 where
+  pub status : one.status ≡ other.status
+  pub text : one.text ≡ other.text
+  pub name : put_name one ≡ put_name other
 
 -- a status for a missing name or a failing shelf comes only where its count rose
 pub record HasCause (status missed_before missed_now faults_before faults_now : ℕ) : Type 0 where

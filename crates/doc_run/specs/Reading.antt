@@ -47,7 +47,8 @@ pub record IsRefusedAt (name : List ℕ) (held : Option Files) (outcome : Outcom
 -- the run ends at the name, whatever is to be done with its document
 abbrev pub EndsAt : (name : List ℕ) → Option Files → Outcome → Type 0
 EndsAt name held outcome =
-    IsMissing name held outcome ⊎ (IsShelfFault outcome ⊎ (IsOverlong name held (BreaksLengthRule name) outcome ⊎ IsRefusedAt name held outcome))
+    IsMissing name held outcome
+    ⊎ (IsShelfFault outcome ⊎ (IsOverlong name held (BreaksLengthRule name) outcome ⊎ IsRefusedAt name held outcome))
 
 -- the document of the name, or how the run ends
 abbrev pub IsReached : (name : List ℕ) → Option Files → Reached → Type 0

@@ -21,12 +21,14 @@ abbrev pub IsShelfFault : Outcome → Type 0
 IsShelfFault outcome = outcome ≡ says 4 shelf_fault_line
 
 -- the name holds more bytes than any file has
-pub record IsOverlong (name : List ℕ) (held : Option Files) (overlong : Outcome → Type 0) (outcome : Outcome) : Type 0 where
+pub record IsOverlong
+    (name : List ℕ) (held : Option Files) (overlong : Outcome → Type 0) (outcome : Outcome) : Type 0 where
   pub longer : Told held name (IsLonger longest_file)
   pub ends : overlong outcome
 
 -- the name was read whole, and the next stage goes on with its bytes
-pub record IsReadWhole (name : List ℕ) (held : Option Files) (next : List ℕ → Outcome → Type 0) (outcome : Outcome) : Type 0 where
+pub record IsReadWhole
+    (name : List ℕ) (held : Option Files) (next : List ℕ → Outcome → Type 0) (outcome : Outcome) : Type 0 where
   pub bytes : List ℕ
   pub told : Told held name (IsWhole bytes)
   pub goes_on : next bytes outcome
@@ -34,7 +36,8 @@ pub record IsReadWhole (name : List ℕ) (held : Option Files) (next : List ℕ 
 -- a stage that reads a name: what an overlong file means is the stage's own
 abbrev pub Reads : (name : List ℕ) → Option Files → (Outcome → Type 0) → (List ℕ → Outcome → Type 0) → Outcome → Type 0
 Reads name held overlong next outcome =
-    IsMissing name held outcome ⊎ (IsShelfFault outcome ⊎ (IsOverlong name held overlong outcome ⊎ IsReadWhole name held next outcome))
+    IsMissing name held outcome
+    ⊎ (IsShelfFault outcome ⊎ (IsOverlong name held overlong outcome ⊎ IsReadWhole name held next outcome))
 
 -- a rule is broken, and the line names the first one at its least place
 pub record IsRefused (rules : Rules Place) (name : List ℕ) (outcome : Outcome) : Type 0 where
@@ -52,6 +55,7 @@ abbrev pub BreaksLengthRule : (name : List ℕ) → Outcome → Type 0
 BreaksLengthRule name outcome = outcome ≡ says 1 (rule_line name 1 (File, longest_file + 1))
 
 -- a file is read and judged by these rules, and the next stage goes on with its bytes
-abbrev pub ReadsFile : (name : List ℕ) → Option Files → (List ℕ → Rules Place) → (List ℕ → Outcome → Type 0) → Outcome → Type 0
+abbrev pub ReadsFile :
+    (name : List ℕ) → Option Files → (List ℕ → Rules Place) → (List ℕ → Outcome → Type 0) → Outcome → Type 0
 ReadsFile name held rules next =
     Reads name held (BreaksLengthRule name) (λ bytes. Judges (rules bytes) name (next bytes))

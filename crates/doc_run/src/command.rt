@@ -1,7 +1,9 @@
 // What the words of a run ask for.
 ghost use Rattle.std.specs.Prelude.{◌≡◌, ℕ, List, [], ◌∷◌, MatchOption, map, codes};
 ghost use Rattle.std.specs.String.{string_bytes};
-ghost use Rattle.doc_run.specs.Commands.{request_of, AsksForView, IsCommand, IsNoCommand, IsPosition};
+ghost use Rattle.doc_run.specs.Commands.{request_of, AsksForView, IsCommand, IsNoCommand, IsPosition, IsSeed};
+
+use doc_edit::MOST_SEED;
 
 /// What is looked at in a document.
 #[derive(Clone, Copy, Debug, PartialEq, Eq)]
@@ -44,9 +46,14 @@ pub enum Command<'a> {
         script: &'a str,
         out: &'a str,
     },
+    /// Put what the generator makes of a seed under a name.
+    Gen {
+        seed: u32,
+        out: &'a str,
+    },
 }
 
-/// The most digits of a position.
+/// The most digits of a position or a seed.
 const MOST_DIGITS: usize = 9;
 
 /// The command that the words are, where they are one.
@@ -92,6 +99,10 @@ fn command_on_two<'a>(word: &str, first: &'a str, second: &'a str) -> Option<Com
     }
     if word == "equal" {
         return Some(Command::Equal { first, second });
+    }
+    if word == "gen" {
+        let seed = seed_of(first)?;
+        return Some(Command::Gen { seed, out: second });
     }
     let pos = props_position(word, second)?;
     Some(Command::Look {
@@ -146,6 +157,16 @@ fn props_position(word: &str, position: &str) -> Option<u32>
     } else {
         None
     }
+}
+
+/// The seed of a word of at most nine digits.
+fn seed_of(word: &str) -> Option<u32>
+    ensures { MatchOption result
+        ((seed : ℕ) → ¬ IsSeed word.now seed)
+        (λ seed. IsSeed word.now seed) }
+{
+    let seed = position_of(word)?;
+    if seed <= MOST_SEED { Some(seed) } else { None }
 }
 
 /// The number of a word of at most nine digits.

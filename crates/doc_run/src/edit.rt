@@ -1,44 +1,38 @@
 // The endings of a run that edits a document.
-ghost use Rattle.std.specs.Prelude.{◌≡◌, IfOk, map};
-ghost use Rattle.plain_doc.specs.Sound.{IsSound};
-ghost use Rattle.edit_script.specs.declared.faults.ScriptFault.TheVariants.{Shape};
+ghost use Rattle.std.specs.Prelude.{◌≡◌, ◌≤◌, length, IfOk, map};
 ghost use Rattle.edit_script.specs.Laws.{IsCause};
-ghost use Rattle.edit_script.specs.Scripts.{EndsWithSave};
-ghost use Rattle.doc_edit.specs.Saves.{SavesInFull};
+ghost use Rattle.edit_script.specs.Scripts.{EndsWithSave, most_commands};
 ghost use Rattle.doc_edit.specs.States.{start_of};
+ghost use Rattle.doc_edit.specs.Ends.{IsUnchanged};
 ghost use Rattle.doc_run.specs.EditLines.{script_line as script_of, stop_line as stop_of, edited_line as edited_of};
 ghost use Rattle.doc_run.specs.Edits.{stop_status, Edits, EditsBy, IsOverlongScript};
 ghost use Rattle.doc_run.specs.Outcomes.{says, puts};
 
-use crate::edit_lines::{edited_line, script_line, shape_line, stop_line};
+use crate::edit_lines::{edited_line, script_line, stop_line};
 use crate::ending::{Ending, FilePut, STATUS_EDIT, STATUS_GUARD, STATUS_SAVE, STATUS_SCRIPT};
 use doc_bits::{Memory, Text};
-use doc_edit::{RunFault, Saved, Stop, first_fast_save, run_script};
+use doc_edit::{RunFault, Saved, Stop, run_script};
 use edit_guards::Guard;
 use edit_ops::{Script, ScriptFault, read_script};
-use plain_doc::Document;
+use fast_save::Session;
 use std::alloc::Global;
 
-/// The ending where a document is edited by the bytes of a script, under the eyes of guards, and its last save is put
-/// under a name.
+/// The ending where a session is run by the bytes of a script, under the eyes of guards, and its last save is put under
+/// a name.
 pub(crate) fn edit_by(
     alloc: Global,
-    document: Document,
+    session: Session,
     script: &[u8],
     out: &str,
     guards: &mut [Box<dyn Guard>],
 ) -> Result<Ending, Memory>
-    requires { IsSound document }
+    requires { IsUnchanged session }
     ensures { IfOk result (λ e.
-        EditsBy (start_of document (map (λ b. policy b) guards.old)) out.now script.now e) }
+        EditsBy (start_of session (map (λ b. policy b) guards.old)) out.now script.now e) }
 {
-    let script = match read_script(alloc, script) {
-        Ok(script) => script,
-        Err(fault) => return no_script(alloc, fault),
-    };
-    match first_fast_save(&script) {
-        Some(index) => wrong_shape(alloc, index),
-        None => edit(alloc, document, &script, out, guards),
+    match read_script(alloc, script) {
+        Ok(script) => edit(alloc, session, &script, out, guards),
+        Err(fault) => no_script(alloc, fault),
     }
 }
 
@@ -50,14 +44,6 @@ fn no_script(alloc: Global, fault: ScriptFault) -> Result<Ending, Memory>
     Ok(Ending::new(STATUS_SCRIPT, text))
 }
 
-/// The ending of a script with a command that has a wrong shape.
-fn wrong_shape(alloc: Global, index: usize) -> Result<Ending, Memory>
-    ensures { IfOk result (λ e. e ≡ says 7 (script_of (Shape index))) }
-{
-    let text = shape_line(alloc, index)?;
-    Ok(Ending::new(STATUS_SCRIPT, text))
-}
-
 /// The ending of a script that has more bytes than any file.
 pub(crate) fn overlong_script(alloc: Global) -> Result<Ending, Memory>
     ensures { IfOk result (λ e. IsOverlongScript e) }
@@ -66,21 +52,21 @@ pub(crate) fn overlong_script(alloc: Global) -> Result<Ending, Memory>
     Ok(Ending::new(STATUS_SCRIPT, text))
 }
 
-/// The ending where a document is edited by commands.
+/// The ending where a session is run by commands.
 fn edit(
     alloc: Global,
-    document: Document,
+    session: Session,
     script: &Script,
     out: &str,
     guards: &mut [Box<dyn Guard>],
 ) -> Result<Ending, Memory>
-    requires sound { IsSound document }
+    requires unchanged { IsUnchanged session }
+    requires few { length script.now ≤ most_commands }
     requires saved { EndsWithSave script.now }
-    requires full { SavesInFull script.now }
     ensures { IfOk result (λ e.
-        Edits (start_of document (map (λ b. policy b) guards.old)) script.now out.now e) }
+        Edits (start_of session (map (λ b. policy b) guards.old)) script.now out.now e) }
 {
-    match run_script(alloc, document, script, guards) {
+    match run_script(alloc, session, script, guards) {
         Ok(saved) => edited(alloc, saved, out),
         Err(RunFault::Stopped { index, stop }) => stopped(alloc, index, stop),
         Err(RunFault::Memory) => Err(Memory),

@@ -35,7 +35,7 @@ pub(crate) fn script_line(alloc: Global, fault: ScriptFault) -> Result<Text, Mem
 }
 
 /// The line for a command of a script that has a wrong shape.
-pub(crate) fn shape_line(alloc: Global, index: usize) -> Result<Text, Memory>
+fn shape_line(alloc: Global, index: usize) -> Result<Text, Memory>
     ensures { IfOk result (λ text. text ≡ script_of (Shape index)) }
 {
     let line = format!(in alloc; "script: command {index} has a wrong shape\n")?;

@@ -2,10 +2,12 @@
 //! printed.
 #![tactic(auto)]
 
+mod begin;
 mod command;
 mod edit;
 mod edit_lines;
 mod ending;
+mod generated;
 mod lines;
 mod listing;
 mod look;

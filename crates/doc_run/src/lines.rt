@@ -4,9 +4,10 @@ ghost use Rattle.std.specs.String.{string_bytes};
 ghost use Rattle.doc_run.specs.Lines.{usage_line as usage_of, rule_line as rule_of, missing_line as missing_of};
 ghost use Rattle.doc_run.specs.Lines.{shelf_fault_line as shelf_fault_of, position_line as position_of};
 ghost use Rattle.doc_run.specs.Lines.{full_line as full_of, too_large_line as too_large_of, equal_line as equal_of};
-ghost use Rattle.doc_run.specs.Lines.{different_line as different_of, place_name};
+ghost use Rattle.doc_run.specs.Lines.{different_line as different_of, generated_line as generated_of, place_name};
 
 use doc_bits::{Memory, Text, Where};
+use doc_edit::SaveCounts;
 use std::alloc::Global;
 
 /// The line that names the commands.
@@ -16,7 +17,7 @@ pub(crate) fn usage_line(alloc: Global) -> Result<Text, Memory>
     let line = String::from_str(
         alloc,
         "usage: docbin text FILE | streams FILE | check FILE | show FILE | props FILE POS | full FILE OUT \
-         | equal A B | edit FILE SCRIPT OUT\n",
+         | equal A B | edit FILE SCRIPT OUT | gen N OUT\n",
     )?;
     Ok(Text::from_string(line))
 }
@@ -97,6 +98,24 @@ pub(crate) fn different_line(alloc: Global) -> Result<Text, Memory>
     ensures { IfOk result (λ text. text ≡ different_of) }
 {
     let line = String::from_str(alloc, "different\n")?;
+    Ok(Text::from_string(line))
+}
+
+/// The line for what the generator made: the items of all texts, the marks of the main text, and the saves of each
+/// mode.
+pub(crate) fn generated_line(
+    alloc: Global,
+    seed: u32,
+    units: u128,
+    paragraphs: usize,
+    saves: SaveCounts,
+) -> Result<Text, Memory>
+    ensures { IfOk result (λ text. text ≡ generated_of seed units paragraphs saves.fast saves.full) }
+{
+    let SaveCounts { fast, full } = saves;
+    let line = format!(in alloc;
+        "gen {seed}: units {units} paragraphs {paragraphs} fast {fast} full {full}\n"
+    )?;
     Ok(Text::from_string(line))
 }
 

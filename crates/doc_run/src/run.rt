@@ -7,8 +7,8 @@ ghost use Rattle.doc_outer.specs.Written.{Appends, AppendsPrefix};
 ghost use Rattle.doc_run.specs.Commands.{Request};
 ghost use Rattle.doc_run.specs.Commands.{IsCommand, CommandIsOne, PutsUnder};
 ghost use Rattle.doc_run.specs.Outcomes.{Outcome, HasCause, IsToldOfPut, LeavesPut};
-ghost use Rattle.plain_doc.specs.Sound.{IsSound};
 ghost use Rattle.doc_edit.specs.States.{start_of};
+ghost use Rattle.doc_edit.specs.Ends.{IsUnchanged};
 ghost use Rattle.doc_read.specs.Holds.{all_rules};
 ghost use Rattle.doc_run.specs.Stages.{ReadsFile};
 ghost use Rattle.doc_run.specs.Edits.{ReadsScript, EditsFile};
@@ -16,9 +16,11 @@ ghost use Rattle.doc_run.specs.Endings.{stream_rules, ListsStreams, ShowsFile, S
 ghost use Rattle.doc_run.specs.Endings.{EndingIsOne};
 ghost use Rattle.doc_run.specs.Completeness.{CanServe};
 
+use crate::begin::{Begun, begin};
 use crate::command::{Command, View, command_of};
 use crate::edit::{edit_by, overlong_script};
 use crate::ending::{Ending, STATUS_MEMORY, STATUS_SHELF_FAULT, STATUS_SINK_FAULT, STATUS_USAGE};
+use crate::generated::generate_under;
 use crate::lines::{shelf_fault_line, usage_line};
 use crate::look::{compare, list_streams, look_at};
 use crate::save::save_fully;
@@ -26,7 +28,7 @@ use crate::stage::{Reached, Taken, open, overlong, take_whole};
 use doc_bits::Memory;
 use doc_outer::{PutFault, Shelf, Sink, write_all};
 use edit_guards::Guard;
-use plain_doc::Document;
+use fast_save::Session;
 use std::alloc::Global;
 
 /// Runs the words of a command over the files of a shelf, and answers the status. The guards are asked at each edit of
@@ -56,7 +58,7 @@ pub fn docbin_run<S: Shelf, K: Sink>(
         × (Appends (K.written out.old) (K.written out.new) outcome.text
         × LeavesPut outcome (S.put_faults shelf.old) (S.put_faults shelf.new) (S.held shelf.old) (S.held shelf.new)))) }
 
-    // Words are one command; words, told files and guards have one outcome.
+    // Words are one command; words, told files and guards have one outcome, but for the bytes of a fast save.
     ensures one_command { CommandIsOne }
     ensures only { EndingIsOne }
 
@@ -152,6 +154,7 @@ fn ending_of<S: Shelf>(
         Some(Command::Edit { file, script, out }) => serve_edit(
             alloc, shelf, file, script, out, guards,
         ),
+        Some(Command::Gen { seed, out }) => generate_under(alloc, seed, out),
         None => {
             let text = usage_line(alloc)?;
             Ok(Ending::new(STATUS_USAGE, text))
@@ -264,26 +267,26 @@ fn serve_edit<S: Shelf>(
     ensures faults { GoesOn (S.faults shelf.old) (S.faults shelf.new) }
     ensures put_faults { S.put_faults shelf.new ≡ S.put_faults shelf.old }
 {
-    let opened = open(alloc, shelf, file)?;
-    match opened {
-        Reached::Opened(document) => edit_by_name(alloc, shelf, document, script, out, guards),
-        Reached::Stopped(ending) => Ok(ending),
+    let begun = begin(alloc, shelf, file)?;
+    match begun {
+        Begun::On(session) => edit_by_name(alloc, shelf, session, script, out, guards),
+        Begun::Stopped(ending) => Ok(ending),
     }
 }
 
-/// The ending where a document is edited by the script of a name.
+/// The ending where a session is run by the script of a name.
 fn edit_by_name<S: Shelf>(
     alloc: Global,
     shelf: &mut S,
-    document: Document,
+    session: Session,
     script: &str,
     out: &str,
     guards: &mut [Box<dyn Guard>],
 ) -> Result<Ending, Memory>
-    requires { IsSound document }
+    requires { IsUnchanged session }
     ensures kept { S.held shelf.new ≡ S.held shelf.old }
     ensures reads { IfOk result (λ e.
-        ReadsScript script.now out.now (S.held shelf.old) (start_of document (map (λ b. policy b) guards.old)) e) }
+        ReadsScript script.now out.now (S.held shelf.old) (start_of session (map (λ b. policy b) guards.old)) e) }
     ensures status { IfOk result (λ e. (e.status ≢ 5) × (e.status ≢ 6)) }
     ensures cause { IfOk result (λ e.
         HasCause e.status (S.missed shelf.old) (S.missed shelf.new) (S.faults shelf.old) (S.faults shelf.new)) }
@@ -291,7 +294,7 @@ fn edit_by_name<S: Shelf>(
     ensures put_faults { S.put_faults shelf.new ≡ S.put_faults shelf.old }
 {
     match take_whole(alloc, shelf, script)? {
-        Taken::Whole(bytes) => edit_by(alloc, document, bytes.as_slice(), out, guards),
+        Taken::Whole(bytes) => edit_by(alloc, session, bytes.as_slice(), out, guards),
         Taken::Overlong => overlong_script(alloc),
         Taken::Stopped(ending) => Ok(ending),
     }

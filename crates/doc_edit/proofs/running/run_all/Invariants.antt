@@ -7,6 +7,6 @@ use Rattle.doc_edit.proofs.running.run_all.Given as goal
 abbrev pub invariant-loop-index : goal.invariant-loop-index
 invariant-loop-index g l =
     IsRunTo
-    (start_of l.initial.document (map (λ b. (goal.Guard-dyn g (b.vtable, b.value)).policy b.value) l.initial.guards))
-    (g.S.Source.commands l.source) l.index l.document
+    (start_of l.initial.session (map (λ b. (goal.Guard-dyn g (b.vtable, b.value)).policy b.value) l.initial.guards))
+    (g.S.Source.commands l.source) l.index l.session
     (map (λ b. (goal.Guard-dyn g (b.vtable, b.value)).policy b.value) l.guards)

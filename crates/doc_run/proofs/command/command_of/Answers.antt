@@ -12,5 +12,8 @@ returns-in-len4 c =
     let file = c.as_str-in-len4-2.ensures.value in
     let script = c.as_str-in-len4-3.ensures.value in
     let out = c.as_str-in-len4-4.ensures.value in
-    let spelt = four_spelt string_bytes words _ _ _ _ four c.word-item-then-words-lt5.is c.file-item-then-words-lt5.is c.script-item.is c.out-item.is in
-    subst (λ ws. MatchOption c.command_on_three.result (IsNoCommand ws) (λ command. IsCommand ws (request_of command))) (sym (spelt ∙ (λ i. sym word i ∷ sym file i ∷ sym script i ∷ sym out i ∷ []))) c.command_on_three.ensures
+    let spelt =
+    four_spelt string_bytes words _ _ _ _ four c.word-item-then-words-lt5.is c.file-item-then-words-lt5.is
+    c.script-item.is c.out-item.is in
+    subst (λ ws. MatchOption c.command_on_three.result (IsNoCommand ws) (λ command. IsCommand ws (request_of command)))
+    (sym (spelt ∙ (λ i. sym word i ∷ sym file i ∷ sym script i ∷ sym out i ∷ []))) c.command_on_three.ensures

@@ -5,7 +5,8 @@ use Rattle.doc_load.proofs.RefusalLemmas.{refused-container}
 use Rattle.doc_run.proofs.listing.listing.Goals as goal
 
 pub returns-in-Err : goal.returns-in-Err
-returns-in-Err c = rw c.refused_container.ensures (refused-container (container_rules c.args.file.now) c.in-Err.fault c.in-Err.ensures)
+returns-in-Err c =
+    rw c.refused_container.ensures (refused-container (container_rules c.args.file.now) c.in-Err.fault c.in-Err.ensures)
 
 pub returns : goal.returns
 returns c =

@@ -16,11 +16,17 @@ returns-in-Ok-clause-kept g c name never =
     let held = g.S.Shelf.held in
     let file = c.in-Some.file.now in
     let at : c.as_str.result.now ≡ file.name = c.as_str.ensures ∙ ap (λ (f : PutFile). f.name) c.file-2.view_is in
-    stays_by_put (map (λ b. (goal.Guard-dyn g (b.vtable, b.value)).policy b.value) c.args.guards.now) (map string_bytes c.args.words.now) (held c.args.shelf.now) (held c.ending_of.new.shelf) (held c.put.new.self) c.in_ok-ending.ending file c.as_str.result.now name c.in_ok-ending.ensures.ending (sym c.in-Some.ensures) c.in_ok-ending.ensures.kept at c.put.ensures.others never
+    stays_by_put (map (λ b. (goal.Guard-dyn g (b.vtable, b.value)).policy b.value) c.args.guards.now)
+    (map string_bytes c.args.words.now) (held c.args.shelf.now) (held c.ending_of.new.shelf) (held c.put.new.self)
+    c.in_ok-ending.ending file c.as_str.result.now name c.in_ok-ending.ensures.ending (sym c.in-Some.ensures)
+    c.in_ok-ending.ensures.kept at c.put.ensures.others never
 
 pub returns-in-Ok-clause-unchanged : goal.returns-in-Ok-clause-unchanged
 returns-in-Ok-clause-unchanged g c other told =
-    let puts = ending_puts (map (λ b. (goal.Guard-dyn g (b.vtable, b.value)).policy b.value) c.args.guards.now) (map string_bytes c.args.words.now) _ c.in_ok-ending.ending c.in-Some.file.now c.in_ok-ending.ensures.ending (sym c.in-Some.ensures) in
+    let puts =
+    ending_puts (map (λ b. (goal.Guard-dyn g (b.vtable, b.value)).policy b.value) c.args.guards.now)
+    (map string_bytes c.args.words.now) _ c.in_ok-ending.ending c.in-Some.file.now c.in_ok-ending.ensures.ending
+    (sym c.in-Some.ensures) in
     absurd (other puts.1.1)
 
 pub returns-in-Err-Failed-clause-kept : goal.returns-in-Err-Failed-clause-kept
@@ -28,11 +34,17 @@ returns-in-Err-Failed-clause-kept g c name never =
     let held = g.S.Shelf.held in
     let file = c.in-Some.file.now in
     let at : c.as_str.result.now ≡ file.name = c.as_str.ensures ∙ ap (λ (f : PutFile). f.name) c.file-2.view_is in
-    stays_by_put (map (λ b. (goal.Guard-dyn g (b.vtable, b.value)).policy b.value) c.args.guards.now) (map string_bytes c.args.words.now) (held c.args.shelf.now) (held c.ending_of.new.shelf) (held c.put.new.self) c.in_ok-ending.ending file c.as_str.result.now name c.in_ok-ending.ensures.ending (sym c.in-Some.ensures) c.in_ok-ending.ensures.kept at c.put.ensures.others never
+    stays_by_put (map (λ b. (goal.Guard-dyn g (b.vtable, b.value)).policy b.value) c.args.guards.now)
+    (map string_bytes c.args.words.now) (held c.args.shelf.now) (held c.ending_of.new.shelf) (held c.put.new.self)
+    c.in_ok-ending.ending file c.as_str.result.now name c.in_ok-ending.ensures.ending (sym c.in-Some.ensures)
+    c.in_ok-ending.ensures.kept at c.put.ensures.others never
 
 pub returns-clause-kept : goal.returns-clause-kept
 returns-clause-kept g c name never =
     let held = g.S.Shelf.held in
     let file = c.in-Some.file.now in
     let at : c.as_str.result.now ≡ file.name = c.as_str.ensures ∙ ap (λ (f : PutFile). f.name) c.file-2.view_is in
-    stays_by_put (map (λ b. (goal.Guard-dyn g (b.vtable, b.value)).policy b.value) c.args.guards.now) (map string_bytes c.args.words.now) (held c.args.shelf.now) (held c.ending_of.new.shelf) (held c.put.new.self) c.in_ok-ending.ending file c.as_str.result.now name c.in_ok-ending.ensures.ending (sym c.in-Some.ensures) c.in_ok-ending.ensures.kept at c.put.ensures.others never
+    stays_by_put (map (λ b. (goal.Guard-dyn g (b.vtable, b.value)).policy b.value) c.args.guards.now)
+    (map string_bytes c.args.words.now) (held c.args.shelf.now) (held c.ending_of.new.shelf) (held c.put.new.self)
+    c.in_ok-ending.ending file c.as_str.result.now name c.in_ok-ending.ensures.ending (sym c.in-Some.ensures)
+    c.in_ok-ending.ensures.kept at c.put.ensures.others never

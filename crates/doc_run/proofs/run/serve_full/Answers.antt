@@ -32,5 +32,6 @@ returns-in-Opened-clause-cause g c =
     let faults = g.S.Shelf.faults in
     let before = c.args.shelf.now in
     let now = c.open.new.shelf in
-    IfOk-weaker c.save_fully.result (λ e. Saves out document e) (λ e. HasCause e.status (missed before) (missed now) (faults before) (faults now))
+    IfOk-weaker c.save_fully.result (λ e. Saves out document e)
+    (λ e. HasCause e.status (missed before) (missed now) (faults before) (faults now))
     (λ e h. after_reading_caused e.status _ _ _ _ (saves_status out document e h)) c.save_fully.ensures

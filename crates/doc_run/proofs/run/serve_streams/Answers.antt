@@ -10,6 +10,9 @@ returns-in-Whole-clause-ends g c =
     let name = c.args.file.now in
     let held = g.S.Shelf.held c.args.shelf.now in
     let read = c.as_slice.result.now in
-    let told = told_whole name held c.in_ok-bytes.field-0 c.in-Whole.bytes read c.in_ok-bytes.ensures.is c.in-Whole.is c.as_slice.ensures in
-    IfOk-weaker c.list_streams.result (λ e. Judges (stream_rules read) name (ListsStreams read) e) (λ e. ReadsFile name held stream_rules ListsStreams e)
+    let told =
+    told_whole name held c.in_ok-bytes.field-0 c.in-Whole.bytes read c.in_ok-bytes.ensures.is c.in-Whole.is
+    c.as_slice.ensures in
+    IfOk-weaker c.list_streams.result (λ e. Judges (stream_rules read) name (ListsStreams read) e)
+    (λ e. ReadsFile name held stream_rules ListsStreams e)
     (λ e h. inr (inr (inr (record { bytes = read; told = told; goes_on = h })))) c.list_streams.ensures

@@ -32,5 +32,6 @@ returns-in-Opened-clause-cause g c =
     let faults = g.S.Shelf.faults in
     let before = c.args.shelf.now in
     let now = c.open.new.shelf in
-    IfOk-weaker c.look_at.result (λ e. Shows view document e) (λ e. HasCause e.status (missed before) (missed now) (faults before) (faults now))
+    IfOk-weaker c.look_at.result (λ e. Shows view document e)
+    (λ e. HasCause e.status (missed before) (missed now) (faults before) (faults now))
     (λ e h. after_reading_caused e.status _ _ _ _ (shows_status view document e h)) c.look_at.ensures

@@ -10,4 +10,5 @@ returns-in-Ok c =
 pub returns-in_ok-ending-in-Err : goal.returns-in_ok-ending-in-Err
 returns-in_ok-ending-in-Err c =
     let ending = c.in_ok-ending-in-Err.ending in
-    names-refused (all_rules c.args.file.now) c.in-Err.fault c.args.name.now ending c.in-Err.ensures c.in_ok-ending-in-Err.ensures
+    names-refused (all_rules c.args.file.now) c.in-Err.fault c.args.name.now ending c.in-Err.ensures
+    c.in_ok-ending-in-Err.ensures
