@@ -33,10 +33,23 @@ pub(crate) enum Command<'a> {
         one: &'a str,
         other: &'a str,
     },
+    /// Whether the bytes of the WordDocument of a file stand in that of another one, but for its FIB.
+    Kept {
+        old: &'a str,
+        new: &'a str,
+    },
+    /// A name holds what the sink took in the last run.
+    Printed(&'a str),
     /// A name holds the rest of the line.
     Text {
         name: &'a str,
         text: &'a str,
+    },
+    /// The bytes of another name stand behind those of a name, so many times.
+    Add {
+        name: &'a str,
+        count: u64,
+        other: &'a str,
     },
     /// A name holds zeros.
     Zeros {
@@ -121,6 +134,16 @@ fn plain<'a>(first: &str, words: &mut Words<'a, '_>) -> Result<Command<'a>, RowF
         "blank" => Ok(Command::Blank(words.word()?)),
         "same" => Ok(Command::Same {
             one: words.word()?,
+            other: words.word()?,
+        }),
+        "kept" => Ok(Command::Kept {
+            old: words.word()?,
+            new: words.word()?,
+        }),
+        "printed" => Ok(Command::Printed(words.word()?)),
+        "add" => Ok(Command::Add {
+            name: words.word()?,
+            count: words.number()?,
             other: words.word()?,
         }),
         "take" | "give" | "fill" => of_streams(first, words),

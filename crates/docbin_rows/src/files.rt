@@ -1,7 +1,7 @@
 use crate::edits::Edit;
 use crate::row_fault::RowFault;
-use crate::streams::{bytes_of, many_streams, one_stream, with_streams};
-use doc_outer::MemShelf;
+use crate::streams::{bytes_of, keeps_text, many_streams, one_stream, with_streams};
+use doc_outer::{MemShelf, ReadFail, read_whole};
 use std::alloc::Global;
 
 /// A file of a row.
@@ -42,6 +42,25 @@ impl Files {
     /// Whether two names hold the same bytes.
     pub(crate) fn same(&self, one: &str, other: &str) -> Result<bool, RowFault> {
         Ok(self.bytes(one)? == self.bytes(other)?)
+    }
+
+    /// Whether the bytes of the `WordDocument` of a file stand in that of another one, but for its FIB.
+    pub(crate) fn kept(&self, old: &str, new: &str) -> Result<bool, RowFault> {
+        keeps_text(self.alloc, self.bytes(old)?, self.bytes(new)?)
+    }
+
+    /// Puts the bytes of another name behind those of a name, so many times.
+    pub(crate) fn add(&mut self, name: &str, count: u64, other: &str) -> Result<(), RowFault> {
+        let more = Vec::from_slice(self.alloc, self.bytes(other)?)?;
+        for file in &mut self.files {
+            if file.name.as_str() == name {
+                for _ in 0..count {
+                    file.bytes.extend_from_slice(&more)?;
+                }
+                return Ok(());
+            }
+        }
+        Err(RowFault::NoFile)
     }
 
     fn bytes(&self, name: &str) -> Result<&[u8], RowFault> {
@@ -91,4 +110,40 @@ impl Files {
         }
         Ok(shelf)
     }
+
+    /// Lets each name hold what the store holds under it, and one name more. So many calls of the store fail yet.
+    pub(crate) fn keep(
+        &mut self,
+        shelf: &mut MemShelf,
+        name: &str,
+        failing: usize,
+    ) -> Result<(), RowFault> {
+        for file in &mut self.files {
+            if let Some(bytes) = held(self.alloc, shelf, file.name.as_str(), failing)? {
+                file.bytes = bytes;
+            }
+        }
+        match held(self.alloc, shelf, name, failing)? {
+            Some(bytes) => self.hold(name, bytes),
+            None => Ok(()),
+        }
+    }
+}
+
+/// What the store holds under a name, where it is there and may be read whole. A call that fails is made once more.
+fn held(
+    alloc: Global,
+    shelf: &mut MemShelf,
+    name: &str,
+    failing: usize,
+) -> Result<Option<Vec<u8>>, RowFault> {
+    for _ in 0..=failing {
+        match read_whole(alloc, shelf, name) {
+            Ok(bytes) => return Ok(Some(Vec::from_slice(alloc, bytes.as_slice())?)),
+            Err(ReadFail::Failed) => {}
+            Err(ReadFail::Memory) => return Err(RowFault::Memory),
+            Err(_) => return Ok(None),
+        }
+    }
+    Ok(None)
 }

@@ -5,7 +5,7 @@ use crate::command::{Command, EMPTY_WORD};
 use crate::files::Files;
 use crate::places::Places;
 use crate::row_fault::RowFault;
-use doc_outer::{MemShelf, MemSink, ReadFail, Shelf, read_whole};
+use doc_outer::{MemShelf, MemSink, Shelf, read_whole};
 use doc_run::docbin_run;
 use full_save::full;
 use plain_doc::{Document, blank, check};
@@ -59,6 +59,7 @@ pub(crate) struct Rows {
     places: Places,
     files: Files,
     outside: Outside,
+    printed: Vec<u8>,
     has_source: bool,
 }
 
@@ -69,6 +70,7 @@ impl Rows {
             places: Places::new(alloc),
             files: Files::new(alloc),
             outside: Outside::new(alloc),
+            printed: Vec::new(alloc),
             has_source: false,
         }
     }
@@ -81,6 +83,7 @@ impl Rows {
             Command::Row(name) => {
                 self.files = Files::new(alloc);
                 self.outside = Outside::new(alloc);
+                self.printed = Vec::new(alloc);
                 self.has_source = false;
                 return Ok(format!(in alloc; "row {name}\n")?);
             }
@@ -93,12 +96,12 @@ impl Rows {
                 Err(_) => return Err(RowFault::NoData),
             },
             Command::Same { one, other } => {
-                let answer = if self.files.same(one, other)? {
-                    "yes"
-                } else {
-                    "no"
-                };
+                let answer = yes_or_no(self.files.same(one, other)?);
                 return Ok(format!(in alloc; "same {one} {other}: {answer}\n")?);
+            }
+            Command::Kept { old, new } => {
+                let answer = yes_or_no(self.files.kept(old, new)?);
+                return Ok(format!(in alloc; "kept {old} {new}: {answer}\n")?);
             }
             Command::FailShelf(call) => self.outside.shelf_calls.push(call)?,
             Command::FailSink(call) => self.outside.sink_calls.push(call)?,
@@ -118,6 +121,11 @@ impl Rows {
                 let bytes = Vec::from_slice(self.alloc, text.as_bytes())?;
                 self.files.hold(name, bytes)
             }
+            Command::Printed(name) => {
+                let bytes = Vec::from_slice(self.alloc, &self.printed)?;
+                self.files.hold(name, bytes)
+            }
+            Command::Add { name, count, other } => self.files.add(name, count, other),
             Command::Zeros { name, len } => self.files.hold(name, vec![in self.alloc; 0; len]?),
             Command::Take { name, file, stream } => self.files.take(name, file, stream),
             Command::Give { file, stream, name } => self.files.give(file, stream, name),
@@ -127,8 +135,8 @@ impl Rows {
         }
     }
 
-    /// Runs the program over the files of the row, which then has what the shelf holds under the last word, and
-    /// answers the words, what the sink took, and the status.
+    /// Runs the program over the files of the row, which then hold what the shelf holds under their names and under the
+    /// last word, and answers the words, what the sink took, and the status.
     fn run(&mut self, words: &[String]) -> Result<String, RowFault> {
         if !self.has_source {
             return Err(RowFault::NoSource);
@@ -146,25 +154,10 @@ impl Rows {
             Vec::new(self.alloc),
         );
         if let Some(name) = words.last() {
-            self.keep(&mut shelf, name.as_str(), failing)?;
+            self.files.keep(&mut shelf, name.as_str(), failing)?;
         }
+        self.printed = Vec::from_slice(self.alloc, sink.written())?;
         report(self.alloc, words, sink.written(), status)
-    }
-
-    /// Lets the row have what the shelf holds under a name. A call that is to fail is made once more.
-    fn keep(&mut self, shelf: &mut MemShelf, name: &str, failing: usize) -> Result<(), RowFault> {
-        for _ in 0..=failing {
-            match read_whole(self.alloc, shelf, name) {
-                Ok(bytes) => {
-                    let bytes = Vec::from_slice(self.alloc, bytes.as_slice())?;
-                    return self.files.hold(name, bytes);
-                }
-                Err(ReadFail::Failed) => {}
-                Err(ReadFail::Memory) => return Err(RowFault::Memory),
-                Err(_) => return Ok(()),
-            }
-        }
-        Ok(())
     }
 }
 
@@ -185,6 +178,10 @@ fn full_file(alloc: Global, document: &Document) -> Result<Vec<u8>, RowFault>
         Ok(bytes) => Ok(Vec::from_slice(alloc, bytes.as_slice())?),
         Err(_) => Err(RowFault::Memory),
     }
+}
+
+fn yes_or_no(answer: bool) -> &'static str {
+    if answer { "yes" } else { "no" }
 }
 
 /// A word as a line has it.

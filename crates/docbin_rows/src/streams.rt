@@ -4,6 +4,9 @@ use cfb_layout::whole;
 use cfb_streams::{Container, Streams, equal_names, name_before};
 use std::alloc::Global;
 
+/// The bytes of a FIB.
+const FIB_LEN: usize = 900;
+
 /// How many streams a container may have.
 const MAX_STREAMS: usize = 1023;
 
@@ -48,6 +51,16 @@ pub(crate) fn bytes_of(alloc: Global, file: &[u8], name: &str) -> Result<Vec<u8>
     match container.stream(&units_of(alloc, name)?) {
         Some(bytes) => Ok(Vec::from_slice(alloc, bytes)?),
         None => Err(RowFault::NoStream),
+    }
+}
+
+/// Whether the bytes of the `WordDocument` of a file stand in that of another one, but for its FIB.
+pub(crate) fn keeps_text(alloc: Global, old: &[u8], new: &[u8]) -> Result<bool, RowFault> {
+    let old = bytes_of(alloc, old, "WordDocument")?;
+    let new = bytes_of(alloc, new, "WordDocument")?;
+    match (old.get(FIB_LEN..), new.get(FIB_LEN..)) {
+        (Some(old), Some(new)) => Ok(new.starts_with(old)),
+        _ => Ok(false),
     }
 }
 
