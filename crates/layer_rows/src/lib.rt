@@ -30,6 +30,8 @@ mod pieces;
 #[cfg(test)]
 mod puts;
 #[cfg(test)]
+mod refusing;
+#[cfg(test)]
 mod saves;
 #[cfg(test)]
 mod scripts;
