@@ -1,6 +1,5 @@
 -- The commands of the generator: edits by a linear congruential generator on the main text, and a save after each
--- fiftieth of
--- them and after the last.
+-- fiftieth of them and after the last.
 use Rattle.std.specs.Prelude.{ℕ, zero, suc, ◌+◌, ◌-◌, ◌*◌, ◌/◌, ◌%◌, ◌^◌, ◌==◌, ◌||◌, nat_lt, min, if◌then◌else◌}
 use Rattle.std.specs.Prelude.{Bool, List, ◌++◌, length, codes, Option, Some, None}
 use Rattle.std.specs.Fmt.{decimal}

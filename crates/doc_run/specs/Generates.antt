@@ -20,8 +20,7 @@ generated_counts_line seed =
     (save_count true commands)
 
 -- all commands of the generator are made, on the full save of the blank document and under no guard, and the bytes of
--- the last
--- save are put under a name, as those of a script; from 0 there is none, and that full save is put
+-- the last save are put under a name, as those of a script; from 0 there is none, and that full save is put
 pub record Generates (seed : ℕ) (out : List ℕ) (outcome : Outcome) : Type 0 where
   pub accepted : IsAcceptedRun generator_start (generated seed)
   pub image : List ℕ

@@ -23,8 +23,8 @@ pub fn append_units(out: &mut Bytes, units: &[u16]) -> Result<(), Memory>
 }
 
 /// Appends the pages of runs of characters, the first of which has this number, and their ranges to those of a bin
-/// table. Answers the number behind the last page. After want of memory the ranges are as they were, and pages may stand
-/// behind what was there.
+/// table. Answers the number behind the last page. After want of memory the ranges are as they were, and pages may
+/// stand behind what was there.
 pub fn append_chpx_pages(
     alloc: Global,
     out: &mut Bytes,

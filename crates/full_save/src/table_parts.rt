@@ -40,8 +40,8 @@ impl TableParts {
         Ok(())
     }
 
-    /// Appends the lists with their levels, which stand right behind them and which no pair names. After want of memory the
-    /// pairs are as they were, and the lists may stand behind what was there.
+    /// Appends the lists with their levels, which stand right behind them and which no pair names. After want of memory
+    /// the pairs are as they were, and the lists may stand behind what was there.
     pub fn put_lists(&mut self, lists: &[u8], levels: &[u8]) -> Result<(), Memory>
         requires { length self.old.bytes + length lists.now + length levels.now < 2 ^ 32 }
         ensures part { OnOk result (WritesPart
