@@ -1,5 +1,6 @@
 pub mod AnswerLemmas
 pub mod StretchLemmas
+pub mod KeptLemmas
 pub mod CharacterLemmas
 pub mod LawLemmas
 pub mod RightLemmas

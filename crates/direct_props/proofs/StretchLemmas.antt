@@ -1,22 +1,26 @@
 -- The places around a place at which the list is the same.
-use Rattle.std.proofs.Common.{◌≡◌, ◌<◌, ◌≤◌, ◌+◌, ◌-◌, ◌*◌, ◌∙◌, inl, inr, ap, refl, subst, ℕ, List, length, take, drop, min, max, None, arith, length-drop}
+use Rattle.std.proofs.Common.{◌≡◌, ◌<◌, ◌≤◌, ◌+◌, ◌-◌, ◌*◌, ◌^◌, ◌∙◌, inl, inr, ap, refl, sym, subst, ℕ, List, length, take, drop, min, max, None, arith, length-drop}
 use Rattle.std.specs.Prelude.{slice_range}
-use Rattle.std.proofs.lemmas.List.{drop-drop, drop-take, take_all}
+use Rattle.std.proofs.lemmas.List.{drop-drop, drop-take, take-take, take_all}
 use Rattle.sprm_table.specs.Sprm.{IsAcceptedList}
 use Rattle.fkp_pages.specs.declared.kind.PageKind.{PageKind}
 use Rattle.fkp_pages.specs.declared.kind.RunAnswer.{RunAnswer}
 use Rattle.fkp_pages.specs.declared.kind.RunAnswer.TheVariants.{Found, Empty, NoRun, BadCount, Leaves}
 use Rattle.fkp_pages.specs.declared.bin_table.BinRange.{BinRange}
-use Rattle.fkp_pages.specs.declared.reading.Stretch.{Stretch}
+use Rattle.fkp_pages.specs.declared.reading.Met.{Met}
 use Rattle.fkp_pages.specs.Fkp.{HasRunAnswer, least_list}
-use Rattle.fkp_pages.specs.Stretch.{HasStretch}
+use Rattle.fkp_pages.specs.Stretch.{HasStretch, IsRunCursor}
+use Rattle.fkp_pages.proofs.PropertyLemmas.{run_answer_one}
 use Rattle.fkp_pages.specs.Runs.{run_groups}
 use Rattle.fkp_pages.specs.Bin.{IsBinTable, IsBinPage, HasBinRange, page_at}
 use Rattle.fkp_pages.specs.Laws.{RunAnswerIsOne}
 use Rattle.direct_props.specs.declared.rules.PageRule.TheVariants as breaks
 use Rattle.fkp_pages.specs.Properties.{IsListAnswered}
-use Rattle.direct_props.specs.PageRules.{HasPageAnswer, IsRightPlace}
-use Rattle.direct_props.specs.Stretches.{HasRightList, HasListAround}
+use Rattle.direct_props.specs.declared.pages.PageCursor.{PageCursor}
+use Rattle.direct_props.specs.declared.pages.PageStretch.{PageStretch}
+use Rattle.direct_props.specs.PageRules.{HasPageAnswer, IsRightPlace, IsRightBetween}
+use Rattle.direct_props.specs.Stretches.{HasRightList}
+use Rattle.direct_props.specs.Pages.{IsPageCursor, IsPageIn, HasPageAround}
 use Rattle.direct_props.proofs.AnswerLemmas.{not_bad, runs_here, inside_here, fault_here, no_list_here, found_has_room}
 
 -- the rest of a list, as a range of it
@@ -36,6 +40,17 @@ bin_page_of bin fc other range h low high =
     let from = h.from in
     let to = h.to in
     record { entry = h.entry; range = record { below = h.holds.below; from = omega arith; to = omega arith }; page = h.page }
+
+-- a range of one place is that of another in it
+pub range_at : (bin : List ℕ) (fc other : ℕ) (range : BinRange) → HasBinRange bin fc range → range.from ≤ other → other < range.to → HasBinRange bin other range
+range_at bin fc other range h low high =
+    let from = h.from in
+    let to = h.to in
+    record { entry = h.entry; holds = record { below = h.holds.below; from = omega arith; to = omega arith }; from = h.from; to = h.to; page = h.page }
+
+-- a number of a page has 22 bits
+pub small_page : (bin : List ℕ) (fc : ℕ) (range : BinRange) → HasBinRange bin fc range → range.page < 2 ^ 22
+small_page bin fc range h = let page = h.page in omega arith
 
 -- a place with a right list breaks no rule
 pub right_here : (kind : PageKind) (wd bin : List ℕ) (fc number : ℕ) (answer : RunAnswer) → RunAnswerIsOne → IsBinTable bin →
@@ -70,29 +85,52 @@ right_list kind wd bin fc number NoRun has right = right breaks.Run fc (record {
 right_list kind wd bin fc number BadCount has right = right breaks.Page (512 * number + 511) (record { number = number; page = has.page; here = refl; bad = inr (inr has.answers) })
 right_list kind wd bin fc number (Leaves entry) has right = right breaks.List (512 * number + entry) (record { number = number; entry = entry; answer = has; here = refl })
 
--- the places that a range of the bin table and a stretch of the page have in common
-pub around : (kind : PageKind) (wd bin : List ℕ) (fc : ℕ) (range : BinRange) (page list : List ℕ) (stretch : Stretch) → RunAnswerIsOne → IsBinTable bin →
-    HasBinRange bin fc range → page ≡ page_at wd range.page → 512 * range.page + 512 ≤ length wd → 2 ≤ range.page →
-    HasStretch kind page fc stretch → HasRightList kind page stretch.answer → IsListAnswered kind page stretch.answer list → least_list kind ≤ length list → IsAcceptedList (drop (least_list kind) list) (run_groups kind) →
-    HasListAround kind wd bin fc (max range.from stretch.first) (min (range.to - 1) stretch.last) list
-around kind wd bin fc range page list stretch law table h e there low s right found long accepted =
-    let holds = h.holds in
+-- the places that a range of the bin table and a stretch of its page have in common
+pub page_stretch : (kind : PageKind) (wd bin : List ℕ) (fc : ℕ) (found : PageCursor) (page : List ℕ) (met : Met) →
+    HasBinRange bin fc found.range → IsPageCursor wd bin found → page ≡ page_at wd found.range.page → IsPageIn wd found.range.page →
+    HasStretch kind page fc met.stretch → IsRunCursor page met.next →
+    HasPageAround kind wd bin fc (record {
+      first = max found.range.from met.stretch.first;
+      last = min (found.range.to - 1) met.stretch.last;
+      number = found.range.page;
+      answer = met.stretch.answer;
+      next = record { range = found.range; runs = met.next };
+    })
+page_stretch kind wd bin fc found page met h known e in_stream s runs =
     let range_from = h.from in
     let range_to = h.to in
-    let from = holds.from in
-    let to = holds.to in
+    let from = h.holds.from in
+    let to = h.holds.to in
     let first = s.around.from in
     let last = s.around.to in
-    let answers : (other : ℕ) → stretch.first ≤ other → other ≤ stretch.last → HasRunAnswer kind (page_at wd range.page) other stretch.answer = λ other a b. subst (λ p. HasRunAnswer kind p other stretch.answer) e (s.answers other a b) in
-    let page_answer : (other : ℕ) → max range.from stretch.first ≤ other → other ≤ min (range.to - 1) stretch.last → HasPageAnswer kind wd bin other range.page stretch.answer =
-    λ other a b. record { page = bin_page_of bin fc other range h (omega arith) (omega arith); answers = answers other (omega arith) (omega arith) } in
     record {
       from = omega arith;
       to = omega arith;
-      right = λ other a b. right_here kind wd bin other range.page stretch.answer law table (page_answer other a b) low there (subst (λ p. HasRightList kind p stretch.answer) e right);
-      has = λ other a b.
-          let p = page_answer other a b in
-          record { number = range.page; named = p.page; within = there; answer = stretch.answer; answers = p.answers; answered = subst (λ q. IsListAnswered kind q stretch.answer list) e found };
-      long = long;
-      accepted = accepted;
+      page = in_stream;
+      each = λ other a b. record {
+        page = bin_page_of bin fc other found.range h (omega arith) (omega arith);
+        answers = subst (λ p. HasRunAnswer kind p other met.stretch.answer) e (s.answers other (omega arith) (omega arith));
+      };
+      next = record { named = known.named; small = known.small; runs = subst (λ p. IsRunCursor p met.next) e runs };
     }
+
+-- a page that answers a right list breaks no rule at its places
+pub right_stretch : (kind : PageKind) (wd bin : List ℕ) (fc : ℕ) (stretch : PageStretch) → IsBinTable bin → HasPageAround kind wd bin fc stretch →
+    HasRightList kind (page_at wd stretch.number) stretch.answer →
+    IsRightPlace kind wd bin fc × IsRightBetween kind wd bin stretch.first stretch.last
+right_stretch kind wd bin fc stretch table h list =
+    let between : IsRightBetween kind wd bin stretch.first stretch.last =
+    λ other a b. right_here kind wd bin other stretch.number stretch.answer run_answer_one table (h.each other a b) h.page.low h.page.within list in
+    (between fc h.from h.to, between)
+
+-- a range of a page is a range of the stream
+pub in_page : (wd : List ℕ) (number from to : ℕ) → from ≤ 512 → to ≤ 512 → slice_range (page_at wd number) from to ≡ slice_range wd (512 * number + from) (512 * number + to)
+in_page wd number from to a b =
+    let rest = drop (512 * number) wd in
+    let size : 512 * number + 512 - 512 * number ≡ from + (512 - from) = omega arith in
+    let width : 512 * number + to - (512 * number + from) ≡ to - from = omega arith in
+    ap (λ n. take (to - from) (drop from (take n rest))) size
+    ∙ (ap (take (to - from)) (drop-take from (512 - from) rest)
+    ∙ (take-take (to - from) (512 - from) (drop from rest) (omega arith)
+    ∙ (ap (take (to - from)) (drop-drop from (512 * number) wd)
+    ∙ sym (ap (λ n. take n (drop (512 * number + from) wd)) width))))

@@ -30,18 +30,10 @@ HasRightList kind page NoRun = ⊥
 HasRightList kind page BadCount = ⊥
 HasRightList kind page (Leaves entry) = ⊥
 
--- each place from the first to the last breaks no rule and has the list, and the place is among them
-pub record HasListAround (kind : PageKind) (wd bin : List ℕ) (fc first last : ℕ) (list : List ℕ) : Type 0 where
-  pub from : first ≤ fc
-  pub to : fc ≤ last
-  pub right : IsRightBetween kind wd bin first last
-  pub has : (other : ℕ) → first ≤ other → other ≤ last → HasListAt kind bin wd other list
-  pub long : least_list kind ≤ length list
-  pub accepted : IsAcceptedList (drop (least_list kind) list) (run_groups kind)
-
--- each place from the first to the last has these direct settings, and the place is among them; they are well formed where
--- the modifier is
-pub record HasSettingsAround (wd bin : List ℕ) (modifier : Modifier) (fc first last : ℕ) (settings : Settings) : Type 0 where
+-- each place from the first to the last has these direct settings, and the place is among them; they are well formed
+-- where the modifier is
+pub record HasSettingsAround (wd bin : List ℕ) (modifier : Modifier) (fc first last : ℕ) (settings : Settings) :
+    Type 0 where
   pub from : first ≤ fc
   pub to : fc ≤ last
   pub each : (other : ℕ) → first ≤ other → other ≤ last → IsDirectCharacter wd bin other modifier settings

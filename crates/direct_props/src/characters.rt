@@ -7,10 +7,10 @@ ghost use Rattle.fkp_pages.specs.Fkp.{least_list};
 ghost use Rattle.fkp_pages.specs.Bin.{IsBinTable};
 ghost use Rattle.fkp_pages.specs.Runs.{run_groups};
 ghost use Rattle.direct_props.specs.Direct.{MakesSettings};
-ghost use Rattle.direct_props.specs.PageRules.{AreRightPlaces, IsRightPlace};
-ghost use Rattle.direct_props.specs.Stretches.{AddsCharacters, BeginsWith, HasSettingsAround};
+ghost use Rattle.direct_props.specs.PageRules.{AreRightPlaces};
+ghost use Rattle.direct_props.specs.Stretches.{AddsCharacters};
 
-use crate::lists::list_stretch;
+use crate::PlaceReader;
 use crate::rules::{groups_of, style_len};
 use doc_bits::Memory;
 use fkp_pages::PageKind;
@@ -21,7 +21,7 @@ use std::marker::Model;
 /// The direct settings of characters, one after the other. Characters of one run share a map.
 #[derive(Drop)]
 pub struct CharacterSettings {
-    items: Vec<PropMap>,
+    pub(crate) items: Vec<PropMap>,
 }
 
 impl Model for CharacterSettings {
@@ -53,14 +53,6 @@ impl CharacterSettings {
     }
 }
 
-/// The places from `first` to `last`, and the settings that characters have there.
-#[derive(Drop)]
-struct CharacterStretch {
-    first: u32,
-    last: u32,
-    map: PropMap,
-}
-
 /// Appends the direct settings of the characters at these byte places, which a piece with the
 /// modifier has. A place where a character rule is broken has none.
 pub fn push_characters(
@@ -77,90 +69,8 @@ pub fn push_characters(
     ensures ok { OnOk result (AddsCharacters wd.now bin.now places.now modifier.now list.old list.new) }
     ensures err { OnErr result (list.new ≡ list.old) }
 {
-    let before = list.items.len();
-    match add_characters(alloc, wd, bin, places, modifier, list) {
-        Ok(()) => Ok(()),
-        Err(memory) => {
-            list.items.truncate(before);
-            Err(memory)
-        }
-    }
-}
-
-/// The same, but after want of memory some of the settings may stand in the list.
-fn add_characters(
-    alloc: Global,
-    wd: &[u8],
-    bin: &[u8],
-    places: &[u32],
-    modifier: &Modifier,
-    list: &mut CharacterSettings,
-) -> Result<(), Memory>
-    requires table { IsBinTable bin.now }
-    requires small { length wd.now < 2 ^ 32 }
-    requires right { AreRightPlaces Chpx wd.now bin.now places.now }
-    ensures ok { OnOk result (AddsCharacters wd.now bin.now places.now modifier.now list.old list.new) }
-    ensures err { OnErr result (BeginsWith list.old list.new) }
-{
-    let mut current = CharacterStretch {
-        first: 1,
-        last: 0,
-        map: PropMap::new(alloc),
-    };
-    for place in places {
-        current = stretch_with(alloc, wd, bin, *place, modifier, current)?;
-        list.items.push(current.map.copy(alloc)?)?;
-    }
-    Ok(())
-}
-
-/// The stretch where it has the place, or else the one around the place.
-fn stretch_with(
-    alloc: Global,
-    wd: &[u8],
-    bin: &[u8],
-    fc: u32,
-    modifier: &Modifier,
-    current: CharacterStretch,
-) -> Result<CharacterStretch, Memory>
-    requires table { IsBinTable bin.now }
-    requires small { length wd.now < 2 ^ 32 }
-    requires right { IsRightPlace Chpx wd.now bin.now fc }
-    requires known { (other : ℕ) → current.first ≤ other → other ≤ current.last →
-        HasSettingsAround wd.now bin.now modifier.now other current.first current.last current.map }
-    ensures { IfOk result (λ s. HasSettingsAround wd.now bin.now modifier.now fc s.first s.last s.map) }
-{
-    if current.first <= fc && fc <= current.last {
-        return Ok(current);
-    }
-    stretch_around(alloc, wd, bin, fc, modifier)
-}
-
-/// The settings of a place, and how far around it they are the same.
-fn stretch_around(
-    alloc: Global,
-    wd: &[u8],
-    bin: &[u8],
-    fc: u32,
-    modifier: &Modifier,
-) -> Result<CharacterStretch, Memory>
-    requires table { IsBinTable bin.now }
-    requires small { length wd.now < 2 ^ 32 }
-    requires right { IsRightPlace Chpx wd.now bin.now fc }
-    ensures { IfOk result (λ s. HasSettingsAround wd.now bin.now modifier.now fc s.first s.last s.map) }
-{
-    match list_stretch(PageKind::Chpx, wd, bin, fc) {
-        None => unreachable!(),
-        Some(stretch) => {
-            let made = settings_of(alloc, PageKind::Chpx, stretch.list)?;
-            let map = modifier.on_char(alloc, &made.map)?;
-            Ok(CharacterStretch {
-                first: stretch.first,
-                last: stretch.last,
-                map,
-            })
-        }
-    }
+    let mut reader = PlaceReader::new(alloc, PageKind::Chpx, wd, bin, modifier)?;
+    reader.push_characters(alloc, places, list)
 }
 
 /// What the list of a run makes of no settings, and the style that its sprms name.

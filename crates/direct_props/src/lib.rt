@@ -3,9 +3,12 @@
 #![tactic(auto)]
 
 mod characters;
+mod kept;
 mod laws;
 mod lists;
 mod marks;
+mod pages;
+mod reader;
 mod rules;
 
 pub use characters::{CharacterSettings, push_characters};
@@ -14,4 +17,5 @@ pub use laws::{
     right_places_have_lists, right_places_have_settings, right_places_hold,
 };
 pub use marks::{DirectMark, read_mark};
+pub use reader::PlaceReader;
 pub use rules::{PageFault, judge_each, judge_places};

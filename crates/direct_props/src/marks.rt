@@ -7,9 +7,8 @@ ghost use Rattle.fkp_pages.specs.Bin.{IsBinTable};
 ghost use Rattle.direct_props.specs.Direct.{IsDirectMark};
 ghost use Rattle.direct_props.specs.PageRules.{IsRightPlace};
 
-use crate::characters::settings_of;
-use crate::lists::list_stretch;
-use doc_bits::{Memory, get16};
+use crate::PlaceReader;
+use doc_bits::Memory;
 use fkp_pages::PageKind;
 use prop_map::{Modifier, PropMap};
 use std::alloc::Global;
@@ -35,16 +34,7 @@ pub fn read_mark(
     ensures mark { IfOk result (λ mark. IsDirectMark wd.now bin.now fc modifier.now mark.istd mark.pap) }
     ensures formed { IfOk result (λ mark. IsFormedModifier modifier.now → IsPropertyMap paragraph_groups mark.pap) }
 {
-    match list_stretch(PageKind::Papx, wd, bin, fc) {
-        None => unreachable!(),
-        Some(stretch) => {
-            let made = settings_of(alloc, PageKind::Papx, stretch.list)?;
-            let istd = made.istd.unwrap_or(get16(stretch.list, 0));
-            let after = modifier.on_mark(alloc, istd, &made.map)?;
-            Ok(DirectMark {
-                istd: after.istd.unwrap_or(istd),
-                pap: after.map,
-            })
-        }
-    }
+    let mut reader = PlaceReader::new(alloc, PageKind::Papx, wd, bin, modifier)?;
+    let mark = reader.read_mark(alloc, fc)?;
+    Ok(mark)
 }

@@ -1,24 +1,29 @@
 // The rules on the pages, each at its least offset in `WordDocument`.
 ghost use Rattle.std.specs.Prelude.{◌≡◌, ℕ, List, ◌↔◌, ◌+◌, ◌*◌, ◌<◌};
 ghost use Rattle.std.specs.Prelude.{◌≤◌, ◌^◌, length, slice_range, IsTrue, IfOk};
-ghost use Rattle.std.specs.Prelude.{IfSome, MatchOption, MatchResult};
+ghost use Rattle.std.specs.Prelude.{IfSome, MatchOption, MatchResult, OnOk, ⊤};
 ghost use Rattle.doc_bits.specs.Rules.{From, Hold, IsFirst, LeastOrNone};
 ghost use Rattle.sprm_table.specs.Sprm.{HasSprmFaultAt, fault_place};
 ghost use Rattle.fkp_pages.specs.declared.kind.PageKind.{PageKind as PageType};
-ghost use Rattle.fkp_pages.specs.declared.kind.RunAnswer.TheVariants.{Leaves};
+ghost use Rattle.fkp_pages.specs.declared.kind.RunAnswer.TheVariants.{Found, Leaves};
 ghost use Rattle.fkp_pages.specs.Fkp.{HasRunAnswer, least_list};
 ghost use Rattle.fkp_pages.specs.Bin.{IsBinTable, page_at};
 ghost use Rattle.fkp_pages.specs.Runs.{run_groups};
 ghost use Rattle.direct_props.specs.PageRules.{AreRightPlaces, BreaksAtPlaces, BreaksPageRule, HasBadPage};
 ghost use Rattle.direct_props.specs.PageRules.{HasListFault, HasListOutside, HasPageAnswer, HasRoom, IsInNoRun};
-ghost use Rattle.direct_props.specs.PageRules.{IsRightBetween, IsRightPlace, LooksBad, first_rule as first_number};
+ghost use Rattle.direct_props.specs.PageRules.{IsRightPlace, LooksBad, first_rule as first_number};
 ghost use Rattle.direct_props.specs.PageRules.{page_rules};
+ghost use Rattle.direct_props.specs.Stretches.{HasRightList};
+ghost use Rattle.direct_props.specs.Pages.{IsPageIn, IsRightStretch};
+ghost use Rattle.direct_props.specs.Kept.{HaveNoFault};
 
-use crate::lists::list_stretch;
-use doc_bits::lesser;
+use crate::lists::list_in;
+use crate::pages::{PageCursor, page_around};
+use doc_bits::{Memory, lesser};
 use fkp_pages::{PAGE_LEN, PageKind, RunAnswer, bin_at, chpx_at, papx_at, run_answer_is_one};
-use prop_map::{CHARACTER_GROUPS, PARAGRAPH_GROUPS};
+use prop_map::{CHARACTER_GROUPS, ListPlaces, PARAGRAPH_GROUPS};
 use sprm_table::{SprmFault, list_fault};
+use std::alloc::Global;
 use thiserror::Error;
 
 /// The first broken rule on the pages, and its least offset in `WordDocument`.
@@ -51,45 +56,66 @@ pub(crate) enum PageRule {
     Sprm,
 }
 
-/// Judges the pages of these byte places.
-pub fn judge_places(kind: PageKind, wd: &[u8], bin: &[u8], places: &[u32]) -> Result<(), PageFault>
+/// Judges the pages of these byte places: the first broken rule, if one is broken. A list is judged once.
+pub fn judge_places(
+    alloc: Global,
+    kind: PageKind,
+    wd: &[u8],
+    bin: &[u8],
+    places: &[u32],
+) -> Result<Option<PageFault>, Memory>
     requires table { IsBinTable bin.now }
     requires small { length wd.now < 2 ^ 32 }
-    ensures judged { MatchResult result
-        (λ _. Hold (page_rules kind wd.now bin.now places.now))
-        (λ fault. IsFirst (page_rules kind wd.now bin.now places.now) fault.rule fault.offset) }
+    ensures judged { IfOk result (λ fault. MatchOption fault
+        (Hold (page_rules kind wd.now bin.now places.now))
+        (λ fault. IsFirst (page_rules kind wd.now bin.now places.now) fault.rule fault.offset)) }
 
     // The same of each place, as readers of settings ask for it.
-    ensures right { IfOk result (λ _. AreRightPlaces kind wd.now bin.now places.now) }
+    ensures right { IfOk result (λ fault. MatchOption fault (AreRightPlaces kind wd.now bin.now places.now) (λ _. ⊤)) }
 {
     // Places of one run are judged at once. Only where one is wrong each place is looked at.
-    if are_right(kind, wd, bin, places) {
-        return Ok(());
+    if are_right(alloc, kind, wd, bin, places)? {
+        return Ok(None);
     }
-    judge_each(kind, wd, bin, places)
+    match judge_each(kind, wd, bin, places) {
+        Ok(()) => Ok(None),
+        Err(fault) => Ok(Some(fault)),
+    }
 }
 
 /// Whether no place breaks a rule.
-fn are_right(kind: PageKind, wd: &[u8], bin: &[u8], places: &[u32]) -> bool
+fn are_right(
+    alloc: Global,
+    kind: PageKind,
+    wd: &[u8],
+    bin: &[u8],
+    places: &[u32],
+) -> Result<bool, Memory>
     requires table { IsBinTable bin.now }
     requires small { length wd.now < 2 ^ 32 }
-    ensures { IsTrue result → Hold (page_rules kind wd.now bin.now places.now) }
+    ensures { IfOk result (λ right. IsTrue right → AreRightPlaces kind wd.now bin.now places.now) }
 {
-    let mut known = RightStretch { first: 1, last: 0 };
+    let mut known = ListPlaces::new(alloc);
+    let mut stretch = RightStretch {
+        first: 1,
+        last: 0,
+        next: PageCursor::start(),
+    };
     for place in places {
-        match right_around(kind, wd, bin, *place, known) {
-            None => return false,
-            Some(stretch) => known = stretch,
+        match right_around(kind, wd, bin, *place, stretch, &mut known)? {
+            None => return Ok(false),
+            Some(around) => stretch = around,
         }
     }
-    true
+    Ok(true)
 }
 
-/// The places from `first` to `last`, where no rule is broken.
+/// The places from `first` to `last`, where no rule is broken, and where they were found.
 #[derive(Clone, Copy)]
-struct RightStretch {
+pub(crate) struct RightStretch {
     first: u32,
     last: u32,
+    next: PageCursor,
 }
 
 /// The stretch where it has the place, or else the one around the place, where that is right.
@@ -98,27 +124,86 @@ fn right_around(
     wd: &[u8],
     bin: &[u8],
     fc: u32,
-    known: RightStretch,
-) -> Option<RightStretch>
+    stretch: RightStretch,
+    known: &mut ListPlaces,
+) -> Result<Option<RightStretch>, Memory>
     requires table { IsBinTable bin.now }
-    requires small { length wd.now < 2 ^ 32 }
-    requires known { IsRightBetween kind wd.now bin.now known.first known.last }
-    ensures { IfSome result (λ s. IsRightPlace kind wd.now bin.now fc
-        × IsRightBetween kind wd.now bin.now s.first s.last) }
+    requires stretch { IsRightStretch kind wd.now bin.now stretch }
+    requires known { HaveNoFault kind wd.now known.old }
+    ensures known { OnOk result (HaveNoFault kind wd.now known.new) }
+    ensures right { IfOk result (λ around. IfSome around (λ s. IsRightPlace kind wd.now bin.now fc
+        × IsRightStretch kind wd.now bin.now s)) }
 {
-    if known.first <= fc && fc <= known.last {
-        return Some(known);
+    if stretch.first <= fc && fc <= stretch.last {
+        return Ok(Some(stretch));
     }
-    match list_stretch(kind, wd, bin, fc) {
-        None => None,
-        Some(stretch) => Some(RightStretch {
-            first: stretch.first,
-            last: stretch.last,
-        }),
+    let Some(around) = page_around(kind, wd, bin, fc, stretch.next) else {
+        return Ok(None);
+    };
+    if !is_right(kind, wd, around.number, around.answer, known)? {
+        return Ok(None);
+    }
+    Ok(Some(RightStretch {
+        first: around.first,
+        last: around.last,
+        next: around.next,
+    }))
+}
+
+/// Whether the list that a page answers is right. A list that is known to have no fault is not looked at.
+fn is_right(
+    kind: PageKind,
+    wd: &[u8],
+    number: u32,
+    answer: RunAnswer,
+    known: &mut ListPlaces,
+) -> Result<bool, Memory>
+    requires page { IsPageIn wd.now number }
+    requires known { HaveNoFault kind wd.now known.old }
+    ensures known { OnOk result (HaveNoFault kind wd.now known.new) }
+    ensures right { IfOk result (λ right. IsTrue right → HasRightList kind (page_at wd.now number) answer) }
+{
+    match answer {
+        RunAnswer::Found { from, to } => is_right_list(kind, wd, number, (from, to), known),
+        RunAnswer::Empty => Ok(true),
+        RunAnswer::NoRun => Ok(false),
+        RunAnswer::BadCount => Ok(false),
+        RunAnswer::Leaves { .. } => Ok(false),
     }
 }
 
-/// The same as `judge_places`, place by place: each of the five rules is looked at for all places
+/// Whether the list in a range of a page is right.
+fn is_right_list(
+    kind: PageKind,
+    wd: &[u8],
+    number: u32,
+    range: (usize, usize),
+    known: &mut ListPlaces,
+) -> Result<bool, Memory>
+    requires page { IsPageIn wd.now number }
+    requires known { HaveNoFault kind wd.now known.old }
+    ensures known { OnOk result (HaveNoFault kind wd.now known.new) }
+    ensures right { IfOk result
+        (λ right. IsTrue right → HasRightList kind (page_at wd.now number) (Found range.0 range.1)) }
+{
+    let begin = PAGE_LEN * number as usize;
+    let (from, to) = range;
+    if PAGE_LEN <= from || PAGE_LEN <= to || to < from + style_len(kind) {
+        return Ok(false);
+    }
+    if let Some(_met) = known.number_of(begin + from, begin + to) {
+        return Ok(true);
+    }
+    match list_in(kind, &wd[begin..begin + PAGE_LEN], from, to) {
+        None => Ok(false),
+        Some(_) => {
+            known.add(begin + from, begin + to)?;
+            Ok(true)
+        }
+    }
+}
+
+/// The same as `judge_places`, place by place and without memory: each of the five rules is looked at for all places
 /// before the next one is.
 pub fn judge_each(kind: PageKind, wd: &[u8], bin: &[u8], places: &[u32]) -> Result<(), PageFault>
     requires table { IsBinTable bin.now }

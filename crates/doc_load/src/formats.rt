@@ -41,19 +41,22 @@ fn judge_runs(alloc: Global, source: &Source<'_>, sections: &Seds) -> Result<(),
         (IsReadFault (format_rules source.now sections.now)) }
 {
     let characters = source.part(TablePart::PlcfBteChpx);
-    if let Err(fault) = judge_places(
+    let wrong = judge_places(
+        alloc,
         PageKind::Chpx,
         source.wd(),
         characters,
         source.judged_places(),
-    ) {
+    )?;
+    if let Some(fault) = wrong {
         return Err(refused_page(fault));
     }
     let ends = paragraph_places(alloc, source, sections)?;
     let paragraphs = source.part(TablePart::PlcfBtePapx);
-    match judge_places(PageKind::Papx, source.wd(), paragraphs, &ends) {
-        Ok(()) => Ok(()),
-        Err(fault) => Err(refused_page(fault)),
+    let wrong_too = judge_places(alloc, PageKind::Papx, source.wd(), paragraphs, &ends)?;
+    match wrong_too {
+        None => Ok(()),
+        Some(fault) => Err(refused_page(fault)),
     }
 }
 

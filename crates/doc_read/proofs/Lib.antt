@@ -11,6 +11,7 @@ pub mod EntryLemmas
 pub mod UpLemmas
 pub mod MarkListLemmas
 pub mod PlaceLemmas
+pub mod ReaderLemmas
 pub mod AddLemmas
 pub mod RightLemmas
 pub mod ReadableLemmas

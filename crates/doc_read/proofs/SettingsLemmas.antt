@@ -1,11 +1,11 @@
 -- The settings of the sections, read one after the other.
 use Rattle.std.proofs.Common.{◌≡◌, ◌≢◌, ◌⊎◌, ◌∙◌, inl, inr, refl, sym, subst, ℕ, ◌+◌, ◌<◌, List, [], ◌∷◌, ◌++◌}
-use Rattle.std.proofs.Common.{length, Some, slice_get, arith, length-append}
+use Rattle.std.proofs.Common.{length, Some, slice_get, get_or, arith, length-append}
 use Rattle.std.specs.Prelude.{All, slice_range}
 use Rattle.std.specs.FinMap.{empty}
 use Rattle.std.proofs.lemmas.Bool.{cases_lt}
 use Rattle.std.proofs.lemmas.List.Elements.{All-nil, All-push}
-use Rattle.std.proofs.lemmas.Option.{none-some, slice_get_within}
+use Rattle.std.proofs.lemmas.Option.{none-some, slice_get_within, slice_get_read}
 use Rattle.doc_bits.specs.declared.places.Where.TheVariants.{Wd, Table}
 use Rattle.doc_bits.specs.Number.{u16_at}
 use Rattle.doc_bits.specs.Rules.{Hold, Nowhere}
@@ -24,7 +24,9 @@ use Rattle.doc_load.specs.SectionRules.{section_fc, sepx_list, LacksSepx, HasSep
 use Rattle.doc_load.specs.SectionRules.{rules_of_sections}
 use Rattle.prop_map.specs.Formed.{section_groups}
 use Rattle.doc_load.proofs.OneLemmas.{sections_one}
-use Rattle.doc_read.specs.Sections.{IsSectionSettings, IsMadeBySepx}
+use Rattle.doc_bits.proofs.TogetherLemmas.{together_joined}
+use Rattle.direct_props.proofs.KeptLemmas.{together_one}
+use Rattle.doc_read.specs.Sections.{AreMetSections, IsMetSection, IsSectionSettings, IsMadeBySepx}
 
 -- the rules on each section hold of those that the document has
 held_sections : (source : DocSource) (list : List Sed) → Hold (rules_of_sections source) → HasSections source list →
@@ -109,3 +111,22 @@ maps_more wd list k fc maps map are e settings formed = record {
   ];
   formed = All-push (IsPropertyMap section_groups) maps map are.formed formed;
 }
+
+-- ---- sections that were met
+
+pub no_sections : (wd : List ℕ) → AreMetSections wd [] []
+no_sections wd = record { len = refl; each = λ k place map p q. absurd (none-some place p) }
+
+-- the settings that are kept at a number
+pub met_before : (wd : List ℕ) (places : List (ℕ × ℕ)) (maps : List Settings) (k fc : ℕ) (map : Settings) → AreMetSections wd places maps →
+    slice_get places k ≡ Some (fc, fc) → map ≡ get_or maps k map → IsMetSection wd (fc, fc) map
+met_before wd places maps k fc map are there here =
+    let within = slice_get_within places k (fc, fc) there in
+    let len = are.len in
+    are.each k (fc, fc) map there (slice_get_read maps (length maps) k map refl (omega arith) here)
+
+-- one section more
+pub one_met : (wd : List ℕ) (places : List (ℕ × ℕ)) (maps : List Settings) (fc : ℕ) (map : Settings) → AreMetSections wd places maps → IsMetSection wd (fc, fc) map →
+    AreMetSections wd (places ++ (fc, fc) ∷ []) (maps ++ map ∷ [])
+one_met wd places maps fc map are is =
+    together_joined (IsMetSection wd) places maps ((fc, fc) ∷ []) (map ∷ []) are (together_one (IsMetSection wd) (fc, fc) map is)

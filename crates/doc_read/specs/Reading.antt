@@ -4,6 +4,7 @@ use Rattle.std.specs.Prelude.{slice_index, Option, Some, IsTrue}
 use Rattle.prop_map.specs.Settings.{Settings}
 use Rattle.prop_map.specs.declared.modifiers.Modifier.{Modifier}
 use Rattle.prop_map.specs.Formed.{IsPropertyMap, character_groups, section_groups}
+use Rattle.prop_map.specs.Modifiers.{IsFormedModifier}
 use Rattle.fkp_pages.specs.declared.kind.PageKind.TheVariants.{Chpx, Papx}
 use Rattle.fkp_pages.specs.Bin.{IsBinTable}
 use Rattle.direct_props.specs.Direct.{IsDirectCharacter}
@@ -18,6 +19,7 @@ use Rattle.text_codes.specs.Paragraph.{is_paragraph_end}
 use Rattle.doc_load.specs.PartRules.{PartLists}
 use Rattle.doc_read.specs.declared.marked.TextMarks.{TextMarks}
 use Rattle.doc_read.specs.declared.reading.TextSource.{TextSource}
+use Rattle.doc_read.specs.declared.reading.PieceReader.{PieceReader}
 use Rattle.doc_read.specs.declared.reading.Passed.{Passed}
 use Rattle.plain_doc.specs.Entries.{entry_at}
 use Rattle.doc_read.specs.Sections.{section_lasts}
@@ -101,6 +103,25 @@ pub record IsReadable (view : TextView) : Type 0 where
   pub notes : AreListed view.marks.note_cps view.marks.note_kinds
   pub sections : AreListed view.marks.section_cps view.maps
   pub formed : All (IsPropertyMap section_groups) view.maps
+
+-- a reader of the characters and the marks of this text, for pieces with one modifier
+pub record IsPieceReader (view : TextView) (reader : PieceReader) : Type 0 where
+  pub characters :
+      reader.characters
+      ≡ (record { kind = Chpx; wd = view.wd; bin = view.characters; modifier = reader.characters.modifier })
+  pub marks :
+      reader.marks
+      ≡ (record { kind = Papx; wd = view.wd; bin = view.paragraphs; modifier = reader.characters.modifier })
+  pub formed : IsFormedModifier reader.characters.modifier
+
+abbrev pub ArePieceReaders : TextView → List PieceReader → Type 0
+ArePieceReaders view readers = All (IsPieceReader view) readers
+
+-- the reader of that number serves for pieces with the modifier
+pub record HasReaderFor (readers : List PieceReader) (number : ℕ) (modifier : Modifier) : Type 0 where
+  pub reader : PieceReader
+  pub here : slice_get readers number ≡ Some reader
+  pub serves : reader.characters.modifier ≡ modifier
 
 -- what is passed before a CP
 pub record ArePassed (marks : MarkLists) (passed : Passed) (cp : ℕ) : Type 0 where

@@ -1,6 +1,7 @@
 -- The settings of the sections, each by the last CP of its section.
 use Rattle.std.specs.Prelude.{◌≡◌, ◌≢◌, ◌⊎◌, ℕ, ◌-◌, List, length, map, zip, slice_get, Option, Some, All}
 use Rattle.std.specs.FinMap.{empty}
+use Rattle.doc_bits.specs.Together.{AreTogether}
 use Rattle.prop_map.specs.Settings.{Settings}
 use Rattle.prop_map.specs.Formed.{IsPropertyMap}
 use Rattle.direct_props.specs.Direct.{MakesSettings}
@@ -29,6 +30,15 @@ pub record HaveSettings (wd : List ℕ) (sections : List Sed) (settings : List S
 pub record AreSectionMaps (wd : List ℕ) (sections : List Sed) (settings : List Settings) : Type 0 where
   pub have : HaveSettings wd sections settings
   pub formed : All (IsPropertyMap section_groups) settings
+
+-- these are the settings of a section whose Sepx stands at the place
+pub record IsMetSection (wd : List ℕ) (place : ℕ × ℕ) (settings : Settings) : Type 0 where
+  pub is : IsSectionSettings wd place.0 settings
+  pub formed : IsPropertyMap section_groups settings
+
+-- the settings of sections that were met, by the places of their Sepxs
+abbrev pub AreMetSections : List ℕ → List (ℕ × ℕ) → List Settings → Type 0
+AreMetSections wd places maps = AreTogether (IsMetSection wd) places maps
 
 -- the last CP of each section
 abbrev pub section_lasts : List Sed → ℕ → List ℕ

@@ -1,6 +1,6 @@
 // The items of a text, piece by piece.
 ghost use Rattle.std.specs.Prelude.{◌≡◌, ◌+◌, ◌<◌, ◌≤◌, ◌++◌, ℕ};
-ghost use Rattle.std.specs.Prelude.{[], ◌∷◌, length, slice_index, IfOk, OnOk};
+ghost use Rattle.std.specs.Prelude.{[], ◌∷◌, length, IfOk, OnOk};
 ghost use Rattle.doc_bits.specs.Rules.{Hold};
 ghost use Rattle.prop_map.specs.Modifiers.{IsFormedModifier};
 ghost use Rattle.piece_table.specs.Piece.{total_length};
@@ -13,11 +13,12 @@ ghost use Rattle.doc_read.specs.Items.{HoldsItems};
 ghost use Rattle.doc_read.specs.Passing.{AddsEach};
 ghost use Rattle.doc_read.specs.Reading.{AreCharactersFrom, ArePassed, ArePlacedItems, IsReadable, IsReadAt};
 ghost use Rattle.doc_read.specs.Reading.{AreBareUntil, mark_lists, text_view, IsReadCharacter};
+ghost use Rattle.doc_read.specs.Reading.{ArePieceReaders, HasReaderFor, IsPieceReader};
 
 use crate::SectionMaps;
 use crate::marked::read_marks;
-use crate::reading::{Passed, TextSource, item_at, next_marked};
-use direct_props::{CharacterSettings, push_characters};
+use crate::reading::{Passed, PieceReader, TextSource, item_at, next_marked};
+use direct_props::CharacterSettings;
 use doc_bits::Memory;
 use doc_load::{DocParts, LoadedText, Source};
 use fib_form::{StoryKind, TablePart};
@@ -29,6 +30,9 @@ use text_codes::ends_paragraph;
 
 /// Of so many units the settings are listed at a time.
 const UNITS_AT_ONCE: usize = 512;
+
+/// So many readers are tried for a piece, the last that were made.
+const READERS_TRIED: usize = 64;
 
 /// The items of the CPs of all three stories.
 pub(crate) fn read_items(
@@ -86,14 +90,16 @@ fn items_of_pieces(
         section: 0,
         until: 0,
     };
+    let mut readers = Vec::new(alloc);
     for i in 0..pieces.len() {
         // A piece may have one unit more than the stories.
         let len = (pieces.piece(i).len as usize).min(count - items.len());
+        let number = reader_for(alloc, text, pieces.modifier(i), &mut readers)?;
         push_piece(
             alloc,
             text,
             len,
-            pieces.modifier(i),
+            &mut readers[number],
             &mut items,
             &mut passed,
         )?;
@@ -101,27 +107,51 @@ fn items_of_pieces(
     Ok(items)
 }
 
+/// The number of a reader for pieces with the modifier, which is made where none of the last ones is for it.
+fn reader_for<'a>(
+    alloc: Global,
+    text: &TextSource<'a>,
+    modifier: &Modifier,
+    readers: &mut Vec<PieceReader<'a>>,
+) -> Result<usize, Memory>
+    requires readable { IsReadable (text_view text.now) }
+    requires formed { IsFormedModifier modifier.now }
+    requires readers { ArePieceReaders (text_view text.now) readers.old.items }
+    ensures readers { OnOk result (ArePieceReaders (text_view text.now) readers.new.items) }
+    ensures serves { IfOk result (λ number. HasReaderFor readers.new.items number modifier.now) }
+{
+    for k in readers.len().saturating_sub(READERS_TRIED)..readers.len() {
+        if readers[k].characters.serves(modifier) {
+            return Ok(k);
+        }
+    }
+    let reader = PieceReader::new(alloc, text, modifier)?;
+    readers.push(reader)?;
+    Ok(readers.len() - 1)
+}
+
 /// Appends the items of so many units of a piece.
 fn push_piece(
     alloc: Global,
     text: &TextSource<'_>,
     len: usize,
-    modifier: &Modifier,
+    reader: &mut PieceReader<'_>,
     items: &mut Vec<Item>,
     passed: &mut Passed,
 ) -> Result<(), Memory>
     requires readable { IsReadable (text_view text.now) }
-    requires formed { IsFormedModifier modifier.now }
+    requires reader { IsPieceReader (text_view text.now) reader.old }
     requires within { length items.old.items + len ≤ length text.now.units.now }
     requires passed { ArePassed (mark_lists text.now.marks.now) passed.old (length items.old.items) }
+    ensures same { reader.new ≡ reader.old }
     ensures passed { OnOk result (ArePassed (mark_lists text.now.marks.now) passed.new (length items.new.items)) }
-    ensures items { OnOk result (AddsEach (IsReadAt (text_view text.now) modifier.now) len
+    ensures items { OnOk result (AddsEach (IsReadAt (text_view text.now) reader.old.characters.modifier) len
         items.old.items items.new.items) }
 {
     let mut done = 0;
     while done < len {
         let some = (len - done).min(UNITS_AT_ONCE);
-        push_chunk(alloc, text, some, modifier, items, passed)?;
+        push_chunk(alloc, text, some, reader, items, passed)?;
         done += some;
     }
     Ok(())
@@ -133,29 +163,25 @@ fn push_chunk(
     alloc: Global,
     text: &TextSource<'_>,
     len: usize,
-    modifier: &Modifier,
+    reader: &mut PieceReader<'_>,
     items: &mut Vec<Item>,
     passed: &mut Passed,
 ) -> Result<(), Memory>
     requires readable { IsReadable (text_view text.now) }
-    requires formed { IsFormedModifier modifier.now }
+    requires reader { IsPieceReader (text_view text.now) reader.old }
     requires within { length items.old.items + len ≤ length text.now.units.now }
     requires passed { ArePassed (mark_lists text.now.marks.now) passed.old (length items.old.items) }
+    ensures same { reader.new ≡ reader.old }
     ensures passed { OnOk result (ArePassed (mark_lists text.now.marks.now) passed.new (length items.new.items)) }
-    ensures items { OnOk result (AddsEach (IsReadAt (text_view text.now) modifier.now) len
+    ensures items { OnOk result (AddsEach (IsReadAt (text_view text.now) reader.old.characters.modifier) len
         items.old.items items.new.items) }
 {
     let from = items.len();
     let mut settings = CharacterSettings::new(alloc);
-    push_characters(
-        alloc,
-        text.wd,
-        text.characters,
-        &text.places[from..from + len],
-        modifier,
-        &mut settings,
-    )?;
-    push_items(alloc, text, settings.into_vec(), modifier, items, passed)?;
+    reader
+        .characters
+        .push_characters(alloc, &text.places[from..from + len], &mut settings)?;
+    push_items(alloc, text, settings.into_vec(), reader, items, passed)?;
     Ok(())
 }
 
@@ -165,22 +191,24 @@ fn push_items(
     alloc: Global,
     text: &TextSource<'_>,
     chps: Vec<PropMap>,
-    modifier: &Modifier,
+    reader: &mut PieceReader<'_>,
     items: &mut Vec<Item>,
     passed: &mut Passed,
 ) -> Result<(), Memory>
     requires readable { IsReadable (text_view text.now) }
-    requires formed { IsFormedModifier modifier.now }
+    requires reader { IsPieceReader (text_view text.now) reader.old }
     requires within { length items.old.items + length chps.items ≤ length text.now.units.now }
-    requires characters { AreCharactersFrom (text_view text.now) modifier.now (length items.old.items) chps.items }
+    requires characters { AreCharactersFrom (text_view text.now) reader.old.characters.modifier
+        (length items.old.items) chps.items }
     requires passed { ArePassed (mark_lists text.now.marks.now) passed.old (length items.old.items) }
+    ensures same { reader.new ≡ reader.old }
     ensures passed { OnOk result (ArePassed (mark_lists text.now.marks.now) passed.new (length items.new.items)) }
-    ensures items { OnOk result (AddsEach (IsReadAt (text_view text.now) modifier.now) (length chps.items)
-        items.old.items items.new.items) }
+    ensures items { OnOk result (AddsEach (IsReadAt (text_view text.now) reader.old.characters.modifier)
+        (length chps.items) items.old.items items.new.items) }
 {
     passed.until = next_marked(text, passed);
     for chp in chps {
-        push_item(alloc, text, chp, modifier, items, passed)?;
+        push_item(alloc, text, chp, reader, items, passed)?;
     }
     Ok(())
 }
@@ -191,18 +219,20 @@ fn push_item(
     alloc: Global,
     text: &TextSource<'_>,
     chp: PropMap,
-    modifier: &Modifier,
+    reader: &mut PieceReader<'_>,
     items: &mut Vec<Item>,
     passed: &mut Passed,
 ) -> Result<(), Memory>
     requires readable { IsReadable (text_view text.now) }
-    requires formed { IsFormedModifier modifier.now }
+    requires reader { IsPieceReader (text_view text.now) reader.old }
     requires within { length items.old.items < length text.now.units.now }
-    requires characters { IsReadCharacter (text_view text.now) modifier.now (length items.old.items) chp }
+    requires characters { IsReadCharacter (text_view text.now) reader.old.characters.modifier
+        (length items.old.items) chp }
     requires passed { ArePassed (mark_lists text.now.marks.now) passed.old (length items.old.items) }
     requires bare { AreBareUntil (mark_lists text.now.marks.now) passed.old (length items.old.items) }
+    ensures same { reader.new ≡ reader.old }
     ensures pushed { OnOk result ((item : ItemType)
-        × (IsReadAt (text_view text.now) modifier.now (length items.old.items) item
+        × (IsReadAt (text_view text.now) reader.old.characters.modifier (length items.old.items) item
         × (items.new.items ≡ items.old.items ++ item ∷ []))) }
     ensures passed { OnOk result (ArePassed (mark_lists text.now.marks.now) passed.new (length items.new.items)) }
     ensures bare { OnOk result (AreBareUntil (mark_lists text.now.marks.now) passed.new (length items.new.items)) }
@@ -210,7 +240,7 @@ fn push_item(
     let cp = items.len();
     let unit = text.units[cp];
     if cp as u32 >= passed.until || ends_paragraph(unit, false) {
-        let item = item_at(alloc, text, cp as u32, chp, modifier, passed)?;
+        let item = item_at(alloc, text, cp as u32, chp, reader, passed)?;
         items.push(item)?;
         passed.until = next_marked(text, passed);
         return Ok(());

@@ -1,19 +1,20 @@
 // The item of one CP.
-ghost use Rattle.std.specs.Prelude.{◌≡◌, ◌+◌, ◌<◌, ◌≤◌, ◌^◌, ℕ};
+ghost use Rattle.std.specs.Prelude.{◌≡◌, ◌+◌, ◌<◌, ◌≤◌, ℕ};
 ghost use Rattle.std.specs.Prelude.{length, slice_index, IsTrue, IfOk, IfSome, OnOk};
 ghost use Rattle.prop_map.specs.Formed.{IsPropertyMap, paragraph_groups};
 ghost use Rattle.prop_map.specs.Modifiers.{IsFormedModifier};
 ghost use Rattle.fkp_pages.specs.declared.kind.PageKind.TheVariants.{Papx};
-ghost use Rattle.fkp_pages.specs.Bin.{IsBinTable};
 ghost use Rattle.direct_props.specs.PageRules.{IsRightPlace};
 ghost use Rattle.doc_read.specs.Items.{IsMarkAt};
 ghost use Rattle.doc_read.specs.Reading.{IsReadable, IsReadAt, IsReadCharacter, ArePassed, mark_lists, text_view};
+ghost use Rattle.doc_read.specs.Reading.{IsPieceReader};
 
 use crate::SectionMaps;
 use crate::entries::next_cp;
 use crate::marked::TextMarks;
-use direct_props::read_mark;
+use direct_props::PlaceReader;
 use doc_bits::Memory;
+use fkp_pages::PageKind;
 use plain_doc::{Item, Mark};
 use prop_map::{Modifier, PropMap};
 use std::alloc::Global;
@@ -32,6 +33,37 @@ pub(crate) struct TextSource<'a> {
     pub(crate) maps: &'a SectionMaps,
 }
 
+/// Reads the settings of the pieces with one modifier: those of characters, and those of paragraph marks.
+#[derive(Drop)]
+pub(crate) struct PieceReader<'a> {
+    pub(crate) characters: PlaceReader<'a>,
+    pub(crate) marks: PlaceReader<'a>,
+}
+
+impl<'a> PieceReader<'a> {
+    /// A reader of pieces with this modifier.
+    pub(crate) fn new(
+        alloc: Global,
+        text: &TextSource<'a>,
+        modifier: &Modifier,
+    ) -> Result<PieceReader<'a>, Memory>
+        requires readable { IsReadable (text_view text.now) }
+        requires formed { IsFormedModifier modifier.now }
+        ensures reads { IfOk result (IsPieceReader (text_view text.now)) }
+        ensures modifier { IfOk result (λ reader. reader.characters.modifier ≡ modifier.now) }
+    {
+        let characters = PlaceReader::new(
+            alloc,
+            PageKind::Chpx,
+            text.wd,
+            text.characters,
+            modifier,
+        )?;
+        let marks = PlaceReader::new(alloc, PageKind::Papx, text.wd, text.paragraphs, modifier)?;
+        Ok(PieceReader { characters, marks })
+    }
+}
+
 /// How many CPs of each list are passed, and a CP up to which nothing more stands at one.
 #[derive(Clone, Copy)]
 pub(crate) struct Passed {
@@ -41,23 +73,23 @@ pub(crate) struct Passed {
     pub(crate) until: u32,
 }
 
-/// Reads the item of a CP, which has these settings of characters and stands in a piece with the
-/// modifier.
+/// Reads the item of a CP, which has these settings of characters and stands in a piece of the reader.
 pub(crate) fn item_at(
     alloc: Global,
     text: &TextSource<'_>,
     cp: u32,
     chp: PropMap,
-    modifier: &Modifier,
+    reader: &mut PieceReader<'_>,
     passed: &mut Passed,
 ) -> Result<Item, Memory>
     requires readable { IsReadable (text_view text.now) }
     requires within { cp < length text.now.units.now }
-    requires formed { IsFormedModifier modifier.now }
-    requires characters { IsReadCharacter (text_view text.now) modifier.now cp chp }
+    requires reader { IsPieceReader (text_view text.now) reader.old }
+    requires characters { IsReadCharacter (text_view text.now) reader.old.characters.modifier cp chp }
     requires passed { ArePassed (mark_lists text.now.marks.now) passed.old cp }
+    ensures same { reader.new ≡ reader.old }
     ensures passed { OnOk result (ArePassed (mark_lists text.now.marks.now) passed.new (cp + 1)) }
-    ensures item { IfOk result (IsReadAt (text_view text.now) modifier.now cp) }
+    ensures item { IfOk result (IsReadAt (text_view text.now) reader.old.characters.modifier cp) }
 {
     let unit = text.units[cp as usize];
     let place = text.places[cp as usize];
@@ -67,7 +99,7 @@ pub(crate) fn item_at(
         .marks
         .section_at(alloc, text.maps, &mut passed.section, cp)?;
     let ends = ends_paragraph(unit, sect.is_some());
-    let mark = mark_at(alloc, text.wd, text.paragraphs, place, modifier, ends)?;
+    let mark = mark_at(alloc, place, ends, &mut reader.marks)?;
     Ok(Item {
         unit,
         chp,
@@ -93,21 +125,19 @@ pub(crate) fn next_marked(text: &TextSource<'_>, passed: &Passed) -> u32
 /// Reads the mark of a unit that ends a paragraph.
 fn mark_at(
     alloc: Global,
-    wd: &[u8],
-    bin: &[u8],
     fc: u32,
-    modifier: &Modifier,
     ends: bool,
+    marks: &mut PlaceReader<'_>,
 ) -> Result<Option<Mark>, Memory>
-    requires table { IsBinTable bin.now }
-    requires small { length wd.now < 2 ^ 32 }
-    requires right { IsTrue ends → IsRightPlace Papx wd.now bin.now fc }
-    requires formed { IsFormedModifier modifier.now }
-    ensures mark { IfOk result (λ mark. IsMarkAt ends wd.now bin.now fc modifier.now mark) }
+    requires kind { marks.old.kind ≡ Papx }
+    requires right { IsTrue ends → IsRightPlace Papx marks.old.wd marks.old.bin fc }
+    requires formed { IsFormedModifier marks.old.modifier }
+    ensures same { marks.new ≡ marks.old }
+    ensures mark { IfOk result (λ mark. IsMarkAt ends marks.old.wd marks.old.bin fc marks.old.modifier mark) }
     ensures formed { IfOk result (λ mark. IfSome mark (λ mark. IsPropertyMap paragraph_groups mark.pap)) }
 {
     if ends {
-        let mark = read_mark(alloc, wd, bin, fc, modifier)?;
+        let mark = marks.read_mark(alloc, fc)?;
         Ok(Some(Mark {
             istd: mark.istd,
             pap: mark.pap,

@@ -1,17 +1,17 @@
 // The settings of the sections.
-ghost use Rattle.std.specs.Prelude.{◌≡◌, ◌≢◌, ◌<◌, length, slice_get, Some, IfOk};
+ghost use Rattle.std.specs.Prelude.{◌≡◌, ◌≢◌, ◌<◌, ℕ, List, length, slice_get, Some, IfOk, OnOk};
 ghost use Rattle.doc_bits.specs.Rules.{Hold, Nowhere};
 ghost use Rattle.sprm_table.specs.Sprm.{IsAcceptedList};
 ghost use Rattle.prop_map.specs.Formed.{IsPropertyMap};
 ghost use Rattle.doc_load.specs.FileRules.{source_of};
 ghost use Rattle.doc_load.specs.SectionRules.{HasSections, HasSepxFault, LacksSepx, rules_of_sections, sepx_list};
 ghost use Rattle.prop_map.specs.Formed.{section_groups};
-ghost use Rattle.doc_read.specs.Sections.{AreSectionMaps, IsSectionSettings};
+ghost use Rattle.doc_read.specs.Sections.{AreMetSections, AreSectionMaps, IsSectionSettings};
 
 use doc_bits::Memory;
 use doc_load::LoadedText;
 use doc_parts::{NO_SEPX, Seds, sepx};
-use prop_map::{PropMap, SECTION_GROUPS, act};
+use prop_map::{ListPlaces, PropMap, SECTION_GROUPS, act};
 use std::alloc::Global;
 use std::marker::Model;
 
@@ -55,11 +55,56 @@ pub(crate) fn read_section_maps(
     let source = text.source();
     let wd = source.wd();
     let mut maps = Vec::with_capacity(alloc, sections.len())?;
+    let mut met = MetSections::new(alloc);
     for k in 0..sections.len() {
         let (_, fc) = sections.get(k);
-        maps.push(read_section(alloc, wd, fc)?)?;
+        maps.push(met.settings(alloc, wd, fc)?)?;
     }
     Ok(SectionMaps { maps })
+}
+
+/// The settings of sections that were met, by the places of their Sepxs.
+#[derive(Drop)]
+struct MetSections {
+    places: ListPlaces,
+    maps: Vec<PropMap>,
+}
+
+impl MetSections {
+    /// No sections. It takes no memory.
+    fn new(alloc: Global) -> MetSections
+        ensures { (wd : List ℕ) → AreMetSections wd result.places result.maps.items }
+    {
+        MetSections {
+            places: ListPlaces::new(alloc),
+            maps: Vec::new(alloc),
+        }
+    }
+
+    /// The settings of the section whose Sepx stands at `fc`. A Sepx is read once.
+    fn settings(&mut self, alloc: Global, wd: &[u8], fc: u32) -> Result<PropMap, Memory>
+        requires there { ¬ (LacksSepx wd.now fc) }
+        requires right { Nowhere (HasSepxFault wd.now fc) }
+        requires met { AreMetSections wd.now self.old.places self.old.maps.items }
+        ensures met { OnOk result (AreMetSections wd.now self.new.places self.new.maps.items) }
+        ensures settings { IfOk result (IsSectionSettings wd.now fc) }
+        ensures formed { IfOk result (IsPropertyMap section_groups) }
+    {
+        if fc == NO_SEPX {
+            let none = read_section(alloc, wd, fc)?;
+            return Ok(none);
+        }
+        let place = fc as usize;
+        if let Some(known) = self.places.number_of(place, place) {
+            let copy = self.maps[known].copy(alloc)?;
+            return Ok(copy);
+        }
+        let map = read_section(alloc, wd, fc)?;
+        let copy = map.copy(alloc)?;
+        self.maps.push(map)?;
+        self.places.add(place, place)?;
+        Ok(copy)
+    }
 }
 
 /// Reads the settings of a section whose Sepx stands at `fc`.

@@ -11,8 +11,9 @@ use std::str;
 pub(crate) fn push_settings(text: &mut Text, map: &PropMap) -> Result<(), Memory>
     ensures { OnOk result (text.new ≡ text.old ++ settings_text map.now) }
 {
-    for entry in map.entries() {
-        push_setting(text, entry.0, entry.1.as_slice())?;
+    let mut left = map.entries();
+    while let Some((code, value)) = left.next() {
+        push_setting(text, code.0, value)?;
     }
     Ok(())
 }

@@ -1,6 +1,6 @@
 -- Values laid over one another.
-use Rattle.std.proofs.Common.{◌≡◌, ℕ, ◌+◌, ◌<◌, ◌==◌, Bool, true, false, not, cond, List, [], ◌∷◌, ◌++◌, length, take, get_or, Option, Some, None, IsTrue, refl, sym, ap, ◌∙◌, arith, length-take}
-use Rattle.std.proofs.lemmas.List.{take_more, get_or-take, get_or_default, append-nil}
+use Rattle.std.proofs.Common.{◌≡◌, ℕ, ◌+◌, ◌<◌, ◌==◌, Bool, true, false, not, cond, List, [], ◌∷◌, ◌++◌, length, take, get_or, Option, Some, None, IsTrue, refl, sym, ap, ◌∙◌, subst, arith, append_assoc, length-append, length-take}
+use Rattle.std.proofs.lemmas.List.{take_more, take_at, get_or-take, get_or_at, get_or_default, append-nil}
 use Rattle.std.proofs.lemmas.List.Elements.{filter_map-append}
 use Rattle.std.proofs.lemmas.List.Sums.{fold-append}
 use Rattle.std.proofs.lemmas.Bool.{eqb-true}
@@ -56,6 +56,36 @@ lay_more es i d old now new h within upto step code =
           ap (λ o. layer_over e.0 o (Some e.1)) here ∙ ap (λ k. layer_over k (get old k) (Some e.1)) (sym key)
       | false ↦ λ is. upto code
     ] refl ∙ ap (layer_over code (get old code)) (sym (find-more es i d code h within)))
+
+-- how far the entries of a layer were laid over what was there
+pub record HasLaidUpTo (all : Entries) (old : Settings) (left : Entries) (now : Settings) : Type 0 where
+  pub done : Entries
+  pub joined : all ≡ done ++ left
+  pub laid : LaysUpTo done old now
+
+pub none_laid : (all left : Entries) (old : Settings) → all ≡ left → HasLaidUpTo all old left old
+none_laid all left old e = record { done = []; joined = e; laid = λ code. refl }
+
+pub laid_next : (all left : Entries) (old now new : Settings) (code : ℕ) (value : List ℕ) → IsTrue (is_sorted nat_cmp all) → HasLaidUpTo all old ((code, value) ∷ left) now → IsValueOver code value now new → HasLaidUpTo all old left new
+laid_next all left old now new code value sorted h step =
+    let entry : ℕ × List ℕ = (code, value) in
+    let es : Entries = h.done ++ entry ∷ left in
+    let i : ℕ = length h.done in
+    let long = length-append h.done (entry ∷ left) in
+    let within : i < length es = omega arith in
+    let front : take i es ≡ h.done = take_at h.done (entry ∷ left) i refl in
+    let here : get_or es i entry ≡ entry = get_or_at h.done entry left entry i refl in
+    let more : take (i + 1) es ≡ h.done ++ entry ∷ [] = take_more es i entry within ∙ (ap (λ l. l ++ get_or es i entry ∷ []) front ∙ ap (λ (x : ℕ × List ℕ). h.done ++ x ∷ []) here) in
+    let sorted_whole = subst (λ l. IsTrue (is_sorted nat_cmp l)) h.joined sorted in
+    record {
+      done = h.done ++ entry ∷ [];
+      joined = h.joined ∙ sym (append_assoc h.done (entry ∷ []) left);
+      laid = subst (λ l. LaysUpTo l old new) more
+          (lay_more es i entry old now new sorted_whole within (subst (λ l. LaysUpTo l old now) (sym front) h.laid) (subst (λ (x : ℕ × List ℕ). IsValueOver x.0 x.1 now new) (sym here) step));
+    }
+
+pub laid_whole : (all : Entries) (old now : Settings) → HasLaidUpTo all old [] now → LaysUpTo all old now
+laid_whole all old now h = subst (λ l. LaysUpTo l old now) (sym (h.joined ∙ append-nil h.done)) h.laid
 
 -- ---- one more layer
 

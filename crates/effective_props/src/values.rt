@@ -28,8 +28,9 @@ pub(crate) fn values_of(alloc: Global, layers: &[PropMap]) -> Result<PropMap, Me
 fn lay_all(values: &mut Draft, alloc: Global, layer: &PropMap) -> Result<(), Memory>
     ensures { OnOk result (IsLayerOver layer.now values.old values.new) }
 {
-    for entry in layer.entries() {
-        lay(values, alloc, Code(entry.0), entry.1.as_slice())?;
+    let mut left = layer.entries();
+    while let Some((code, value)) = left.next() {
+        lay(values, alloc, code, value)?;
     }
     Ok(())
 }

@@ -19,7 +19,7 @@ use Rattle.fkp_pages.proofs.RowTableLemmas.{table_of_row}
 pages_of_bins : List Bin → List ℕ
 pages_of_bins bins = map (λ bin. bin.page) bins
 
-fc_before : (old new : List Bin) (end k : ℕ) (bin : Bin) → slice_get old k ≡ Some bin →
+pub fc_before : (old new : List Bin) (end k : ℕ) (bin : Bin) → slice_get old k ≡ Some bin →
     slice_index (bin_fcs (old ++ new) end) k ≡ bin.first
 fc_before (bin ∷ old) new end zero it here = ap (λ (b : Bin). b.first) (same_Some bin it here)
 fc_before (bin ∷ old) new end (suc k) it here = fc_before old new end k it here
@@ -31,7 +31,7 @@ page_before (bin ∷ old) new zero it here = ap (λ (b : Bin). b.page) (same_Som
 page_before (bin ∷ old) new (suc k) it here = page_before old new k it here
 page_before [] new k it here = absurd (none-some it here)
 
-fc_behind : (old new : List Bin) (end k : ℕ) →
+pub fc_behind : (old new : List Bin) (end k : ℕ) →
     slice_index (bin_fcs (old ++ new) end) (length old + k) ≡ slice_index (bin_fcs new end) k
 fc_behind [] new end k = let e : 0 + k ≡ k = omega arith in ap (slice_index (bin_fcs new end)) e
 fc_behind (bin ∷ old) new end k =
@@ -47,7 +47,7 @@ page_behind (bin ∷ old) new k =
 
 -- ---- the longer table
 
-ranges_kept : (old : List ℕ) (bins more : List Bin) (end before : ℕ) → AreRangesBefore old before bins →
+pub ranges_kept : (old : List ℕ) (bins more : List Bin) (end before : ℕ) → AreRangesBefore old before bins →
     ArePrintableBins (bins ++ more) end → end < 2 ^ 32 → before ≤ slice_index (bin_fcs more end) 0 →
     KeepsRanges old (printed_bin (bins ++ more) end) before
 ranges_kept old bins more end before ranges printable small begins =

@@ -1,102 +1,90 @@
 -- Stretches of places at which a page answers the same.
-use Rattle.std.proofs.Common.{◌≡◌, ◌⊎◌, inl, inr, ℕ, ◌+◌, ◌-◌, ◌<◌, ◌≤◌, ◌^◌, min, max, List, refl, arith, below_more}
-use Rattle.std.proofs.lemmas.Bool.{cases_lt}
+use Rattle.std.proofs.Common.{◌≡◌, ◌<◌, ◌≤◌, ◌+◌, ◌-◌, ℕ, max, min, List, Some, None, subst, arith, below_more}
 use Rattle.fkp_pages.specs.declared.kind.PageKind.{PageKind}
 use Rattle.fkp_pages.specs.declared.kind.RunAnswer.{RunAnswer}
 use Rattle.fkp_pages.specs.declared.kind.RunAnswer.TheVariants.{Found, Empty, NoRun, BadCount, Leaves}
-use Rattle.fkp_pages.specs.Fkp.{page_count, page_fc, HasRunCount, HoldsFc, HasAnswerOfRun, HasRunAnswer}
-use Rattle.fkp_pages.specs.Stretch.{HasPageFc, IsStretch}
+use Rattle.fkp_pages.specs.Fkp.{page_count, page_fc, HasRunCount, HoldsFc, IsFirstRun, HasNoRun, IsAnswerOf, HasRunAnswer}
+use Rattle.fkp_pages.specs.Stretch.{IsStretch, HasStretch, IsFoundRun}
+use Rattle.fkp_pages.specs.declared.reading.Stretch.{Stretch}
+use Rattle.fkp_pages.proofs.PropertyLemmas.{run_answer_one}
 
--- the same of the first n fcs of a page
-pub record IsStretchOf (kind : PageKind) (page : List ℕ) (fc n first last : ℕ) : Type 0 where
+-- where the page answers so at each place, the place among them, they are a stretch
+pub has_stretch : (kind : PageKind) (page : List ℕ) (fc : ℕ) (stretch : Stretch) → stretch.first ≤ fc → fc ≤ stretch.last → ((other : ℕ) → stretch.first ≤ other → other ≤ stretch.last → HasRunAnswer kind page other stretch.answer) → HasStretch kind page fc stretch
+has_stretch kind page fc stretch from to answers = record {
+  around = record {
+    from = from;
+    to = to;
+    same = λ answer other has a b. subst (λ x. HasRunAnswer kind page other x) (run_answer_one kind page fc stretch.answer answer (answers fc from to) has) (answers other a b);
+  };
+  answers = answers;
+}
+
+-- a page answers at a place what its first run answers
+pub run_answers : (kind : PageKind) (page : List ℕ) (fc run : ℕ) (answer : RunAnswer) → HasRunCount kind page → IsFirstRun page fc run → IsAnswerOf kind page run answer → HasRunAnswer kind page fc answer
+run_answers kind page fc run (Found from to) counted first answers = (counted, record { run = run; first = first; answers = answers })
+run_answers kind page fc run Empty counted first answers = (counted, record { run = run; first = first; answers = answers })
+run_answers kind page fc run NoRun counted first answers = absurd answers
+run_answers kind page fc run BadCount counted first answers = absurd answers
+run_answers kind page fc run (Leaves entry) counted first answers = (counted, record { run = run; first = first; answers = answers })
+
+-- how far a search for the first run has come: none of the runs so far holds a place of the gap, or one from the least on
+pub record HasPassedRuns (page : List ℕ) (fc run first last least : ℕ) : Type 0 where
   pub from : first ≤ fc
   pub to : fc ≤ last
-  pub apart : (run : ℕ) → run < n → (page_fc page run ≤ first) ⊎ (last < page_fc page run)
-  pub begins : (first ≡ 0) ⊎ HasPageFc kind page first
-  pub ends : (last ≡ 2 ^ 32 - 1) ⊎ HasPageFc kind page (last + 1)
+  pub outside : (passed other : ℕ) → passed < run → first ≤ other → other ≤ last → ¬ (HoldsFc page passed other)
+  pub before : (passed other : ℕ) → passed < run → least ≤ other → ¬ (HoldsFc page passed other)
 
--- an fc at or before the place
-pub stretch_begins : (kind : PageKind) (page : List ℕ) (fc n first last : ℕ) → HasRunCount kind page → n ≤ page_count page → page_fc page n ≤ fc → IsStretchOf kind page fc n first last → IsStretchOf kind page fc (n + 1) (max first (page_fc page n)) last
-stretch_begins kind page fc n first last counted below h is =
-    let bound = page_fc page n in
-    elim (cases_lt first bound) [
-      | inl lt ↦
-          let same : max first bound ≡ bound = omega arith in
-          rw same (record {
-            from = h;
-            to = is.to;
-            apart = below_more _ _ (λ run w. elim (is.apart run w) [ inl a ↦ inl (omega (arith, a, lt)) | inr a ↦ inr a ]) (inl (omega arith));
-            begins = inr (record { counted = counted; run = n; within = below; is = refl });
-            ends = is.ends;
-          })
-      | inr ge ↦
-          let same : max first bound ≡ first = omega arith in
-          rw same (record {
-            from = is.from;
-            to = is.to;
-            apart = below_more _ _ is.apart (inl ge);
-            begins = is.begins;
-            ends = is.ends;
-          })
-    ]
-
--- an fc after the place
-pub stretch_ends : (kind : PageKind) (page : List ℕ) (fc n first last : ℕ) → HasRunCount kind page → n ≤ page_count page → fc < page_fc page n → IsStretchOf kind page fc n first last → IsStretchOf kind page fc (n + 1) first (min last (page_fc page n - 1))
-stretch_ends kind page fc n first last counted below h is =
-    let bound = page_fc page n in
-    elim (cases_lt last bound) [
-      | inl lt ↦
-          let same : min last (bound - 1) ≡ last = omega arith in
-          rw same (record {
-            from = is.from;
-            to = is.to;
-            apart = below_more _ _ is.apart (inr lt);
-            begins = is.begins;
-            ends = is.ends;
-          })
-      | inr ge ↦
-          let same : min last (bound - 1) ≡ bound - 1 = omega arith in
-          let back : bound ≡ bound - 1 + 1 = omega arith in
-          rw same (record {
-            from = is.from;
-            to = omega arith;
-            apart = below_more _ _ (λ run w. elim (is.apart run w) [ inl a ↦ inl a | inr a ↦ inr (omega (arith, a, ge)) ]) (inr (omega arith));
-            begins = is.begins;
-            ends = inr (record { counted = counted; run = n; within = below; is = back });
-          })
-    ]
-
--- a run holds both places of a stretch or none
-pub holds_along : (kind : PageKind) (page : List ℕ) (fc first last one other run : ℕ) → HasRunCount kind page → IsStretch kind page fc first last → run < page_count page → first ≤ one → one ≤ last → first ≤ other → other ≤ last → HoldsFc page run one → HoldsFc page run other
-holds_along kind page fc first last one other run counted is below a b c d holds =
-    let begin = is.apart counted run (omega arith) in
-    let end = is.apart counted (run + 1) (omega arith) in
+-- a run more
+pub one_passed : (page : List ℕ) (fc run first last least first' last' least' : ℕ) → HasPassedRuns page fc run first last least →
+    (first' ≤ fc) × (fc ≤ last') → (first ≤ first') × (last' ≤ last) →
+    ((other : ℕ) → first' ≤ other → other ≤ last' → page_fc page run ≤ other → page_fc page (run + 1) ≤ other) →
+    (least ≤ least') × (page_fc page (run + 1) ≤ least') →
+    HasPassedRuns page fc (run + 1) first' last' least'
+one_passed page fc run first last least first' last' least' passed around within outside after =
+    let low = within.0 in
+    let high = within.1 in
+    let more = after.0 in
+    let end = after.1 in
     record {
-      from = elim begin [ inl h ↦ omega arith | inr h ↦ absurd (omega (arith, holds.from)) ];
-      to = elim end [ inl h ↦ absurd (omega (arith, holds.to)) | inr h ↦ omega arith ];
+      from = around.0;
+      to = around.1;
+      outside = λ k other below a b holds. below_more (λ j. ¬ (HoldsFc page j other)) run
+          (λ j l. passed.outside j other l (omega arith) (omega arith))
+          (λ h. let from = h.from in let to = h.to in let there = outside other a b from in absurd (omega arith)) k below holds;
+      before = λ k other below a holds. below_more (λ j. ¬ (HoldsFc page j other)) run
+          (λ j l. passed.before j other l (omega arith))
+          (λ h. let to = h.to in absurd (omega arith)) k below holds;
     }
 
--- the first run is the same at both
-first_along : (kind : PageKind) (page : List ℕ) (fc first last one other : ℕ) → HasRunCount kind page → IsStretch kind page fc first last → first ≤ one → one ≤ last → first ≤ other → other ≤ last → (answer : RunAnswer) → HasAnswerOfRun kind page one answer → HasAnswerOfRun kind page other answer
-first_along kind page fc first last one other counted is a b c d answer has =
+-- the run that holds the place is the first, and at the places of the gap that it holds too
+pub found_here : (page : List ℕ) (fc run first last least begin end : ℕ) → HasPassedRuns page fc run first last least → run < page_count page →
+    begin ≡ page_fc page run → end ≡ page_fc page (run + 1) → begin ≤ fc → fc < end →
+    IsFoundRun page fc (record { run = Some run; first = max first begin; last = min last (end - 1); next = record { run = run + 1; least = max least end } })
+found_here page fc run first last least begin end passed within b e low high =
+    let from = passed.from in
+    let to = passed.to in
     record {
-      run = has.run;
-      first = record {
-        below = has.first.below;
-        holds = holds_along kind page fc first last one other has.run counted is has.first.below a b c d has.first.holds;
-        first = λ run h holds. has.first.first run h (holds_along kind page fc first last other one run counted is (omega (arith, has.first.below)) c d a b holds);
+      from = omega arith;
+      to = omega arith;
+      each = λ other a c. record {
+        below = within;
+        holds = record { from = omega arith; to = omega arith };
+        first = λ k below. passed.outside k other below (omega arith) (omega arith);
       };
-      answers = has.answers;
+      next = record {
+        within = omega arith;
+        passed = λ k other below a. below_more (λ j. ¬ (HoldsFc page j other)) run
+            (λ j l. passed.before j other l (omega arith))
+            (λ h. let end_of = h.to in absurd (omega arith)) k below;
+      };
     }
 
--- so is the answer
-pub answer_along : (kind : PageKind) (page : List ℕ) (fc first last other : ℕ) (answer : RunAnswer) → IsStretch kind page fc first last → first ≤ other → other ≤ last → HasRunAnswer kind page fc answer → HasRunAnswer kind page other answer
-answer_along kind page fc first last other (Found from to) is c d has =
-    (has.0, first_along kind page fc first last fc other has.0 is is.from is.to c d (Found from to) has.1)
-answer_along kind page fc first last other Empty is c d has =
-    (has.0, first_along kind page fc first last fc other has.0 is is.from is.to c d Empty has.1)
-answer_along kind page fc first last other NoRun is c d has =
-    (has.0, λ run h holds. has.1 run h (holds_along kind page fc first last other fc run has.0 is h c d is.from is.to holds))
-answer_along kind page fc first last other BadCount is c d has = has
-answer_along kind page fc first last other (Leaves entry) is c d has =
-    (has.0, first_along kind page fc first last fc other has.0 is is.from is.to c d (Leaves entry) has.1)
+-- no run of the page holds the place, or one of the gap
+pub none_here : (page : List ℕ) (fc run first last least : ℕ) → HasPassedRuns page fc run first last least → page_count page ≤ run →
+    IsFoundRun page fc (record { run = None; first = first; last = last; next = record { run = page_count page; least = least } })
+none_here page fc run first last least passed all = record {
+  from = passed.from;
+  to = passed.to;
+  each = λ other a c k below. passed.outside k other (omega arith) a c;
+  next = record { within = omega arith; passed = λ k other below a. passed.before k other (omega arith) a };
+}

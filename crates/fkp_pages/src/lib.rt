@@ -11,6 +11,7 @@ mod page_laws;
 mod page_writer;
 mod page_writers;
 mod reading;
+mod runs;
 mod writable;
 mod written;
 
@@ -27,5 +28,6 @@ pub use page_laws::{
     runs_have_pages,
 };
 pub use page_writers::{write_chpx_pages, write_papx_pages};
-pub use reading::{Stretch, chpx_at, chpx_stretch, papx_at, papx_stretch};
+pub use reading::{Met, Stretch, chpx_at, chpx_stretch, next_stretch, papx_at, papx_stretch};
+pub use runs::RunCursor;
 pub use writable::{are_chp_runs, are_pap_runs};

@@ -1,13 +1,13 @@
-// [MS-DOC] ChpxFkp, PapxFkp: what a page answers at a byte place.
-ghost use Rattle.std.specs.Prelude.{◌≡◌, ◌+◌, ◌*◌, ◌<◌, ◌≤◌};
+// [MS-DOC] ChpxFkp, PapxFkp: what a page answers at a byte place, and how far around it.
+ghost use Rattle.std.specs.Prelude.{◌≡◌, ◌+◌, ◌*◌, ◌<◌, ◌≤◌, ℕ, List};
 ghost use Rattle.std.specs.Prelude.{◌↔◌, length, IsTrue, MatchOption};
 ghost use Rattle.fkp_pages.specs.declared.kind.PageKind.TheVariants.{Chpx, Papx};
-ghost use Rattle.fkp_pages.specs.Fkp.{page_count, HasRunCount, HoldsFc, IsFirstRun, HasNoRun, list_from, list_to};
+ghost use Rattle.fkp_pages.specs.Fkp.{page_count, HasRunCount, list_from, list_to};
 ghost use Rattle.fkp_pages.specs.Fkp.{IsListWithin, IsAnswerOf, HasRunAnswer};
-ghost use Rattle.fkp_pages.specs.Stretch.{IsStretch, HasStretch};
+ghost use Rattle.fkp_pages.specs.Stretch.{HasStretch, IsRunCursor};
 
 use crate::kind::{COUNT_AT, PageKind, RunAnswer};
-use doc_bits::get32;
+use crate::runs::{RunCursor, first_run};
 
 /// The byte places from `first` to `last`, and what a page answers at each of them.
 #[derive(Clone, Copy, Debug, PartialEq, Eq)]
@@ -17,12 +17,19 @@ pub struct Stretch {
     pub answer: RunAnswer,
 }
 
+/// A stretch, and the run that is tried first at a place behind it.
+#[derive(Clone, Copy, Debug, PartialEq, Eq)]
+pub struct Met {
+    pub stretch: Stretch,
+    pub next: RunCursor,
+}
+
 /// What a page of character runs answers at a byte place.
 pub fn chpx_at(page: &[u8], fc: u32) -> RunAnswer
     requires { length page.now ≡ 512 }
     ensures { HasRunAnswer Chpx page.now fc result }
 {
-    run_answer(PageKind::Chpx, page, fc)
+    chpx_stretch(page, fc).answer
 }
 
 /// What a page of paragraph runs answers at a byte place.
@@ -30,16 +37,15 @@ pub fn papx_at(page: &[u8], fc: u32) -> RunAnswer
     requires { length page.now ≡ 512 }
     ensures { HasRunAnswer Papx page.now fc result }
 {
-    run_answer(PageKind::Papx, page, fc)
+    papx_stretch(page, fc).answer
 }
 
-/// What a page of character runs answers at a byte place, and how far around the place. A reader of
-/// a whole text needs one call for each stretch, and not one for each unit.
+/// What a page of character runs answers at a byte place, and how far around the place.
 pub fn chpx_stretch(page: &[u8], fc: u32) -> Stretch
     requires { length page.now ≡ 512 }
     ensures { HasStretch Chpx page.now fc result }
 {
-    stretch_around(PageKind::Chpx, page, fc)
+    next_stretch(PageKind::Chpx, page, fc, RunCursor::start()).stretch
 }
 
 /// The same of a page of paragraph runs.
@@ -47,34 +53,45 @@ pub fn papx_stretch(page: &[u8], fc: u32) -> Stretch
     requires { length page.now ≡ 512 }
     ensures { HasStretch Papx page.now fc result }
 {
-    stretch_around(PageKind::Papx, page, fc)
+    next_stretch(PageKind::Papx, page, fc, RunCursor::start()).stretch
 }
 
-/// What a page answers at a place.
-fn run_answer(kind: PageKind, page: &[u8], fc: u32) -> RunAnswer
-    requires { length page.now ≡ 512 }
-    ensures { HasRunAnswer kind page.now fc result }
+/// The same of a page of this kind, from a cursor on where it serves. A reader of a whole text needs one call for each
+/// stretch, and where its places ascend each call looks at one run.
+pub fn next_stretch(kind: PageKind, page: &[u8], fc: u32, cursor: RunCursor) -> Met
+    requires page { length page.now ≡ 512 }
+    requires cursor { IsRunCursor page.now cursor }
+    ensures stretch { HasStretch kind page.now fc result.stretch }
+    ensures next { IsRunCursor page.now result.next }
 {
     if !has_run_count(kind, page) {
-        return RunAnswer::BadCount;
+        return Met {
+            stretch: Stretch {
+                first: 0,
+                last: u32::MAX,
+                answer: RunAnswer::BadCount,
+            },
+            next: RunCursor::start(),
+        };
     }
-    match first_run(page, fc) {
-        None => RunAnswer::NoRun,
-        Some(run) => answer_of(kind, page, run),
-    }
-}
-
-/// The same, and how far around the place.
-fn stretch_around(kind: PageKind, page: &[u8], fc: u32) -> Stretch
-    requires { length page.now ≡ 512 }
-    ensures { HasStretch kind page.now fc result }
-{
-    let (first, last) = bounds(kind, page, fc);
-    let answer = run_answer(kind, page, fc);
-    Stretch {
-        first,
-        last,
-        answer,
+    let found = first_run(page, fc, cursor.at(fc));
+    match found.run {
+        None => Met {
+            stretch: Stretch {
+                first: found.first,
+                last: found.last,
+                answer: RunAnswer::NoRun,
+            },
+            next: found.next,
+        },
+        Some(run) => Met {
+            stretch: Stretch {
+                first: found.first,
+                last: found.last,
+                answer: answer_of(kind, page, run),
+            },
+            next: found.next,
+        },
     }
 }
 
@@ -85,29 +102,6 @@ fn has_run_count(kind: PageKind, page: &[u8]) -> bool
 {
     let count = page[COUNT_AT] as usize;
     1 <= count && count <= kind.most_runs()
-}
-
-/// The first run that holds the place.
-fn first_run(page: &[u8], fc: u32) -> Option<usize>
-    requires page { length page.now ≡ 512 }
-    requires fcs { page_count page.now ≤ 101 }
-    ensures { MatchOption result (HasNoRun page.now fc) (IsFirstRun page.now fc) }
-{
-    let count = page[COUNT_AT] as usize;
-    for run in 0..count {
-        if holds_fc(page, run, fc) {
-            return Some(run);
-        }
-    }
-    None
-}
-
-/// Whether a run holds the place.
-fn holds_fc(page: &[u8], run: usize, fc: u32) -> bool
-    requires { 4 * run + 8 ≤ length page.now }
-    ensures { IsTrue result ↔ HoldsFc page.now run fc }
-{
-    get32(page, 4 * run) <= fc && fc < get32(page, 4 * (run + 1))
 }
 
 /// What a run answers.
@@ -165,26 +159,4 @@ fn list_bounds(kind: PageKind, page: &[u8], at: usize) -> (usize, usize)
             }
         }
     }
-}
-
-/// The places around a place that lie between the same fcs of the page.
-fn bounds(kind: PageKind, page: &[u8], fc: u32) -> (u32, u32)
-    requires { length page.now ≡ 512 }
-    ensures { IsStretch kind page.now fc result.0 result.1 }
-{
-    let mut first = 0;
-    let mut last = u32::MAX;
-    if !has_run_count(kind, page) {
-        return (first, last);
-    }
-    let count = page[COUNT_AT] as usize;
-    for run in 0..count + 1 {
-        let bound = get32(page, 4 * run);
-        if bound <= fc {
-            first = first.max(bound);
-        } else {
-            last = last.min(bound - 1);
-        }
-    }
-    (first, last)
 }

@@ -187,10 +187,11 @@ fn a_command_has_exactly_its_keys(rt: HostRuntime) -> Result<(), Fail> {
 
 /// Whether these are the settings of `SET`.
 fn is_set(set: &PropMap) -> bool {
-    set.entries().len() == 3
-        && set.get(Code(0x0835)) == Some([1].as_slice())
-        && set.get(Code(0x4A43)) == Some([0x1C, 0].as_slice())
-        && set.get(Code(0xC60D)) == Some([].as_slice())
+    let mut left = set.entries();
+    left.next() == Some((Code(0x0835), [1].as_slice()))
+        && left.next() == Some((Code(0x4A43), [0x1C, 0].as_slice()))
+        && left.next() == Some((Code(0xC60D), [].as_slice()))
+        && left.is_empty()
 }
 
 /// Whether the units are an A and the two of U+1F600.

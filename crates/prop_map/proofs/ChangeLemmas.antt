@@ -1,13 +1,13 @@
 -- Changes of a map that stands in a tree: an entry put, entries removed, a whole map put over it.
-use Rattle.std.proofs.Common.{◌≡◌, ℕ, ◌+◌, ◌<◌, Bool, cond, List, [], ◌∷◌, length, take, get_or, Option, Some, None, IsTrue, refl, sym, ap, ◌∙◌, arith, length-take}
-use Rattle.std.proofs.lemmas.List.{take_more, get_or-take, get_or_default}
+use Rattle.std.proofs.Common.{◌≡◌, ℕ, ◌<◌, Bool, cond, List, [], ◌∷◌, ◌++◌, length, take, get_or, Option, Some, None, IsTrue, refl, sym, ap, ◌∙◌, subst, arith, append_assoc, length-append, length-take}
+use Rattle.std.proofs.lemmas.List.{append-nil, get_or-take, get_or_default, get_or_at, take_at}
 use Rattle.std.specs.declared.cmp.Ordering.TheVariants.{Less, Equal, Greater}
 use Rattle.std.specs.Ordering.{nat_cmp, match_ordering, eq_by_cmp}
 use Rattle.std.specs.Option.{option_or}
 use Rattle.std.specs.Cmp.{nat_cmp_total}
 use Rattle.std.specs.Map.{lookup}
 use Rattle.std.specs.BTreeMap.{insert_entry, is_at}
-use Rattle.std.specs.FinMap.{find, put, is_sorted, from_sorted, retain_keys, get, get-retain_keys, get-from_sorted, same_map, nat_cmp-IsAntisymmetric}
+use Rattle.std.specs.FinMap.{find, put, is_sorted, from_sorted, retain_keys, insert, get, get-insert, get-retain_keys, get-from_sorted, same_map, nat_cmp-IsAntisymmetric}
 use Rattle.std.specs.FinMap.Entries.{by_order, where_key, is_sorted-where_key, find-where_key, find-append}
 use Rattle.doc_bits.proofs.TestLemmas.{either}
 use Rattle.prop_map.specs.Settings.{Settings}
@@ -60,9 +60,39 @@ find-earlier es i d h within =
     (λ j e l. rw (get_or-take i es j e l, get_or_default es i d e within) (rises es j i e (of_true _ h) l within))
     (λ j e low l. absurd (omega arith))
 
-pub put_more : (es : Entries) (i : ℕ) (d : ℕ × List ℕ) (q : ℕ) (now before : Option (List ℕ)) → IsTrue (is_sorted nat_cmp es) → i < length es → now ≡ option_or (find nat_cmp q (take i es)) before → cond (eq_by_cmp nat_cmp q (get_or es i d).0) (Some (get_or es i d).1) now ≡ option_or (find nat_cmp q (take (i + 1) es)) before
-put_more es i d q now before h within was =
-    let e = get_or es i d in
-    let found : find nat_cmp q (take (i + 1) es) ≡ cond (eq_by_cmp nat_cmp q e.0) (Some e.1) (find nat_cmp q (take i es)) =
-    ap (find nat_cmp q) (take_more es i d within) ∙ find-append nat_cmp nat_cmp_total (take i es) e.0 e.1 q (find-earlier es i d h within) in
-    rw (was, found) (either (eq_by_cmp nat_cmp q e.0) e.1 (find nat_cmp q (take i es)) before)
+-- how far the entries of a map were put over another
+pub record HasPutUpTo (all : Entries) (before : Settings) (left : Entries) (now : Settings) : Type 0 where
+  pub done : Entries
+  pub joined : all ≡ done ++ left
+  pub got : (code : ℕ) → get now code ≡ option_or (find nat_cmp code done) (get before code)
+
+pub none_put : (all left : Entries) (before : Settings) → all ≡ left → HasPutUpTo all before left before
+none_put all left before e = record { done = []; joined = e; got = λ code. refl }
+
+-- an entry more
+pub put_next : (all left : Entries) (before now next : Settings) (code : ℕ) (value : List ℕ) → IsTrue (is_sorted nat_cmp all) → HasPutUpTo all before ((code, value) ∷ left) now → next ≡ insert now code value → HasPutUpTo all before left next
+put_next all left before now next code value sorted h e =
+    let entry : ℕ × List ℕ = (code, value) in
+    let whole : all ≡ h.done ++ entry ∷ left = h.joined in
+    let sorted_whole : IsTrue (is_sorted nat_cmp (h.done ++ entry ∷ left)) = subst (λ l. IsTrue (is_sorted nat_cmp l)) whole sorted in
+    let long = length-append h.done (entry ∷ left) in
+    let within : length h.done < length (h.done ++ entry ∷ left) = omega arith in
+    let front = take_at h.done (entry ∷ left) (length h.done) refl in
+    let here : get_or (h.done ++ entry ∷ left) (length h.done) entry ≡ entry = get_or_at h.done entry left entry (length h.done) refl in
+    let absent : find nat_cmp code h.done ≡ None =
+    subst (λ l. find nat_cmp code l ≡ None) front
+    (subst (λ (x : ℕ × List ℕ). find nat_cmp x.0 (take (length h.done) (h.done ++ entry ∷ left)) ≡ None) here (find-earlier (h.done ++ entry ∷ left) (length h.done) entry sorted_whole within)) in
+    record {
+      done = h.done ++ entry ∷ [];
+      joined = whole ∙ sym (append_assoc h.done (entry ∷ []) left);
+      got = λ q.
+          ap (λ m. get m q) e
+          ∙ (get-insert nat_cmp_total now code value q
+          ∙ (ap (cond (eq_by_cmp nat_cmp q code) (Some value)) (h.got q)
+          ∙ (either (eq_by_cmp nat_cmp q code) value (find nat_cmp q h.done) (get before q)
+          ∙ sym (ap (λ o. option_or o (get before q)) (find-append nat_cmp nat_cmp_total h.done code value q absent)))));
+    }
+
+-- all of them
+pub put_whole : (all : Entries) (before now : Settings) → HasPutUpTo all before [] now → (code : ℕ) → get now code ≡ option_or (find nat_cmp code all) (get before code)
+put_whole all before now h code = h.got code ∙ ap (λ l. option_or (find nat_cmp code l) (get before code)) (sym (h.joined ∙ append-nil h.done))

@@ -1,17 +1,13 @@
 -- Lists of entries in order: where a code stands, and the map of such a list.
-use Rattle.std.proofs.Common.{◌≡◌, ℕ, zero, suc, ◌<◌, ◌≤◌, Bool, true, false, ◌&&◌, T, List, [], ◌∷◌, length, get_or, slice_set, Some, None, Result, Ok, Err, IsTrue, inl, inr, refl, sym, ap, ◌∙◌, subst, arith}
+use Rattle.std.proofs.Common.{◌≡◌, ℕ, zero, suc, ◌<◌, ◌≤◌, Bool, true, false, ◌&&◌, T, List, [], ◌∷◌, length, get_or, Some, None, IsTrue, refl, sym, ap, ◌∙◌, subst, arith}
 use Rattle.std.proofs.lemmas.List.{nil_from_length}
 use Rattle.std.specs.declared.cmp.Ordering.TheVariants.{Less, Equal, Greater}
-use Rattle.std.specs.List.{insert as list_insert}
-use Rattle.std.specs.List.Sorted.{IsSearchInRange, IsBinarySearchResult, IsNonDecreasingBy}
-use Rattle.std.proofs.lemmas.Bool.{cases_lt}
-use Rattle.std.proofs.lemmas.Bool.Decides.{nat_tests}
-use Rattle.std.specs.Ordering.{nat_cmp, ordering_index, is_lt}
+use Rattle.std.specs.Ordering.{nat_cmp, is_lt}
 use Rattle.std.specs.Cmp.{nat_cmp_total, nat_cmp_is, ranked}
 use Rattle.std.specs.FinMap.{find, put, is_sorted, entries, entries_sorted, entries-from_sorted, entries-insert, from_sorted, insert, empty, len-empty, len-entries, same_entries_map}
 use Rattle.std.specs.FinMap.Entries.{below_all, is_sorted-put}
 use Rattle.prop_map.specs.Settings.{Settings}
-use Rattle.prop_map.specs.Entries.{Entries, IsFound, IsGap, IsPlaced}
+use Rattle.prop_map.specs.Entries.{Entries}
 
 pub true_of : (b : Bool) → T b → IsTrue b
 true_of true h = refl
@@ -71,21 +67,6 @@ AllBelow code n es = (i : ℕ) (d : ℕ × List ℕ) → i < n → (get_or es i 
 abbrev pub AllAbove : ℕ → ℕ → Entries → Type 0
 AllAbove code n es = (i : ℕ) (d : ℕ × List ℕ) → n ≤ i → i < length es → code < (get_or es i d).0
 
-put_found : (at code : ℕ) (v : List ℕ) (es : Entries) → at < length es → AllBelow code at es → ((d : ℕ × List ℕ) → (get_or es at d).0 ≡ code) → put nat_cmp code v es ≡ slice_set es at (code, v)
-put_found at code v [] within below here = absurd (omega arith)
-put_found zero code v (e ∷ es) within below here = let same : e.0 ≡ code = here e in rw (same, cmp_equal code) refl
-put_found (suc at) code v (e ∷ es) within below here =
-    let lt : e.0 < code = below 0 e (omega arith) in
-    rw (cmp_greater code e.0 lt) (ap (λ rest. e ∷ rest) (put_found at code v es (omega arith) (λ i d l. below (suc i) d (omega arith)) here))
-
-put_gap : (at code : ℕ) (v : List ℕ) (es : Entries) → at ≤ length es → AllBelow code at es → AllAbove code at es → put nat_cmp code v es ≡ list_insert es at (code, v)
-put_gap zero code v [] within below above = refl
-put_gap (suc at) code v [] within below above = absurd (omega arith)
-put_gap zero code v (e ∷ es) within below above = rw (cmp_less code e.0 (above 0 e (omega arith) (omega arith))) refl
-put_gap (suc at) code v (e ∷ es) within below above =
-    let lt : e.0 < code = below 0 e (omega arith) in
-    rw (cmp_greater code e.0 lt) (ap (λ rest. e ∷ rest) (put_gap at code v es (omega arith) (λ i d l. below (suc i) d (omega arith)) (λ i d l within. above (suc i) d (omega arith) (omega arith))))
-
 pub find_found : (at code : ℕ) (es : Entries) (d : ℕ × List ℕ) → at < length es → AllBelow code at es → ((d : ℕ × List ℕ) → (get_or es at d).0 ≡ code) → find nat_cmp code es ≡ Some (get_or es at d).1
 find_found at code [] d within below here = absurd (omega arith)
 find_found zero code (e ∷ es) d within below here = let same : e.0 ≡ code = here e in rw (same, cmp_equal code) refl
@@ -100,30 +81,6 @@ find_gap zero code (e ∷ es) within below above =
 find_gap (suc at) code (e ∷ es) within below above =
     let lt : e.0 < code = below 0 e (omega arith) in
     rw (cmp_greater code e.0 lt) (find_gap at code es (omega arith) (λ i d l. below (suc i) d (omega arith)) (λ i d l within. above (suc i) d (omega arith) (omega arith)))
-
--- ---- what a search says
-
-found_at : (es : Entries) (code at : ℕ) → T (is_sorted nat_cmp es) → at < length es → ((d : ℕ × List ℕ) → (get_or es at d).0 ≡ code) → IsFound es code at
-found_at es code at h within here =
-    let below : AllBelow code at es = λ i d l. let lt = rises es i at d h l within in let e = here d in omega arith in
-    record { within = within; value = λ d. find_found at code es d within below here; replaced = λ v. put_found at code v es within below here }
-
-gap_at : (es : Entries) (code at : ℕ) → at ≤ length es → AllBelow code at es → AllAbove code at es → IsGap es code at
-gap_at es code at within below above = record { within = within; absent = find_gap at code es within below above; inserted = λ v. put_gap at code v es within below above }
-
--- where the keys rise, the answers of a comparison with one code do not fall
-falls_never : (code x y : ℕ) → x ≤ y → ordering_index (nat_cmp x code) ≤ ordering_index (nat_cmp y code)
-falls_never code x y h = grind (arith, nat_tests)
-
-pub placed : (es : Entries) (code : ℕ) (place : Result ℕ ℕ) → IsTrue (is_sorted nat_cmp es) → IsSearchInRange place (length es) → IsBinarySearchResult (λ e. nat_cmp e.0 code) es place → IsPlaced es code place
-placed es code (Ok at) sorted bound by = found_at es code at (of_true _ sorted) bound (λ d. ranked _ _ Equal (sym (by d)))
-placed es code (Err at) sorted bound by =
-    let rising : IsNonDecreasingBy (λ e. ordering_index (nat_cmp e.0 code)) es = λ i j d le within. falls_never code _ _ (elim (cases_lt i j) [
-      | inl lt ↦ let up = rises es i j d (of_true _ sorted) lt within in omega arith
-      | inr ge ↦ let e : i ≡ j = omega arith in rw e (omega arith)
-    ]) in
-    let parted = by rising in
-    gap_at es code at bound (λ i d l. ranked _ _ Less (sym (parted.0 i d (omega arith) l))) (λ i d l within. ranked _ _ Greater (sym (parted.1 i d l within)))
 
 -- ---- the map of a list
 

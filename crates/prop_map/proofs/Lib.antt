@@ -1,4 +1,5 @@
 pub mod EntriesLemmas
+pub mod BlockLemmas
 pub mod ChangeLemmas
 pub mod ActingLemmas
 pub mod ByteLemmas
@@ -14,3 +15,4 @@ pub mod ExistMaps
 pub mod CodeLemmas
 pub mod AcceptedLemmas
 pub mod PrintedLengths
+pub mod LengthLemmas

@@ -27,7 +27,7 @@ spelt_length prls = length (flat_map spelling prls)
 spelt-cons : (prl : Prl) (prls : List Prl) → spelt_length (prl ∷ prls) ≡ length (spelling prl) + spelt_length prls
 spelt-cons prl prls = ap length (flat_map-cons spelling prl prls) ∙ length-append (spelling prl) (flat_map spelling prls)
 
-spelt-append : (one other : List Prl) → spelt_length (one ++ other) ≡ spelt_length one + spelt_length other
+pub spelt-append : (one other : List Prl) → spelt_length (one ++ other) ≡ spelt_length one + spelt_length other
 spelt-append one other =
     ap length (flat_map-append spelling one other) ∙ length-append (flat_map spelling one) (flat_map spelling other)
 
@@ -162,7 +162,7 @@ marks_are_not_longer modifier before after is =
       has = λ code value here. is code ∙ ap (λ o. option_or o (get before code)) here;
     })
 
-modifier_parts : (modifier : Modifier) →
+pub modifier_parts : (modifier : Modifier) →
     length (printed_modifier modifier)
     ≡ spelt_length (style_prls modifier.istd) + (length (printed_list modifier.pap)
     + (spelt_length (clear_prls modifier.clear) + length (printed_list modifier.chp)))

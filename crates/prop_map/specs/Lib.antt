@@ -1,5 +1,6 @@
 pub mod Settings
 pub mod Entries
+pub mod Block
 pub mod Acting
 pub mod Formed
 pub mod Steps

@@ -7,7 +7,7 @@ ghost use Rattle.prop_map.specs.Acting.{is_kept, ArePropertiesAfter};
 ghost use Rattle.prop_map.specs.Overlay.{without};
 
 use crate::PropMap;
-use crate::sorted::Sorted;
+use crate::block::{Block, push_entry};
 use doc_bits::{Bytes, Memory};
 use sprm_table::{Class, Code, class, held};
 use std::alloc::Global;
@@ -69,8 +69,9 @@ impl Draft {
         ensures { OnOk result
             ((code : ℕ) → map.get self.new code ≡ option_or (map.get top.now code) (map.get self.old code)) }
     {
-        for entry in top.entries() {
-            self.put(Code(entry.0), Bytes::from_slice(alloc, entry.1.as_slice())?)?;
+        let mut left = top.entries();
+        while let Some((code, value)) = left.next() {
+            self.put(code, Bytes::from_slice(alloc, value)?)?;
         }
         Ok(())
     }
@@ -115,11 +116,12 @@ impl Draft {
     pub fn into_map(self, alloc: Global) -> Result<PropMap, Memory>
         ensures { IfOk result (λ made. made ≡ self) }
     {
-        let mut items = Vec::with_capacity(alloc, self.tree.len())?;
+        let mut bytes = Bytes::new(alloc);
         for (code, value) in self.tree {
-            items.push((code, value))?;
+            push_entry(&mut bytes, Code(code), value.as_slice())?;
         }
-        PropMap::from_sorted(alloc, Sorted::from_vec(items))
+        let block = Block::from_bytes(alloc, bytes.as_slice())?;
+        PropMap::from_block(alloc, block)
     }
 }
 

@@ -3,16 +3,18 @@
 #![tactic(auto)]
 
 mod acting;
+mod block;
 mod codes;
 mod draft;
 mod laws;
 mod map;
 mod modifiers;
 mod overlay;
+mod places;
 mod printing;
-mod sorted;
 
 pub use acting::{Acted, act};
+pub use block::Entries;
 pub use codes::{CHARACTER_GROUPS, PARAGRAPH_GROUPS, PRC_GROUPS, SECTION_GROUPS, may_hold};
 pub use draft::Draft;
 pub use laws::{
@@ -21,4 +23,4 @@ pub use laws::{
 };
 pub use map::PropMap;
 pub use modifiers::Modifier;
-pub use sorted::same_entries;
+pub use places::ListPlaces;

@@ -1,14 +1,15 @@
-// The map itself. Copies share one sorted list.
-ghost use Rattle.std.specs.Prelude.{◌≡◌, ◌↔◌, ℕ, map as each, IsTrue};
+// The map itself. Copies share one block of entries.
+ghost use Rattle.std.specs.Prelude.{◌≡◌, ◌↔◌, ℕ, length, map as each, IsTrue};
 ghost use Rattle.std.specs.Prelude.{IfOk, OnOk, OnErr, MatchOption, Some, None};
 ghost use Rattle.std.specs.FinMap as map;
 ghost use Rattle.prop_map.specs.Formed.{IsPropertyMap, StaysFormed};
 ghost use Rattle.prop_map.specs.Overlay.{without};
+ghost use Rattle.prop_map.specs.Printing.{printed_list};
 
+use crate::block::{Block, Entries, same_code};
 use crate::draft::Draft;
 use crate::may_hold;
-use crate::sorted::{Sorted, same_entries};
-use doc_bits::{Bytes, Memory};
+use doc_bits::Memory;
 use sprm_table::Code;
 use std::alloc::Global;
 use std::marker::Model;
@@ -18,7 +19,7 @@ use std::rc::Rc;
 #[derive(Drop)]
 pub struct PropMap {
     alloc: Global,
-    shared: Option<Rc<Sorted>>,
+    shared: Option<Rc<Block>>,
 }
 
 impl Model for PropMap {
@@ -42,16 +43,16 @@ impl PropMap {
         }
     }
 
-    /// It takes no memory where the list is empty.
-    pub(crate) fn from_sorted(alloc: Global, sorted: Sorted) -> Result<PropMap, Memory>
-        ensures { IfOk result (λ made. made ≡ sorted) }
+    /// The map of a block. It takes no memory where no entry is there.
+    pub(crate) fn from_block(alloc: Global, block: Block) -> Result<PropMap, Memory>
+        ensures { IfOk result (λ made. made ≡ block) }
     {
-        if sorted.entries().is_empty() {
+        if block.entries().is_empty() {
             return Ok(PropMap::new(alloc));
         }
         Ok(PropMap {
             alloc,
-            shared: Some(Rc::new(alloc, sorted)?),
+            shared: Some(Rc::new(alloc, block)?),
         })
     }
 
@@ -59,10 +60,13 @@ impl PropMap {
     pub fn get(&self, code: Code) -> Option<&[u8]>
         ensures { MatchOption result (map.get self.now code.0 ≡ None) (λ v. map.get self.now code.0 ≡ Some v.now) }
     {
-        match &self.shared {
-            None => None,
-            Some(sorted) => sorted.get(code.0),
+        let mut left = self.entries();
+        while let Some((other, value)) = left.next() {
+            if same_code(code, other) {
+                return Some(value);
+            }
         }
+        None
     }
 
     /// Puts a value at a code, in place of what stood there.
@@ -71,16 +75,8 @@ impl PropMap {
         ensures err { OnErr result (self.new ≡ self.old) }
     {
         let alloc = self.alloc;
-        let value = Bytes::from_slice(alloc, value)?;
-        // A list that no copy shares is changed in place.
-        if let Some(shared) = &mut self.shared {
-            if let Some(sorted) = Rc::get_mut(shared) {
-                return sorted.insert(code.0, value);
-            }
-        }
-        let mut sorted = self.opened(alloc)?;
-        sorted.insert(code.0, value)?;
-        self.shared = Some(Rc::new(alloc, sorted)?);
+        let block = Block::with_entry(alloc, self.entries(), code, value)?;
+        self.shared = Some(Rc::new(alloc, block)?);
         Ok(())
     }
 
@@ -104,7 +100,7 @@ impl PropMap {
     pub fn equal(&self, other: &PropMap) -> bool
         ensures { IsTrue result ↔ self.now ≡ other.now }
     {
-        same_entries(self.entries(), other.entries())
+        self.entries().bytes() == other.entries().bytes()
     }
 
     /// Whether no code has a value.
@@ -118,8 +114,9 @@ impl PropMap {
     pub fn is_held(&self, groups: u8) -> bool
         ensures { IsTrue result ↔ IsPropertyMap groups self.now }
     {
-        for entry in self.entries() {
-            if !may_hold(groups, Code(entry.0), entry.1.as_slice()) {
+        let mut left = self.entries();
+        while let Some((code, value)) = left.next() {
+            if !may_hold(groups, code, value) {
                 return false;
             }
         }
@@ -127,12 +124,22 @@ impl PropMap {
     }
 
     /// The codes and values, ascending by code. Nothing is copied.
-    pub fn entries(&self) -> &[(u16, Bytes)]
-        ensures { result.now ≡ map.entries self.now }
+    pub fn entries(&self) -> Entries<'_>
+        ensures { result ≡ map.entries self.now }
     {
         match &self.shared {
-            None => &[],
-            Some(sorted) => sorted.entries(),
+            None => Entries::none(),
+            Some(block) => block.entries(),
+        }
+    }
+
+    /// How many bytes the map has as a list of sprms.
+    pub(crate) fn list_len(&self) -> u64
+        ensures { result ≡ length (printed_list self.now) }
+    {
+        match &self.shared {
+            None => 0,
+            Some(block) => block.list_len(),
         }
     }
 
@@ -146,15 +153,5 @@ impl PropMap {
         draft.remove(codes);
         let made = draft.into_map(alloc)?;
         Ok(made)
-    }
-
-    /// The entries in a list of their own.
-    fn opened(&self, alloc: Global) -> Result<Sorted, Memory>
-        ensures { IfOk result (λ sorted. sorted ≡ self.now) }
-    {
-        match &self.shared {
-            None => Ok(Sorted::new(alloc)),
-            Some(sorted) => sorted.copy(alloc),
-        }
     }
 }

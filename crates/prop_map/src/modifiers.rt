@@ -48,6 +48,16 @@ impl Modifier {
         self.istd.is_none() && !self.clear && self.chp.is_empty() && self.pap.is_empty()
     }
 
+    /// Whether both do the same.
+    pub fn equal(&self, other: &Modifier) -> bool
+        ensures { IsTrue result ↔ self.now ≡ other.now }
+    {
+        self.istd == other.istd
+            && self.clear == other.clear
+            && self.chp.equal(&other.chp)
+            && self.pap.equal(&other.pap)
+    }
+
     /// The same modifier. No entry is copied.
     pub fn copy(&self, alloc: Global) -> Result<Modifier, Memory>
         ensures { IfOk result (λ copy. copy ≡ self.now) }

@@ -1,5 +1,5 @@
 // The bytes of a map and of one entry.
-ghost use Rattle.std.specs.Prelude.{◌≡◌, ◌++◌, ◌<◌, ◌^◌, length, IfOk, OnOk};
+ghost use Rattle.std.specs.Prelude.{◌≡◌, ◌+◌, ◌++◌, ◌<◌, ◌≤◌, ◌^◌, ℕ, List, length, IfOk, OnOk};
 ghost use Rattle.sprm_table.specs.Sprm.{IsPrl, spelling};
 ghost use Rattle.prop_map.specs.Formed.{IsFormedMap};
 ghost use Rattle.prop_map.specs.Printing.{IsPrintOf, printed_list};
@@ -26,8 +26,9 @@ impl PropMap {
         requires { IsFormedMap self.now }
         ensures { OnOk result (bytes.new ≡ bytes.old ++ printed_list self.now) }
     {
-        for entry in self.entries() {
-            push_prl(bytes, Code(entry.0), entry.1.as_slice())?;
+        let mut left = self.entries();
+        while let Some((code, value)) = left.next() {
+            push_prl(bytes, code, value)?;
         }
         Ok(())
     }
@@ -38,11 +39,7 @@ impl PropMap {
         ensures len { result ≡ length (printed_list self.now) }
         ensures bound { result < 2 ^ 33 }
     {
-        let mut len = 0;
-        for entry in self.entries() {
-            len += prl_len(Code(entry.0), entry.1.as_slice());
-        }
-        len
+        self.list_len()
     }
 }
 
@@ -60,16 +57,14 @@ pub(crate) fn push_prl(bytes: &mut Bytes, code: Code, value: &[u8]) -> Result<()
     bytes.push_all(value)
 }
 
-/// How many bytes `push_prl` appends.
-fn prl_len(code: Code, value: &[u8]) -> u64
-    requires { IsPrl (code.0, value.now) }
-    ensures len { result ≡ length (spelling (code.0, value.now)) }
-    ensures bound { result < 65600 }
+/// How many bytes a list has before the value of a code: the code, and the count where the operand has one.
+pub(crate) fn head_len(code: Code) -> u64
+    ensures len { (value : List ℕ) → length (spelling (code.0, value)) ≡ result + length value }
+    ensures bound { result ≤ 4 }
 {
-    let len = value.len() as u64;
     match operand_size(code) {
-        OperandSize::Fixed(_) => 2 + len,
-        OperandSize::CountedByByte => 2 + 1 + len,
-        OperandSize::CountedByWord => 2 + 2 + len,
+        OperandSize::Fixed(_) => 2,
+        OperandSize::CountedByByte => 3,
+        OperandSize::CountedByWord => 4,
     }
 }

@@ -1,22 +1,33 @@
-use Rattle.std.proofs.Common.{◌<◌, ◌≤◌, List, below_more, arith, ℕ, length, slice_index_or}
-use Rattle.doc_bits.specs.Rules.{Nowhere}
-use Rattle.fkp_pages.specs.declared.kind.PageKind.{PageKind}
-use Rattle.direct_props.specs.declared.rules.PageRule.{PageRule}
-use Rattle.direct_props.specs.declared.rules.PageRule.TheVariants as breaks
-use Rattle.direct_props.specs.PageRules.{BreaksAtPlaces, IsRightPlace}
+use Rattle.std.proofs.Common.{◌<◌, ◌≤◌, IfSome, below_more, arith, ℕ, length, slice_index_or, sym, subst}
+use Rattle.direct_props.specs.declared.rules.RightStretch.{RightStretch}
+use Rattle.direct_props.specs.PageRules.{IsRightPlace}
+use Rattle.direct_props.specs.Pages.{IsRightStretch}
+use Rattle.direct_props.specs.Kept.{HaveNoFault}
+use Rattle.direct_props.proofs.KeptLemmas.{no_places}
 use Rattle.direct_props.proofs.rules.are_right.Goals as goal
 
-pub loop-place-preserved : goal.loop-place-preserved
-loop-place-preserved c = record {
-  known = c.in-Some.ensures.1;
-  done = below_more (λ k. IsRightPlace c.args.kind c.args.wd.now c.args.bin.now (slice_index_or c.args.places.now k 0)) c.loop-place.place-index c.loop-place.invariant.done c.in-Some.ensures.0;
+pub loop-place-init : goal.loop-place-init
+loop-place-init c = record {
+  known = subst (HaveNoFault c.args.kind c.args.wd.now) (sym c.new-known.ensures) (no_places c.args.kind c.args.wd.now);
+  stretch = record { right = λ fc low high. absurd (omega arith); next = c.start.ensures c.args.wd.now c.args.bin.now };
+  done = λ k below. absurd (omega arith);
 }
 
--- where each of the places is right, none breaks a rule
-none_of : (kind : PageKind) (wd bin places : List ℕ) (n : ℕ) → length places ≤ n → ((k : ℕ) → k < n → IsRightPlace kind wd bin (slice_index_or places k 0)) → (page_rule : PageRule) → Nowhere (BreaksAtPlaces page_rule kind wd bin places)
-none_of kind wd bin places n h right page_rule p w = right w.entry (let below = w.below in omega arith) page_rule p w.broken
+pub right_around-requires-clause-stretch : goal.right_around-requires-clause-stretch
+right_around-requires-clause-stretch c = c.loop-place.invariant.stretch
+
+pub right_around-requires-clause-known : goal.right_around-requires-clause-known
+right_around-requires-clause-known c = c.loop-place.invariant.known
+
+pub loop-place-preserved : goal.loop-place-preserved
+loop-place-preserved c =
+    let place = slice_index_or c.args.places.now c.loop-place.place-index 0 in
+    let right = subst (λ o. IfSome o (λ (s : RightStretch). IsRightPlace c.args.kind c.args.wd.now c.args.bin.now place × IsRightStretch c.args.kind c.args.wd.now c.args.bin.now s)) c.in-Some.is c.in_ok-right_around.ensures.right in
+    record {
+      known = c.in_ok-right_around.ensures.known;
+      stretch = right.1;
+      done = below_more (λ k. IsRightPlace c.args.kind c.args.wd.now c.args.bin.now (slice_index_or c.args.places.now k 0)) c.loop-place.place-index c.loop-place.invariant.done right.0;
+    }
 
 pub returns : goal.returns
-returns c = λ _.
-    let none = none_of c.args.kind c.args.wd.now c.args.bin.now c.args.places.now c.loop-place.place-index (omega arith) c.loop-place.invariant.done in
-    (none breaks.Bin, (none breaks.Page, (none breaks.Run, (none breaks.List, none breaks.Sprm))))
+returns c = λ _ k below. c.loop-place.invariant.done k (omega arith)

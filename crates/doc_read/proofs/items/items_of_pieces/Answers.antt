@@ -1,4 +1,5 @@
 use Rattle.std.proofs.Common.{◌≡◌, ◌∙◌, sym, ap, subst, ◌-◌, length, min, slice_get, Some, arith}
+use Rattle.std.proofs.lemmas.Option.{slice_get_within}
 use Rattle.std.specs.Option.{option_map}
 use Rattle.piece_table.specs.declared.pieces.Piece.{Piece}
 use Rattle.piece_table.specs.Piece.{TextPiece}
@@ -6,11 +7,27 @@ use Rattle.doc_load.proofs.UnitLemmas.{piece_read}
 use Rattle.doc_read.specs.Passing.{AddsEach}
 use Rattle.doc_read.specs.Reading.{IsReadAt, text_view}
 use Rattle.doc_read.proofs.PlacedLemmas.{placed_more, length-more}
+use Rattle.doc_read.proofs.ReaderLemmas.{reader_at, reader_right, readers_same}
 use Rattle.doc_read.proofs.items.items_of_pieces.Goals as goal
+
+pub index_mut-requires : goal.index_mut-requires
+index_mut-requires c =
+    let readers = c.reader_for.new.readers in
+    let has = c.in_ok-number.ensures.serves in
+    let within = slice_get_within readers.items c.in_ok-number.number has.reader has.here in
+    omega (arith, within, readers.ok.0)
+
+pub push_piece-requires-clause-reader : goal.push_piece-requires-clause-reader
+push_piece-requires-clause-reader c =
+    let readers = c.reader_for.new.readers.items in
+    let number = c.in_ok-number.number in
+    let reader = c.index_mut.result.now in
+    reader_right (text_view c.args.text.now) readers number reader c.in_ok-number.ensures.readers (reader_at readers number reader c.modifier.result.now c.in_ok-number.ensures.serves c.index_mut.ensures.value).0
 
 pub loop-i-preserved : goal.loop-i-preserved
 loop-i-preserved c =
     let text = c.args.text.now in
+    let view = text_view text in
     let pieces = c.args.pieces.now.pieces in
     let i = c.loop-i.i in
     let old = c.loop-i.items.items in
@@ -26,9 +43,14 @@ loop-i-preserved c =
     let modifier_is : piece.modifier ≡ c.modifier.result.now = cc (modifier) in
     let old_is : c.len.result ≡ length old = omega (arith, c.len.ensures, c.loop-i.items.ok.0) in
     let added_is : added ≡ min piece.len (count - length old) = c.min-len.ensures ∙ (ap (λ n. min n (count - c.len.result)) (sym len_is) ∙ ap (λ n. min piece.len (count - n)) old_is) in
-    let adds = subst (λ m. AddsEach (IsReadAt (text_view text) m) added old new) (sym modifier_is) c.in_ok-push_piece.ensures.items in
+    let readers = c.reader_for.new.readers.items in
+    let number = c.in_ok-number.number in
+    let reader = c.index_mut.result.now in
+    let at = reader_at readers number reader c.modifier.result.now c.in_ok-number.ensures.serves c.index_mut.ensures.value in
+    let adds = subst (λ m. AddsEach (IsReadAt view m) added old new) (at.1 ∙ sym modifier_is) c.in_ok-push_piece.ensures.items in
     record {
       len = length-more pieces i added count piece (length old) (length new) here c.loop-i.invariant.len added_is adds.len;
-      placed = placed_more (text_view text) pieces i added count piece old new here c.loop-i.invariant.len added_is c.loop-i.invariant.placed adds;
+      placed = placed_more view pieces i added count piece old new here c.loop-i.invariant.len added_is c.loop-i.invariant.placed adds;
+      readers = readers_same view readers number reader c.push_piece.new.reader c.in_ok-number.ensures.readers at.0 c.in_ok-push_piece.ensures.same;
       passed = c.in_ok-push_piece.ensures.passed;
     }

@@ -10,7 +10,7 @@ returns-then-cp-passed-clause-pushed c =
     let item = c.in_ok-item.item in
     let cp_is : c.len-cp.result ≡ length c.args.items.now.items =
     omega (arith, c.len-cp.ensures, c.args.items.now.ok.0) in
-    (item, (subst (λ n. IsReadAt (text_view c.args.text.now) c.args.modifier.now n item) cp_is c.in_ok-item.ensures.item, c.in_ok-push.ensures.items))
+    (item, (subst (λ n. IsReadAt (text_view c.args.text.now) c.args.reader.now.characters.modifier n item) cp_is c.in_ok-item.ensures.item, c.in_ok-push.ensures.items))
 
 pub returns-then-cp-passed-clause-bare : goal.returns-then-cp-passed-clause-bare
 returns-then-cp-passed-clause-bare c = λ at upper lower.
@@ -31,7 +31,7 @@ returns-clause-pushed c =
     let goes_on : is_paragraph_end unit false ≡ false = cc (c.ends_paragraph.ensures, c.if-ends_paragraph.false) in
     let below : c.len-cp.result < c.args.passed.now.until = omega (arith, c.if-cp-passed.false) in
     let later = c.requires.bare (cp + 1) (omega arith) (omega (arith, below, cp_is)) in
-    (bare_item unit c.args.chp, (bare_read (text_view text) c.args.modifier.now c.args.passed.now cp unit c.args.chp unit_is goes_on c.requires.characters c.requires.passed later, c.in_ok-push-2.ensures.items))
+    (bare_item unit c.args.chp, (bare_read (text_view text) c.args.reader.now.characters.modifier c.args.passed.now cp unit c.args.chp unit_is goes_on c.requires.characters c.requires.passed later, c.in_ok-push-2.ensures.items))
 
 pub returns-clause-passed : goal.returns-clause-passed
 returns-clause-passed c =

@@ -9,7 +9,8 @@ abbrev pub invariant-loop-chp : goal.invariant-loop-chp
 invariant-loop-chp l = record {
   whole : l.yielded ++ into_iter_items l.chp-iterator ≡ into_iter_items l.initial.chp-iterator;
   left : into_iter_len l.chp-iterator ≡ length (into_iter_items l.chp-iterator);
-  added : AddsEach (IsReadAt (text_view l.text) l.modifier) (length l.yielded) l.fn.items.items l.items.items;
+  same : l.reader ≡ l.fn.reader;
+  added : AddsEach (IsReadAt (text_view l.text) l.fn.reader.characters.modifier) (length l.yielded) l.fn.items.items l.items.items;
   passed : ArePassed (mark_lists l.text.marks.now) l.passed (length l.items.items);
   bare : AreBareUntil (mark_lists l.text.marks.now) l.passed (length l.items.items);
 }

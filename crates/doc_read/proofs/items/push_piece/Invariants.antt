@@ -1,4 +1,4 @@
-use Rattle.std.proofs.Common.{◌≤◌, ◌-◌, length}
+use Rattle.std.proofs.Common.{◌≡◌, ◌≤◌, ◌-◌, length}
 use Rattle.doc_read.specs.Passing.{AddsEach}
 use Rattle.doc_read.specs.Reading.{ArePassed, IsReadAt, mark_lists, text_view}
 use Rattle.doc_read.proofs.items.push_piece.Given as goal
@@ -7,7 +7,8 @@ use Rattle.doc_read.proofs.items.push_piece.Given as goal
 abbrev pub invariant-loop-done : goal.invariant-loop-done
 invariant-loop-done l = record {
   within : l.done ≤ l.len;
-  added : AddsEach (IsReadAt (text_view l.text) l.modifier) l.done l.fn.items.items l.items.items;
+  same : l.reader ≡ l.fn.reader;
+  added : AddsEach (IsReadAt (text_view l.text) l.fn.reader.characters.modifier) l.done l.fn.items.items l.items.items;
   passed : ArePassed (mark_lists l.text.marks.now) l.passed (length l.items.items);
 }
 

@@ -5,11 +5,17 @@ use Rattle.doc_load.specs.SectionRules.{section_fc}
 use Rattle.doc_load.specs.FileRules.{source_of}
 use Rattle.doc_load.proofs.RowLemmas.{index_of_get}
 use Rattle.doc_read.specs.Sections.{IsSectionSettings}
-use Rattle.doc_read.proofs.SettingsLemmas.{sepx-there, sepx-right, maps_more}
+use Rattle.doc_read.proofs.SettingsLemmas.{sepx-there, sepx-right, maps_none, maps_more}
 use Rattle.doc_read.proofs.sections.read_section_maps.Goals as goal
 
-pub read_section-requires-clause-there : goal.read_section-requires-clause-there
-read_section-requires-clause-there c =
+pub loop-k-init : goal.loop-k-init
+loop-k-init c = record {
+  so_far = rw c.in_ok-maps.ensures.items (maps_none c.args.text.now.wd c.args.sections.now);
+  met = c.new-met.ensures c.wd-wd.result.now;
+}
+
+pub settings-requires-clause-there : goal.settings-requires-clause-there
+settings-requires-clause-there c =
     let source = source_of c.args.text.now in
     let wd : c.wd-wd.result.now ≡ source.wd = c.wd-wd.ensures.bytes ∙ ap (λ (s : DocSource). s.wd) c.source-source.ensures in
     let list = c.args.sections.now in
@@ -17,8 +23,8 @@ read_section-requires-clause-there c =
     index_of_get (λ (sed : Sed). sed.sepx) list c.loop-k.k _ c.get-fc.ensures in
     rw (wd, ← fc) (sepx-there source list c.loop-k.k c.requires.rules c.requires.sections (omega (arith, c.len-k-end.ensures)))
 
-pub read_section-requires-clause-right : goal.read_section-requires-clause-right
-read_section-requires-clause-right c =
+pub settings-requires-clause-right : goal.settings-requires-clause-right
+settings-requires-clause-right c =
     let source = source_of c.args.text.now in
     let wd : c.wd-wd.result.now ≡ source.wd = c.wd-wd.ensures.bytes ∙ ap (λ (s : DocSource). s.wd) c.source-source.ensures in
     let list = c.args.sections.now in
@@ -33,8 +39,11 @@ loop-k-preserved c =
     let list = c.args.sections.now in
     let fc : section_fc list c.loop-k.k ≡ c.get-fc.result.1 =
     index_of_get (λ (sed : Sed). sed.sepx) list c.loop-k.k _ c.get-fc.ensures in
-    let map = c.in_ok-read_section.field-0 in
+    let map = c.in_ok-settings.field-0 in
     let settings : IsSectionSettings source.wd c.get-fc.result.1 map =
-    rw (← wd) c.in_ok-read_section.ensures.settings in
-    rw c.in_ok-push.ensures.items
-    (maps_more source.wd list c.loop-k.k c.get-fc.result.1 c.loop-k.maps.items map c.loop-k.invariant fc settings c.in_ok-read_section.ensures.formed)
+    rw (← wd) c.in_ok-settings.ensures.settings in
+    record {
+      so_far = rw c.in_ok-push.ensures.items
+          (maps_more source.wd list c.loop-k.k c.get-fc.result.1 c.loop-k.maps.items map c.loop-k.invariant.so_far fc settings c.in_ok-settings.ensures.formed);
+      met = c.in_ok-settings.ensures.met;
+    }

@@ -1,7 +1,11 @@
-use Rattle.std.proofs.Common.{◌≡◌, ◌++◌, take}
+use Rattle.std.proofs.Common.{◌≡◌, ◌++◌, length}
 use Rattle.std.specs.List.{flat_map}
+use Rattle.std.specs.FinMap.{entries}
 use Rattle.doc_show.specs.Settings.{setting_text}
 use Rattle.doc_show.proofs.settings.push_settings.Given as goal
 
-abbrev pub invariant-loop-entry : goal.invariant-loop-entry
-invariant-loop-entry l = l.text ≡ l.initial.text ++ flat_map setting_text (take l.entry-index l.entry-items)
+abbrev pub invariant-loop-code : goal.invariant-loop-code
+invariant-loop-code l = l.text ++ flat_map setting_text l.left ≡ l.initial.text ++ flat_map setting_text (entries l.map)
+
+abbrev pub decreases-loop-code : goal.decreases-loop-code
+decreases-loop-code l = length l.left

@@ -1,23 +1,21 @@
-use Rattle.std.proofs.Common.{◌<◌, ◌≤◌, length, subst, IsTrue, sym, ap, ◌∙◌, arith}
-use Rattle.std.proofs.lemmas.List.{take_all}
-use Rattle.std.specs.Ordering.{nat_cmp}
-use Rattle.std.specs.FinMap.{get, find, entries_sorted, get-entries, is_sorted}
+use Rattle.std.proofs.Common.{sym, ap, ◌∙◌, subst}
+use Rattle.std.specs.FinMap.{get, entries, entries_sorted, get-entries}
 use Rattle.prop_map.proofs.EntriesLemmas.{true_of}
-use Rattle.effective_props.specs.ValueSteps.{layer_over, IsValueOver}
-use Rattle.effective_props.proofs.ValueLemmas.{lay_more}
+use Rattle.effective_props.specs.ValueSteps.{layer_over}
+use Rattle.effective_props.proofs.ValueLemmas.{HasLaidUpTo, none_laid, laid_next, laid_whole}
 use Rattle.effective_props.proofs.values.lay_all.Goals as goal
 
-pub loop-entry-preserved : goal.loop-entry-preserved
-loop-entry-preserved c =
-    let entry = c.entry-item.result in
-    let items = c.entries-entry-items.result.now in
-    let within : c.loop-entry.entry-index < length items = omega arith in
-    let sorted = subst (λ es. IsTrue (is_sorted nat_cmp es)) (sym c.entries-entry-items.ensures) (true_of _ (entries_sorted c.args.layer.now)) in
-    let step : IsValueOver entry.0 entry.1 c.loop-entry.values c.lay.new.values = subst (λ v. IsValueOver entry.0 v c.loop-entry.values c.lay.new.values) c.as_slice.ensures c.in_ok-lay.ensures in
-    lay_more items c.loop-entry.entry-index entry c.args.values.now c.loop-entry.values c.lay.new.values sorted within c.loop-entry.invariant (subst (λ e. IsValueOver e.0 e.1 c.loop-entry.values c.lay.new.values) c.entry-item.is step)
+pub loop-code-init : goal.loop-code-init
+loop-code-init c = none_laid (entries c.args.layer.now) c.entries-left.result c.args.values.now (sym c.entries-left.ensures)
+
+pub loop-code-preserved : goal.loop-code-preserved
+loop-code-preserved c =
+    let all = entries c.args.layer.now in
+    laid_next all c.next.new.self c.args.values.now c.loop-code.values c.lay.new.values c.in-Some.code.0 c.in-Some.value.now (true_of _ (entries_sorted c.args.layer.now))
+    (subst (λ es. HasLaidUpTo all c.args.values.now es c.loop-code.values) c.in-Some.ensures c.loop-code.invariant) c.in_ok-lay.ensures
 
 pub returns : goal.returns
 returns c = λ code.
-    let items = c.entries-entry-items.result.now in
-    let all : length items ≤ c.loop-entry.entry-index = omega arith in
-    c.loop-entry.invariant code ∙ ap (layer_over code (get c.args.values.now code)) (ap (find nat_cmp code) (take_all _ items all ∙ c.entries-entry-items.ensures) ∙ sym (get-entries c.args.layer.now code))
+    let all = entries c.args.layer.now in
+    laid_whole all c.args.values.now c.loop-code.values (subst (λ es. HasLaidUpTo all c.args.values.now es c.loop-code.values) c.in_default.ensures.0 c.loop-code.invariant) code
+    ∙ ap (layer_over code (get c.args.values.now code)) (sym (get-entries c.args.layer.now code))

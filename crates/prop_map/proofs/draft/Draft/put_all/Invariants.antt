@@ -1,8 +1,10 @@
-use Rattle.std.proofs.Common.{◌≡◌, ℕ, take}
-use Rattle.std.specs.Ordering.{nat_cmp}
-use Rattle.std.specs.Option.{option_or}
-use Rattle.std.specs.FinMap.{get, find}
+use Rattle.std.proofs.Common.{length}
+use Rattle.std.specs.FinMap.{entries}
+use Rattle.prop_map.proofs.ChangeLemmas.{HasPutUpTo}
 use Rattle.prop_map.proofs.draft.Draft.put_all.Given as goal
 
-abbrev pub invariant-loop-entry : goal.invariant-loop-entry
-invariant-loop-entry l = (code : ℕ) → get l.self code ≡ option_or (find nat_cmp code (take l.entry-index l.entry-items)) (get l.initial.self code)
+abbrev pub invariant-loop-code : goal.invariant-loop-code
+invariant-loop-code l = HasPutUpTo (entries l.top) l.initial.self l.left l.self
+
+abbrev pub decreases-loop-code : goal.decreases-loop-code
+decreases-loop-code l = length l.left

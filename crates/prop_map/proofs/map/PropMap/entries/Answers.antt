@@ -5,4 +5,4 @@ use Rattle.prop_map.proofs.EntriesLemmas.{entries-empty}
 use Rattle.prop_map.proofs.map.PropMap.entries.Goals as goal
 
 pub returns-in-None : goal.returns-in-None
-returns-in-None c = sym (ap entries (sym c.self.view_is ∙ ap behind c.in-None.is) ∙ entries-empty)
+returns-in-None c = c.none.ensures ∙ sym (ap entries (sym c.self.view_is ∙ ap behind c.in-None.is) ∙ entries-empty)

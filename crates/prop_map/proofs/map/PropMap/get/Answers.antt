@@ -1,8 +1,18 @@
-use Rattle.std.proofs.Common.{sym, ap, ◌∙◌}
+use Rattle.std.proofs.Common.{◌≡◌, refl, ap, ◌∙◌}
 use Rattle.std.specs.Ordering.{nat_cmp}
-use Rattle.std.specs.FinMap.{get, get-empty}
-use Rattle.prop_map.specs.Settings.{behind}
+use Rattle.std.specs.FinMap.{find, get-entries}
+use Rattle.prop_map.proofs.BlockLemmas.{found_first, not_first}
 use Rattle.prop_map.proofs.map.PropMap.get.Goals as goal
 
-pub returns-in-None : goal.returns-in-None
-returns-in-None c = ap (λ m. get m c.args.code.0) (sym c.self.view_is ∙ ap behind c.in-None.is) ∙ get-empty nat_cmp c.args.code.0
+pub returns-then-same_code : goal.returns-then-same_code
+returns-then-same_code c =
+    get-entries c.args.self.now c.args.code.0
+    ∙ (c.loop-other.invariant ∙ (ap (find nat_cmp c.args.code.0) c.in-Some.ensures ∙ found_first c.args.code.0 c.in-Some.other.0 c.in-Some.value.now c.next.new.self (c.if-same_code.ensures.0 refl)))
+
+pub loop-other-preserved : goal.loop-other-preserved
+loop-other-preserved c =
+    let apart : c.args.code.0 ≡ c.in-Some.other.0 → ⊥ = λ e. let t = c.if-same_code.ensures.1 e in absurd (cc) in
+    c.loop-other.invariant ∙ (ap (find nat_cmp c.args.code.0) c.in-Some.ensures ∙ not_first c.args.code.0 c.in-Some.other.0 c.in-Some.value.now c.next.new.self apart)
+
+pub returns : goal.returns
+returns c = get-entries c.args.self.now c.args.code.0 ∙ (c.loop-other.invariant ∙ ap (find nat_cmp c.args.code.0) c.in_default.ensures.0)

@@ -1,0 +1,9 @@
+use Rattle.direct_props.proofs.reader.PlaceReader.new.Goals as goal
+
+pub invariant_of-result : goal.invariant_of-result
+invariant_of-result c = record {
+  table = c.requires.table;
+  small = c.requires.small;
+  cursor_is = c.start.ensures c.args.wd.now c.args.bin.now;
+  made = c.new.ensures c.args.kind c.args.wd.now c.in_ok-copy.field-0;
+}

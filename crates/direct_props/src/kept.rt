@@ -1,0 +1,193 @@
+// What the lists of pages make, each kept by the place where it stands.
+ghost use Rattle.std.specs.Prelude.{◌≡◌, ◌<◌, ◌≤◌, ◌+◌, ◌*◌, ℕ, List, drop, length, slice_range, IfOk, OnOk, OnErr};
+ghost use Rattle.sprm_table.specs.Sprm.{IsAcceptedList};
+ghost use Rattle.prop_map.specs.declared.modifiers.Modifier.{Modifier as TheModifier};
+ghost use Rattle.fkp_pages.specs.declared.kind.PageKind.{PageKind as PageType};
+ghost use Rattle.fkp_pages.specs.declared.kind.PageKind.TheVariants.{Chpx, Papx};
+ghost use Rattle.fkp_pages.specs.declared.kind.RunAnswer.TheVariants.{Found};
+ghost use Rattle.fkp_pages.specs.Fkp.{least_list};
+ghost use Rattle.fkp_pages.specs.Bin.{page_at};
+ghost use Rattle.fkp_pages.specs.Runs.{run_groups};
+ghost use Rattle.direct_props.specs.Stretches.{HasRightList};
+ghost use Rattle.direct_props.specs.Pages.{IsPageIn};
+ghost use Rattle.direct_props.specs.Kept.{AreMade, IsMadeByAnswer, IsMadeOf, MakesCharacter, MakesMark};
+
+use crate::characters::settings_of;
+use crate::lists::{bare, list_in};
+use doc_bits::{Memory, get16};
+use fkp_pages::{PAGE_LEN, PageKind, RunAnswer};
+use prop_map::{ListPlaces, Modifier, PropMap};
+use std::alloc::Global;
+
+/// What a list and then a modifier make: the style number of a mark, or 0, and settings.
+#[derive(Drop)]
+pub(crate) struct Made {
+    pub(crate) istd: u16,
+    pub(crate) map: PropMap,
+}
+
+impl Made {
+    /// The same. No entry is copied.
+    fn copy(&self, alloc: Global) -> Result<Made, Memory>
+        ensures { IfOk result (λ copy. copy ≡ self.now) }
+    {
+        Ok(Made {
+            istd: self.istd,
+            map: self.map.copy(alloc)?,
+        })
+    }
+}
+
+/// The places from `first` to `last`, and what the list of each of them makes.
+#[derive(Drop)]
+pub(crate) struct MadeStretch {
+    pub(crate) first: u32,
+    pub(crate) last: u32,
+    pub(crate) made: Made,
+}
+
+/// Where lists of pages of a kind stand, and the modifier that is put over what they make.
+#[derive(Drop)]
+pub(crate) struct ListSource<'a> {
+    pub(crate) kind: PageKind,
+    pub(crate) wd: &'a [u8],
+    pub(crate) modifier: &'a Modifier,
+}
+
+/// What lists make, by the places of the lists.
+#[derive(Drop)]
+pub(crate) struct KeptLists {
+    pub(crate) places: ListPlaces,
+    pub(crate) made: Vec<Made>,
+}
+
+impl KeptLists {
+    /// No lists. It takes no memory.
+    pub(crate) fn new(alloc: Global) -> KeptLists
+        ensures { (kind : PageType) (wd : List ℕ) (modifier : TheModifier)
+            → AreMade kind wd modifier result.places result.made.items }
+    {
+        KeptLists {
+            places: ListPlaces::new(alloc),
+            made: Vec::new(alloc),
+        }
+    }
+
+    /// What the list makes that a page answers, which is right.
+    pub(crate) fn made_of(
+        &mut self,
+        alloc: Global,
+        source: &ListSource<'_>,
+        number: u32,
+        answer: RunAnswer,
+    ) -> Result<Made, Memory>
+        requires page { IsPageIn source.now.wd.now number }
+        requires right { HasRightList source.now.kind (page_at source.now.wd.now number) answer }
+        requires kept { AreMade source.now.kind source.now.wd.now source.now.modifier.now
+            self.old.places self.old.made.items }
+        ensures kept { AreMade source.now.kind source.now.wd.now source.now.modifier.now
+            self.new.places self.new.made.items }
+        ensures made { IfOk result (IsMadeByAnswer source.now.kind source.now.modifier.now
+            (page_at source.now.wd.now number) answer) }
+    {
+        match answer {
+            RunAnswer::Found { from, to } => self.made_at(alloc, source, number, (from, to)),
+            RunAnswer::Empty => make(alloc, source, bare(source.kind)),
+            RunAnswer::NoRun => unreachable!(),
+            RunAnswer::BadCount => unreachable!(),
+            RunAnswer::Leaves { .. } => unreachable!(),
+        }
+    }
+
+    /// What the right list makes that stands in a range of a page. A list that is not kept is acted with, and kept.
+    fn made_at(
+        &mut self,
+        alloc: Global,
+        source: &ListSource<'_>,
+        number: u32,
+        range: (usize, usize),
+    ) -> Result<Made, Memory>
+        requires page { IsPageIn source.now.wd.now number }
+        requires right { HasRightList source.now.kind (page_at source.now.wd.now number) (Found range.0 range.1) }
+        requires kept { AreMade source.now.kind source.now.wd.now source.now.modifier.now
+            self.old.places self.old.made.items }
+        ensures kept { AreMade source.now.kind source.now.wd.now source.now.modifier.now
+            self.new.places self.new.made.items }
+        ensures made { IfOk result (IsMadeByAnswer source.now.kind source.now.modifier.now
+            (page_at source.now.wd.now number) (Found range.0 range.1)) }
+    {
+        let begin = PAGE_LEN * number as usize;
+        let (from, to) = range;
+        if let Some(known) = self.places.number_of(begin + from, begin + to) {
+            let copy = self.made[known].copy(alloc)?;
+            return Ok(copy);
+        }
+        let page = &source.wd[begin..begin + PAGE_LEN];
+        match list_in(source.kind, page, from, to) {
+            None => unreachable!(),
+            Some(list) => {
+                let made = make(alloc, source, list)?;
+                let copy = made.copy(alloc)?;
+                self.put(begin + from, begin + to, made)?;
+                Ok(copy)
+            }
+        }
+    }
+
+    /// Keeps what a list makes.
+    fn put(&mut self, from: usize, to: usize, made: Made) -> Result<(), Memory>
+        ensures ok { OnOk result ((kind : PageType) (wd : List ℕ) (modifier : TheModifier)
+            → IsMadeOf kind (slice_range wd from to) modifier made
+            → AreMade kind wd modifier self.old.places self.old.made.items
+            → AreMade kind wd modifier self.new.places self.new.made.items) }
+        ensures err { OnErr result ((self.new.places ≡ self.old.places)
+            × (self.new.made.items ≡ self.old.made.items)) }
+    {
+        let before = self.made.len();
+        self.made.push(made)?;
+        match self.places.add(from, to) {
+            Ok(()) => Ok(()),
+            Err(memory) => {
+                self.made.truncate(before);
+                Err(memory)
+            }
+        }
+    }
+}
+
+/// What a list and then a modifier make.
+fn make(alloc: Global, source: &ListSource<'_>, list: &[u8]) -> Result<Made, Memory>
+    requires long { least_list source.now.kind ≤ length list.now }
+    requires accepted { IsAcceptedList (drop (least_list source.now.kind) list.now) (run_groups source.now.kind) }
+    ensures { IfOk result (IsMadeOf source.now.kind list.now source.now.modifier.now) }
+{
+    match source.kind {
+        PageKind::Chpx => make_character(alloc, list, source.modifier),
+        PageKind::Papx => make_mark(alloc, list, source.modifier),
+    }
+}
+
+/// What the list of a character and then a modifier make.
+fn make_character(alloc: Global, list: &[u8], modifier: &Modifier) -> Result<Made, Memory>
+    requires { IsAcceptedList (drop (least_list Chpx) list.now) (run_groups Chpx) }
+    ensures { IfOk result (λ made. MakesCharacter list.now modifier.now made.map) }
+{
+    let acted = settings_of(alloc, PageKind::Chpx, list)?;
+    let map = modifier.on_char(alloc, &acted.map)?;
+    Ok(Made { istd: 0, map })
+}
+
+/// What the list of a mark, which begins with its style number, and then a modifier make.
+fn make_mark(alloc: Global, list: &[u8], modifier: &Modifier) -> Result<Made, Memory>
+    requires long { 2 ≤ length list.now }
+    requires accepted { IsAcceptedList (drop (least_list Papx) list.now) (run_groups Papx) }
+    ensures { IfOk result (λ made. MakesMark list.now modifier.now made.istd made.map) }
+{
+    let acted = settings_of(alloc, PageKind::Papx, list)?;
+    let istd = acted.istd.unwrap_or(get16(list, 0));
+    let after = modifier.on_mark(alloc, istd, &acted.map)?;
+    Ok(Made {
+        istd: after.istd.unwrap_or(istd),
+        map: after.map,
+    })
+}

@@ -1,0 +1,202 @@
+// Readers of the settings of places, which keep what each list makes.
+ghost use Rattle.std.specs.Prelude.{◌≡◌, ◌<◌, ◌≤◌, ◌^◌, ℕ, length, IsTrue, IfOk, OnOk, OnErr};
+ghost use Rattle.prop_map.specs.Formed.{IsPropertyMap, paragraph_groups};
+ghost use Rattle.prop_map.specs.Modifiers.{IsFormedModifier};
+ghost use Rattle.fkp_pages.specs.declared.kind.PageKind.TheVariants.{Chpx, Papx};
+ghost use Rattle.fkp_pages.specs.Bin.{IsBinTable};
+ghost use Rattle.direct_props.specs.Direct.{IsDirectMark};
+ghost use Rattle.direct_props.specs.PageRules.{AreRightPlaces, IsRightPlace};
+ghost use Rattle.direct_props.specs.Stretches.{AddsCharacters, BeginsWith, HasSettingsAround};
+ghost use Rattle.direct_props.specs.Kept.{HasMadeAround, PlaceSource};
+
+use crate::kept::{KeptLists, ListSource, Made, MadeStretch};
+use crate::pages::{PageCursor, page_around};
+use crate::{CharacterSettings, DirectMark};
+use doc_bits::Memory;
+use fkp_pages::PageKind;
+use prop_map::{Modifier, PropMap};
+use std::alloc::Global;
+use std::marker::Model;
+
+/// Reads the settings that the pages of a kind give to the places of pieces with one modifier. A list is acted
+/// with once.
+#[derive(Drop)]
+pub struct PlaceReader<'a> {
+    kind: PageKind,
+    wd: &'a [u8],
+    bin: &'a [u8],
+    modifier: Modifier,
+    cursor: PageCursor,
+    kept: KeptLists,
+}
+
+impl<'a> Model for PlaceReader<'a> {
+    ghost use Rattle.direct_props.specs.Kept.{PlaceSource, IsReader};
+    ghost use Rattle.direct_props.specs.Codes.{source_code};
+
+    ghost Value = { PlaceSource };
+
+    ghost coded = { source_code };
+
+    ghost view = { λ r. record { kind = r.kind; wd = r.wd.now; bin = r.bin.now; modifier = r.modifier } };
+
+    ghost invariant = { λ r.
+        IsReader (record { kind = r.kind; wd = r.wd.now; bin = r.bin.now; modifier = r.modifier }) r.cursor r.kept };
+}
+
+impl<'a> PlaceReader<'a> {
+    /// A reader of these pages that has met no place.
+    pub fn new(
+        alloc: Global,
+        kind: PageKind,
+        wd: &'a [u8],
+        bin: &'a [u8],
+        modifier: &Modifier,
+    ) -> Result<PlaceReader<'a>, Memory>
+        requires table { IsBinTable bin.now }
+        requires small { length wd.now < 2 ^ 32 }
+        ensures { IfOk result
+            (λ reader. reader ≡ record { kind = kind; wd = wd.now; bin = bin.now; modifier = modifier.now }) }
+    {
+        Ok(PlaceReader {
+            kind,
+            wd,
+            bin,
+            modifier: modifier.copy(alloc)?,
+            cursor: PageCursor::start(),
+            kept: KeptLists::new(alloc),
+        })
+    }
+
+    /// Whether it reads for pieces with this modifier.
+    pub fn serves(&self, modifier: &Modifier) -> bool
+        ensures { IsTrue result → self.now.modifier ≡ modifier.now }
+    {
+        self.modifier.equal(modifier)
+    }
+
+    /// Appends the direct settings of the characters at these places.
+    pub fn push_characters(
+        &mut self,
+        alloc: Global,
+        places: &[u32],
+        list: &mut CharacterSettings,
+    ) -> Result<(), Memory>
+        requires kind { self.old.kind ≡ Chpx }
+        requires right { AreRightPlaces Chpx self.old.wd self.old.bin places.now }
+        ensures same { self.new ≡ self.old }
+        ensures ok { OnOk result
+            (AddsCharacters self.old.wd self.old.bin places.now self.old.modifier list.old list.new) }
+        ensures err { OnErr result (list.new ≡ list.old) }
+    {
+        let before = list.items.len();
+        match self.add_characters(alloc, places, list) {
+            Ok(()) => Ok(()),
+            Err(memory) => {
+                list.items.truncate(before);
+                Err(memory)
+            }
+        }
+    }
+
+    /// The same, but after want of memory some of the settings may stand in the list.
+    fn add_characters(
+        &mut self,
+        alloc: Global,
+        places: &[u32],
+        list: &mut CharacterSettings,
+    ) -> Result<(), Memory>
+        requires kind { self.old.kind ≡ Chpx }
+        requires right { AreRightPlaces Chpx self.old.wd self.old.bin places.now }
+        ensures same { self.new ≡ self.old }
+        ensures ok { OnOk result
+            (AddsCharacters self.old.wd self.old.bin places.now self.old.modifier list.old list.new) }
+        ensures err { OnErr result (BeginsWith list.old list.new) }
+    {
+        let mut current = CharacterStretch {
+            first: 1,
+            last: 0,
+            map: PropMap::new(alloc),
+        };
+        for place in places {
+            current = self.stretch_with(alloc, *place, current)?;
+            list.items.push(current.map.copy(alloc)?)?;
+        }
+        Ok(())
+    }
+
+    /// The stretch where it has the place, or else the one around the place.
+    fn stretch_with(
+        &mut self,
+        alloc: Global,
+        fc: u32,
+        current: CharacterStretch,
+    ) -> Result<CharacterStretch, Memory>
+        requires kind { self.old.kind ≡ Chpx }
+        requires right { IsRightPlace Chpx self.old.wd self.old.bin fc }
+        requires known { (other : ℕ) → current.first ≤ other → other ≤ current.last → HasSettingsAround
+            self.old.wd self.old.bin self.old.modifier other current.first current.last current.map }
+        ensures same { self.new ≡ self.old }
+        ensures around { IfOk result
+            (λ s. HasSettingsAround self.old.wd self.old.bin self.old.modifier fc s.first s.last s.map) }
+    {
+        if current.first <= fc && fc <= current.last {
+            return Ok(current);
+        }
+        let MadeStretch { first, last, made } = self.made_around(alloc, fc)?;
+        let Made { istd: _, map } = made;
+        Ok(CharacterStretch { first, last, map })
+    }
+
+    /// Reads the mark at a place.
+    pub fn read_mark(&mut self, alloc: Global, fc: u32) -> Result<DirectMark, Memory>
+        requires kind { self.old.kind ≡ Papx }
+        requires right { IsRightPlace Papx self.old.wd self.old.bin fc }
+        ensures same { self.new ≡ self.old }
+        ensures mark { IfOk result
+            (λ mark. IsDirectMark self.old.wd self.old.bin fc self.old.modifier mark.istd mark.pap) }
+        ensures formed { IfOk result
+            (λ mark. IsFormedModifier self.old.modifier → IsPropertyMap paragraph_groups mark.pap) }
+    {
+        let MadeStretch {
+            first: _,
+            last: _,
+            made,
+        } = self.made_around(alloc, fc)?;
+        let Made { istd, map } = made;
+        Ok(DirectMark { istd, pap: map })
+    }
+
+    /// What the list of a place makes, and how far around the place it is the list.
+    fn made_around(&mut self, alloc: Global, fc: u32) -> Result<MadeStretch, Memory>
+        requires right { IsRightPlace self.old.kind self.old.wd self.old.bin fc }
+        ensures same { self.new ≡ self.old }
+        ensures around { IfOk result (HasMadeAround self.old fc) }
+    {
+        let Some(stretch) = page_around(self.kind, self.wd, self.bin, fc, self.cursor) else {
+            unreachable!()
+        };
+        self.cursor = stretch.next;
+        let source = ListSource {
+            kind: self.kind,
+            wd: self.wd,
+            modifier: &self.modifier,
+        };
+        let made = self
+            .kept
+            .made_of(alloc, &source, stretch.number, stretch.answer)?;
+        Ok(MadeStretch {
+            first: stretch.first,
+            last: stretch.last,
+            made,
+        })
+    }
+}
+
+/// The places from `first` to `last`, and the settings that characters have there.
+#[derive(Drop)]
+struct CharacterStretch {
+    first: u32,
+    last: u32,
+    map: PropMap,
+}

@@ -1,7 +1,0 @@
-use Rattle.std.proofs.Common.{ap, ◌∙◌}
-use Rattle.std.specs.FinMap.{from_sorted}
-use Rattle.prop_map.proofs.EntriesLemmas.{from_sorted-nil}
-use Rattle.prop_map.proofs.sorted.Sorted.new.Goals as goal
-
-pub returns : goal.returns
-returns c = ap from_sorted c.new.ensures.items ∙ from_sorted-nil
