@@ -1,10 +1,12 @@
 -- Paths and chains of sectors: the walk's step, its length, and that there is one path from a start.
-use Rattle.std.proofs.Common.{◌≡◌, ◌≢◌, inl, inr, ℕ, ◌+◌, ◌-◌, ◌<◌, ◌≤◌, zero, suc, List, [], ◌∷◌, ◌++◌, length, slice_index, refl, sym, ◌∙◌, ap, subst, arith, length-append}
+use Rattle.std.proofs.Common.{◌≡◌, ◌≢◌, inl, inr, ℕ, ◌+◌, ◌-◌, ◌<◌, ◌≤◌, zero, suc, Bool, true, false, List, [], ◌∷◌, ◌++◌, length, slice_index, refl, sym, ◌∙◌, ap, subst, arith, length-append}
 use Rattle.std.proofs.Common.{set}
-use Rattle.std.proofs.lemmas.Bool.{cases_lt, cases_eq}
+use Rattle.std.specs.Prelude.{slice_index_or}
+use Rattle.std.proofs.lemmas.Bool.{cases_lt, cases_eq, false≢true}
 use Rattle.std.proofs.lemmas.List.{get_or_append_left, get_or-set_same, get_or-set_other, ext_get_or}
 use Rattle.std.proofs.Math.Seq.{get_or-append_seam}
 pub use Rattle.doc_bits.proofs.ListLemmas.{length_below}
+use Rattle.cfb_streams.specs.Marks.{IsMarked}
 use Rattle.cfb_streams.specs.SectorChain.{HasSector, IsSectorPath, IsSectorChain, IsFullPath, last_of, end_of_chain}
 
 -- a number put last, and the numbers before it
@@ -26,11 +28,10 @@ pub record IsWalk (entry : ℕ → ℕ) (valid start at : ℕ) (sectors : List �
   pub links : (i : ℕ) → i + 1 < length sectors → entry (slice_index sectors i) ≡ slice_index sectors (i + 1)
   pub next : 0 < length sectors → entry (slice_index sectors (length sectors - 1)) ≡ at
 
--- the sectors of the path are those with the stamp, and no mark is above it
-pub record IsStamped (stamp : ℕ) (marks sectors : List ℕ) : Type 0 where
-  pub stamped : (i : ℕ) → i < length sectors → slice_index marks (slice_index sectors i) ≡ stamp
-  pub found : (s : ℕ) → slice_index marks s ≡ stamp → HasSector sectors s
-  pub most : (s : ℕ) → slice_index marks s ≤ stamp
+-- the sectors of the path are those that are marked
+pub record IsMet (marks : List Bool) (sectors : List ℕ) : Type 0 where
+  pub marked : (i : ℕ) → i < length sectors → IsMarked marks (slice_index sectors i)
+  pub found : (s : ℕ) → IsMarked marks s → HasSector sectors s
 
 -- the path goes on by one valid sector that it does not have
 pub walk_step : (entry : ℕ → ℕ) (valid start at : ℕ) (sectors : List ℕ) → IsWalk entry valid start at sectors → at < valid → ((i : ℕ) → i < length sectors → slice_index sectors i ≢ at) → IsWalk entry valid start (entry at) (sectors ++ at ∷ [])
@@ -66,29 +67,30 @@ walk_room entry valid start at sectors w low apart =
     let most = length_below (sectors ++ at ∷ []) valid next.within next.distinct in
     let n = length_pushed sectors at in omega arith
 
+-- a sector that is not marked is not on the path
+pub met_apart : (marks : List Bool) (sectors : List ℕ) (at : ℕ) → IsMet marks sectors → slice_index_or marks at false ≡ false → (i : ℕ) → i < length sectors → slice_index sectors i ≢ at
+met_apart marks sectors at met fresh i h e =
+    false≢true (sym fresh ∙ (ap (λ k. slice_index_or marks k false) (sym e) ∙ met.marked i h))
+
 -- the mark of the sector that is put last
-pub stamp_step : (stamp at : ℕ) (marks sectors : List ℕ) → IsStamped stamp marks sectors → at < length marks → IsStamped stamp (set marks at stamp) (sectors ++ at ∷ [])
-stamp_step stamp at marks sectors h low =
+pub met_step : (at : ℕ) (marks : List Bool) (sectors : List ℕ) → IsMet marks sectors → at < length marks → IsMet (set marks at true) (sectors ++ at ∷ [])
+met_step at marks sectors h low =
     let n = length_pushed sectors at in
-    let here = get_or-set_same marks at stamp 0 low in
+    let here : IsMarked (set marks at true) at = get_or-set_same marks at true false low in
     record {
-      stamped = λ i below. elim (cases_lt i (length sectors)) [
+      marked = λ i below. elim (cases_lt i (length sectors)) [
         | inl lo ↦ rw (pushed_before sectors at i lo) (elim (cases_eq (slice_index sectors i) at) [
           | inl e ↦ rw e here
-          | inr e ↦ get_or-set_other marks at (slice_index sectors i) stamp 0 e ∙ h.stamped i lo
+          | inr e ↦ get_or-set_other marks at (slice_index sectors i) true false e ∙ h.marked i lo
         ])
         | inr hi ↦ rw (pushed_last sectors at i (omega arith)) here
       ];
       found = λ s e. elim (cases_eq s at) [
         | inl same ↦ record { index = length sectors; inside = omega arith; here = pushed_last sectors at (length sectors) refl ∙ sym same }
         | inr other ↦
-            let old = h.found s (sym (get_or-set_other marks at s stamp 0 other) ∙ e) in
+            let old = h.found s (sym (get_or-set_other marks at s true false other) ∙ e) in
             let below = old.inside in
             record { index = old.index; inside = omega arith; here = pushed_before sectors at old.index old.inside ∙ old.here }
-      ];
-      most = λ s. elim (cases_eq s at) [
-        | inl same ↦ rw (same, here) (omega arith)
-        | inr other ↦ rw (get_or-set_other marks at s stamp 0 other) (h.most s)
       ];
     }
 

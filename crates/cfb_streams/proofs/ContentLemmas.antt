@@ -1,5 +1,5 @@
 -- The streams that are read, one after another, and the bytes of the mini stream.
-use Rattle.std.proofs.Common.{◌≡◌, inl, inr, ℕ, ◌+◌, ◌*◌, ◌≤◌, List, [], ◌∷◌, ◌++◌, Some, Result, Ok, Err, MatchResult, length, get_or, slice_index, sym, ap, ◌∙◌, subst, arith, length-append}
+use Rattle.std.proofs.Common.{◌≡◌, inl, inr, ℕ, ◌+◌, ◌*◌, ◌≤◌, List, [], ◌∷◌, ◌++◌, Some, Result, Ok, Err, MatchResult, length, get_or, slice_index, refl, sym, ap, ◌∙◌, subst, arith, length-append}
 use Rattle.std.specs.List.{flat_map}
 use Rattle.std.proofs.lemmas.Bool.{cases_lt}
 use Rattle.std.proofs.lemmas.List.{get_or_append_left}
@@ -7,11 +7,11 @@ use Rattle.std.proofs.Math.Seq.{get_or-append_seam}
 use Rattle.std.proofs.lemmas.Option.{slice_get_within, slice_get-get_or, get_or_from_slice_get}
 use Rattle.cfb_streams.specs.Header.{sector_bytes, valid_below}
 use Rattle.cfb_streams.specs.Opening.{IsWhole}
-use Rattle.cfb_streams.specs.Chain.{Head, fat_table, HoldsChain, AreSectorsOf, IsTable}
-use Rattle.cfb_streams.specs.Tables.{IsMini}
+use Rattle.cfb_streams.specs.Chain.{Head, fat_table, HoldsChain, AreSectorsOf}
 use Rattle.cfb_streams.specs.Directory.{entry_size}
 use Rattle.cfb_streams.specs.Reach.{entry_place}
 use Rattle.cfb_streams.specs.StreamRules.{Parts, IsMiniFat, IsMiniStream, mini_table_of}
+use Rattle.cfb_streams.specs.Tables.{TablePlace, mini_place}
 use Rattle.cfb_streams.specs.Contents.{Stream}
 use Rattle.cfb_streams.specs.Container.{AreStreamsOf, IsStreamOf}
 use Rattle.cfb_streams.proofs.ChainLemmas.{path_short}
@@ -78,14 +78,15 @@ mini_stream_inside file directory xs whole is = elim is [
   | inr some ↦ chain_inside file _ xs whole some.1
 ]
 
--- the mini FAT that is kept
-pub mini_kept : (file directory mini_fat entries : List ℕ) (valid : ℕ) → AreSectorsOf file mini_fat → IsTable file mini_fat entries → valid ≡ (mini_table_of file directory mini_fat).valid → IsMini file directory mini_fat entries valid
-mini_kept file directory mini_fat entries valid inside is e =
-    let len = is.len in let few = inside.few in
-    record {
-      kept = record { inside = inside; is_table = is; room = omega arith; few = omega arith };
-      valid_is = e;
-    }
+-- at first there is no stream
+pub streams_none : (file : List ℕ) (parts : Parts) (entries : List ℕ) (streams : List Stream) → streams ≡ [] → AreStreamsOf file parts entries 0 streams
+streams_none file parts entries streams e =
+    let len = ap length e in
+    record { len = len; each = λ i stream at. let inside = slice_get_within streams i stream at in absurd (omega arith) }
+
+-- where the mini FAT stands
+pub mini_place_is : (file f directory d mini_fat m : List ℕ) (valid : ℕ) (place : TablePlace) → f ≡ file → d ≡ directory → m ≡ mini_fat → valid ≡ (mini_table_of f d m).valid → place ≡ record { file = f; sectors = mini_fat; valid = valid } → place ≡ mini_place file directory mini_fat
+mini_place_is file f directory d mini_fat m valid place ef ed em ev e = e ∙ rw (ev, ef, ed, em) refl
 
 -- what holds of an answer can be said in another way
 pub match_more : {T E : Type 0} (r : Result T E) (P Q : T → Type 0) (F G : E → Type 0) → ((x : T) → P x → Q x) → ((e : E) → F e → G e) → MatchResult r P F → MatchResult r Q G

@@ -1,13 +1,12 @@
 -- The FAT sectors of a file that breaks none of the rules 1 to 5.
-use Rattle.std.proofs.Common.{◌≡◌, inl, inr, ℕ, ◌+◌, ◌*◌, ◌<◌, ◌≤◌, List, length, slice_index, refl, sym, ap, ◌∙◌, subst, arith}
+use Rattle.std.proofs.Common.{◌≡◌, inl, inr, ℕ, ◌+◌, ◌*◌, ◌<◌, ◌≤◌, List, length, slice_index, refl, sym, ◌∙◌, arith}
 use Rattle.std.proofs.lemmas.Bool.{cases_lt}
 use Rattle.std.proofs.lemmas.List.FromFn.{length-map-range_with_len, get_or-map-range_with_len}
 use Rattle.doc_bits.specs.Rules.{Nowhere}
 use Rattle.cfb_streams.specs.Header.{fat_sector, fat_sector_count, fat_sectors, valid_below}
 use Rattle.cfb_streams.specs.Opening.{IsWhole}
 use Rattle.cfb_streams.specs.HeaderRules.{BreaksFat}
-use Rattle.cfb_streams.specs.Chain.{AreSectorsOf, IsTable}
-use Rattle.cfb_streams.specs.Tables.{IsFat}
+use Rattle.cfb_streams.specs.Chain.{AreSectorsOf}
 use Rattle.cfb_streams.specs.Sharing.{AreDistinctBelow}
 
 pub length-fat_sectors : (file : List ℕ) → length (fat_sectors file) ≡ fat_sector_count file
@@ -59,17 +58,6 @@ fat_inside file whole holds =
       inside = λ i h. let valid = (fat_apart file holds).inside i h in omega arith;
     }
 
--- the FAT that is kept
-pub fat_kept : (file sectors entries : List ℕ) (valid : ℕ) → IsWhole file → Nowhere (BreaksFat file) → sectors ≡ fat_sectors file → IsTable file sectors entries → valid ≡ valid_below file → IsFat file sectors entries valid
-fat_kept file sectors entries valid whole holds e is v =
-    let len = length-fat_sectors file in
-    let same = ap length e in
-    let few = fat_few file holds in
-    let most = is.len in
-    let least = whole.least in
-    record {
-      kept = record { inside = subst (AreSectorsOf file) (sym e) (fat_inside file whole holds); is_table = is; room = omega arith; few = omega arith };
-      sectors_are = e;
-      valid_is = v;
-      header = omega arith;
-    }
+-- the valid sectors have entries
+pub fat_room : (file : List ℕ) → valid_below file ≤ 128 * length (fat_sectors file)
+fat_room file = let len = length-fat_sectors file in omega arith

@@ -1,11 +1,9 @@
 -- A chain is whole or broken at one place.
-use Rattle.std.proofs.Common.{◌≡◌, inl, inr, ℕ, ◌*◌, ◌<◌, ◌≤◌, List, length, slice_index, sym, ap, ◌∙◌, subst, arith}
+use Rattle.std.proofs.Common.{◌≡◌, ◌≢◌, ◌⊎◌, inl, inr, ℕ, ◌*◌, ◌<◌, ◌≤◌, List, length, refl, sym, ap, ◌∙◌, subst, arith}
+use Rattle.std.proofs.lemmas.Bool.{cases_lt, cases_eq}
 use Rattle.doc_bits.specs.Rules.{Nowhere, IsLeast}
-use Rattle.cfb_streams.specs.declared.chain.Claim.{Claim}
-use Rattle.cfb_streams.specs.Header.{table_place}
-use Rattle.cfb_streams.specs.SectorChain.{IsFullPath, last_of}
-use Rattle.cfb_streams.specs.Chain.{Table, Head, table_of, IsTable, HoldsChain, BreaksChain, BreaksOnTheWay}
-use Rattle.cfb_streams.specs.Judged.{IsBrokenAt, head_of}
+use Rattle.cfb_streams.specs.SectorChain.{IsFullPath, last_of, end_of_chain}
+use Rattle.cfb_streams.specs.Chain.{Table, Head, HoldsChain, BreaksChain, BreaksOnTheWay}
 use Rattle.cfb_streams.proofs.ChainLemmas.{path_same, last_within, full_unique, chain_full, chain_unique}
 
 -- tables with the same entries have the same full paths
@@ -36,19 +34,38 @@ way_least table head place way = record {
   ];
 }
 
--- the place of a chain that is broken at a last sector
-pub broken_place : (file sectors entries : List ℕ) (valid field last place : ℕ) (claim : Claim) → IsTable file sectors entries → valid ≤ length entries → IsBrokenAt (λ s. slice_index entries s) valid claim last → place ≡ table_place (λ k. slice_index sectors k) last → IsLeast (λ a b. a ≤ b) (BreaksChain (table_of file sectors valid) (head_of field claim)) place
-broken_place file sectors entries valid field last place claim is room b here =
-    let table = table_of file sectors valid in
-    let same : (s : ℕ) → s < valid → slice_index entries s ≡ table.entry s = λ s h. is.each s (omega arith) in
-    let full = full_same (λ s. slice_index entries s) table.entry valid claim.start b.sectors same b.full in
-    let e = same (last_of b.sectors) (last_within (λ s. slice_index entries s) valid claim.start b.sectors b.full.path) in
-    way_least (table_of file sectors valid) (head_of field claim) place (record {
-      sectors = b.sectors;
-      full = full;
-      wrong = elim b.wrong [ inl other ↦ inl (λ ends. other (e ∙ ends)) | inr short ↦ inr short ];
-      here = here ∙ ap (table_place (λ k. slice_index sectors k)) b.here;
-    })
+-- a chain whose start is not valid breaks nowhere else
+pub start_least : (table : Table) (head : Head) → table.valid ≤ head.start → IsLeast (λ a b. a ≤ b) (BreaksChain table head) head.field
+start_least table head out = record {
+  broken = inl (record { here = refl; wrong = out });
+  least = λ p h. elim h [
+    | inl start ↦ let e = start.here in omega arith
+    | inr way ↦
+        let some = way.full.path.some in
+        let low = way.full.path.within 0 some in
+        let first = way.full.path.first in absurd (omega arith)
+  ];
+}
+
+-- a full path that ends with ENDOFCHAIN and has enough sectors is the chain
+pub full_holds : (table : Table) (head : Head) (xs : List ℕ) → table.valid ≤ end_of_chain → IsFullPath table.entry table.valid head.start xs → table.entry (last_of xs) ≡ end_of_chain → head.size ≤ length xs * head.unit → HoldsChain table head xs
+full_holds table head xs range full ends enough = record { range = range; chain = record { path = full.path; ends = ends }; enough = enough }
+
+-- where no chain is broken a full path is the chain
+pub full_whole : (table : Table) (head : Head) (xs : List ℕ) → table.valid ≤ end_of_chain → IsFullPath table.entry table.valid head.start xs → Nowhere (BreaksChain table head) → HoldsChain table head xs
+full_whole table head xs range full none =
+    let broken = λ (wrong : (table.entry (last_of xs) ≢ end_of_chain) ⊎ (length xs * head.unit < head.size)).
+    none (table.place (last_of xs)) (inr (record { sectors = xs; full = full; wrong = wrong; here = refl })) in
+    full_holds table head xs range full
+    (elim (cases_eq (table.entry (last_of xs)) end_of_chain) [ inl e ↦ e | inr ne ↦ absurd (broken (inl ne)) ])
+    (elim (cases_lt (length xs * head.unit) head.size) [ inl lo ↦ absurd (broken (inr lo)) | inr hi ↦ hi ])
+
+-- and its start is valid
+pub whole_start : (table : Table) (head : Head) → Nowhere (BreaksChain table head) → head.start < table.valid
+whole_start table head none = elim (cases_lt head.start table.valid) [
+  | inl lo ↦ lo
+  | inr hi ↦ absurd (none head.field (inl (record { here = refl; wrong = hi })))
+]
 
 -- a whole chain breaks nowhere
 pub holds_none : (table : Table) (head : Head) (xs : List ℕ) → HoldsChain table head xs → Nowhere (BreaksChain table head)

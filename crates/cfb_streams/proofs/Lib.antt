@@ -9,6 +9,9 @@ pub mod OrderLemmas
 pub mod ContentLemmas
 pub mod FatLemmas
 pub mod LoadLemmas
+pub mod MarkLemmas
+pub mod GatherLemmas
+pub mod NameLemmas
 pub mod SingleLemmas
 pub mod UniqueLemmas
 pub mod SameNameLemmas

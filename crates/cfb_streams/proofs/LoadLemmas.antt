@@ -1,18 +1,18 @@
 -- A fault of the rules that are judged later is one of all rules.
-use Rattle.std.proofs.Common.{inl, inr, ℕ, ◌%◌, ◌≤◌, min, List, length, Result, Ok, Err, MatchResult, refl, ap, arith}
+use Rattle.std.proofs.Common.{◌≡◌, inl, inr, ℕ, ◌%◌, ◌≤◌, min, List, length, refl, sym, ap, subst, arith}
 use Rattle.std.proofs.lemmas.Bool.{cases_lt, cases_eq}
-use Rattle.doc_bits.specs.Rules.{Nowhere, Hold}
+use Rattle.doc_bits.specs.Rules.{rule, Nowhere, Hold}
 use Rattle.cfb_streams.specs.declared.faults.CfbFault.{CfbFault}
 use Rattle.cfb_streams.specs.declared.faults.CfbFault.TheVariants.{Rule, Memory}
 use Rattle.cfb_streams.specs.Opening.{opening_rules, BreaksLength, IsWrongLength, IsWhole}
 use Rattle.cfb_streams.specs.Chain.{fat_table}
-use Rattle.cfb_streams.specs.Contents.{Contents}
+use Rattle.cfb_streams.specs.Layout.{EntryLists, AreEntries, Places, places_of, IsLayout}
 use Rattle.cfb_streams.proofs.JudgeLemmas.{holds_none}
 use Rattle.cfb_streams.proofs.ChainLemmas.{full_unique, chain_full, length_below}
 use Rattle.cfb_streams.specs.HeaderRules.{header_rules}
 use Rattle.cfb_streams.specs.Reach.{directory_head, entry_place, entry_count, ListsReached, IsDirectory, BreaksDirectory, BreaksRoot, BreaksTree, BreaksName, BreaksStorage}
-use Rattle.cfb_streams.specs.StreamRules.{mini_fat_head, stream_head, IsMiniFat, IsMiniStream, BreaksMiniFat, BreaksMiniStream}
-use Rattle.cfb_streams.specs.Container.{container_rules, directory_rules, entry_rules, stream_rules, sector_rules, IsCfbFault, HasContents}
+use Rattle.cfb_streams.specs.StreamRules.{Parts, mini_fat_head, stream_head, IsMiniFat, IsMiniStream, BreaksMiniFat, BreaksMiniStream, BreaksStream, BreaksSharing}
+use Rattle.cfb_streams.specs.Container.{container_rules, directory_rules, entry_rules, stream_rules, sector_rules, IsCfbFault}
 
 pub stream_fault : (file directory mini_fat mini_stream : List ℕ) (e : CfbFault) → Nowhere (BreaksMiniStream file directory) → IsMiniStream file directory mini_stream → IsCfbFault (sector_rules file directory mini_fat mini_stream) e → IsCfbFault (stream_rules file directory mini_fat) e
 stream_fault file directory mini_fat mini_stream (Rule number offset) holds is first = inr (holds, (mini_stream, (is, first)))
@@ -54,22 +54,123 @@ directory_holds file xs is = λ p w. elim w [
   | inr broken ↦ holds_none (fat_table file) (directory_head file) xs is.holds p broken
 ]
 
--- an answer for the later rules is one for all
-pub stream_loads : (file directory mini_fat mini_stream : List ℕ) (r : Result Contents CfbFault) → IsMiniStream file directory mini_stream → MatchResult r (λ c. Hold (sector_rules file directory mini_fat mini_stream) × HasContents file c) (IsCfbFault (sector_rules file directory mini_fat mini_stream)) → MatchResult r (λ c. Hold (stream_rules file directory mini_fat) × HasContents file c) (IsCfbFault (stream_rules file directory mini_fat))
-stream_loads file directory mini_fat mini_stream (Ok c) is h = ((mini_stream_holds file directory mini_stream is, (mini_stream, (is, h.0))), h.1)
-stream_loads file directory mini_fat mini_stream (Err e) is h = stream_fault file directory mini_fat mini_stream e (mini_stream_holds file directory mini_stream is) is h
+-- a fault of the rules 13 and 14 is the first of the file
+pub layout_fault : (places : Places) (e : CfbFault) → IsLayout places → IsCfbFault (sector_rules places.file places.parts.directory places.parts.mini_fat places.parts.mini_stream) e → IsCfbFault (container_rules places.file) e
+layout_fault places e is first =
+    let file = places.file in
+    let parts = places.parts in
+    let are = is.are_entries in
+    container_fault file e is.opening is.header
+    (directory_fault file parts.directory e (directory_holds file parts.directory are.is_directory) are.is_directory
+    (entry_fault file parts.directory parts.mini_fat e are.root are.tree are.names are.storages (mini_fat_holds file parts.mini_fat is.mini_fat) is.mini_fat
+    (stream_fault file parts.directory parts.mini_fat parts.mini_stream e (mini_stream_holds file parts.directory parts.mini_stream is.mini_stream) is.mini_stream first)))
 
-pub entry_loads : (file directory mini_fat : List ℕ) (r : Result Contents CfbFault) → Nowhere (BreaksRoot file directory) → Nowhere (BreaksTree file directory) → Nowhere (BreaksName file directory) → Nowhere (BreaksStorage file directory) → IsMiniFat file mini_fat → MatchResult r (λ c. Hold (stream_rules file directory mini_fat) × HasContents file c) (IsCfbFault (stream_rules file directory mini_fat)) → MatchResult r (λ c. Hold (entry_rules file directory) × HasContents file c) (IsCfbFault (entry_rules file directory))
-entry_loads file directory mini_fat (Ok c) h7 h8 h9 h10 is h = ((h7, (h8, (h9, (h10, (mini_fat_holds file mini_fat is, (mini_fat, (is, h.0))))))), h.1)
-entry_loads file directory mini_fat (Err e) h7 h8 h9 h10 is h = entry_fault file directory mini_fat e h7 h8 h9 h10 (mini_fat_holds file mini_fat is) is h
+-- a layout whose streams hold the rules 13 and 14 is that of a file that holds all
+pub layout_holds : (places : Places) → IsLayout places → Hold (sector_rules places.file places.parts.directory places.parts.mini_fat places.parts.mini_stream) → Hold (container_rules places.file)
+layout_holds places is holds =
+    let file = places.file in
+    let parts = places.parts in
+    let are = is.are_entries in (
+      is.opening,
+      (
+        is.header,
+        (
+          directory_holds file parts.directory are.is_directory,
+          (
+            parts.directory,
+            (
+              are.is_directory,
+              (
+                are.root,
+                (
+                  are.tree,
+                  (
+                    are.names,
+                    (
+                      are.storages,
+                      (
+                        mini_fat_holds file parts.mini_fat is.mini_fat,
+                        (
+                          parts.mini_fat,
+                          (
+                            is.mini_fat,
+                            (
+                              mini_stream_holds file parts.directory parts.mini_stream is.mini_stream,
+                              (parts.mini_stream, (is.mini_stream, holds)),
+                            ),
+                          ),
+                        ),
+                      ),
+                    ),
+                  ),
+                ),
+              ),
+            ),
+          ),
+        ),
+      ),
+    )
 
-pub directory_loads : (file directory : List ℕ) (r : Result Contents CfbFault) → IsDirectory file directory → MatchResult r (λ c. Hold (entry_rules file directory) × HasContents file c) (IsCfbFault (entry_rules file directory)) → MatchResult r (λ c. Hold (directory_rules file) × HasContents file c) (IsCfbFault (directory_rules file))
-directory_loads file directory (Ok c) is h = ((directory_holds file directory is, (directory, (is, h.0))), h.1)
-directory_loads file directory (Err e) is h = directory_fault file directory e (directory_holds file directory is) is h
+-- a fault of one of the rules 8 to 11 is the first of the directory's entries, where the rules before it hold
+pub tree_fault : (file directory : List ℕ) (e : CfbFault) → Nowhere (BreaksRoot file directory) → IsCfbFault (rule 8 (BreaksTree file directory)) e → IsCfbFault (entry_rules file directory) e
+tree_fault file directory (Rule number place) root first = inr (root, inl first)
+tree_fault file directory Memory root first = tt
 
-pub container_loads : (file : List ℕ) (r : Result Contents CfbFault) → Hold (opening_rules file) → Hold (header_rules file) → MatchResult r (λ c. Hold (directory_rules file) × HasContents file c) (IsCfbFault (directory_rules file)) → MatchResult r (λ c. Hold (container_rules file) × HasContents file c) (IsCfbFault (container_rules file))
-container_loads file (Ok c) opening header h = ((opening, (header, h.0)), h.1)
-container_loads file (Err e) opening header h = container_fault file e opening header h
+pub names_fault : (file directory : List ℕ) (e : CfbFault) → Nowhere (BreaksRoot file directory) → Nowhere (BreaksTree file directory) → IsCfbFault (rule 9 (BreaksName file directory)) e → IsCfbFault (entry_rules file directory) e
+names_fault file directory (Rule number place) root tree first = inr (root, inr (tree, inl first))
+names_fault file directory Memory root tree first = tt
+
+pub storages_fault : (file directory : List ℕ) (e : CfbFault) → Nowhere (BreaksRoot file directory) → Nowhere (BreaksTree file directory) → Nowhere (BreaksName file directory) → IsCfbFault (rule 10 (BreaksStorage file directory)) e → IsCfbFault (entry_rules file directory) e
+storages_fault file directory (Rule number place) root tree names first = inr (root, inr (tree, inr (names, inl first)))
+storages_fault file directory Memory root tree names first = tt
+
+pub mini_fat_fault : (file directory : List ℕ) (e : CfbFault) → Nowhere (BreaksRoot file directory) → Nowhere (BreaksTree file directory) → Nowhere (BreaksName file directory) → Nowhere (BreaksStorage file directory) → IsCfbFault (rule 11 (BreaksMiniFat file)) e → IsCfbFault (entry_rules file directory) e
+mini_fat_fault file directory (Rule number place) root tree names storages first = inr (root, inr (tree, inr (names, inr (storages, inl first))))
+mini_fat_fault file directory Memory root tree names storages first = tt
+
+pub mini_stream_fault : (file directory mini_fat : List ℕ) (e : CfbFault) → IsCfbFault (rule 12 (BreaksMiniStream file directory)) e → IsCfbFault (stream_rules file directory mini_fat) e
+mini_stream_fault file directory mini_fat (Rule number place) first = inl first
+mini_stream_fault file directory mini_fat Memory first = tt
+
+-- a fault of the entries is the first of the file
+pub entries_fault : (file directory : List ℕ) (e : CfbFault) → Hold (opening_rules file) → Hold (header_rules file) → IsDirectory file directory → IsCfbFault (entry_rules file directory) e → IsCfbFault (container_rules file) e
+entries_fault file directory e opening header is first =
+    container_fault file e opening header (directory_fault file directory e (directory_holds file directory is) is first)
+
+-- the same of the mini FAT, and of the mini stream
+pub minis_fault : (file : List ℕ) (entries : EntryLists) (e : CfbFault) → entries.file ≡ file → Hold (opening_rules file) → Hold (header_rules file) → AreEntries entries → IsCfbFault (rule 11 (BreaksMiniFat file)) e → IsCfbFault (container_rules file) e
+minis_fault file entries e same opening header are first =
+    let here : AreEntries (record { file = file; directory = entries.directory; reached = entries.reached; streams = entries.streams }) =
+    subst (λ f. AreEntries (record { file = f; directory = entries.directory; reached = entries.reached; streams = entries.streams })) same are in
+    entries_fault file entries.directory e opening header here.is_directory
+    (mini_fat_fault file entries.directory e here.root here.tree here.names here.storages first)
+
+pub stored_fault : (file : List ℕ) (entries : EntryLists) (mini_fat : List ℕ) (e : CfbFault) → entries.file ≡ file → Hold (opening_rules file) → Hold (header_rules file) → AreEntries entries → IsMiniFat file mini_fat → IsCfbFault (rule 12 (BreaksMiniStream file entries.directory)) e → IsCfbFault (container_rules file) e
+stored_fault file entries mini_fat e same opening header are is first =
+    let here : AreEntries (record { file = file; directory = entries.directory; reached = entries.reached; streams = entries.streams }) =
+    subst (λ f. AreEntries (record { file = f; directory = entries.directory; reached = entries.reached; streams = entries.streams })) same are in
+    entries_fault file entries.directory e opening header here.is_directory
+    (entry_fault file entries.directory mini_fat e here.root here.tree here.names here.storages (mini_fat_holds file mini_fat is) is
+    (mini_stream_fault file entries.directory mini_fat e first))
+
+-- a fault of rule 13 or 14 is the first of both
+pub chains_fault : (file directory mini_fat mini_stream : List ℕ) (e : CfbFault) → IsCfbFault (rule 13 (BreaksStream file directory mini_fat)) e → IsCfbFault (sector_rules file directory mini_fat mini_stream) e
+chains_fault file directory mini_fat mini_stream (Rule number place) first = inl first
+chains_fault file directory mini_fat mini_stream Memory first = tt
+
+pub sharing_fault : (file : List ℕ) (parts : Parts) (e : CfbFault) → Nowhere (BreaksStream file parts.directory parts.mini_fat) → IsCfbFault (rule 14 (BreaksSharing file parts)) e → IsCfbFault (sector_rules file parts.directory parts.mini_fat parts.mini_stream) e
+sharing_fault file parts (Rule number place) holds first = inr (holds, first)
+sharing_fault file parts Memory holds first = tt
+
+-- the layout of a file
+pub layout_is : (file : List ℕ) (entries : EntryLists) (mini_fat mini_stream : List ℕ) → entries.file ≡ file → Hold (opening_rules file) → Hold (header_rules file) → AreEntries entries → IsMiniFat file mini_fat → IsMiniStream file entries.directory mini_stream → IsLayout (places_of entries mini_fat mini_stream)
+layout_is file entries mini_fat mini_stream same opening header are is stored = record {
+  opening = subst (λ f. Hold (opening_rules f)) (sym same) opening;
+  header = subst (λ f. Hold (header_rules f)) (sym same) header;
+  are_entries = are;
+  mini_fat = subst (λ f. IsMiniFat f mini_fat) (sym same) is;
+  mini_stream = subst (λ f. IsMiniStream f entries.directory mini_stream) (sym same) stored;
+}
 
 -- the entries that are reached are at most 1,024
 pub reached_few : (file directory order : List ℕ) → ListsReached file directory order → length directory ≤ 256 → length order ≤ 1024

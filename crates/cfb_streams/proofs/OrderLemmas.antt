@@ -282,6 +282,19 @@ front_streams file directory reached entries lists f = record {
   order = f.order;
 }
 
+-- no name comes before itself
+pub before_irreflexive : (file : List ℕ) (a : ℕ) → ¬ EntryBefore file a a
+before_irreflexive file a h = elim h [
+  | inl less ↦ omega arith
+  | inr same ↦ let l = same.1.1 in let less = l.less in omega arith
+]
+
+-- none of the streams is there twice
+pub streams_apart : (file directory streams : List ℕ) → ListsStreams file directory streams → (i j : ℕ) → i < j → j < length streams → slice_index streams i ≢ slice_index streams j
+streams_apart file directory streams lists i j less low e =
+    before_irreflexive file (entry_place directory (slice_index streams j))
+    (subst (λ k. EntryBefore file (entry_place directory k) (entry_place directory (slice_index streams j))) e (lists.order i j less low))
+
 -- where rule 9 holds the length of a name is even, from 4 to 64
 pub name_length : (file directory : List ℕ) (entry : ℕ) → Nowhere (BreaksName file directory) → IsReached file directory entry → ¬ IsWrongNameLength (entry_name_length file (entry_place directory entry))
 name_length file directory entry holds reached wrong = holds (entry_place directory entry + 64) (record { entry = entry; reached = reached; broken = record { here = refl; wrong = inl wrong } })

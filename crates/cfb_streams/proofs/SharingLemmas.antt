@@ -1,5 +1,5 @@
 -- Owners that take their sectors one after another, and the sectors that two of them have.
-use Rattle.std.proofs.Common.{◌≡◌, ◌≢◌, ◌⊎◌, inl, inr, ℕ, zero, suc, [], ◌+◌, ◌<◌, Bool, true, false, Option, None, List, length, set, slice_index, refl, sym, ap, ◌∙◌, subst, arith}
+use Rattle.std.proofs.Common.{◌≡◌, ◌≢◌, ◌⊎◌, inl, inr, ℕ, zero, suc, [], ◌+◌, ◌<◌, Bool, true, false, Option, Some, None, List, length, set, slice_index, refl, sym, ap, ◌∙◌, subst, arith}
 use Rattle.std.specs.Prelude.{slice_index_or}
 use Rattle.std.proofs.lemmas.Bool.{cases_lt, cases_eq}
 use Rattle.std.proofs.lemmas.List.{get_or-set_same, get_or-set_other}
@@ -8,8 +8,10 @@ use Rattle.doc_bits.proofs.RuleLemmas.{least_same, least_either}
 use Rattle.cfb_streams.specs.StreamRules.{Owner, of_fat, of_directory, of_mini_fat, of_mini_stream, of_stream, Owns, Parts, IsShared, HasSmallSector, IsMiniFat, IsMiniStream}
 use Rattle.cfb_streams.specs.Header.{valid_below}
 use Rattle.cfb_streams.specs.Chain.{Table, Head, fat_table, HoldsChain}
-use Rattle.cfb_streams.specs.Reach.{ListsReached}
-use Rattle.cfb_streams.specs.Sharing.{IsMarked, AreDistinctBelow, IsTakenTwice, ClaimsSectors, IsSharedBelow, IsShareFront, owner_at}
+use Rattle.cfb_streams.specs.Order.{ListsStreams}
+use Rattle.cfb_streams.specs.Marks.{IsMarked}
+use Rattle.cfb_streams.specs.Sharing.{AreDistinctBelow, IsTakenTwice, ClaimsSectors, Claimed, Takes, IsSharedBelow, IsShareFront, owner_at}
+use Rattle.cfb_streams.proofs.OrderLemmas.{streams_apart}
 
 -- one of the first `count` sectors
 pub record HasFront (sectors : List ℕ) (count sector : ℕ) : Type 0 where
@@ -100,6 +102,25 @@ claims_none owns place_of taken none = record {
   twice = λ p t. none t.sector t.owned;
 }
 
+-- the same of an owner that took its sectors
+pub takes_same : (A B : ℕ → Type 0) (place_of : ℕ → ℕ) (old new : Claimed) → ((s : ℕ) → A s → B s) → ((s : ℕ) → B s → A s) → Takes A place_of old new → Takes B place_of old new
+takes_same A B place_of old new to from t = record {
+  wrong = t.wrong;
+  claims = claims_same A B place_of old.taken new.taken t.wrong to from t.claims;
+  lesser = t.lesser;
+}
+
+lesser_none : (a : Option ℕ) → a ≡ lesser_of a None
+lesser_none None = refl
+lesser_none (Some x) = refl
+
+pub takes_none : (owns : ℕ → Type 0) (place_of : ℕ → ℕ) (claimed : Claimed) → ((s : ℕ) → ¬ owns s) → Takes owns place_of claimed claimed
+takes_none owns place_of claimed none = record {
+  wrong = None;
+  claims = claims_none owns place_of claimed.taken none;
+  lesser = lesser_none claimed.least;
+}
+
 -- at first nothing is taken
 pub share_none : (owns : ℕ → ℕ → Type 0) (place_of : ℕ → ℕ) (taken : List Bool) → ((s : ℕ) → ¬ IsMarked taken s) → IsShareFront owns place_of 0 taken None
 share_none owns place_of taken none = record {
@@ -136,6 +157,11 @@ share_step owns place_of count old new least wrong f c = record {
       (least_either (IsSharedBelow owns place_of count) (IsTakenTwice (owns count) old place_of) least wrong f.shared c.twice);
 }
 
+pub share_takes : (owns : ℕ → ℕ → Type 0) (place_of : ℕ → ℕ) (count : ℕ) (old new : Claimed) → IsShareFront owns place_of count old.taken old.least → Takes (owns count) place_of old new → IsShareFront owns place_of (count + 1) new.taken new.least
+share_takes owns place_of count old new f t =
+    subst (IsShareFront owns place_of (count + 1) new.taken) (sym t.lesser)
+    (share_step owns place_of count old.taken new.taken old.least t.wrong f t.claims)
+
 -- an owner has a number
 pub record IsNumbered {A : Type 0} (name : ℕ → A) (count : ℕ) (owner : A) : Type 0 where
   pub number : ℕ
@@ -165,7 +191,7 @@ pub owner_stream : (order : List ℕ) (i n : ℕ) → n ≡ 4 + i → owner_at o
 owner_stream order i n e = let same : n ≡ suc (suc (suc (suc i))) = omega arith in rw same refl
 
 -- two numbers are those of two owners
-pub owners_apart : (file directory order : List ℕ) → ListsReached file directory order → (a b : ℕ) → a < b → b < 4 + length order → owner_at order a ≢ owner_at order b
+pub owners_apart : (file directory order : List ℕ) → ListsStreams file directory order → (a b : ℕ) → a < b → b < 4 + length order → owner_at order a ≢ owner_at order b
 owners_apart file directory order lists zero zero h low e = omega arith
 owners_apart file directory order lists zero (suc zero) h low e = cc
 owners_apart file directory order lists zero (suc (suc zero)) h low e = cc
@@ -190,23 +216,23 @@ owners_apart file directory order lists (suc (suc (suc (suc a)))) zero h low e =
 owners_apart file directory order lists (suc (suc (suc (suc a)))) (suc zero) h low e = cc
 owners_apart file directory order lists (suc (suc (suc (suc a)))) (suc (suc zero)) h low e = cc
 owners_apart file directory order lists (suc (suc (suc (suc a)))) (suc (suc (suc zero))) h low e = cc
-owners_apart file directory order lists (suc (suc (suc (suc a)))) (suc (suc (suc (suc b)))) h low e = lists.distinct a b (omega arith) (omega arith) (cc)
+owners_apart file directory order lists (suc (suc (suc (suc a)))) (suc (suc (suc (suc b)))) h low e = streams_apart file directory order lists a b (omega arith) (omega arith) (cc)
 
 -- each owner of a sector has a number
-pub owners_numbered : (file : List ℕ) (parts : Parts) (order : List ℕ) → ListsReached file parts.directory order → (x : Owner) (s : ℕ) → Owns file parts x s → IsNumbered (owner_at order) (4 + length order) x
+pub owners_numbered : (file : List ℕ) (parts : Parts) (order : List ℕ) → ListsStreams file parts.directory order → (x : Owner) (s : ℕ) → Owns file parts x s → IsNumbered (owner_at order) (4 + length order) x
 owners_numbered file parts order lists of_fat s h = record { number = 0; below = omega arith; here = refl }
 owners_numbered file parts order lists of_directory s h = record { number = 1; below = omega arith; here = refl }
 owners_numbered file parts order lists of_mini_fat s h = record { number = 2; below = omega arith; here = refl }
 owners_numbered file parts order lists of_mini_stream s h = record { number = 3; below = omega arith; here = refl }
 owners_numbered file parts order lists (of_stream entry) s h =
-    let has = lists.complete entry h.is_large.is_entry.reached in
+    let has = lists.complete entry h.is_large.is_entry in
     let inside = has.inside in
     record { number = 4 + has.index; below = omega arith; here = owner_stream order has.index (4 + has.index) refl ∙ ap of_stream has.here }
 
 -- each stream with a mini sector has a number
-pub minis_numbered : (file directory mini_fat order : List ℕ) → ListsReached file directory order → (entry : ℕ) (s : ℕ) → HasSmallSector file directory mini_fat entry s → IsNumbered (λ i. slice_index order i) (length order) entry
+pub minis_numbered : (file directory mini_fat order : List ℕ) → ListsStreams file directory order → (entry : ℕ) (s : ℕ) → HasSmallSector file directory mini_fat entry s → IsNumbered (λ i. slice_index order i) (length order) entry
 minis_numbered file directory mini_fat order lists entry s h =
-    let has = lists.complete entry h.is_small.is_entry.reached in
+    let has = lists.complete entry h.is_small.is_entry in
     record { number = has.index; below = has.inside; here = has.here }
 
 -- the sectors of a chain are valid, and none is there twice

@@ -1,36 +1,28 @@
 -- The FAT and the mini FAT that the code keeps, and the chains that it finds by them.
-use Rattle.std.proofs.Common.{◌≡◌, ◌≢◌, inl, inr, ℕ, ◌+◌, ◌≤◌, List, length, slice_index, refl, ap, ◌∙◌, subst, arith}
+use Rattle.std.proofs.Common.{◌≡◌, ◌≢◌, inl, inr, ℕ, ◌≤◌, Option, Some, None, List, length, slice_index, refl, arith}
 use Rattle.std.proofs.lemmas.Bool.{cases_lt}
 use Rattle.doc_bits.specs.Number.{u32_at}
-use Rattle.doc_bits.specs.Rules.{IsLeast, LeastOrNone}
+use Rattle.doc_bits.specs.Rules.{IsLeast, LeastOrNone, Nowhere, rule}
+use Rattle.doc_bits.proofs.RuleLemmas.{least_same}
+use Rattle.cfb_streams.specs.declared.faults.CfbFault.{CfbFault}
 use Rattle.cfb_streams.specs.declared.chain.Chain.{Chain}
 use Rattle.cfb_streams.specs.declared.chain.Chain.TheVariants.{Found, Breaks}
-use Rattle.cfb_streams.specs.Header.{table_place, fat_sectors}
 use Rattle.cfb_streams.specs.SectorChain.{IsFullPath}
 use Rattle.cfb_streams.specs.Chain.{Table, Head, table_of, fat_table, BreaksChain}
-use Rattle.cfb_streams.specs.declared.chain.Claim.{Claim}
-use Rattle.cfb_streams.specs.Judged.{IsFound, broken_place, head_of}
-use Rattle.cfb_streams.specs.Directory.{entry_start, entry_size}
-use Rattle.cfb_streams.specs.StreamRules.{mini_fat_head, stream_head, mini_table_of, IsLargeStream, IsSmallStream, IsWrongLarge, IsWrongSmall}
-use Rattle.doc_bits.proofs.RuleLemmas.{least_same}
+use Rattle.cfb_streams.specs.Judged.{IsFound, IsFoundBy, IsRefused, broken_place}
+use Rattle.cfb_streams.specs.Directory.{entry_size}
+use Rattle.cfb_streams.specs.StreamRules.{mini_fat_head, stream_head, mini_table_of, IsLargeStream, IsSmallStream, IsWrongStream}
 use Rattle.cfb_streams.specs.Reach.{entry_place, directory_head, IsLongDirectory, BreaksDirectory}
-use Rattle.cfb_streams.specs.Tables.{IsFat, IsFoundDirectory, IsFoundMiniFat, IsFoundMiniStream}
+use Rattle.cfb_streams.specs.Tables.{IsKept, IsFoundDirectory, IsFoundMiniFat, IsFoundMiniStream}
+use Rattle.cfb_streams.specs.Container.{IsCfbFault}
 use Rattle.cfb_streams.proofs.JudgeLemmas.{full_same, holds_none}
 use Rattle.cfb_streams.proofs.ChainLemmas.{chain_full}
 
--- a full path by the entries that are kept is one by the file's FAT
-pub fat_full : (file sectors entries : List ℕ) (valid start : ℕ) (xs : List ℕ) → IsFat file sectors entries valid → IsFullPath (λ s. slice_index entries s) valid start xs → IsFullPath (fat_table file).entry (fat_table file).valid start xs
-fat_full file sectors entries valid start xs is full =
-    subst (λ v. IsFullPath (fat_table file).entry v start xs) is.valid_is
-    (full_same (λ s. slice_index entries s) (fat_table file).entry valid start xs
-    (λ s h. let room = is.kept.room in is.kept.is_table.each s (omega arith) ∙ ap (λ ys. u32_at file (table_place (λ k. slice_index ys k) s)) is.sectors_are)
-    full)
-
--- what is found by the table that is kept is found by the file's FAT
-pub fat_found : (file sectors entries : List ℕ) (valid : ℕ) (head : Head) (c : Chain) → IsFat file sectors entries valid → IsFound (table_of file sectors valid) head c → IsFound (fat_table file) head c
-fat_found file sectors entries valid head c is h =
-    subst (λ v. IsFound (table_of file (fat_sectors file) v) head c) is.valid_is
-    (subst (λ ys. IsFound (table_of file ys valid) head c) is.sectors_are h)
+-- a full path by the entries that are kept is one by the table
+pub kept_path : (file sectors entries : List ℕ) (valid start : ℕ) (xs : List ℕ) → IsKept file sectors entries valid → IsFullPath (λ s. slice_index entries s) valid start xs → IsFullPath (table_of file sectors valid).entry valid start xs
+kept_path file sectors entries valid start xs is full =
+    full_same (λ s. slice_index entries s) (table_of file sectors valid).entry valid start xs
+    (λ s h. let room = is.room in is.is_table.each s (omega arith)) full
 
 -- a path of more than 256 sectors is named at 48, before each place in the FAT
 pub long_least : (file : List ℕ) → IsLongDirectory file 48 → IsLeast (λ a b. a ≤ b) (BreaksDirectory file) 48
@@ -83,18 +75,40 @@ pub found_least : (table : Table) (head : Head) (c : Chain) → IsFound table he
 found_least table head (Found sectors) h = holds_none table head sectors.items h
 found_least table head (Breaks place) h = h
 
-pub found_large : (file directory : List ℕ) (entry : ℕ) (c : Chain) → IsLargeStream file directory entry → IsFound (fat_table file) (stream_head file 512 (entry_place directory entry)) c → LeastOrNone (IsWrongLarge file directory entry) (broken_place c)
-found_large file directory entry c is h =
-    least_same (BreaksChain (fat_table file) (stream_head file 512 (entry_place directory entry))) (IsWrongLarge file directory entry) (broken_place c)
-    (λ p w. record { is_large = is; broken = w }) (λ p w. w.broken)
-    (found_least (fat_table file) (stream_head file 512 (entry_place directory entry)) c h)
+-- the place at which the chain of a stream is broken
+pub empty_right : (file directory mini_fat : List ℕ) (entry : ℕ) → entry_size file (entry_place directory entry) ≡ 0 → Nowhere (IsWrongStream file directory mini_fat entry)
+empty_right file directory mini_fat entry empty = λ p w. elim w [
+  | inl large ↦ let size = large.is_large.large in omega arith
+  | inr small ↦ let size = small.is_small.some in omega arith
+]
 
-pub found_small : (file directory mini_fat : List ℕ) (entry : ℕ) (c : Chain) → IsSmallStream file directory entry → IsFound (mini_table_of file directory mini_fat) (stream_head file 64 (entry_place directory entry)) c → LeastOrNone (IsWrongSmall file directory mini_fat entry) (broken_place c)
-found_small file directory mini_fat entry c is h =
-    least_same (BreaksChain (mini_table_of file directory mini_fat) (stream_head file 64 (entry_place directory entry))) (IsWrongSmall file directory mini_fat entry) (broken_place c)
-    (λ p w. record { is_small = is; broken = w }) (λ p w. w.broken)
-    (found_least (mini_table_of file directory mini_fat) (stream_head file 64 (entry_place directory entry)) c h)
+pub short_wrong : (file directory mini_fat : List ℕ) (entry : ℕ) (o : Option ℕ) → IsSmallStream file directory entry → LeastOrNone (BreaksChain (mini_table_of file directory mini_fat) (stream_head file 64 (entry_place directory entry))) o → LeastOrNone (IsWrongStream file directory mini_fat entry) o
+short_wrong file directory mini_fat entry o is =
+    least_same (BreaksChain (mini_table_of file directory mini_fat) (stream_head file 64 (entry_place directory entry))) (IsWrongStream file directory mini_fat entry) o
+    (λ p w. inr (record { is_small = is; broken = w }))
+    (λ p w. elim w [
+      | inl large ↦ let size = large.is_large.large in let less = is.small in absurd (omega arith)
+      | inr small ↦ small.broken
+    ])
 
--- the claim of an entry is the head of its stream
-pub claim_head : (file directory : List ℕ) (entry unit at : ℕ) (claim : Claim) → at ≡ entry_place directory entry → claim.start ≡ entry_start file at → claim.size ≡ entry_size file at → claim.unit ≡ unit → head_of (at + 116) claim ≡ stream_head file unit (entry_place directory entry)
-claim_head file directory entry unit at claim e start size is_unit = rw (start, size, is_unit, e) refl
+pub long_wrong : (file directory mini_fat : List ℕ) (entry : ℕ) (o : Option ℕ) → IsLargeStream file directory entry → LeastOrNone (BreaksChain (fat_table file) (stream_head file 512 (entry_place directory entry))) o → LeastOrNone (IsWrongStream file directory mini_fat entry) o
+long_wrong file directory mini_fat entry o is =
+    least_same (BreaksChain (fat_table file) (stream_head file 512 (entry_place directory entry))) (IsWrongStream file directory mini_fat entry) o
+    (λ p w. inl (record { is_large = is; broken = w }))
+    (λ p w. elim w [
+      | inl large ↦ large.broken
+      | inr small ↦ let less = small.is_small.small in let size = is.large in absurd (omega arith)
+    ])
+
+-- a rule that is refused is broken there first
+pub refused_first : (number : ℕ) (breaks : ℕ → Type 0) (wrong : Option ℕ) (fault : CfbFault) → LeastOrNone breaks wrong → IsRefused number wrong fault → IsCfbFault (rule number breaks) fault
+refused_first number breaks wrong fault least refused =
+    let broken = rw refused.1.0 at least in rw refused.1.1 (refl, broken)
+
+-- one that is not refused holds
+pub none_nowhere : (breaks : ℕ → Type 0) (wrong : Option ℕ) → LeastOrNone breaks wrong → wrong ≡ None → Nowhere breaks
+none_nowhere breaks wrong least none = rw none at least
+
+pub refused_chain : (number : ℕ) (holds : List ℕ → Type 0) (breaks : ℕ → Type 0) (chain : Chain) (fault : CfbFault) → IsFoundBy holds breaks chain → IsRefused number (broken_place chain) fault → IsCfbFault (rule number breaks) fault
+refused_chain number holds breaks (Found sectors) fault found refused = let e : None ≡ Some refused.0 = refused.1.0 in absurd (cc e)
+refused_chain number holds breaks (Breaks place) fault found refused = refused_first number breaks (Some place) fault found refused

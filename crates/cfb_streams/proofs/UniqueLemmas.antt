@@ -12,15 +12,8 @@ use Rattle.cfb_streams.specs.Order.{ListsStreams}
 use Rattle.cfb_streams.specs.Contents.{Stream, Contents}
 use Rattle.cfb_streams.specs.Container.{mini_bytes, IsStreamOf, HasContents}
 use Rattle.cfb_streams.proofs.JudgeLemmas.{holds_unique}
-use Rattle.cfb_streams.proofs.OrderLemmas.{before_trans}
+use Rattle.cfb_streams.proofs.OrderLemmas.{before_trans, before_irreflexive}
 use Rattle.cfb_streams.proofs.SingleLemmas.{directory_unique, mini_fat_unique, mini_stream_unique}
-
--- no name comes before itself
-before_irreflexive : (file : List ℕ) (a : ℕ) → ¬ EntryBefore file a a
-before_irreflexive file a h = elim h [
-  | inl less ↦ omega arith
-  | inr same ↦ let l = same.1.1 in let less = l.less in omega arith
-]
 
 -- two lists of the streams in their order have the same entries, up to a place
 lists_agree : (file directory xs ys : List ℕ) → ListsStreams file directory xs → ListsStreams file directory ys → (n i : ℕ) → i < n → i < length xs → i < length ys → slice_index xs i ≡ slice_index ys i

@@ -1,6 +1,7 @@
 pub mod Header
 pub mod SectorChain
 pub mod Chain
+pub mod Marks
 pub mod Judged
 pub mod Directory
 pub mod Names
@@ -13,6 +14,8 @@ pub mod StreamRules
 pub mod Tables
 pub mod Sharing
 pub mod Order
+pub mod Layout
 pub mod Contents
 pub mod Container
+pub mod Gathered
 pub mod Laws

@@ -1,11 +1,8 @@
 -- Sectors that are marked as taken, owner by owner.
-use Rattle.std.specs.Prelude.{◌≡◌, ◌≢◌, ◌⊎◌, ℕ, zero, suc, ◌<◌, Bool, true, false, Option, List, length, slice_index, slice_index_or}
-use Rattle.doc_bits.specs.Rules.{LeastOrNone}
+use Rattle.std.specs.Prelude.{◌≡◌, ◌≢◌, ◌⊎◌, ℕ, zero, suc, ◌<◌, Bool, Option, List, length, slice_index}
+use Rattle.doc_bits.specs.Rules.{LeastOrNone, lesser_of}
+use Rattle.cfb_streams.specs.Marks.{IsMarked}
 use Rattle.cfb_streams.specs.StreamRules.{Owner, of_fat, of_directory, of_mini_fat, of_mini_stream, of_stream}
-
--- the sector is taken
-abbrev pub IsMarked : List Bool → ℕ → Type 0
-IsMarked taken s = slice_index_or taken s false ≡ true
 
 -- sectors that may be taken: inside, and none twice
 pub record AreDistinctBelow (count : ℕ) (sectors : List ℕ) : Type 0 where
@@ -25,6 +22,17 @@ pub record ClaimsSectors (owns : ℕ → Type 0) (place_of : ℕ → ℕ) (old n
   pub added : (s : ℕ) → owns s → IsMarked new s
   pub only : (s : ℕ) → IsMarked new s → IsMarked old s ⊎ owns s
   pub twice : LeastOrNone (IsTakenTwice owns old place_of) least
+
+-- the sectors of a table that are taken, and the least place of one that was taken twice
+pub record Claimed : Type 0 where
+  pub taken : List Bool
+  pub least : Option ℕ
+
+-- an owner took its sectors
+pub record Takes (owns : ℕ → Type 0) (place_of : ℕ → ℕ) (old new : Claimed) : Type 0 where
+  pub wrong : Option ℕ
+  pub claims : ClaimsSectors owns place_of old.taken new.taken wrong
+  pub lesser : new.least ≡ lesser_of old.least wrong
 
 -- two of the first owners have a sector
 pub record IsSharedBelow (owns : ℕ → ℕ → Type 0) (place_of : ℕ → ℕ) (count place : ℕ) : Type 0 where

@@ -2,29 +2,30 @@
 ghost use Rattle.std.specs.Prelude.{◌≡◌, ℕ, ◌+◌, ◌*◌, ◌^◌, ◌<◌, ◌≤◌, length, slice_index, IfOk};
 ghost use Rattle.cfb_streams.specs.SectorChain.{IsFullPath, last_of};
 
+use crate::marks::Marks;
 use doc_bits::Memory;
 use std::alloc::Global;
+use std::marker::Model;
 
 /// An entry that ends a chain.
 pub const ENDOFCHAIN: u32 = 0xFFFF_FFFE;
 
-/// A chain that is to be there: its start, the bytes of a sector, and the bytes that it must hold.
-#[derive(Clone, Copy)]
+/// A chain that is to be there: where the field with its start stands, the start, the bytes of a sector, and the bytes
+/// that it must hold.
+#[derive(Drop)]
 pub struct Claim {
+    pub field: u32,
     pub start: u32,
     pub unit: u32,
     pub size: u32,
 }
 
-/// How a chain goes.
-#[derive(Drop)]
-pub enum Judged {
-    /// It ends with `ENDOFCHAIN` and has enough sectors.
-    Whole(Vec<u32>),
-    /// The start is not valid.
-    NoStart,
-    /// The entry of this sector is wrong, or ends the chain too early.
-    Broken(u32),
+impl Model for Claim {
+    ghost use Rattle.cfb_streams.specs.Chain.{Head};
+
+    ghost Value = { Head };
+
+    ghost view = { λ c. record { field = c.field; start = c.start; unit = c.unit; size = c.size } };
 }
 
 /// A chain, or the place at which it is broken, in bytes from the start of the file.
@@ -34,27 +35,26 @@ pub enum Chain {
     Breaks(u32),
 }
 
-/// The path from `start` as far as it goes: to an entry that is not valid, or that names a sector
-/// of the path. The numbers below the length of `marks` are valid, and `stamp` marks the sectors
-/// of this path, so that no table is cleared between two walks.
+/// The path from `start` as far as it goes: to an entry that is not valid, or that names a sector of the path. The
+/// numbers below that of the marks are valid.
 pub(crate) fn walk(
     alloc: Global,
     entries: &[u32],
-    marks: &mut [u32],
-    stamp: u32,
+    marks: &mut Marks,
     start: u32,
 ) -> Result<Vec<u32>, Memory>
     requires room { length marks.old ≤ length entries.now }
-    requires fresh { (s : ℕ) → slice_index marks.old s < stamp }
     requires starts { start < length marks.old }
-    ensures path { IfOk result (λ path. IsFullPath (λ s. slice_index entries.now s) (length marks.old) start path.items) }
+    ensures path { IfOk result (λ path.
+        IsFullPath (λ s. slice_index entries.now s) (length marks.old) start path.items) }
     ensures short { IfOk result (λ path. length path.items ≤ length marks.old) }
-    ensures marked { (s : ℕ) → slice_index marks.new s ≤ stamp }
+    ensures kept { length marks.new ≡ length marks.old }
 {
+    marks.begin();
     let mut path = Vec::new(alloc);
     let mut at = start as usize;
-    while at < marks.len() && marks[at] != stamp {
-        marks[at] = stamp;
+    while at < marks.len() && !marks.has(at) {
+        marks.meet(at);
         path.push(at as u32)?;
         at = entries[at] as usize;
     }

@@ -1,3 +1,8 @@
+ghost use Rattle.std.specs.Prelude.{◌≡◌, None, MatchResult};
+ghost use Rattle.cfb_streams.specs.Judged.{IsRefused, broken_place};
+ghost use Rattle.cfb_streams.specs.declared.chain.Chain.TheVariants.{Found};
+
+use crate::chain::Chain;
 use doc_bits::Memory;
 use thiserror::Error;
 
@@ -19,5 +24,25 @@ impl From<Memory> for CfbFault {
 
     fn from(_: Memory) -> Self {
         CfbFault::Memory
+    }
+}
+
+/// Refuses the file where a rule is broken at a place.
+pub(crate) fn refuse(rule: u8, wrong: Option<u32>) -> Result<(), CfbFault>
+    ensures { MatchResult result (λ _. wrong ≡ None) (IsRefused rule wrong) }
+{
+    match wrong {
+        None => Ok(()),
+        Some(offset) => Err(CfbFault::Rule { rule, offset }),
+    }
+}
+
+/// The sectors of a chain. Refuses the file where it is broken.
+pub(crate) fn whole(rule: u8, chain: Chain) -> Result<Vec<u32>, CfbFault>
+    ensures { MatchResult result (λ sectors. chain ≡ Found sectors) (IsRefused rule (broken_place chain)) }
+{
+    match chain {
+        Chain::Found(sectors) => Ok(sectors),
+        Chain::Breaks(offset) => Err(CfbFault::Rule { rule, offset }),
     }
 }

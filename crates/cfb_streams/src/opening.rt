@@ -9,6 +9,9 @@ const SIGNATURE: [u8; 8] = [0xD0, 0xCF, 0x11, 0xE0, 0xA1, 0xB1, 0x1A, 0xE1];
 /// The length of a sector, and of the header.
 pub const SECTOR_LEN: usize = 512;
 
+/// The length of a mini sector.
+pub const MINI_SECTOR_LEN: usize = 64;
+
 /// The least length of a file: the header and two sectors.
 const MIN_LEN: usize = 1_536;
 

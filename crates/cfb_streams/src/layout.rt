@@ -1,0 +1,211 @@
+// Where the parts of a file stand that breaks none of the rules 1 to 12.
+ghost use Rattle.std.specs.Prelude.{◌≡◌, ◌+◌, ◌<◌, ◌≤◌, MatchResult, IfOk, length, slice_index};
+ghost use Rattle.std.specs.List.{flat_map};
+ghost use Rattle.doc_bits.specs.Rules.{Hold, Nowhere};
+ghost use Rattle.cfb_streams.specs.Header.{sector_bytes};
+ghost use Rattle.cfb_streams.specs.Chain.{AreSectorsOf};
+ghost use Rattle.cfb_streams.specs.Opening.{opening_rules, IsWhole};
+ghost use Rattle.cfb_streams.specs.HeaderRules.{header_rules, BreaksFat};
+ghost use Rattle.cfb_streams.specs.Tables.{fat_place};
+ghost use Rattle.cfb_streams.specs.Layout.{IsLayout, places_of};
+ghost use Rattle.cfb_streams.specs.Container.{container_rules, IsCfbFault};
+
+use crate::CfbFault;
+use crate::entries::Entries;
+use crate::fat::{read_fat_sectors, valid_sectors, wrong_fat};
+use crate::faults::{refuse, whole};
+use crate::header::{wrong_difat, wrong_header};
+use crate::opening::{SECTOR_LEN, opening_fault};
+use crate::parts::{find_directory, find_mini_fat, find_mini_stream, mini_sectors};
+use crate::stream::join;
+use crate::table::Table;
+use doc_bits::Memory;
+use std::alloc::Global;
+use std::marker::Model;
+
+const RULE_HEADER: u8 = 3;
+
+const RULE_DIFAT: u8 = 4;
+
+const RULE_FAT: u8 = 5;
+
+const RULE_DIRECTORY: u8 = 6;
+
+const RULE_MINI_FAT: u8 = 11;
+
+const RULE_MINI_STREAM: u8 = 12;
+
+/// The entries of a file, its FAT, its mini FAT, and its mini stream: by its sectors, and by the bytes of these.
+#[derive(Drop)]
+pub struct Layout<'a> {
+    pub(crate) entries: Entries<'a>,
+    pub(crate) fat: Table<'a>,
+    pub(crate) mini: Table<'a>,
+    pub(crate) mini_stream: Vec<u32>,
+    pub(crate) stored: Vec<u8>,
+}
+
+impl<'a> Model for Layout<'a> {
+    ghost use Rattle.cfb_streams.specs.Layout.{Places, places_of, KeepsLayout};
+
+    ghost Value = { Places };
+
+    ghost view = { λ l. places_of l.entries l.mini.sectors l.mini_stream.items };
+
+    ghost invariant = { λ l. KeepsLayout l.entries l.fat l.mini l.mini_stream.items l.stored.items };
+}
+
+impl<'a> Layout<'a> {
+    /// Judges the rules 1 to 12.
+    pub(crate) fn judge(alloc: Global, file: &'a [u8]) -> Result<Layout<'a>, CfbFault>
+        ensures { MatchResult result
+            (λ layout. (layout.file ≡ file.now) × IsLayout layout)
+            (IsCfbFault (container_rules file.now)) }
+    {
+        judge_opening(file)?;
+        judge_header(file)?;
+        let mut fat = read_fat(alloc, file)?;
+        let directory = whole(RULE_DIRECTORY, find_directory(alloc, file, &mut fat)?)?;
+        let entries = Entries::read(alloc, file, directory)?;
+        let mini_fat = whole(RULE_MINI_FAT, find_mini_fat(alloc, file, &mut fat)?)?;
+        let found = find_mini_stream(alloc, file, entries.directory(), &mut fat)?;
+        let mini_stream = whole(RULE_MINI_STREAM, found)?;
+        let layout = Layout::read(alloc, entries, fat, mini_fat, mini_stream)?;
+        Ok(layout)
+    }
+
+    /// Reads the mini FAT, which has these sectors, and the mini stream.
+    fn read(
+        alloc: Global,
+        entries: Entries<'a>,
+        fat: Table<'a>,
+        mini_fat: Vec<u32>,
+        mini_stream: Vec<u32>,
+    ) -> Result<Layout<'a>, Memory>
+        requires is_layout { IsLayout (places_of entries mini_fat.items mini_stream.items) }
+        requires is_fat { fat ≡ fat_place entries.file }
+        ensures { IfOk result (λ layout. layout ≡ places_of entries.entry mini_fat.items mini_stream.items) }
+    {
+        let file = entries.file();
+        let valid = mini_sectors(file, entries.directory(), &mini_fat);
+        let mini = Table::read(alloc, file, mini_fat, valid)?;
+        let stored = read_sectors(alloc, file, &mini_stream)?;
+        Ok(Layout {
+            entries,
+            fat,
+            mini,
+            mini_stream,
+            stored,
+        })
+    }
+}
+
+impl<'a> Layout<'a> {
+    /// The directory's sectors.
+    pub fn directory(&self) -> &[u32]
+        ensures sectors { result.now ≡ self.now.parts.directory }
+        ensures is_layout { IsLayout self.now }
+    {
+        self.entries.directory()
+    }
+
+    /// The numbers of the entries that the root reaches, each of them once.
+    pub fn reached(&self) -> &[u32]
+        ensures { result.now ≡ self.now.reached }
+    {
+        self.entries.reached()
+    }
+
+    /// The numbers of the entries of the streams, in the order of their names.
+    pub fn streams(&self) -> &[u32]
+        ensures { result.now ≡ self.now.streams }
+    {
+        self.entries.streams()
+    }
+
+    /// The mini FAT's sectors.
+    pub fn mini_fat(&self) -> &[u32]
+        ensures { result.now ≡ self.now.parts.mini_fat }
+    {
+        self.mini.sectors()
+    }
+
+    /// The mini stream's sectors.
+    pub fn mini_stream(&self) -> &[u32]
+        ensures { result.now ≡ self.now.parts.mini_stream }
+    {
+        &self.mini_stream
+    }
+
+    /// The number of the root's streams.
+    pub(crate) fn stream_count(&self) -> usize
+        ensures len { result ≡ length self.now.streams }
+        ensures is_layout { IsLayout self.now }
+    {
+        self.entries.streams().len()
+    }
+
+    /// The entry of a stream.
+    pub(crate) fn stream_entry(&self, i: usize) -> u32
+        requires { i < length self.now.streams }
+        ensures { result ≡ slice_index self.now.streams i }
+    {
+        self.entries.streams()[i]
+    }
+}
+
+/// The layout of a file that breaks none of the rules 1 to 14.
+pub fn layout_of<'a>(alloc: Global, file: &'a [u8]) -> Result<Layout<'a>, Memory>
+    requires { Hold (container_rules file.now) }
+    ensures { IfOk result (λ layout. (layout.file ≡ file.now) × IsLayout layout) }
+{
+    match Layout::judge(alloc, file) {
+        Ok(layout) => Ok(layout),
+        Err(_) => Err(Memory),
+    }
+}
+
+/// Judges the rules 1 and 2.
+fn judge_opening(file: &[u8]) -> Result<(), CfbFault>
+    ensures { MatchResult result (λ _. Hold (opening_rules file.now)) (IsCfbFault (opening_rules file.now)) }
+{
+    match opening_fault(file) {
+        None => Ok(()),
+        Some(broken) => Err(CfbFault::Rule {
+            rule: broken.rule,
+            offset: broken.offset,
+        }),
+    }
+}
+
+/// Judges the rules 3 to 5.
+fn judge_header(file: &[u8]) -> Result<(), CfbFault>
+    requires { 512 ≤ length file.now }
+    ensures { MatchResult result (λ _. Hold (header_rules file.now)) (IsCfbFault (header_rules file.now)) }
+{
+    refuse(RULE_HEADER, wrong_header(file))?;
+    refuse(RULE_DIFAT, wrong_difat(file))?;
+    refuse(RULE_FAT, wrong_fat(file))?;
+    Ok(())
+}
+
+/// The FAT.
+fn read_fat<'a>(alloc: Global, file: &'a [u8]) -> Result<Table<'a>, Memory>
+    requires is_whole { IsWhole file.now }
+    requires is_fat { Nowhere (BreaksFat file.now) }
+    ensures { IfOk result (λ fat. fat ≡ fat_place file.now) }
+{
+    let sectors = read_fat_sectors(alloc, file)?;
+    let fat = Table::read(alloc, file, sectors, valid_sectors(file))?;
+    Ok(fat)
+}
+
+/// The bytes of these sectors in a row.
+fn read_sectors(alloc: Global, file: &[u8], sectors: &[u32]) -> Result<Vec<u8>, Memory>
+    requires { AreSectorsOf file.now sectors.now }
+    ensures { IfOk result (λ bytes. bytes.items ≡ flat_map (sector_bytes 512 512 file.now) sectors.now) }
+{
+    let size = sectors.len() * SECTOR_LEN;
+    let bytes = join(alloc, file, SECTOR_LEN, SECTOR_LEN, sectors, size)?;
+    Ok(bytes)
+}

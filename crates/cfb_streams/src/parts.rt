@@ -1,0 +1,136 @@
+// Rules 6, 11 and 12: the chains of the directory, of the mini FAT and of the mini stream.
+ghost use Rattle.std.specs.Prelude.{◌≡◌, ℕ, ◌+◌, ◌*◌, ◌^◌, ◌<◌, ◌≤◌, ◌↔◌, IsTrue, IfOk, length};
+ghost use Rattle.doc_bits.specs.Number.{u32_at};
+ghost use Rattle.cfb_streams.specs.Chain.{AreSectorsOf};
+ghost use Rattle.cfb_streams.specs.Reach.{IsLongDirectory};
+ghost use Rattle.cfb_streams.specs.StreamRules.{mini_table_of, stream_head};
+ghost use Rattle.cfb_streams.specs.Tables.{fat_place, IsFoundDirectory, IsFoundMiniFat, IsFoundMiniStream};
+
+use crate::chain::{Chain, Claim};
+use crate::directory::{ENTRY_SIZE, ENTRY_START, entry_place};
+use crate::fat::TABLE_LEN;
+use crate::header::{DIRECTORY_START, MINI_FAT_COUNT, MINI_FAT_START};
+use crate::opening::{MINI_SECTOR_LEN, SECTOR_LEN};
+use crate::table::Table;
+use doc_bits::{Memory, get32};
+use std::alloc::Global;
+
+/// The most sectors of a directory.
+const MAX_DIRECTORY: usize = 256;
+
+/// The claim of a chain whose start stands in the header.
+fn header_claim(file: &[u8], field: usize) -> Claim
+    requires header { 512 ≤ length file.now }
+    requires inside { field + 4 ≤ 512 }
+    ensures { result ≡ record { field = field; start = u32_at file.now field; unit = 512; size = 0 } }
+{
+    Claim {
+        field: field as u32,
+        start: get32(file, field),
+        unit: SECTOR_LEN as u32,
+        size: 0,
+    }
+}
+
+/// The claim of the stream whose entry stands at an offset, in sectors of so many bytes.
+pub(crate) fn stream_claim(file: &[u8], at: usize, unit: usize) -> Claim
+    requires short { length file.now < 2 ^ 32 }
+    requires inside { at + 128 ≤ length file.now }
+    requires few { unit ≤ 512 }
+    ensures { result ≡ stream_head file.now unit at }
+{
+    Claim {
+        field: (at + ENTRY_START) as u32,
+        start: get32(file, at + ENTRY_START),
+        unit: unit as u32,
+        size: get32(file, at + ENTRY_SIZE),
+    }
+}
+
+/// Whether the path from the directory's start has more than 256 sectors.
+fn is_long_directory(alloc: Global, file: &[u8], fat: &mut Table<'_>) -> Result<bool, Memory>
+    requires header { 512 ≤ length file.now }
+    requires is_fat { fat.old ≡ fat_place file.now }
+    ensures long { IfOk result (λ long. IsTrue long ↔ IsLongDirectory file.now 48) }
+    ensures kept { fat.new ≡ fat.old }
+{
+    let start = get32(file, DIRECTORY_START);
+    if start as usize >= fat.valid() {
+        return Ok(false);
+    }
+    let path = fat.path(alloc, start)?;
+    Ok(path.len() > MAX_DIRECTORY)
+}
+
+/// The directory's sectors, or the place at which rule 6 is broken.
+pub(crate) fn find_directory(
+    alloc: Global,
+    file: &[u8],
+    fat: &mut Table<'_>,
+) -> Result<Chain, Memory>
+    requires header { 512 ≤ length file.now }
+    requires is_fat { fat.old ≡ fat_place file.now }
+    ensures found { IfOk result (IsFoundDirectory file.now) }
+    ensures kept { fat.new ≡ fat.old }
+{
+    let long = is_long_directory(alloc, file, fat)?;
+    if long {
+        return Ok(Chain::Breaks(DIRECTORY_START as u32));
+    }
+    let claim = header_claim(file, DIRECTORY_START);
+    let found = fat.find(alloc, &claim)?;
+    Ok(found)
+}
+
+/// The sectors of the mini FAT, none where it has none, or the place at which rule 11 is broken.
+pub(crate) fn find_mini_fat(
+    alloc: Global,
+    file: &[u8],
+    fat: &mut Table<'_>,
+) -> Result<Chain, Memory>
+    requires header { 512 ≤ length file.now }
+    requires is_fat { fat.old ≡ fat_place file.now }
+    ensures found { IfOk result (IsFoundMiniFat file.now) }
+    ensures kept { fat.new ≡ fat.old }
+{
+    if get32(file, MINI_FAT_COUNT) == 0 {
+        return Ok(Chain::Found(Vec::new(alloc)));
+    }
+    let claim = header_claim(file, MINI_FAT_START);
+    let found = fat.find(alloc, &claim)?;
+    Ok(found)
+}
+
+/// The sectors of the mini stream, none where it is empty, or the place at which rule 12 is broken.
+pub(crate) fn find_mini_stream(
+    alloc: Global,
+    file: &[u8],
+    directory: &[u32],
+    fat: &mut Table<'_>,
+) -> Result<Chain, Memory>
+    requires sectors { AreSectorsOf file.now directory.now }
+    requires there { 0 < length directory.now }
+    requires is_fat { fat.old ≡ fat_place file.now }
+    ensures found { IfOk result (IsFoundMiniStream file.now directory.now) }
+    ensures kept { fat.new ≡ fat.old }
+{
+    let root = entry_place(file, directory, 0);
+    let claim = stream_claim(file, root, SECTOR_LEN);
+    if claim.size == 0 {
+        return Ok(Chain::Found(Vec::new(alloc)));
+    }
+    let found = fat.find(alloc, &claim)?;
+    Ok(found)
+}
+
+/// The number below which the mini sectors are valid: they have an entry in the mini FAT, and begin
+/// before the end of the root's size.
+pub(crate) fn mini_sectors(file: &[u8], directory: &[u32], mini_fat: &[u32]) -> usize
+    requires sectors { AreSectorsOf file.now directory.now }
+    requires there { 0 < length directory.now }
+    requires few { length mini_fat.now < 2 ^ 32 }
+    ensures { result ≡ (mini_table_of file.now directory.now mini_fat.now).valid }
+{
+    let size = get32(file, entry_place(file, directory, 0) + ENTRY_SIZE) as usize;
+    (TABLE_LEN * mini_fat.len()).min(size.div_ceil(MINI_SECTOR_LEN))
+}

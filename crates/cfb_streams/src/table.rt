@@ -1,0 +1,142 @@
+// The FAT and the mini FAT: a table that stands in sectors of the file, and the chains that go by it.
+ghost use Rattle.std.specs.Prelude.{◌≡◌, ℕ, ◌+◌, ◌*◌, ◌^◌, ◌<◌, ◌≤◌, length, slice_index, IfOk, IsTrue, ◌↔◌};
+ghost use Rattle.doc_bits.specs.Rules.{LeastOrNone};
+ghost use Rattle.cfb_streams.specs.SectorChain.{IsFullPath};
+ghost use Rattle.cfb_streams.specs.Chain.{AreSectorsOf, BreaksChain};
+ghost use Rattle.cfb_streams.specs.Tables.{TablePlace, table_at};
+ghost use Rattle.cfb_streams.specs.Judged.{IsFound, broken_place};
+
+use crate::chain::{Chain, Claim, ENDOFCHAIN, last_sector, walk};
+use crate::fat::{read_table, table_place};
+use crate::marks::Marks;
+use doc_bits::Memory;
+use std::alloc::Global;
+use std::marker::Model;
+
+/// A table of the file, read whole.
+#[derive(Drop)]
+pub struct Table<'a> {
+    file: &'a [u8],
+    sectors: Vec<u32>,
+    entries: Vec<u32>,
+    marks: Marks,
+}
+
+impl<'a> Model for Table<'a> {
+    ghost use Rattle.std.specs.Prelude.{length};
+    ghost use Rattle.cfb_streams.specs.Tables.{TablePlace, IsKept};
+
+    ghost Value = { TablePlace };
+
+    ghost view = { λ t. record { file = t.file.now; sectors = t.sectors.items; valid = length t.marks } };
+
+    ghost invariant = { λ t. IsKept t.file.now t.sectors.items t.entries.items (length t.marks) };
+}
+
+impl<'a> Table<'a> {
+    /// Reads the table that stands in these sectors. The sector numbers below `valid` are valid.
+    pub(crate) fn read(
+        alloc: Global,
+        file: &'a [u8],
+        sectors: Vec<u32>,
+        valid: usize,
+    ) -> Result<Table<'a>, Memory>
+        requires inside { AreSectorsOf file.now sectors.items }
+        requires room { valid ≤ 128 * length sectors.items }
+        ensures { IfOk result (λ table. table ≡ record { file = file.now; sectors = sectors.items; valid = valid }) }
+    {
+        let entries = read_table(alloc, file, &sectors)?;
+        let marks = Marks::new(alloc, valid)?;
+        Ok(Table {
+            file,
+            sectors,
+            entries,
+            marks,
+        })
+    }
+
+    /// The sectors in which it stands.
+    pub(crate) fn sectors(&self) -> &[u32]
+        ensures { result.now ≡ self.now.sectors }
+    {
+        &self.sectors
+    }
+
+    /// The number below which sectors are valid.
+    pub(crate) fn valid(&self) -> usize
+        ensures { result ≡ self.now.valid }
+    {
+        self.marks.len()
+    }
+
+    /// Where the entry of a sector stands, in bytes from the start of the file.
+    pub(crate) fn place(&self, sector: u32) -> u32
+        requires { sector < self.now.valid }
+        ensures { result ≡ (table_at self.now).place sector }
+    {
+        table_place(&self.sectors, sector as usize) as u32
+    }
+
+    /// The entry of a sector.
+    fn entry(&self, sector: u32) -> u32
+        requires { sector < self.now.valid }
+        ensures { result ≡ (table_at self.now).entry sector }
+    {
+        self.entries[sector as usize]
+    }
+
+    /// The path from a sector as far as it goes.
+    pub(crate) fn path(&mut self, alloc: Global, start: u32) -> Result<Vec<u32>, Memory>
+        requires { start < self.old.valid }
+        ensures path { IfOk result (λ path. IsFullPath (table_at self.old).entry self.old.valid start path.items) }
+        ensures short { IfOk result (λ path. length path.items < 2 ^ 31) }
+        ensures range { self.old.valid < 2 ^ 31 }
+        ensures kept { self.new ≡ self.old }
+    {
+        let path = walk(alloc, &self.entries, &mut self.marks, start)?;
+        Ok(path)
+    }
+
+    /// The chain of a claim, or the place at which it is broken.
+    pub(crate) fn find(&mut self, alloc: Global, claim: &Claim) -> Result<Chain, Memory>
+        ensures found { IfOk result (IsFound (table_at self.old) claim.now) }
+        ensures kept { self.new ≡ self.old }
+    {
+        if claim.start as usize >= self.valid() {
+            return Ok(Chain::Breaks(claim.field));
+        }
+        let path = self.path(alloc, claim.start)?;
+        let last = last_sector(&path);
+        if self.entry(last) != ENDOFCHAIN || is_less(path.len(), claim) {
+            return Ok(Chain::Breaks(self.place(last)));
+        }
+        Ok(Chain::Found(path))
+    }
+
+    /// The place at which the chain of a claim is broken.
+    pub(crate) fn broken_at(&mut self, alloc: Global, claim: &Claim) -> Result<Option<u32>, Memory>
+        ensures broken { IfOk result (LeastOrNone (BreaksChain (table_at self.old) claim.now)) }
+        ensures kept { self.new ≡ self.old }
+    {
+        let found = self.find(alloc, claim)?;
+        Ok(place_of(found))
+    }
+}
+
+/// The place at which a chain is broken.
+fn place_of(found: Chain) -> Option<u32>
+    ensures { result ≡ broken_place found }
+{
+    match found {
+        Chain::Found(_) => None,
+        Chain::Breaks(place) => Some(place),
+    }
+}
+
+/// Whether so many sectors hold fewer bytes than a claim wants.
+fn is_less(count: usize, claim: &Claim) -> bool
+    requires { count < 2 ^ 31 }
+    ensures { IsTrue result ↔ count * claim.now.unit < claim.now.size }
+{
+    (count as u64) * (claim.unit as u64) < claim.size as u64
+}
