@@ -2,6 +2,7 @@
 #![tactic(auto)]
 
 mod compressed;
+mod gathering;
 mod paragraph;
 mod showing;
 

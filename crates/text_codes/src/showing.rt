@@ -1,11 +1,12 @@
 // The text that is shown for units. A surrogate pair is one character, so a high surrogate waits for the next unit.
-ghost use Rattle.std.specs.Prelude.{◌≡◌, ◌<◌, ◌++◌, ◌⊎◌, ◌↔◌, ◌&&◌};
-ghost use Rattle.std.specs.Prelude.{nat_le, nat_lt, List, ℕ, [], ◌∷◌, length, Bool};
+ghost use Rattle.std.specs.Prelude.{◌≡◌, ◌<◌, ◌≤◌, ◌++◌, ◌⊎◌, ◌↔◌, ◌&&◌};
+ghost use Rattle.std.specs.Prelude.{nat_le, nat_lt, List, ℕ, [], ◌∷◌, length, take, Bool};
 ghost use Rattle.std.specs.Prelude.{true, false, IfOk, OnOk, OnErr, IfSome, MatchOption, IsTrue, encode_utf8};
 ghost use Rattle.std.specs.String.{string_bytes};
 ghost use Rattle.text_codes.specs.Shown.{Showing, shown, shown_alone, completed, escape, hex_digit, is_pair};
 ghost use Rattle.text_codes.specs.Shown.{pair_code, is_escaped};
 
+use crate::gathering::{BLOCK_LEN, gather};
 use doc_bits::{Memory, Text};
 use std::alloc::Global;
 use std::marker::Model;
@@ -78,6 +79,39 @@ impl ShownText {
         Ok(())
     }
 
+    /// Adds a list of units, as if they were added one by one.
+    pub fn push_all(&mut self, units: &[u16]) -> Result<(), Memory>
+        ensures { OnOk result
+            ((after : List ℕ) → completed self.new after ≡ completed self.old (units.now ++ after)) }
+    {
+        self.text.reserve(units.len())?;
+        let mut done = 0;
+        while done < units.len() {
+            done += self.push_front(&units[done..])?;
+        }
+        Ok(())
+    }
+
+    /// Adds one or more units of the front of a list, and counts them.
+    fn push_front(&mut self, units: &[u16]) -> Result<usize, Memory>
+        requires { 0 < length units.now }
+        ensures some { IfOk result (λ count. 0 < count) }
+        ensures inside { IfOk result (λ count. count ≤ length units.now) }
+        ensures text { IfOk result (λ count. (after : List ℕ)
+            → completed self.new after ≡ completed self.old (take count units.now ++ after)) }
+    {
+        if self.waiting.is_none() {
+            let mut block = [0u8; BLOCK_LEN];
+            let (count, len) = gather(units, &mut block);
+            if count > 0 {
+                self.text.push_str(str::from_utf8(&block[..len]).unwrap())?;
+                return Ok(count);
+            }
+        }
+        self.push(units[0])?;
+        Ok(1)
+    }
+
     /// The whole text, when no unit follows.
     pub fn finish(self) -> Result<Text, Memory>
         ensures { IfOk result (λ text. text ≡ completed self []) }
@@ -100,9 +134,7 @@ pub fn show_units(alloc: Global, units: &[u16]) -> Result<Text, Memory>
     ensures { IfOk result (λ text. text ≡ shown false units.now) }
 {
     let mut text = ShownText::new(alloc, false);
-    for unit in units {
-        text.push(*unit)?;
-    }
+    text.push_all(units)?;
     text.finish()
 }
 
@@ -148,7 +180,8 @@ fn push_alone(text: &mut String, lines: bool, unit: u16) -> Result<(), Memory>
 }
 
 /// Whether a unit alone is shown by its number.
-fn escapes(unit: u16) -> bool
+#[inline(always)]
+pub(crate) fn escapes(unit: u16) -> bool
     ensures { result ≡ is_escaped unit }
 {
     unit < 0x20 || unit == 0x5C || (unit >= 0xD800 && unit < 0xE000)

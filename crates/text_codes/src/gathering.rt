@@ -1,0 +1,72 @@
+// The units at the front of a list that are shown as themselves, as bytes in a block.
+ghost use Rattle.std.specs.Prelude.{◌≡◌, ◌+◌, ◌%◌, ◌<◌, ◌≤◌, ◌++◌, ◌⊎◌};
+ghost use Rattle.std.specs.Prelude.{List, ℕ, length, take, Bool, encode_utf8};
+ghost use Rattle.std.specs.Str.{IsUtf8};
+ghost use Rattle.text_codes.specs.Shown.{shown};
+
+use crate::showing::escapes;
+
+/// The bytes that a block has room for.
+pub(crate) const BLOCK_LEN: usize = 192;
+
+/// The most bytes that a unit takes.
+const UNIT_LEN: usize = 3;
+
+/// The first unit of two bytes, and the first one of three.
+const TWO_BYTES: u16 = 0x80;
+
+const THREE_BYTES: u16 = 0x800;
+
+/// How many units at the front are shown as themselves, as many as the block has room for, and the bytes that they take.
+/// Their bytes stand at the front of the block.
+pub(crate) fn gather(units: &[u16], block: &mut [u8]) -> (usize, usize)
+    ensures inside { result.0 ≤ length units.now }
+    ensures room { result.1 ≤ length block.new }
+    ensures valid { IsUtf8 (take result.1 block.new) }
+    ensures text { (lines : Bool) (after : List ℕ)
+        → shown lines (take result.0 units.now ++ after) ≡ take result.1 block.new ++ shown lines after }
+{
+    let mut count = 0;
+    let mut len = 0;
+    while count < units.len() && block.len() - len >= UNIT_LEN {
+        let unit = units[count];
+        if escapes(unit) {
+            break;
+        }
+        len = put(block, len, unit);
+        count += 1;
+    }
+    (count, len)
+}
+
+/// Puts the bytes of a unit that is no surrogate behind the first bytes of a block. It gives their number then.
+#[inline(always)]
+fn put(block: &mut [u8], len: usize, unit: u16) -> usize
+    requires room { len + 3 ≤ length block.old }
+    requires alone { (unit < 0xD800) ⊎ (0xE000 ≤ unit) }
+    ensures long { length block.new ≡ length block.old }
+    ensures inside { result ≤ length block.new }
+    ensures bytes { take result block.new ≡ take len block.old ++ encode_utf8 unit }
+{
+    if unit < TWO_BYTES {
+        block[len] = unit as u8;
+        return len + 1;
+    }
+    if unit < THREE_BYTES {
+        block[len] = (0xC0 + unit / 0x40) as u8;
+        block[len + 1] = continuation(unit);
+        return len + 2;
+    }
+    block[len] = (0xE0 + unit / 0x1000) as u8;
+    block[len + 1] = continuation(unit / 0x40);
+    block[len + 2] = continuation(unit);
+    len + UNIT_LEN
+}
+
+/// A byte behind the first one of a character: the low six bits.
+#[inline(always)]
+fn continuation(bits: u16) -> u8
+    ensures { result ≡ 128 + bits % 64 }
+{
+    (0x80 + bits % 0x40) as u8
+}
