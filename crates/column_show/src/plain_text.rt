@@ -1,0 +1,17 @@
+// The main text of a document by columns.
+ghost use Rattle.std.specs.Prelude.{◌≡◌, IfOk};
+ghost use Rattle.doc_show.specs.MainText.{main_text_of};
+
+use doc_bits::{Memory, Text};
+use doc_columns::ColumnDocument;
+use std::alloc::Global;
+use text_codes::ShownText;
+
+/// The shown main text of a document, with a line feed for each paragraph mark.
+pub fn main_text(alloc: Global, document: &ColumnDocument) -> Result<Text, Memory>
+    ensures { IfOk result (λ text. text ≡ main_text_of document.now) }
+{
+    let mut text = ShownText::new(alloc, true);
+    text.push_all(document.main.units())?;
+    text.finish()
+}

@@ -1,0 +1,340 @@
+-- Three columns, one of which is changed in a range.
+use Rattle.std.proofs.Common.{◌≡◌, ℕ, zero, suc, ◌+◌, ◌-◌, ◌≤◌, List, [], ◌∷◌, ◌++◌, length, take, drop, Some, refl, sym, ◌∙◌, ap, subst, arith}
+use Rattle.std.specs.Prelude.{slice_get, slice_range}
+use Rattle.std.specs.List.{All, splice}
+use Rattle.std.proofs.lemmas.List.{take-append-drop, drop-drop}
+use Rattle.std.proofs.Math.Seq.{drop-append_seam, take-append_seam}
+use Rattle.std.proofs.lemmas.List.Edits.{length-between}
+use Rattle.std.proofs.lemmas.List.Elements.{All-nil, All-cons, All-head, All-tail, All-take, All-drop}
+use Rattle.doc_bits.specs.Together.{AreTogether}
+use Rattle.doc_bits.proofs.ListLemmas.{All_at}
+use Rattle.prop_map.specs.Settings.{Settings}
+use Rattle.run_lists.specs.Changed.{IsChanged}
+use Rattle.plain_doc.specs.declared.item.Item.{Item}
+use Rattle.plain_doc.specs.Document.{IsFormedItem, IsFormedText}
+use Rattle.plain_doc.proofs.FormedLemmas.{length-splice, IsFormedList-splice}
+use Rattle.doc_columns.specs.declared.beside.Beside.{Beside}
+use Rattle.doc_columns.specs.Beside.{beside_of, IsRanged}
+use Rattle.doc_columns.specs.Columns.{item_of, items_of, AreColumns}
+use Rattle.doc_columns.specs.Changes.{HasOtherChp, HasOtherBeside, KeepsCharacters, KeepsMaps}
+use Rattle.doc_columns.proofs.ItemsOfLemmas.{length-items_of, items_of-range, spliced_items, text_long}
+
+-- ---- one item of three columns
+
+-- what the columns have where the item is
+pub record HasParts (units : List ℕ) (chps : List Settings) (besides : List Beside) (k : ℕ) (item : Item) : Type 0 where
+  pub unit : slice_get units k ≡ Some item.unit
+  pub chp : slice_get chps k ≡ Some item.chp
+  pub beside : slice_get besides k ≡ Some (beside_of item)
+
+some_same : {A : Type 0} (x y : A) → Some x ≡ Some y → x ≡ y
+some_same x y e = cc
+
+pub has_parts : (units : List ℕ) (chps : List Settings) (besides : List Beside) (k : ℕ) (item : Item) →
+    slice_get (items_of units chps besides) k ≡ Some item → HasParts units chps besides k item
+has_parts [] chps besides k item there = absurd (cc)
+has_parts (unit ∷ units) [] besides k item there = absurd (cc)
+has_parts (unit ∷ units) (chp ∷ chps) [] k item there = absurd (cc)
+has_parts (unit ∷ units) (chp ∷ chps) (beside ∷ besides) zero item there =
+    let is : item_of unit chp beside ≡ item = some_same (item_of unit chp beside) item there in
+    record {
+      unit = ap (λ (x : Item). Some x.unit) is;
+      chp = ap (λ (x : Item). Some x.chp) is;
+      beside = ap (λ (x : Item). Some (beside_of x)) is;
+    }
+has_parts (unit ∷ units) (chp ∷ chps) (beside ∷ besides) (suc k) item there =
+    let rest = has_parts units chps besides k item there in
+    record { unit = rest.unit; chp = rest.chp; beside = rest.beside }
+
+-- one place has one entry
+same_entry : {A : Type 0} (xs : List A) (k : ℕ) (x y : A) → slice_get xs k ≡ Some x → slice_get xs k ≡ Some y → x ≡ y
+same_entry xs k x y one other = some_same x y (sym one ∙ other)
+
+-- ---- ranges
+
+-- a range in its own place
+own_range : {A : Type 0} (xs : List A) (from to : ℕ) → from ≤ to → splice xs from to (slice_range xs from to) ≡ xs
+own_range {A = A} xs from to ordered =
+    let end : from + (to - from) ≡ to = omega (arith, ordered) in
+    let rest : drop (to - from) (drop from xs) ≡ drop to xs =
+    drop-drop (to - from) from xs ∙ ap (λ (n : ℕ). drop n xs) end in
+    let back : slice_range xs from to ++ drop to xs ≡ drop from xs =
+    ap (λ (t : List A). slice_range xs from to ++ t) (sym rest) ∙ take-append-drop (to - from) (drop from xs) in
+    ap (λ (t : List A). take from xs ++ t) back ∙ take-append-drop from xs
+
+-- what holds of each entry holds of those of a range
+All-range : {A : Type 0} (P : A → Type 0) (xs : List A) (from to : ℕ) → All P xs → All P (slice_range xs from to)
+All-range P xs from to all = All-take P (to - from) (drop from xs) (All-drop P from xs all)
+
+-- the items of a range
+pub range_columns : (units : List ℕ) (chps : List Settings) (besides : List Beside) (us : List ℕ) (cs : List Settings)
+    (bs : List Beside) (text : List Item) (from to : ℕ) → us ≡ slice_range units from to →
+    cs ≡ slice_range chps from to → bs ≡ slice_range besides from to → items_of units chps besides ≡ text
+    → items_of us cs bs ≡ slice_range text from to
+range_columns units chps besides us cs bs text from to us_is cs_is bs_is is =
+    ap (λ (t : List ℕ). items_of t cs bs) us_is
+    ∙ ap (λ (t : List Settings). items_of (slice_range units from to) t bs) cs_is
+    ∙ ap (λ (t : List Beside). items_of (slice_range units from to) (slice_range chps from to) t) bs_is
+    ∙ items_of-range units chps besides from to
+    ∙ ap (λ (t : List Item). slice_range t from to) is
+
+-- the columns of a range
+pub range_are : (units : List ℕ) (chps : List Settings) (besides : List Beside) (us : List ℕ) (cs : List Settings)
+    (bs : List Beside) (from to : ℕ) → AreColumns units chps besides → from ≤ to → to ≤ length units →
+    us ≡ slice_range units from to → cs ≡ slice_range chps from to → bs ≡ slice_range besides from to
+    → AreColumns us cs bs
+range_are units chps besides us cs bs from to are ordered within us_is cs_is bs_is =
+    let us_long : length us ≡ to - from = ap length us_is ∙ length-between units from to within in
+    let cs_long : length cs ≡ to - from =
+    ap length cs_is ∙ length-between chps from to (omega (arith, within, are.chps_long)) in
+    let bs_long : length bs ≡ to - from =
+    ap length bs_is ∙ length-between besides from to (omega (arith, within, are.besides_long)) in
+    let long : length cs ≡ length us = cs_long ∙ sym us_long in
+    let also : length bs ≡ length us = bs_long ∙ sym us_long in
+    let range : items_of us cs bs ≡ slice_range (items_of units chps besides) from to =
+    range_columns units chps besides us cs bs (items_of units chps besides) from to us_is cs_is bs_is refl in
+    record {
+      chps_long = long;
+      besides_long = also;
+      formed =
+          record {
+            few =
+                omega (
+                  arith,
+                  are.formed.few,
+                  length-items_of us cs bs long also,
+                  length-items_of units chps besides are.chps_long are.besides_long,
+                  us_long,
+                  within,
+                );
+            each =
+                subst (All IsFormedItem) (sym range)
+                (All-range IsFormedItem (items_of units chps besides) from to are.formed.each);
+          };
+    }
+
+-- items are formed where those before are, and each becomes a formed one
+formed_together : (R : Item → Item → Type 0) (xs ys : List Item) → AreTogether R xs ys → All IsFormedItem xs →
+    ((k : ℕ) (x y : Item) → slice_get xs k ≡ Some x → slice_get ys k ≡ Some y → R x y → IsFormedItem x → IsFormedItem y)
+    → All IsFormedItem ys
+formed_together R [] [] together formed each = All-nil IsFormedItem
+formed_together R [] (y ∷ ys) together formed each = absurd (let e = together.len in omega (arith, e))
+formed_together R (x ∷ xs) [] together formed each = absurd (let e = together.len in omega (arith, e))
+formed_together R (x ∷ xs) (y ∷ ys) together formed each =
+    All-cons IsFormedItem y ys
+    (each zero x y refl refl (together.each zero x y refl refl) (All-head IsFormedItem x xs formed))
+    (formed_together R xs ys (record {
+      len = let e = together.len in omega (arith, e);
+      each = λ k before after here there. together.each (suc k) before after here there;
+    }) (All-tail IsFormedItem x xs formed) (λ k before after here there. each (suc k) before after here there))
+
+-- ---- the settings
+
+-- the items of a range whose settings are changed
+chps_together : (becomes : Settings → Settings → Type 0) (units : List ℕ) (chps fresh : List Settings)
+    (besides : List Beside) → length chps ≡ length units → length besides ≡ length units →
+    AreTogether becomes chps fresh
+    → AreTogether (HasOtherChp becomes) (items_of units chps besides) (items_of units fresh besides)
+chps_together becomes units chps fresh besides long also together = record {
+  len =
+      length-items_of units chps besides long also
+      ∙ sym (length-items_of units fresh besides (sym together.len ∙ long) also);
+  each = λ k x y here there.
+      let before = has_parts units chps besides k x here in
+      let after = has_parts units fresh besides k y there in
+      let unit : y.unit ≡ x.unit = same_entry units k y.unit x.unit after.unit before.unit in
+      let beside : beside_of y ≡ beside_of x =
+      same_entry besides k (beside_of y) (beside_of x) after.beside before.beside in
+      record {
+        chp = together.each k x.chp y.chp before.chp after.chp;
+        rest =
+            ap (λ (u : ℕ). item_of u y.chp (beside_of y)) unit
+            ∙ ap (λ (b : Beside). item_of x.unit y.chp b) beside;
+      };
+}
+
+other_chp_formed : (becomes : Settings → Settings → Type 0) → KeepsCharacters becomes → (x y : Item) →
+    HasOtherChp becomes x y → IsFormedItem x → IsFormedItem y
+other_chp_formed becomes kept x y other formed =
+    subst IsFormedItem (sym other.rest) (record {
+      maps =
+          record {
+            chp = kept x.chp y.chp formed.maps.chp other.chp;
+            pap = formed.maps.pap;
+            sect = formed.maps.sect;
+          };
+      unit = formed.unit;
+      style = formed.style;
+      field = formed.field;
+    })
+
+-- what a change of a column makes of the text
+pub record ChangesText (R : Item → Item → Type 0) (from to : ℕ) (units : List ℕ) (chps : List Settings)
+    (besides : List Beside) (text : List Item) : Type 0 where
+  pub are : AreColumns units chps besides
+  pub changed : IsChanged R from to text (items_of units chps besides)
+
+-- fresh items in place of those of a range
+changed_text : (R : Item → Item → Type 0) (from to : ℕ) (units : List ℕ) (chps : List Settings) (besides : List Beside)
+    (text fresh : List Item) → length chps ≡ length units → length besides ≡ length units → IsFormedText text →
+    from ≤ to → to ≤ length text → items_of units chps besides ≡ splice text from to fresh
+    → AreTogether R (slice_range text from to) fresh
+    → ((k : ℕ) (x y : Item) → slice_get fresh k ≡ Some y → R x y → IsFormedItem x → IsFormedItem y)
+    → ChangesText R from to units chps besides text
+changed_text R from to units chps besides text fresh long also formed ordered within is together keeps =
+    let count : length fresh ≡ to - from =
+    sym together.len ∙ length-between text from to within in
+    record {
+      are =
+          record {
+            chps_long = long;
+            besides_long = also;
+            formed =
+                IsFormedList-splice IsFormedItem text (items_of units chps besides) fresh from to is ordered within
+                (omega (arith, formed.few, count)) formed
+                (record {
+                  few = omega (arith, formed.few, count, within);
+                  each =
+                      formed_together R (slice_range text from to) fresh together
+                      (All-range IsFormedItem text from to formed.each) (λ k x y here there. keeps k x y there);
+                });
+          };
+      changed = record { fresh = fresh; spliced = is; each = together };
+    }
+
+-- the settings of a range are changed
+pub chps_changed : (becomes : Settings → Settings → Type 0) (units : List ℕ) (chps new : List Settings)
+    (besides : List Beside) (text : List Item) (from to : ℕ) → KeepsCharacters becomes → AreColumns units chps besides →
+    items_of units chps besides ≡ text → from ≤ to → to ≤ length text → IsChanged becomes from to chps new
+    → ChangesText (HasOtherChp becomes) from to units new besides text
+chps_changed becomes units chps new besides text from to kept are is ordered within changes =
+    let fresh = changes.fresh in
+    let us = slice_range units from to in
+    let cs = slice_range chps from to in
+    let bs = slice_range besides from to in
+    let long = text_long units chps besides text are is in
+    let us_long : length us ≡ to - from = length-between units from to (omega (arith, long, within)) in
+    let cs_long : length cs ≡ to - from =
+    length-between chps from to (omega (arith, long, within, are.chps_long)) in
+    let bs_long : length bs ≡ to - from =
+    length-between besides from to (omega (arith, long, within, are.besides_long)) in
+    let fresh_long : length fresh ≡ length us = sym changes.each.len ∙ cs_long ∙ sym us_long in
+    let new_long : length new ≡ length units =
+    ap length changes.spliced
+    ∙ omega (
+      arith,
+      length-splice chps fresh from to ordered (omega (arith, long, within, are.chps_long)),
+      are.chps_long,
+      fresh_long,
+      us_long,
+      long,
+      within,
+      ordered,
+    ) in
+    let whole : items_of units new besides ≡ splice text from to (items_of us fresh bs) =
+    ap (λ (t : List ℕ). items_of t new besides) (sym (own_range units from to ordered))
+    ∙ ap (λ (t : List Settings). items_of (splice units from to us) t besides) changes.spliced
+    ∙ ap (λ (t : List Beside). items_of (splice units from to us) (splice chps from to fresh) t)
+    (sym (own_range besides from to ordered))
+    ∙ spliced_items units chps besides us fresh bs from to are.chps_long are.besides_long fresh_long
+    (bs_long ∙ sym us_long) ordered (omega (arith, long, within))
+    ∙ ap (λ (t : List Item). splice t from to (items_of us fresh bs)) is in
+    let range : items_of us cs bs ≡ slice_range text from to =
+    items_of-range units chps besides from to ∙ ap (λ (t : List Item). slice_range t from to) is in
+    changed_text (HasOtherChp becomes) from to units new besides text (items_of us fresh bs) new_long are.besides_long
+    (subst IsFormedText is are.formed) ordered within whole
+    (subst (λ (t : List Item). AreTogether (HasOtherChp becomes) t (items_of us fresh bs)) range
+    (chps_together becomes us cs fresh bs (cs_long ∙ sym us_long) (bs_long ∙ sym us_long) changes.each))
+    (λ k x y there. other_chp_formed becomes kept x y)
+
+-- ---- what stands beside
+
+-- the fresh entries are among the new ones
+fresh_in : {A : Type 0} (P : A → Type 0) (xs fresh new : List A) (from to : ℕ) → new ≡ splice xs from to fresh →
+    All P new → All P fresh
+fresh_in P xs fresh new from to is all =
+    let front = take from xs in
+    let back = fresh ++ drop to xs in
+    let behind : All P back =
+    subst (All P) (drop-append_seam front back) (All-drop P (length front) (front ++ back) (subst (All P) is all)) in
+    subst (All P) (take-append_seam fresh (drop to xs)) (All-take P (length fresh) back behind)
+
+-- the items of a range beside which something else stands
+besides_together : (becomes : Beside → Beside → Type 0) (units : List ℕ) (chps : List Settings)
+    (besides fresh : List Beside) → length chps ≡ length units → length besides ≡ length units →
+    AreTogether becomes besides fresh
+    → AreTogether (HasOtherBeside becomes) (items_of units chps besides) (items_of units chps fresh)
+besides_together becomes units chps besides fresh long also together = record {
+  len =
+      length-items_of units chps besides long also
+      ∙ sym (length-items_of units chps fresh long (sym together.len ∙ also));
+  each = λ k x y here there.
+      let before = has_parts units chps besides k x here in
+      let after = has_parts units chps fresh k y there in
+      let unit : y.unit ≡ x.unit = same_entry units k y.unit x.unit after.unit before.unit in
+      let chp : y.chp ≡ x.chp = same_entry chps k y.chp x.chp after.chp before.chp in
+      record {
+        beside = together.each k (beside_of x) (beside_of y) before.beside after.beside;
+        rest =
+            ap (λ (u : ℕ). item_of u y.chp (beside_of y)) unit
+            ∙ ap (λ (c : Settings). item_of x.unit c (beside_of y)) chp;
+      };
+}
+
+other_beside_formed : (becomes : Beside → Beside → Type 0) → KeepsMaps becomes → (x y : Item) →
+    HasOtherBeside becomes x y → IsRanged (beside_of y) → IsFormedItem x → IsFormedItem y
+other_beside_formed becomes kept x y other ranged formed =
+    let maps = kept (beside_of x) (beside_of y) (record { pap = formed.maps.pap; sect = formed.maps.sect })
+    other.beside in
+    subst IsFormedItem (sym other.rest) (record {
+      maps = record { chp = formed.maps.chp; pap = maps.pap; sect = maps.sect };
+      unit = formed.unit;
+      style = ranged.style;
+      field = ranged.field;
+    })
+
+-- what stands beside the items of a range is changed
+pub besides_changed : (becomes : Beside → Beside → Type 0) (units : List ℕ) (chps : List Settings)
+    (besides new : List Beside) (text : List Item) (from to : ℕ) → KeepsMaps becomes → AreColumns units chps besides →
+    items_of units chps besides ≡ text → from ≤ to → to ≤ length text → IsChanged becomes from to besides new
+    → All IsRanged new → ChangesText (HasOtherBeside becomes) from to units chps new text
+besides_changed becomes units chps besides new text from to kept are is ordered within changes ranged =
+    let fresh = changes.fresh in
+    let us = slice_range units from to in
+    let cs = slice_range chps from to in
+    let bs = slice_range besides from to in
+    let long = text_long units chps besides text are is in
+    let us_long : length us ≡ to - from = length-between units from to (omega (arith, long, within)) in
+    let cs_long : length cs ≡ to - from =
+    length-between chps from to (omega (arith, long, within, are.chps_long)) in
+    let bs_long : length bs ≡ to - from =
+    length-between besides from to (omega (arith, long, within, are.besides_long)) in
+    let fresh_long : length fresh ≡ length us = sym changes.each.len ∙ bs_long ∙ sym us_long in
+    let new_long : length new ≡ length units =
+    ap length changes.spliced
+    ∙ omega (
+      arith,
+      length-splice besides fresh from to ordered (omega (arith, long, within, are.besides_long)),
+      are.besides_long,
+      fresh_long,
+      us_long,
+      long,
+      within,
+      ordered,
+    ) in
+    let all_fresh : All IsRanged fresh = fresh_in IsRanged besides fresh new from to changes.spliced ranged in
+    let whole : items_of units chps new ≡ splice text from to (items_of us cs fresh) =
+    ap (λ (t : List ℕ). items_of t chps new) (sym (own_range units from to ordered))
+    ∙ ap (λ (t : List Settings). items_of (splice units from to us) t new) (sym (own_range chps from to ordered))
+    ∙ ap (λ (t : List Beside). items_of (splice units from to us) (splice chps from to cs) t) changes.spliced
+    ∙ spliced_items units chps besides us cs fresh from to are.chps_long are.besides_long (cs_long ∙ sym us_long)
+    fresh_long ordered (omega (arith, long, within))
+    ∙ ap (λ (t : List Item). splice t from to (items_of us cs fresh)) is in
+    let range : items_of us cs bs ≡ slice_range text from to =
+    items_of-range units chps besides from to ∙ ap (λ (t : List Item). slice_range t from to) is in
+    changed_text (HasOtherBeside becomes) from to units chps new text (items_of us cs fresh) are.chps_long new_long
+    (subst IsFormedText is are.formed) ordered within whole
+    (subst (λ (t : List Item). AreTogether (HasOtherBeside becomes) t (items_of us cs fresh)) range
+    (besides_together becomes us cs bs fresh (cs_long ∙ sym us_long) (bs_long ∙ sym us_long) changes.each))
+    (λ k x y there other. other_beside_formed becomes kept x y other
+    (All_at IsRanged fresh k (beside_of y) all_fresh (has_parts us cs fresh k y there).beside))

@@ -1,0 +1,4 @@
+pub mod ItemsOfLemmas
+pub mod ChangesLemmas
+pub mod CollectLemmas
+pub mod RightLemmas

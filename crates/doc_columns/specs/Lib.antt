@@ -1,0 +1,4 @@
+pub mod Beside
+pub mod Columns
+pub mod Changes
+pub mod Specials

@@ -1,0 +1,211 @@
+// A text by columns. Contracts see the list of its items.
+ghost use Rattle.std.specs.Prelude.{◌≡◌, ◌+◌, ◌-◌, ◌^◌, ◌<◌, ◌≤◌};
+ghost use Rattle.std.specs.Prelude.{[], ◌∷◌, ◌++◌, length, map, slice_get, All, Some, IfOk};
+ghost use Rattle.std.specs.List.{splice};
+ghost use Rattle.run_lists.specs.Spread.{spread};
+ghost use Rattle.plain_doc.specs.Document.{HasPropertyMaps, IsFormedText};
+ghost use Rattle.doc_columns.specs.Beside.{beside_of};
+ghost use Rattle.doc_columns.specs.Columns.{item_of, items_of};
+
+use crate::Beside;
+use crate::ranges::{are_ranged, are_words, is_ranged, is_word};
+use doc_bits::Memory;
+use plain_doc::Item;
+use prop_map::PropMap;
+use run_lists::{Run, Runs, Shared, splice_list};
+use std::alloc::Global;
+use std::marker::Model;
+
+/// A text: its units, the settings of each as runs, and what stands beside each as runs.
+#[derive(Drop)]
+pub struct Columns {
+    pub(crate) units: Vec<u16>,
+    pub(crate) chps: Runs<PropMap>,
+    pub(crate) besides: Runs<Beside>,
+}
+
+impl Model for Columns {
+    ghost use Rattle.std.specs.Prelude.{List};
+    ghost use Rattle.std.specs.Coded.{coded_list};
+    ghost use Rattle.plain_doc.specs.declared.item.Item.{Item};
+    ghost use Rattle.plain_doc.specs.contracts.item.Item as item;
+    ghost use Rattle.doc_columns.specs.Columns.{items_of, AreColumns};
+
+    ghost Value = { List Item };
+
+    ghost coded = { coded_list item.the_row.coded };
+
+    ghost view = { λ c. items_of c.units.items c.chps c.besides };
+
+    ghost invariant = { λ c. AreColumns c.units.items c.chps c.besides };
+}
+
+impl Columns {
+    /// The text of no items.
+    pub fn new(alloc: Global) -> Columns
+        ensures { result ≡ [] }
+    {
+        Columns {
+            units: Vec::new(alloc),
+            chps: Runs::new(alloc),
+            besides: Runs::new(alloc),
+        }
+    }
+
+    /// The text of three columns. None is moved.
+    pub fn from_parts(units: Vec<u16>, chps: Runs<PropMap>, besides: Runs<Beside>) -> Columns
+        requires few { length units.items < 2 ^ 32 }
+        requires chps { length chps ≡ length units.items }
+        requires besides { length besides ≡ length units.items }
+        requires maps { All HasPropertyMaps (items_of units.items chps besides) }
+        ensures { result ≡ items_of units.items chps besides }
+    {
+        are_words(&units);
+        are_ranged(besides.as_runs());
+        Columns {
+            units,
+            chps,
+            besides,
+        }
+    }
+
+    /// The number of items. Every text is well formed.
+    pub fn len(&self) -> usize
+        ensures len { result ≡ length self.now }
+        ensures formed { IsFormedText self.now }
+    {
+        self.units.len()
+    }
+
+    /// The units of the items.
+    pub fn units(&self) -> &[u16]
+        ensures { result.now ≡ map (λ item. item.unit) self.now }
+    {
+        &self.units
+    }
+
+    /// The runs of their settings.
+    pub fn chps(&self) -> &[Run<PropMap>]
+        ensures { spread result.now ≡ map (λ item. item.chp) self.now }
+    {
+        self.chps.as_runs()
+    }
+
+    /// The runs of what stands beside them.
+    pub fn besides(&self) -> &[Run<Beside>]
+        ensures { spread result.now ≡ map beside_of self.now }
+    {
+        self.besides.as_runs()
+    }
+
+    /// The item at a place. Its maps are shared. It goes over the runs before it.
+    pub fn item(&self, alloc: Global, place: usize) -> Result<Item, Memory>
+        requires { place < length self.now }
+        ensures { IfOk result (λ item. slice_get self.now place ≡ Some item) }
+    {
+        let chp = self.chps.at(place).copy(alloc)?;
+        let beside = self.besides.at(place).copy(alloc)?;
+        Ok(item_with(self.units[place], chp, beside))
+    }
+
+    /// The text with an item more.
+    pub fn add(self, item: Item) -> Result<Columns, Memory>
+        requires few { length self + 1 < 2 ^ 32 }
+        requires maps { HasPropertyMaps item }
+        ensures { IfOk result (λ made. made ≡ self ++ item ∷ []) }
+    {
+        let Columns {
+            mut units,
+            mut chps,
+            mut besides,
+        } = self;
+        let (unit, chp, beside) = parts_of(item);
+        is_word(unit);
+        is_ranged(&beside);
+        units.push(unit)?;
+        chps.add(1, chp)?;
+        besides.add(1, beside)?;
+        Ok(Columns {
+            units,
+            chps,
+            besides,
+        })
+    }
+
+    /// The text with `fresh` in place of the items from `from` to before `to`.
+    pub fn splice(
+        self,
+        alloc: Global,
+        from: usize,
+        to: usize,
+        fresh: Columns,
+    ) -> Result<Columns, Memory>
+        requires ordered { from ≤ to }
+        requires within { to ≤ length self }
+        requires few { length self + length fresh < 2 ^ 32 + (to - from) }
+        ensures { IfOk result (λ made. made ≡ splice self from to fresh) }
+    {
+        let Columns {
+            mut units,
+            mut chps,
+            mut besides,
+        } = self;
+        let Columns {
+            units: more_units,
+            chps: more_chps,
+            besides: more_besides,
+        } = fresh;
+        splice_list(&mut units, from, to, more_units)?;
+        chps.splice(alloc, from, to, more_chps)?;
+        besides.splice(alloc, from, to, more_besides)?;
+        Ok(Columns {
+            units,
+            chps,
+            besides,
+        })
+    }
+}
+
+/// The item of a unit, its settings and what stands beside.
+pub(crate) fn item_with(unit: u16, chp: PropMap, beside: Beside) -> Item
+    ensures { result ≡ item_of unit chp beside }
+{
+    let Beside {
+        fld,
+        note,
+        mark,
+        sect,
+    } = beside;
+    Item {
+        unit,
+        fld,
+        note,
+        chp,
+        mark,
+        sect,
+    }
+}
+
+/// What an item has beside its unit and its settings, with these.
+fn parts_of(item: Item) -> (u16, PropMap, Beside)
+    ensures { item ≡ item_of result.0 result.1 result.2 }
+{
+    let Item {
+        unit,
+        fld,
+        note,
+        chp,
+        mark,
+        sect,
+    } = item;
+    (
+        unit,
+        chp,
+        Beside {
+            fld,
+            note,
+            mark,
+            sect,
+        },
+    )
+}

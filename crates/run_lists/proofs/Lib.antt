@@ -1,0 +1,4 @@
+pub mod SpreadLemmas
+pub mod CutLemmas
+pub mod RunsLemmas
+pub mod ChangeLemmas

@@ -1,0 +1,92 @@
+// Values of a range that become others, and values that are copied.
+ghost use Rattle.std.specs.Prelude.{◌≡◌, ◌≤◌, ◌<◌, ◌^◌, length, slice_range, IfOk, OnOk, OnErr};
+ghost use Rattle.doc_bits.specs.Together.{AreTogether};
+ghost use Rattle.run_lists.specs.Spread.{spread, extent};
+ghost use Rattle.run_lists.specs.Changed.{IsChanged};
+
+use crate::{Run, Runs, Shared, find};
+use doc_bits::Memory;
+use std::alloc::Global;
+
+/// What values become.
+pub trait Change<T>: Drop {
+    /// A value may become the other one.
+    ghost becomes: { Self → T → T → Type 0 };
+
+    /// What the value becomes.
+    fn change(&self, alloc: Global, value: &T) -> Result<T, Memory>
+        ensures { IfOk result (λ made. becomes self.now value.now made) };
+}
+
+/// Values that stay as they are.
+#[derive(Drop)]
+struct Same;
+
+impl<T: Shared> Change<T> for Same {
+    ghost becomes = { λ same before after. after ≡ before };
+
+    fn change(&self, alloc: Global, value: &T) -> Result<T, Memory> {
+        let copy = value.copy(alloc)?;
+        Ok(copy)
+    }
+}
+
+impl<T: Shared> Runs<T> {
+    /// Changes the values from `from` to before `to`, run by run.
+    pub fn change<C: Change<T>>(
+        &mut self,
+        alloc: Global,
+        from: usize,
+        to: usize,
+        by: &C,
+    ) -> Result<(), Memory>
+        requires ordered { from ≤ to }
+        requires within { to ≤ length self.old }
+        ensures ok { OnOk result (IsChanged (C.becomes by.now) from to self.old self.new) }
+        ensures err { OnErr result (self.new ≡ self.old) }
+    {
+        let fresh = changed(alloc, &self.runs, from, to, by)?;
+        self.splice(alloc, from, to, fresh)?;
+        Ok(())
+    }
+
+    /// The values from `from` to before `to`.
+    pub fn copy(&self, alloc: Global, from: usize, to: usize) -> Result<Runs<T>, Memory>
+        requires ordered { from ≤ to }
+        requires within { to ≤ length self.now }
+        ensures { IfOk result (λ copy. copy ≡ slice_range self.now from to) }
+    {
+        let copy = changed(alloc, &self.runs, from, to, &Same)?;
+        Ok(copy)
+    }
+}
+
+/// What the values from `from` to before `to` become.
+fn changed<T: Shared, C: Change<T>>(
+    alloc: Global,
+    runs: &[Run<T>],
+    from: usize,
+    to: usize,
+    by: &C,
+) -> Result<Runs<T>, Memory>
+    requires ordered { from ≤ to }
+    requires within { to ≤ extent runs.now }
+    requires few { extent runs.now < 2 ^ 32 }
+    ensures { IfOk result (AreTogether (C.becomes by.now) (slice_range (spread runs.now) from to)) }
+{
+    let spot = find(runs, 0, from);
+    let mut fresh = Runs::new(alloc);
+    let mut number = spot.run;
+    let mut skipped = spot.left;
+    let mut left = to - from;
+    while left > 0 {
+        let run = &runs[number];
+        let count = left.min(run.count as usize - skipped);
+        let value = by.change(alloc, &run.value)?;
+        fresh.add(count as u32, value)?;
+        left -= count;
+        skipped = 0;
+        number += 1;
+    }
+    Ok(fresh)
+}

@@ -1,0 +1,16 @@
+//! Lists kept as runs: how many times, and which value.
+#![tactic(auto)]
+
+mod change;
+mod cursor;
+mod cut;
+mod lists;
+mod runs;
+mod shared;
+
+pub use change::Change;
+pub use cursor::{Cursor, seek};
+pub use cut::{Spot, find};
+pub use lists::splice_list;
+pub use runs::{Run, Runs};
+pub use shared::Shared;
