@@ -1,6 +1,7 @@
 -- What the calls of a save make, as the layout says it.
-use Rattle.std.proofs.Common.{◌≡◌, ◌∙◌, refl, sym, ap, ℕ, ◌+◌, ◌*◌, ◌<◌, ◌≤◌, ◌^◌, true, List, [], ◌++◌, length, map, drop, arith, length-append}
-use Rattle.cfb_layout.specs.Sectors.{units_for, filled, padded}
+use Rattle.std.proofs.Common.{◌≡◌, ◌∙◌, ap, ℕ, ◌+◌, ◌<◌, ◌^◌, true, List, [], ◌++◌, length, map, drop, arith}
+use Rattle.std.proofs.Common.{length-append}
+use Rattle.cfb_layout.specs.Sectors.{filled, padded}
 use Rattle.fib_form.specs.Fib.{early_form}
 use Rattle.fib_form.specs.FibFields.{FibFields}
 use Rattle.fib_form.specs.FibBytes.{written_fib}
@@ -13,26 +14,27 @@ use Rattle.full_save.specs.TableStream.{entries_pairs}
 use Rattle.full_save.specs.WordDocument.{units_bytes}
 use Rattle.save_laws.specs.Slots.{story_counts}
 use Rattle.append_save.specs.Saves.{FastSave}
-use Rattle.append_save.specs.JoinedRuns.{joined_runs}
+use Rattle.append_save.specs.MarkRuns.{mark_runs}
 use Rattle.append_save.specs.PlannedSections.{planned_sepxes}
 use Rattle.append_save.specs.RenewedStreams.{renewed_streams}
-use Rattle.append_save.specs.Appended.{table_name_of, old_wd, added_bytes, fast_entries, fast_table, fast_fib, fast_wd, fast_streams}
+use Rattle.append_save.specs.Appended.{table_name_of, old_wd, old_bins, added_bytes, fast_entries, fast_table, fast_fib}
+use Rattle.append_save.specs.Appended.{fast_wd, fast_streams}
 use Rattle.append_save.proofs.PlannedLemmas.{length-planned}
 use Rattle.append_save.proofs.ReadyLemmas.{Ready, is_right}
 use Rattle.append_save.proofs.BodyLemmas.{text_part, text_and_pages, body_is, body_short}
 use Rattle.append_save.proofs.WrittenLemmas.{sections_fit, length-collected}
 
 -- the units and the pages, part by part
-pub pages_made : (save : FastSave) (items : List Item) (none first second third : List ℕ) → items ≡ save.added →
-    none ≡ [] → first ≡ none ++ padded 512 0 (units_bytes (map (λ (item : Item). item.unit) items)) →
+pub pages_made : (save : FastSave) (items : List Item) (old none first second third : List ℕ) → items ≡ save.added →
+    old ≡ old_bins Papx save → none ≡ [] →
+    first ≡ none ++ padded 512 0 (units_bytes (map (λ (item : Item). item.unit) items)) →
     second ≡ first ++ (pages_of Chpx (text_runs Chpx save.base items)).bytes →
-    third ≡ second ++ (pages_of Papx (joined_runs (text_runs Papx save.base items))).bytes →
-    third ≡ text_and_pages save
-pages_made save items none first second third same empty one two three =
+    third ≡ second ++ (pages_of Papx (mark_runs old save.base items)).bytes → third ≡ text_and_pages save
+pages_made save items old none first second third same bins empty one two three =
     let a : first ≡ text_part save =
     one ∙ (λ i. empty i ++ padded 512 0 (units_bytes (map (λ (item : Item). item.unit) (same i)))) in
     let b = two ∙ (λ i. a i ++ (pages_of Chpx (text_runs Chpx save.base (same i))).bytes) in
-    three ∙ (λ i. b i ++ (pages_of Papx (joined_runs (text_runs Papx save.base (same i)))).bytes)
+    three ∙ (λ i. b i ++ (pages_of Papx (mark_runs (bins i) save.base (same i))).bytes)
 
 -- what is added is short
 pub added_short : (r : Ready) → r.save.base + length (added_bytes r.save) < 2 ^ 30

@@ -1,20 +1,22 @@
 -- The ranges that are kept of an old bin table, and a table of these and of later ones.
 use Rattle.std.specs.Prelude.{slice_get, slice_index, nat_lt, filter}
 use Rattle.std.specs.List.{range_with_len}
-use Rattle.std.proofs.Common.{◌≡◌, ◌∙◌, refl, sym, ap, subst, inl, inr, ℕ, zero, suc, ◌+◌, ◌-◌, ◌*◌, ◌<◌, ◌≤◌, ◌^◌}
-use Rattle.std.proofs.Common.{true, false, Bool, cond, List, [], ◌∷◌, ◌++◌, length, map, Some, All, arith, get_or}
+use Rattle.std.proofs.Common.{◌≡◌, ◌∙◌, refl, sym, ap, subst, inl, inr, ℕ, zero, suc, ◌+◌, ◌-◌, ◌<◌, ◌≤◌, ◌^◌}
+use Rattle.std.proofs.Math.Nat.{min-le_right, le-min}
+use Rattle.std.proofs.Common.{true, false, Bool, cond, List, ◌∷◌, ◌++◌, length, map, Some, All, arith}
 use Rattle.std.proofs.lemmas.Bool.{cases_lt, lt-ltb, le-ltb}
-use Rattle.std.proofs.lemmas.List.{length-append, length-map}
+use Rattle.std.proofs.lemmas.List.{length-append}
 use Rattle.std.proofs.lemmas.List.Elements.{All-append}
 use Rattle.std.proofs.lemmas.List.FromFn.{get_or-range_with_len, length-range_with_len, length-map-range_with_len}
-use Rattle.std.proofs.lemmas.Option.{same_Some, none-some, slice_get_within, get_or_from_slice_get}
-use Rattle.doc_bits.proofs.ListLemmas.{there_is, from_map, get-map, All_at, All-from_slice_get}
+use Rattle.std.proofs.lemmas.Option.{slice_get_within, get_or_from_slice_get}
+use Rattle.doc_bits.proofs.ListLemmas.{there_is, from_map, All_at, All-from_slice_get}
 use Rattle.doc_bits.specs.Plc.{plc_cp}
 use Rattle.fkp_pages.specs.declared.lists.Bin.{Bin}
-use Rattle.fkp_pages.specs.Bin.{bin_count, bin_fcs, page_number, printed_bin, ArePrintableBins, IsBinTable, IsBinTableOf}
+use Rattle.fkp_pages.specs.Bin.{bin_count, bin_fcs, ArePrintableBins, IsBinTable}
 use Rattle.fkp_pages.specs.Rows.{AreRangesBefore, KeepsRanges}
-use Rattle.fkp_pages.proofs.PrintedBinLemmas.{printed_table, printed_fc, printed_page, printed_count}
-use Rattle.append_save.specs.KeptBins.{bin_of, bins_of, kept_bins}
+use Rattle.fkp_pages.proofs.BinLemmas.{bin_fcs_ascend}
+use Rattle.fkp_pages.proofs.LongerLemmas.{fc_before, fc_behind}
+use Rattle.append_save.specs.KeptBins.{bin_of, kept_bins, kept_end}
 
 -- ---- which ranges are kept
 
@@ -137,26 +139,66 @@ first_are_before table before bins are = record {
   all = λ k below behind. are.high k behind below;
 }
 
--- ---- the fcs and the pages of joined ranges
+-- ---- where they end
 
-fc_before : (old new : List Bin) (end k : ℕ) (bin : Bin) → slice_get old k ≡ Some bin →
-    slice_index (bin_fcs (old ++ new) end) k ≡ bin.first
-fc_before (bin ∷ old) new end zero it here = ap (λ (b : Bin). b.first) (same_Some bin it here)
-fc_before (bin ∷ old) new end (suc k) it here = fc_before old new end k it here
-fc_before [] new end k it here = absurd (none-some it here)
+-- they begin before their end
+pub first_before_end : (table : List ℕ) (before : ℕ) (bins : List Bin) → IsBinTable table →
+    AreFirstRanges table before bins → AreFirstRanges table (kept_end table before) bins
+first_before_end table before bins is are =
+    let few = are.few in
+    let last = bin_count table in
+    record {
+      few = few;
+      each = are.each;
+      low = λ k below.
+          let low = are.low k below in
+          let up = is.ascend k (omega (arith, below, few)) in
+          let upto = bin_fcs_ascend table (k + 1) last is (omega (arith, below, few)) (omega arith) in
+          let least : plc_cp table k + 1 ≤ kept_end table before =
+          le-min (omega (arith, up, upto)) (omega (arith, low)) in
+          omega (arith, least);
+      high = λ k behind below.
+          let high = are.high k behind below in
+          omega (arith, high, min-le_right (plc_cp table last) before);
+    }
 
-page_before : (old new : List Bin) (k : ℕ) (bin : Bin) → slice_get old k ≡ Some bin →
-    slice_index (map (λ bin. bin.page) (old ++ new)) k ≡ bin.page
-page_before (bin ∷ old) new zero it here = ap (λ (b : Bin). b.page) (same_Some bin it here)
-page_before (bin ∷ old) new (suc k) it here = page_before old new k it here
-page_before [] new k it here = absurd (none-some it here)
-
-fc_behind : (old new : List Bin) (end k : ℕ) →
-    slice_index (bin_fcs (old ++ new) end) (length old + k) ≡ slice_index (bin_fcs new end) k
-fc_behind [] new end k = let e : 0 + k ≡ k = omega arith in ap (slice_index (bin_fcs new end)) e
-fc_behind (bin ∷ old) new end k =
-    let e : length (bin ∷ old) + k ≡ suc (length old + k) = omega arith in
-    ap (slice_index (bin_fcs (bin ∷ (old ++ new)) end)) e ∙ fc_behind old new end k
+-- a table that keeps the ranges before this end keeps those before the place
+pub kept_further : (old new : List ℕ) (before : ℕ) → IsBinTable old → KeepsRanges old new (kept_end old before) →
+    KeepsRanges old new before
+kept_further old new before is keeps =
+    let last = bin_count old in
+    let fewer = keeps.fewer in
+    record {
+      count = keeps.count;
+      fewer = fewer;
+      there = keeps.there;
+      first = keeps.first;
+      page = keeps.page;
+      ends = λ k below. elim (keeps.ends k below) [
+        | inl same ↦ inl same
+        | inr far ↦ elim (cases_lt (plc_cp old last) before) [
+          | inl early ↦
+              let upto = bin_fcs_ascend old (k + 1) last is (omega (arith, below, fewer)) (omega arith) in
+              let least : plc_cp old last ≤ kept_end old before = le-min (omega arith) (omega (arith, early)) in
+              inl (omega (arith, far, upto, least))
+          | inr late ↦
+              let least : before ≤ kept_end old before = le-min (omega (arith, late)) (omega arith) in
+              inr (omega (arith, far, least))
+        ]
+      ];
+      all = λ k inside past.
+          let begins = keeps.all k inside past in
+          let up = is.ascend k inside in
+          let upto = bin_fcs_ascend old (k + 1) last is (omega (arith, inside)) (omega arith) in
+          elim (cases_lt (plc_cp old last) before) [
+            | inl early ↦
+                let least : plc_cp old last ≤ kept_end old before = le-min (omega arith) (omega (arith, early)) in
+                absurd (omega (arith, begins, up, upto, least))
+            | inr late ↦
+                let least : before ≤ kept_end old before = le-min (omega (arith, late)) (omega arith) in
+                omega (arith, begins, least)
+          ];
+    }
 
 -- ---- a table of kept ranges and later ones
 
@@ -219,42 +261,3 @@ printable_with table before bins more end is are may begins some =
           All-append (λ (bin : Bin). bin.page < 2 ^ 22) bins more (kept_page table before bins are)
           (later_page more end may);
     }
-
--- it keeps the ranges of the old table
-pub ranges_kept : (old : List ℕ) (bins more : List Bin) (end before : ℕ) → AreRangesBefore old before bins →
-    ArePrintableBins (bins ++ more) end → end < 2 ^ 32 → before ≤ slice_index (bin_fcs more end) 0 →
-    KeepsRanges old (printed_bin (bins ++ more) end) before
-ranges_kept old bins more end before ranges printable small begins =
-    let all = bins ++ more in
-    let table = printed_bin all end in
-    let many = length-append bins more in
-    let count = printed_count all end in
-    let fc : (k : ℕ) → k < length bins → plc_cp table k ≡ plc_cp old k = λ k below.
-    let found = there_is bins k below in
-    printed_fc all end k printable small (omega (arith, below, many))
-    ∙ (fc_before bins more end k found.0 found.1 ∙ (ranges.each k found.0 found.1).0) in
-    record {
-      count = length bins;
-      fewer = ranges.fewer;
-      there = omega (arith, many, count);
-      first = fc;
-      page = λ k below.
-          let found = there_is bins k below in
-          printed_page all end k printable (omega (arith, below, many))
-          ∙ (page_before bins more k found.0 found.1 ∙ (ranges.each k found.0 found.1).1);
-      ends = λ k below. elim (cases_lt (k + 1) (length bins)) [
-        | inl inner ↦ let same = fc (k + 1) inner in inl (omega (arith, same))
-        | inr outer ↦
-            let at : k + 1 ≡ length bins + 0 = omega (arith, below, outer) in
-            let here : plc_cp table (k + 1) ≡ slice_index (bin_fcs more end) 0 =
-            printed_fc all end (k + 1) printable small (omega (arith, below, many))
-            ∙ (ap (slice_index (bin_fcs all end)) at ∙ fc_behind bins more end 0) in
-            inr (omega (arith, here, begins))
-      ];
-      all = ranges.all;
-    }
-
--- and it is a table with a range at least
-pub table_printed : (bins : List Bin) (end : ℕ) → ArePrintableBins bins end → end < 2 ^ 32 →
-    IsBinTableOf bins end (printed_bin bins end)
-table_printed = printed_table

@@ -1,4 +1,5 @@
 pub mod JoinLemmas
+pub mod MarkLemmas
 pub mod JoinSteps
 pub mod SameRuns
 pub mod KeptBinLemmas

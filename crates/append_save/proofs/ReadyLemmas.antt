@@ -1,21 +1,20 @@
 -- What a save that can be appended has: the streams that are there, and the runs that are added.
-use Rattle.std.specs.Prelude.{slice_get, slice_index, slice_range}
-use Rattle.std.proofs.Common.{◌≡◌, ◌∙◌, refl, sym, ap, subst, inl, inr, ℕ, zero, suc, ◌+◌, ◌-◌, ◌*◌, ◌/◌, ◌<◌, ◌≤◌, ◌^◌}
-use Rattle.std.proofs.Common.{List, [], ◌∷◌, length, map, Some, All, arith}
+use Rattle.std.specs.Prelude.{slice_range}
+use Rattle.std.proofs.Common.{◌≡◌, ◌∙◌, refl, sym, ap, subst, inl, inr, ℕ, ◌+◌, ◌*◌, ◌/◌, ◌<◌, ◌≤◌, ◌^◌}
+use Rattle.std.proofs.Common.{List, [], ◌∷◌, length, All, arith}
 use Rattle.std.proofs.lemmas.Bool.{cases_lt}
-use Rattle.std.proofs.lemmas.List.{nil_from_length, length-append}
+use Rattle.std.proofs.lemmas.List.{nil_from_length}
 use Rattle.std.proofs.lemmas.List.Elements.{All-nil}
 use Rattle.std.proofs.lemmas.Option.{none-some}
+use Rattle.std.proofs.Math.Nat.{min-le_right}
 use Rattle.doc_bits.proofs.ListLemmas.{All_at, All-from_slice_get}
 use Rattle.doc_bits.specs.declared.places.Where.TheVariants.{Wd}
+use Rattle.doc_bits.specs.Plc.{plc_cp}
 use Rattle.doc_bits.specs.Rules.{Hold, Nowhere}
 use Rattle.cfb_streams.specs.Contents.{Contents}
-use Rattle.cfb_streams.specs.Container.{HasContents}
 use Rattle.cfb_streams.specs.Names.{wd_name, table_name}
-use Rattle.cfb_streams.proofs.UniqueLemmas.{contents_unique}
-use Rattle.cfb_layout.specs.Sectors.{units_for}
 use Rattle.fib_form.specs.Fib.{early_form, fib_pair, table_part}
-use Rattle.fib_form.specs.FibFields.{FibFields, fib_fields, pair_at}
+use Rattle.fib_form.specs.FibFields.{pair_at}
 use Rattle.fib_form.specs.FibRules.{fib_rules}
 use Rattle.fib_form.specs.TableParts.{pair_of}
 use Rattle.fib_form.specs.declared.table_parts.TablePart.{TablePart}
@@ -40,14 +39,11 @@ use Rattle.plain_doc.proofs.CutLemmas.{are_stretches}
 use Rattle.plain_doc.proofs.RightLemmas.{sound_is_right}
 use Rattle.doc_load.specs.Source.{part_bytes}
 use Rattle.doc_load.specs.PairRules.{BreaksPairs}
-use Rattle.doc_load.specs.PartRules.{part_rules}
-use Rattle.doc_load.specs.FileRules.{FileText, HasText, source_of, wd_rules, table_rules, loading_rules, file_rules}
+use Rattle.doc_load.specs.FileRules.{FileText, source_of, wd_rules, table_rules}
 use Rattle.doc_load.specs.FileRules.{table_stream_name}
 use Rattle.doc_load.proofs.NameLemmas.{named_one}
 use Rattle.doc_load.proofs.PartLemmas.{part-inside, pair-read, table_part-empty}
 use Rattle.doc_load.proofs.RightPlaces.{bin_tables, hold_out}
-use Rattle.doc_load.proofs.TextLemmas.{text_one}
-use Rattle.doc_read.specs.Holds.{FileParts, HasFileParts}
 use Rattle.doc_read.proofs.ExistFits.{text_held}
 use Rattle.full_save.specs.Runs.{joins_run, runs_from, text_runs}
 use Rattle.full_save.proofs.BodyLemmas.{last_fc-text_runs}
@@ -56,13 +52,15 @@ use Rattle.save_laws.specs.Places.{PagedStream}
 use Rattle.save_laws.specs.GivenFiles.{stream_of}
 use Rattle.append_save.specs.Saves.{FastSave}
 use Rattle.append_save.specs.JoinedRuns.{joined_runs}
+use Rattle.append_save.specs.MarkRuns.{begun, runs_end}
 use Rattle.append_save.specs.RenewedStreams.{bytes_named}
 use Rattle.append_save.specs.OldParts.{StaysWithin, named_part}
 use Rattle.append_save.specs.Appended.{old_wd, old_table, old_bins, old_stream, added_end, added_runs, added_pages}
-use Rattle.append_save.specs.Appended.{first_page}
+use Rattle.append_save.specs.Appended.{run_items, runs_begin, bins_end, first_page}
 use Rattle.append_save.specs.Kept.{CanBeAppended}
-use Rattle.append_save.proofs.JoinLemmas.{joined_are}
+use Rattle.append_save.proofs.MarkLemmas.{up_to_mark-all, length-up_to_mark, end_is, AreBegun, begun_are}
 use Rattle.append_save.proofs.StreamLemmas.{named_is}
+use Rattle.save_laws.proofs.GivenFiles.{AreHeld, held_rules}
 
 -- a save that can be appended, of a well-formed document, with well-formed items
 pub record Ready : Type 0 where
@@ -78,23 +76,6 @@ is_right r = sound_is_right r.save.document r.can.sound
 
 abbrev pub the_text : Ready → FileText
 the_text r = r.can.held.parts.text
-
--- the rules hold of the text and the streams that the file was read by
-record AreHeld (file : List ℕ) (parts : FileParts) : Type 0 where
-  loading : Hold (loading_rules parts.contents)
-  parts_hold : Hold (part_rules (source_of parts.text))
-
-held_rules : (file : List ℕ) (parts : FileParts) → Hold (file_rules file) → HasFileParts file parts → AreHeld file parts
-held_rules file parts h has =
-    let contents : h.1.0 ≡ parts.contents = contents_unique file h.1.0 parts.contents h.1.1.0 has.has_contents in
-    let rest = h.1.1.1 in
-    let text : HasText parts.contents rest.1.0 = subst (λ c. HasText c rest.1.0) contents rest.1.1.0 in
-    let same : rest.1.0 ≡ parts.text =
-    text_one file parts.contents rest.1.0 parts.text has.has_contents text has.has_text in
-    record {
-      loading = subst (λ c. Hold (loading_rules c)) contents rest.0;
-      parts_hold = subst (λ t. Hold (part_rules (source_of t))) same rest.1.1.1;
-    }
 
 rules_held : (r : Ready) → AreHeld r.can.file r.can.held.parts
 rules_held r = held_rules r.can.file r.can.held.parts r.can.held.rules r.can.held.has_parts
@@ -245,23 +226,50 @@ pub record AreAdded (kind : PageKind) (r : Ready) : Type 0 where
   pub right : AreRuns kind (added_runs kind r.save)
   pub numbers : All HasFileNumbers (added_runs kind r.save)
   pub some : 0 < length (added_runs kind r.save)
-  pub first : first_fc (added_runs kind r.save) ≡ r.save.base
-  pub last : last_fc (added_runs kind r.save) ≡ added_end r.save
+  pub first : first_fc (added_runs kind r.save) ≡ runs_begin kind r.save
+  pub last : last_fc (added_runs kind r.save) ≡ bins_end kind r.save
 
-pub text_added : (kind : PageKind) (r : Ready) → 0 < length r.save.added →
-    AreTextRuns kind (text_runs kind r.save.base r.save.added)
+-- the items that have runs are well formed, and are few
+run_items_writable : (kind : PageKind) (r : Ready) → All IsWritableItem (run_items kind r.save)
+run_items_writable Chpx r = items_writable r
+run_items_writable Papx r = up_to_mark-all IsWritableItem r.save.added (items_writable r)
+
+few_run_items : (kind : PageKind) (r : Ready) → length (run_items kind r.save) ≤ length r.save.added
+few_run_items Chpx r = omega arith
+few_run_items Papx r = length-up_to_mark r.save.added
+
+-- their runs before any are joined
+abbrev pub text_of : PageKind → Ready → List Run
+text_of kind r = text_runs kind r.save.base (run_items kind r.save)
+
+pub text_added : (kind : PageKind) (r : Ready) → 0 < length (run_items kind r.save) → AreTextRuns kind (text_of kind r)
 text_added kind r some =
     let small = (base_is r).small in
-    text_runs_right kind r.save.base r.save.added (items_writable r) some (omega (arith, small))
+    let few = few_run_items kind r in
+    text_runs_right kind r.save.base (run_items kind r.save) (run_items_writable kind r) some
+    (omega (arith, small, few))
 
-text_first : (kind : PageKind) (r : Ready) → 0 < length r.save.added →
-    first_fc (text_runs kind r.save.base r.save.added) ≡ r.save.base
+text_first : (kind : PageKind) (r : Ready) → 0 < length (run_items kind r.save) →
+    first_fc (text_of kind r) ≡ r.save.base
 text_first kind r some =
-    let parts = stretches (joins_run kind) r.save.added in
-    let len = ap length (are_stretches (joins_run kind) r.save.added).whole in
+    let parts = stretches (joins_run kind) (run_items kind r.save) in
+    let len = ap length (are_stretches (joins_run kind) (run_items kind r.save)).whole in
     first_of kind r.save.base parts (omega (arith, some, len))
 
-pub added_are : (kind : PageKind) (r : Ready) → 0 < length r.save.added → AreAdded kind r
+-- the runs of paragraphs begin at the added text or before it
+begin_low : (r : Ready) → runs_begin Papx r.save ≤ r.save.base
+begin_low r = min-le_right (plc_cp (old_bins Papx r.save) (bin_count (old_bins Papx r.save))) r.save.base
+
+pub marks_added : (r : Ready) → 0 < length (run_items Papx r.save) →
+    AreBegun Papx (runs_begin Papx r.save) (text_of Papx r) (added_runs Papx r.save)
+marks_added r some =
+    let runs = text_added Papx r some in
+    let first = text_first Papx r some in
+    let low = begin_low r in
+    begun_are Papx (runs_begin Papx r.save) (text_of Papx r) (omega (arith, first, low)) runs.right runs.numbers
+    runs.some
+
+pub added_are : (kind : PageKind) (r : Ready) → 0 < length (run_items kind r.save) → AreAdded kind r
 added_are Chpx r some =
     let runs = text_added Chpx r some in
     record {
@@ -272,14 +280,13 @@ added_are Chpx r some =
       last = last_fc-text_runs Chpx r.save.base r.save.added some;
     }
 added_are Papx r some =
-    let runs = text_added Papx r some in
-    let joined = joined_are Papx (text_runs Papx r.save.base r.save.added) runs.right runs.numbers runs.some in
+    let made = marks_added r some in
     record {
-      right = joined.right;
-      numbers = joined.numbers;
-      some = joined.some;
-      first = joined.first ∙ text_first Papx r some;
-      last = joined.last ∙ last_fc-text_runs Papx r.save.base r.save.added some;
+      right = made.right;
+      numbers = made.numbers;
+      some = made.some;
+      first = made.first;
+      last = end_is (runs_begin Papx r.save) (added_runs Papx r.save) made.some;
     }
 
 -- without items there are none
@@ -287,25 +294,49 @@ no_text : (kind : PageKind) (at : ℕ) → text_runs kind at [] ≡ []
 unfolding stretches runs_from
 no_text kind at = refl
 
-none_added : (kind : PageKind) (save : FastSave) → save.added ≡ [] → added_runs kind save ≡ []
+none_added : (kind : PageKind) (save : FastSave) → run_items kind save ≡ [] → added_runs kind save ≡ []
 none_added Chpx save none = ap (λ (items : List Item). text_runs Chpx save.base items) none ∙ no_text Chpx save.base
 none_added Papx save none =
-    ap (λ (items : List Item). joined_runs (text_runs Papx save.base items)) none
-    ∙ ap joined_runs (no_text Papx save.base)
+    ap (λ (items : List Item). joined_runs (begun (runs_begin Papx save) (text_runs Papx save.base items))) none
+    ∙ ap (λ (runs : List Run). joined_runs (begun (runs_begin Papx save) runs)) (no_text Papx save.base)
 
 no_runs : (kind : PageKind) → AreRuns kind []
 no_runs kind =
     record { writable = All-nil (IsWritableRun kind); touch = λ k run next here there. absurd (none-some run here) }
 
 -- there are no runs where there are no items
-pub none_there : (kind : PageKind) (r : Ready) → length r.save.added ≤ 0 → added_runs kind r.save ≡ []
-none_there kind r none = none_added kind r.save (nil_from_length r.save.added (omega (arith, none)))
+pub none_there : (kind : PageKind) (r : Ready) → length (run_items kind r.save) ≤ 0 → added_runs kind r.save ≡ []
+none_there kind r none = none_added kind r.save (nil_from_length (run_items kind r.save) (omega (arith, none)))
 
 pub runs_right : (kind : PageKind) (r : Ready) → AreRuns kind (added_runs kind r.save)
-runs_right kind r = elim (cases_lt 0 (length r.save.added)) [
+runs_right kind r = elim (cases_lt 0 (length (run_items kind r.save))) [
   | inl some ↦ (added_are kind r some).right
   | inr none ↦ subst (AreRuns kind) (sym (none_there kind r none)) (no_runs kind)
 ]
+
+-- where the bin table ends
+pub end_low : (kind : PageKind) (r : Ready) → bins_end kind r.save ≤ added_end r.save
+end_low Chpx r = omega arith
+end_low Papx r = elim (cases_lt 0 (length (run_items Papx r.save))) [
+  | inl some ↦
+      let made = marks_added r some in
+      let last = made.last in
+      let own = (added_are Papx r some).last in
+      let text = last_fc-text_runs Papx r.save.base (run_items Papx r.save) some in
+      let few = few_run_items Papx r in
+      omega (arith, last, own, text, few)
+  | inr none ↦
+      let begins = ap (runs_end (runs_begin Papx r.save)) (none_there Papx r none) in
+      let low = begin_low r in
+      omega (arith, begins, low)
+]
+
+-- without runs that is where they would begin, or behind it
+pub end_high : (kind : PageKind) (r : Ready) → length (run_items kind r.save) ≤ 0 →
+    runs_begin kind r.save ≤ bins_end kind r.save
+end_high Chpx r none = omega arith
+end_high Papx r none =
+    let begins = ap (runs_end (runs_begin Papx r.save)) (none_there Papx r none) in omega (arith, begins)
 
 -- ---- their pages
 

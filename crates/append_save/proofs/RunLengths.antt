@@ -8,20 +8,24 @@ use Rattle.prop_map.specs.Settings.{Settings}
 use Rattle.prop_map.specs.Printing.{printed_list}
 use Rattle.fkp_pages.specs.declared.kind.PageKind.TheVariants.{Chpx, Papx}
 use Rattle.fkp_pages.specs.declared.lists.Run.{Run}
+use Rattle.plain_doc.specs.declared.item.Item.{Item}
 use Rattle.plain_doc.specs.Settings.{same_settings, is_alike}
 use Rattle.plain_doc.specs.Stretches.{stretch_from, stretches}
 use Rattle.plain_doc.proofs.SettingsLemmas.{same_settings-Decides}
 use Rattle.full_save.specs.Sections.{sepx_bytes}
 use Rattle.full_save.specs.Runs.{text_runs}
 use Rattle.full_save.proofs.StreamLengths.{length-sepx, length-runs_from}
-use Rattle.save_bounds.specs.RunCounts.{joined_run_count}
+use Rattle.save_bounds.specs.RunCounts.{marks_of, same_marks, joined_run_count}
 use Rattle.save_bounds.proofs.RunLemmas.{none_if, leads, counted}
 use Rattle.save_bounds.proofs.JoinedRunLemmas.{paragraph_runs_are_counted}
 use Rattle.append_save.specs.JoinedRuns.{is_same_run, spanned, joined_from, joined_runs}
 use Rattle.append_save.specs.PlannedSections.{planned_sepxes}
-use Rattle.append_save.specs.Appended.{added_pages}
+use Rattle.append_save.specs.KeptBins.{kept_end}
+use Rattle.append_save.specs.MarkRuns.{up_to_mark, begun, mark_runs}
+use Rattle.append_save.specs.Appended.{old_bins, added_pages}
 use Rattle.append_save.specs.AppendedLengths.{unwritten_count}
 use Rattle.append_save.proofs.JoinLemmas.{goes_on, joined-more}
+use Rattle.append_save.proofs.MarkLemmas.{marks_of-up_to_mark, begun_run}
 use Rattle.append_save.proofs.ReadyLemmas.{Ready, pages_whole}
 
 -- ---- runs that are joined are no more than their stretches
@@ -51,10 +55,20 @@ joined_few run lead (next ∷ runs) istd maps =
           omega (arith, few, here, count, one, ap length (joined-more run next runs))
     ]
 
-pub joined_runs_are_few : (runs : List Run) → length (joined_runs runs) ≤ length (stretches is_same_run runs)
+begun_runs_are_few : (place : ℕ) (runs : List Run) →
+    length (joined_runs (begun place runs)) ≤ length (stretches is_same_run runs)
 unfolding stretches
-joined_runs_are_few [] = omega arith
-joined_runs_are_few (run ∷ runs) = joined_few run run runs refl refl
+begun_runs_are_few place [] = omega arith
+begun_runs_are_few place (run ∷ runs) = joined_few (begun_run place run) run runs refl refl
+
+-- the runs of paragraphs are no more than stretches of equal marks
+pub mark_runs_are_few : (table : List ℕ) (base : ℕ) (items : List Item) →
+    length (mark_runs table base items) ≤ length (stretches same_marks (marks_of items)) + 1
+mark_runs_are_few table base items =
+    let few = begun_runs_are_few (kept_end table base) (text_runs Papx base (up_to_mark items)) in
+    let counted = paragraph_runs_are_counted base (up_to_mark items) in
+    let marks = ap (λ marks. length (stretches same_marks marks)) (marks_of-up_to_mark items) in
+    omega (arith, few, counted, marks)
 
 -- ---- pages
 
@@ -63,7 +77,6 @@ page_count r = length (added_pages Chpx r.save).starts + length (added_pages Pap
 
 pub pages_are_counted : (r : Ready) → page_count r ≤ joined_run_count r.save.added + 1
 pages_are_counted r =
-    let runs = text_runs Papx r.save.base r.save.added in
     let chp = (pages_whole Chpx r).few in
     let pap = (pages_whole Papx r).few in
     omega (
@@ -71,8 +84,7 @@ pages_are_counted r =
       chp,
       pap,
       length-runs_from Chpx r.save.base (stretches is_alike r.save.added),
-      joined_runs_are_few runs,
-      paragraph_runs_are_counted r.save.base r.save.added,
+      mark_runs_are_few (old_bins Papx r.save) r.save.base r.save.added,
     )
 
 -- ---- Sepxes

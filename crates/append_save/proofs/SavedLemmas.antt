@@ -1,18 +1,16 @@
 -- What is written behind an old stream is a fast save of the document, and the file holds its streams.
 use Rattle.std.specs.Prelude.{slice_get, slice_index, take}
-use Rattle.std.proofs.Common.{◌≡◌, ◌∙◌, refl, sym, ap, subst, inl, inr, ℕ, ◌+◌, ◌-◌, ◌*◌, ◌<◌, ◌≤◌, ◌^◌, cond}
-use Rattle.std.proofs.Common.{List, [], ◌∷◌, ◌++◌, length, map, Some, All, Bool, true, false, eqb, arith}
-use Rattle.std.proofs.lemmas.List.{length-map, append-nil, nil_from_length}
+use Rattle.std.proofs.Common.{◌≡◌, ◌∙◌, refl, sym, ap, subst, inl, inr, ℕ, ◌+◌, ◌<◌, ◌≤◌, ◌^◌, cond}
+use Rattle.std.proofs.Common.{[], ◌++◌, length, map, Some, Bool, true, false, eqb, arith}
+use Rattle.std.proofs.lemmas.List.{length-map}
 use Rattle.std.proofs.lemmas.Option.{slice_get_within}
 use Rattle.doc_bits.proofs.ListLemmas.{All_at, All-from_slice_get, there_is}
-use Rattle.doc_bits.specs.Number.{AreBytes, number_at}
-use Rattle.doc_bits.specs.Rules.{Hold}
 use Rattle.doc_bits.specs.declared.places.Where.TheVariants.{File}
 use Rattle.cfb_streams.specs.Contents.{Contents, NamedBytes, HasNamed, AreStreams}
 use Rattle.cfb_streams.specs.Container.{container_rules, HasContents}
 use Rattle.cfb_streams.specs.Names.{wd_name, table_name, first_table_name, second_table_name}
 use Rattle.cfb_layout.specs.Counts.{Fits}
-use Rattle.cfb_layout.specs.Layout.{lengths_of, compound_file, contents_of}
+use Rattle.cfb_layout.specs.Layout.{lengths_of, compound_file}
 use Rattle.cfb_layout.specs.Laws.{IsLayout}
 use Rattle.cfb_layout.proofs.MadeLemmas.{file_holds, file_contents}
 use Rattle.fib_form.specs.Fib.{fib_pair, fib_which_table}
@@ -22,12 +20,8 @@ use Rattle.fib_form.proofs.PairLemmas.{pair_at-fib_pairs}
 use Rattle.fkp_pages.specs.declared.kind.PageKind.TheVariants.{Chpx, Papx}
 use Rattle.piece_table.specs.Piece.{TextPiece, UnitPlace, IsTextPiece, flat_pieces, place_of_cp, total_length}
 use Rattle.piece_table.specs.ClxRules.{FitsPages}
-use Rattle.piece_table.specs.Printing.{IsPrintable, IsPrintedClx}
-use Rattle.doc_parts.specs.Levels.{levels_before, level_start, AreLevelsFrom, level_count}
-use Rattle.plain_doc.specs.Carried.{AreListsWithLevels}
+use Rattle.piece_table.specs.Printing.{IsPrintable}
 use Rattle.plain_doc.specs.Collected.{sections_of}
-use Rattle.plain_doc.specs.TextLists.{starts_from}
-use Rattle.doc_load.specs.FileRules.{table_stream_name, source_of}
 use Rattle.doc_read.specs.CarriedParts.{AreWithinBounds, carried_streams}
 use Rattle.doc_read.proofs.ContentsBounds.{contents-bounded}
 use Rattle.doc_load.proofs.RightPlaces.{hold_out}
@@ -41,18 +35,19 @@ use Rattle.save_laws.specs.Places.{Given, given_of}
 use Rattle.save_laws.specs.Slots.{Slot, shown, loose, last, IsPlaced, whole_text}
 use Rattle.save_laws.specs.Saves.{saved_entries, KeepsFields, IsFileOf}
 use Rattle.save_laws.specs.FastSaves.{StandsInEither, IsGivenBy, IsFastSaved}
-use Rattle.append_save.specs.Saves.{FastSave, plan_of}
+use Rattle.append_save.specs.Saves.{plan_of}
 use Rattle.append_save.specs.PlannedSections.{planned_seds}
-use Rattle.append_save.specs.Appended.{table_name_of, old_wd, old_stream, pages_end, added_bytes, fast_bin_table, fast_seds}
+use Rattle.append_save.specs.Appended.{table_name_of, old_wd, old_stream, pages_end, fast_seds}
 use Rattle.append_save.specs.Appended.{fast_entries, fast_table, fast_fib, fast_streams, fast_contents, fast_saved_text}
 use Rattle.append_save.proofs.StreamLemmas.{renewed_wd, renewed_table, renewed_carried, renewed_are_streams}
 use Rattle.append_save.proofs.StreamLemmas.{length-renewed, renewed_units, contents_clsid}
 use Rattle.append_save.proofs.PlannedLemmas.{planned_starts, planned_saved, HasPlanned, StandsInOne}
-use Rattle.append_save.proofs.ReadyLemmas.{Ready, is_right, the_text, wd_is, base_is, have_room}
+use Rattle.append_save.proofs.ReadyLemmas.{Ready, the_text, wd_is, base_is, have_room}
 use Rattle.append_save.proofs.TableLemmas.{text_stands, has_ranges}
-use Rattle.append_save.proofs.WrittenLemmas.{Made, the_save, new_fib, new_wd, parts_of, wd_parts, parts_cut, places}
+use Rattle.append_save.proofs.WrittenLemmas.{Made, the_save, new_wd, parts_of, wd_parts, parts_cut, places}
 use Rattle.append_save.proofs.WrittenLemmas.{table_small, short_added, length-new_wd, fib_read, kept_of, kept_is}
 use Rattle.append_save.proofs.WrittenLemmas.{keeps_pages, written_plan, sections_fit}
+use Rattle.save_laws.proofs.FullSavedLemmas.{no_levels}
 
 -- ---- the pieces can be printed
 
@@ -123,14 +118,6 @@ printable r = record {
 }
 
 -- ---- the parts of the table stream
-
--- a document without lists has no levels
-no_levels : (lst levels : List ℕ) → AreListsWithLevels lst levels → length lst ≡ 0 → length levels ≡ 0
-unfolding levels_before level_start number_at
-no_levels lst levels are none =
-    let whole : AreLevelsFrom levels 0 (level_count []) (length levels) =
-    subst (λ l. AreLevelsFrom levels 0 (level_count l) (length levels)) (nil_from_length lst none) are.whole in
-    whole.ends
 
 numbered : (m : Made) → AreNumbered 0 (fast_entries (the_save m) m.clx)
 numbered m =

@@ -2,7 +2,7 @@
 use Rattle.std.specs.Prelude.{slice_get, slice_index, slice_index_or, filter}
 use Rattle.std.specs.List.{range_with_len}
 use Rattle.std.proofs.Common.{◌≡◌, ◌∙◌, refl, sym, ap, subst, inl, inr, ℕ, zero, suc, ◌+◌, ◌*◌, ◌<◌, ◌≤◌, ◌^◌}
-use Rattle.std.proofs.Common.{true, false, Bool, cond, List, [], ◌∷◌, length, map, Some, All, arith, sum_by, get_or, codes}
+use Rattle.std.proofs.Common.{true, false, Bool, cond, List, [], ◌∷◌, length, map, Some, All, arith}
 use Rattle.std.proofs.lemmas.Bool.{cases_Bool, cases_lt, true≢false}
 use Rattle.std.proofs.lemmas.List.{length-map, get_or_past}
 use Rattle.std.proofs.lemmas.List.Sums.{sum_by-le}
@@ -14,7 +14,7 @@ use Rattle.cfb_streams.specs.Contents.{Stream, Contents, NamedBytes, HasNamed, A
 use Rattle.cfb_streams.specs.Container.{HasContents}
 use Rattle.cfb_streams.specs.Directory.{AreSameNames, ComesBefore}
 use Rattle.cfb_streams.specs.Reach.{entry_place}
-use Rattle.cfb_streams.specs.Names.{wd_name, table_name, first_table_name, second_table_name, is_same_name}
+use Rattle.cfb_streams.specs.Names.{wd_name, first_table_name, second_table_name, is_same_name}
 use Rattle.cfb_streams.proofs.SameNameLemmas.{same_name-is}
 use Rattle.cfb_layout.specs.Layout.{no_stream, stream_at, contents_of}
 use Rattle.doc_load.proofs.NameLemmas.{named_one}
@@ -107,7 +107,7 @@ pub contents_clsid : (streams : List NamedBytes) (clsid : List ℕ) → (content
 unfolding contents_of
 contents_clsid streams clsid = refl
 
-contents_has : (streams : List NamedBytes) (clsid : List ℕ) (i : ℕ) (stream : NamedBytes) (name : List ℕ) →
+pub contents_has : (streams : List NamedBytes) (clsid : List ℕ) (i : ℕ) (stream : NamedBytes) (name : List ℕ) →
     slice_get streams i ≡ Some stream → AreSameNames stream.name name →
     HasNamed (contents_of streams clsid).streams name stream.bytes
 contents_has streams clsid i stream name here named =
@@ -123,7 +123,7 @@ contents_has streams clsid i stream name here named =
       same = sym (ap (λ (s : NamedBytes). s.bytes) found.1.1);
     }
 
-contents_carried : (streams : List NamedBytes) (clsid : List ℕ) →
+pub contents_carried : (streams : List NamedBytes) (clsid : List ℕ) →
     carried_streams (contents_of streams clsid).streams ≡ filter (λ stream. is_carried stream.name) streams
 contents_carried streams clsid =
     let all = (contents_of streams clsid).streams in

@@ -41,7 +41,7 @@ use Rattle.append_save.specs.Saves.{FastSave}
 use Rattle.append_save.specs.OldParts.{named_pair, named_part, StaysWithin}
 use Rattle.append_save.specs.PlannedSections.{new_sepx, planned_seds, planned_sepxes}
 use Rattle.append_save.specs.RenewedStreams.{renewed_bytes, renewed_streams}
-use Rattle.append_save.specs.Appended.{table_name_of, old_wd, old_table, old_bins, added_end, added_pages, first_page}
+use Rattle.append_save.specs.Appended.{table_name_of, old_wd, old_table, old_bins, bins_end, added_pages, first_page}
 use Rattle.append_save.specs.Appended.{pages_end, added_bytes, fast_bin_table, fast_text, fast_entries}
 use Rattle.append_save.specs.Appended.{fast_table, fast_fib, fast_wd, fast_streams}
 use Rattle.append_save.specs.KeptBins.{kept_bins}
@@ -120,7 +120,7 @@ table_longer kind r =
     let are = old_table_is kind r in
     let kept = kept_are_first old r.save.base are in
     longer_tables_are_short old (kept_bins old r.save.base) (first_page kind r.save) (added_pages kind r.save).starts
-    (added_end r.save) are kept.few
+    (bins_end kind r.save) are kept.few
 
 abbrev pub new_bin_bytes : Ready → ℕ
 new_bin_bytes r = length (fast_bin_table Chpx r.save) + length (fast_bin_table Papx r.save)

@@ -1,20 +1,17 @@
 -- The bin tables of a save behind an old stream.
 use Rattle.std.specs.Prelude.{slice_get, slice_index}
-use Rattle.std.proofs.Common.{◌≡◌, ◌∙◌, refl, sym, ap, subst, inl, inr, ℕ, suc, ◌+◌, ◌*◌, ◌<◌, ◌≤◌, ◌^◌}
-use Rattle.std.proofs.Common.{List, [], ◌∷◌, ◌++◌, length, map, Some, None, Option, Bool, true, false, IsSome, ◌-◌, arith}
+use Rattle.std.proofs.Common.{◌≡◌, ◌∙◌, refl, sym, ap, subst, inl, inr, ℕ, ◌+◌, ◌<◌, ◌≤◌, ◌^◌}
+use Rattle.std.proofs.Common.{List, [], ◌∷◌, length, Some, None, Option, Bool, true, false, IsSome, ◌-◌, arith}
 use Rattle.std.proofs.lemmas.Bool.{cases_lt, true≢false}
-use Rattle.std.proofs.lemmas.List.{length-append, length-map}
+use Rattle.std.proofs.lemmas.List.{length-append}
 use Rattle.std.proofs.lemmas.Option.{slice_get_within}
-use Rattle.doc_bits.proofs.ListLemmas.{there_is}
+use Rattle.doc_bits.proofs.ListLemmas.{from_map}
 use Rattle.doc_bits.proofs.TogetherLemmas.{beside}
-use Rattle.doc_bits.specs.Plc.{plc_cp}
 use Rattle.fkp_pages.specs.declared.kind.PageKind.{PageKind}
 use Rattle.fkp_pages.specs.declared.kind.PageKind.TheVariants.{Chpx, Papx}
 use Rattle.fkp_pages.specs.declared.lists.Bin.{Bin}
-use Rattle.fkp_pages.specs.declared.lists.Run.{Run}
-use Rattle.fkp_pages.specs.Bin.{ArePrintableBins, IsBinPage, bin_fcs, bin_count}
+use Rattle.fkp_pages.specs.Bin.{ArePrintableBins, IsBinPage, bin_fcs}
 use Rattle.fkp_pages.specs.InARow.{numbered_bins}
-use Rattle.fkp_pages.specs.Pages.{first_fc}
 use Rattle.fkp_pages.specs.Rows.{KeepsRanges}
 use Rattle.fkp_pages.proofs.RowLemmas.{row_is_printable, length-numbered_bins}
 use Rattle.piece_table.specs.Piece.{UnitPlace}
@@ -24,20 +21,23 @@ use Rattle.plain_doc.proofs.MainLemmas.{main_ends, last_marked}
 use Rattle.prop_map.specs.Settings.{Settings}
 use Rattle.piece_table.specs.Piece.{flat_pieces, unit_bytes}
 use Rattle.save_laws.specs.Places.{Given, given_of, GivesAt, GivesCharacters, GivesMark, IsMarkedAfter}
-use Rattle.save_laws.specs.Plans.{Plan}
-use Rattle.save_laws.specs.Slots.{Slot, shown, IsPlaced, ReadsAfter, whole_text}
+use Rattle.save_laws.specs.Slots.{shown, IsPlaced, ReadsAfter, whole_text}
 use Rattle.save_laws.specs.Saves.{HasRanges}
 use Rattle.save_laws.specs.FastSaves.{StandsInEither, IsGivenBy, StandsInSession}
 use Rattle.save_laws.proofs.PlaceLemmas.{mark_before}
 use Rattle.save_laws.proofs.SlotLemmas.{main_slot}
 use Rattle.append_save.specs.Saves.{FastSave, plan_of}
 use Rattle.append_save.specs.KeptBins.{kept_bins}
-use Rattle.append_save.specs.Appended.{old_wd, old_bins, old_stream, added_end, added_runs, added_pages, first_page}
-use Rattle.append_save.specs.Appended.{fast_bins, fast_bin_table}
+use Rattle.append_save.specs.MarkRuns.{up_to_mark}
+use Rattle.append_save.specs.Appended.{old_bins, old_stream, added_runs, added_pages, first_page}
+use Rattle.append_save.specs.Appended.{run_items, runs_begin, bins_end, fast_bins, fast_bin_table}
+use Rattle.append_save.proofs.MarkLemmas.{up_to_mark-at}
 use Rattle.append_save.proofs.KeptBinLemmas.{AreFirstRanges, MayFollow, kept_are_first, first_are_before}
-use Rattle.append_save.proofs.KeptBinLemmas.{printable_with, ranges_kept, table_printed}
+use Rattle.append_save.proofs.KeptBinLemmas.{first_before_end, kept_further, printable_with}
+use Rattle.fkp_pages.proofs.LongerLemmas.{ranges_kept}
+use Rattle.fkp_pages.proofs.PrintedBinLemmas.{printed_table}
 use Rattle.append_save.proofs.ReadyLemmas.{Ready, is_right, stream_is, old_table_is, base_is, added_are, none_there}
-use Rattle.append_save.proofs.ReadyLemmas.{runs_right, pages_are, pages_whole, have_room}
+use Rattle.append_save.proofs.ReadyLemmas.{end_low, end_high, pages_are, pages_whole, have_room}
 
 abbrev kept : PageKind → Ready → List Bin
 kept kind r = kept_bins (old_bins kind r.save) r.save.base
@@ -83,14 +83,24 @@ range_kept kind r at number page below =
           absurd (omega (arith, high, from, below))
     ]
 
--- where nothing is added, each place stands in the old stream
-old_gives : (r : Ready) (at : ℕ) (wide : Bool) (given : Given) → length r.save.added ≤ 0 →
+-- an added item with a mark has a run
+mark_has_run : (kind : PageKind) (save : FastSave) (k : ℕ) (item : Item) (mark : Mark) →
+    slice_get save.added k ≡ Some item → item.mark ≡ Some mark → 0 < length (run_items kind save)
+mark_has_run Chpx save k item mark here has = omega (arith, slice_get_within save.added k item here)
+mark_has_run Papx save k item mark here has =
+    let there = up_to_mark-at save.added k item mark here has in
+    omega (arith, slice_get_within (up_to_mark save.added) k item there)
+
+-- where no item has a run, each place of a mark stands in the old stream
+old_gives : (kind : PageKind) (r : Ready) (at : ℕ) (wide : Bool) (given : Given) (mark : Mark) →
+    given.mark ≡ Some mark → length (run_items kind r.save) ≤ 0 →
     IsGivenBy (old_stream r.save) (plan_of r.save) at wide given → GivesAt (old_stream r.save) at wide given
-old_gives r at wide given none (inl gives) = gives
-old_gives r at wide given none (inr planned) =
-    let within = slice_get_within (map given_of r.save.added) planned.number given planned.there in
-    let len = length-map r.save.added given_of in
-    absurd (omega (arith, within, len, none))
+old_gives kind r at wide given mark marked none (inl gives) = gives
+old_gives kind r at wide given mark marked none (inr planned) =
+    let found = from_map given_of r.save.added planned.number given planned.there in
+    let has = ap (λ (g : Given). g.mark) found.1.1 ∙ marked in
+    let some = mark_has_run kind r.save planned.number found.0 mark found.1.0 has in
+    absurd (omega (arith, some, none))
 
 -- the last item of the main text has a mark, and so has the page of its place
 record IsLastMark (r : Ready) : Type 0 where
@@ -140,10 +150,10 @@ some_kept_by Chpx r at mark chp below characters paragraph =
 some_kept_by Papx r at mark chp below characters paragraph =
     range_kept Papx r at paragraph.has.number paragraph.has.named below
 
-some_kept : (kind : PageKind) (r : Ready) → length r.save.added ≤ 0 → 0 < length (kept kind r)
+some_kept : (kind : PageKind) (r : Ready) → length (run_items kind r.save) ≤ 0 → 0 < length (kept kind r)
 some_kept kind r none =
     let last = last_mark r in
-    let gives = old_gives r last.at last.wide last.given none last.gives in
+    let gives = old_gives kind r last.at last.wide last.given last.mark last.marked none last.gives in
     let inside = gives.stands.inside in
     let width = unit_some last.wide in
     let behind = (base_is r).behind in
@@ -153,7 +163,7 @@ some_kept kind r none =
 pub some_ranges : (kind : PageKind) (r : Ready) → 0 < length (fast_bins kind r.save)
 some_ranges kind r =
     let len = length-append (kept kind r) (later kind r) in
-    elim (cases_lt 0 (length r.save.added)) [
+    elim (cases_lt 0 (length (run_items kind r.save))) [
       | inl some ↦
           let pages = (pages_whole kind r).some (added_are kind r some).some in
           let count = length-later kind r in
@@ -165,8 +175,8 @@ some_ranges kind r =
 
 -- ---- the ranges of the new pages
 
-may_follow : (kind : PageKind) (r : Ready) → MayFollow (later kind r) (added_end r.save)
-may_follow kind r some = elim (cases_lt 0 (length r.save.added)) [
+may_follow : (kind : PageKind) (r : Ready) → MayFollow (later kind r) (bins_end kind r.save)
+may_follow kind r some = elim (cases_lt 0 (length (run_items kind r.save))) [
   | inl any ↦
       let added = added_are kind r any in
       subst (ArePrintableBins (later kind r)) added.last
@@ -191,50 +201,69 @@ unfolding numbered_bins
 no_number number end [] none = refl
 no_number number end (start ∷ starts) none = absurd (omega (arith, none))
 
--- the first new range begins at the added text, and without one the table ends there or behind it
+-- the first new range begins where the runs do, and without one the table ends there or behind it
 pub begins_there : (kind : PageKind) (r : Ready) →
-    r.save.base ≤ slice_index (bin_fcs (later kind r) (added_end r.save)) 0
-begins_there kind r = elim (cases_lt 0 (length r.save.added)) [
+    runs_begin kind r.save ≤ slice_index (bin_fcs (later kind r) (bins_end kind r.save)) 0
+begins_there kind r = elim (cases_lt 0 (length (run_items kind r.save))) [
   | inl any ↦
       let added = added_are kind r any in
       let whole = pages_whole kind r in
       let start =
-      first_number (first_page kind r.save) (added_pages kind r.save).starts (added_end r.save) (whole.some added.some) in
+      first_number (first_page kind r.save) (added_pages kind r.save).starts (bins_end kind r.save)
+      (whole.some added.some) in
       let first = whole.first added.some in
-      let base = added.first in
-      omega (arith, start, first, base)
+      let begins = added.first in
+      omega (arith, start, first, begins)
   | inr none ↦
       let few = (pages_whole kind r).few in
       let runs = ap length (none_there kind r none) in
-      let end = no_number (first_page kind r.save) (added_end r.save) (added_pages kind r.save).starts
+      let end = no_number (first_page kind r.save) (bins_end kind r.save) (added_pages kind r.save).starts
       (omega (arith, few, runs)) in
-      omega (arith, end)
+      omega (arith, end, end_high kind r none)
 ]
 
 -- ---- the table
 
-pub bins_printable : (kind : PageKind) (r : Ready) → ArePrintableBins (fast_bins kind r.save) (added_end r.save)
-bins_printable kind r =
-    printable_with (old_bins kind r.save) r.save.base (kept kind r) (later kind r) (added_end r.save)
-    (old_table_is kind r) (kept_are_first (old_bins kind r.save) r.save.base (old_table_is kind r)) (may_follow kind r)
-    (begins_there kind r) (some_ranges kind r)
+-- the ranges that are kept begin before the runs do
+pub kept_low : (kind : PageKind) (r : Ready) →
+    AreFirstRanges (old_bins kind r.save) (runs_begin kind r.save) (kept kind r)
+kept_low Chpx r = kept_are_first (old_bins Chpx r.save) r.save.base (old_table_is Chpx r)
+kept_low Papx r =
+    first_before_end (old_bins Papx r.save) r.save.base (kept Papx r) (old_table_is Papx r)
+    (kept_are_first (old_bins Papx r.save) r.save.base (old_table_is Papx r))
 
-end_small : (r : Ready) → added_end r.save < 2 ^ 32
-end_small r = let small = (base_is r).small in omega (arith, small)
+pub bins_printable : (kind : PageKind) (r : Ready) → ArePrintableBins (fast_bins kind r.save) (bins_end kind r.save)
+bins_printable kind r =
+    printable_with (old_bins kind r.save) (runs_begin kind r.save) (kept kind r) (later kind r) (bins_end kind r.save)
+    (old_table_is kind r) (kept_low kind r) (may_follow kind r) (begins_there kind r) (some_ranges kind r)
+
+end_small : (kind : PageKind) (r : Ready) → bins_end kind r.save < 2 ^ 32
+end_small kind r =
+    let small = (base_is r).small in
+    let low = end_low kind r in
+    omega (arith, small, low)
+
+-- what is kept before the runs is all that is kept before the added text
+further : (kind : PageKind) (r : Ready) (table : List ℕ) →
+    KeepsRanges (old_bins kind r.save) table (runs_begin kind r.save) →
+    KeepsRanges (old_bins kind r.save) table r.save.base
+further Chpx r table keeps = keeps
+further Papx r table keeps = kept_further (old_bins Papx r.save) table r.save.base (old_table_is Papx r) keeps
 
 pub ranges_are_kept : (kind : PageKind) (r : Ready) →
     KeepsRanges (old_bins kind r.save) (fast_bin_table kind r.save) r.save.base
 unfolding fast_bin_table
 ranges_are_kept kind r =
-    ranges_kept (old_bins kind r.save) (kept kind r) (later kind r) (added_end r.save) r.save.base
-    (first_are_before (old_bins kind r.save) r.save.base (kept kind r)
-    (kept_are_first (old_bins kind r.save) r.save.base (old_table_is kind r))) (bins_printable kind r) (end_small r)
-    (begins_there kind r)
+    further kind r (fast_bin_table kind r.save)
+    (ranges_kept (old_bins kind r.save) (kept kind r) (later kind r) (bins_end kind r.save) (runs_begin kind r.save)
+    (first_are_before (old_bins kind r.save) (runs_begin kind r.save) (kept kind r) (kept_low kind r))
+    (bins_printable kind r) (end_small kind r) (begins_there kind r))
 
 pub has_ranges : (kind : PageKind) (r : Ready) → HasRanges (fast_bin_table kind r.save)
 unfolding fast_bin_table
 has_ranges kind r =
-    let table = table_printed (fast_bins kind r.save) (added_end r.save) (bins_printable kind r) (end_small r) in
+    let table =
+    printed_table (fast_bins kind r.save) (bins_end kind r.save) (bins_printable kind r) (end_small kind r) in
     let some = (bins_printable kind r).some in
     let count = table.count in
     record { table = table.table; some = omega (arith, some, count) }

@@ -1,7 +1,7 @@
 -- WordDocument of a save behind an old stream: what stands where.
 use Rattle.std.specs.Prelude.{slice_get, slice_index, replicate}
-use Rattle.std.proofs.Common.{◌≡◌, ◌∙◌, refl, sym, ap, subst, inl, inr, ℕ, suc, ◌+◌, ◌-◌, ◌*◌, ◌/◌, ◌<◌, ◌≤◌, ◌^◌}
-use Rattle.std.proofs.Common.{List, [], ◌∷◌, ◌++◌, length, map, drop, Some, None, Option, All, arith, append_assoc, length-append}
+use Rattle.std.proofs.Common.{◌≡◌, ◌∙◌, refl, sym, ap, subst, inl, inr, ℕ, ◌+◌, ◌-◌, ◌*◌, ◌/◌, ◌<◌, ◌≤◌, ◌^◌}
+use Rattle.std.proofs.Common.{List, [], ◌∷◌, ◌++◌, length, map, drop, Some, None, Option, arith, append_assoc, length-append}
 use Rattle.std.proofs.lemmas.Bool.{cases_lt}
 use Rattle.std.proofs.lemmas.List.{append-nil, length-map, length-drop, get_or_append_left, get_or-append-add, get_or-drop}
 use Rattle.std.proofs.lemmas.Option.{slice_get_within, get_or_from_slice_get}
@@ -11,7 +11,7 @@ use Rattle.doc_bits.specs.Number.{u16_at}
 use Rattle.doc_bits.specs.Rules.{Hold}
 use Rattle.cfb_layout.specs.Sectors.{units_for, filled, padded}
 use Rattle.cfb_layout.proofs.BytesLemmas.{length-filled, entry_at, filled_at}
-use Rattle.fib_form.specs.Fib.{early_form, bit}
+use Rattle.fib_form.specs.Fib.{early_form}
 use Rattle.fib_form.specs.FibFields.{FibFields, fib_fields, IsFib, AreCounts, IsKeptFlags}
 use Rattle.fib_form.specs.FibBytes.{written_fib}
 use Rattle.fib_form.specs.FibRules.{fib_rules}
@@ -19,16 +19,14 @@ use Rattle.fib_form.proofs.FibLemmas.{read_back, sum-three}
 use Rattle.fib_form.proofs.WriteLemmas.{length-written_fib}
 use Rattle.fkp_pages.specs.declared.kind.PageKind.{PageKind}
 use Rattle.fkp_pages.specs.declared.kind.PageKind.TheVariants.{Chpx, Papx}
-use Rattle.fkp_pages.specs.declared.lists.Run.{Run}
 use Rattle.fkp_pages.specs.declared.lists.Bin.{Bin}
 use Rattle.fkp_pages.specs.declared.packing.Pages.{Pages}
 use Rattle.fkp_pages.specs.Bin.{ArePrintableBins, bin_fcs, printed_bin}
 use Rattle.fkp_pages.specs.InARow.{numbered_bins}
-use Rattle.fkp_pages.specs.Rows.{IsInRun, IsRow, NamesRow, row_bins}
+use Rattle.fkp_pages.specs.Rows.{IsRow, NamesRow, row_bins}
 use Rattle.fkp_pages.specs.PageBytes.{last_fc}
 use Rattle.fkp_pages.proofs.LongerLemmas.{longer_tables_name_both}
 use Rattle.piece_table.specs.Printing.{IsPrintedClx}
-use Rattle.plain_doc.specs.declared.item.Mark.{Mark}
 use Rattle.plain_doc.specs.declared.item.Item.{Item}
 use Rattle.doc_bits.specs.declared.places.Where.TheVariants.{Main}
 use Rattle.fib_form.specs.declared.fib.KeptFib.{KeptFib}
@@ -41,27 +39,29 @@ use Rattle.save_laws.proofs.FullSections.{FitsSepx}
 use Rattle.plain_doc.proofs.MainLemmas.{main_ends}
 use Rattle.std.proofs.lemmas.List.Concat.{length-flat_map}
 use Rattle.full_save.specs.WordDocument.{units_bytes}
-use Rattle.full_save.specs.TableStream.{entries_bytes, entries_pairs}
+use Rattle.full_save.specs.TableStream.{entries_bytes}
 use Rattle.full_save.proofs.StretchRuns.{IsWritableItem, character_run, paragraph_run}
 use Rattle.full_save.proofs.EntriesFound.{AreAllowed, entries_are_pairs, entries_are_wide}
-use Rattle.save_laws.specs.Places.{PagedStream, Given, given_of, fib_end}
-use Rattle.save_laws.specs.Plans.{Plan, AreRunsOf, HaveRow, IsWrittenPlan}
+use Rattle.save_laws.specs.Places.{Given, given_of, fib_end}
+use Rattle.save_laws.specs.Plans.{AreRunsOf, HaveRow, IsWrittenPlan}
 use Rattle.save_laws.specs.KeptPages.{KeepsBytes, KeepsPages}
 use Rattle.save_laws.specs.Slots.{story_counts}
 use Rattle.save_laws.proofs.SlotLemmas.{length-story_slots, length-loose_if}
 use Rattle.append_save.specs.Saves.{FastSave, plan_of}
 use Rattle.append_save.specs.KeptBins.{kept_bins}
 use Rattle.append_save.specs.PlannedSections.{planned_sepxes}
-use Rattle.append_save.specs.Appended.{old_wd, old_bins, old_stream, added_end, added_runs, added_pages, first_page}
-use Rattle.append_save.specs.Appended.{pages_end, added_bytes, fast_bins, fast_bin_table, fast_entries, fast_table}
+use Rattle.append_save.specs.MarkRuns.{up_to_mark}
+use Rattle.append_save.specs.Appended.{old_wd, old_bins, old_stream, run_items, runs_begin, bins_end, added_runs}
+use Rattle.append_save.specs.Appended.{added_pages, first_page}
+use Rattle.append_save.specs.Appended.{pages_end, added_bytes, fast_bin_table, fast_entries, fast_table}
 use Rattle.append_save.specs.Appended.{fast_fib, fast_wd, fast_saved_text}
-use Rattle.append_save.proofs.JoinLemmas.{joined_are}
+use Rattle.append_save.proofs.MarkLemmas.{up_to_mark-at}
 use Rattle.append_save.proofs.PlannedLemmas.{length-planned}
-use Rattle.append_save.proofs.KeptBinLemmas.{kept_are_first, first_are_before}
-use Rattle.append_save.proofs.ReadyLemmas.{Ready, is_right, base_is, long_wd, the_text, items_writable, added_are, none_there}
-use Rattle.append_save.proofs.ReadyLemmas.{text_added, runs_right, pages_are, pages_whole, have_room, old_table_is}
+use Rattle.append_save.proofs.KeptBinLemmas.{first_are_before}
+use Rattle.append_save.proofs.ReadyLemmas.{Ready, is_right, base_is, the_text, items_writable, added_are, none_there}
+use Rattle.append_save.proofs.ReadyLemmas.{marks_added, pages_are, pages_whole, have_room}
 use Rattle.append_save.proofs.BodyLemmas.{body_sizes}
-use Rattle.append_save.proofs.TableLemmas.{bins_printable, begins_there, ranges_are_kept}
+use Rattle.append_save.proofs.TableLemmas.{kept_low, bins_printable, begins_there, ranges_are_kept}
 
 -- a save with the Clx of its pieces, and room for one more quick save
 pub record Made : Type 0 where
@@ -411,11 +411,11 @@ runs_of m =
       paragraph = λ k given mark here marked.
           let found = from_map given_of items k given here in
           let own = ap (λ (g : Given). g.mark) found.1.1 ∙ marked in
-          let run = paragraph_run save.base items k found.0 mark found.1.0 own in
-          let some : 0 < length items = omega (arith, slice_get_within items k found.0 found.1.0) in
-          let text = text_added Papx m.ready some in
-          let joined = joined_are Papx _ text.right text.numbers text.some in
-          let covers = joined.covers (save.base + 2 * k) run.0 run.1.0 in (
+          let there = up_to_mark-at items k found.0 mark found.1.0 own in
+          let run = paragraph_run save.base (up_to_mark items) k found.0 mark there own in
+          let some : 0 < length (up_to_mark items) =
+          omega (arith, slice_get_within (up_to_mark items) k found.0 there) in
+          let covers = (marks_added m.ready some).covers (save.base + 2 * k) run.0 run.1.0 in (
             covers.wide,
             (
               record { number = covers.number; there = covers.there; from = covers.from; to = covers.to },
@@ -424,8 +424,8 @@ runs_of m =
           );
     }
 
-some_items : (kind : PageKind) (r : Ready) → 0 < length (added_runs kind r.save) → 0 < length r.save.added
-some_items kind r some = elim (cases_lt 0 (length r.save.added)) [
+some_items : (kind : PageKind) (r : Ready) → 0 < length (added_runs kind r.save) → 0 < length (run_items kind r.save)
+some_items kind r some = elim (cases_lt 0 (length (run_items kind r.save))) [
   | inl any ↦ any
   | inr none ↦
       let runs = ap length (none_there kind r none) in
@@ -487,17 +487,18 @@ named kind m some row same =
     let bins = kept_bins old save.base in
     let own : List Bin = numbered_bins first (added_pages kind save).starts in
     let more : own ≡ row_bins row = ap (λ (pages : Pages). numbered_bins first pages.starts) (sym same) in
-    let end : added_end save ≡ last_fc runs = sym added.last in
+    let end : bins_end kind save ≡ last_fc runs = sym added.last in
+    let place = runs_begin kind save in
     let printable : ArePrintableBins (bins ++ row_bins row) (last_fc runs) =
     subst (λ (n : ℕ). ArePrintableBins (bins ++ row_bins row) n) end
-    (subst (λ (b : List Bin). ArePrintableBins (bins ++ b) (added_end save)) more (bins_printable kind r)) in
-    let begins : save.base ≤ slice_index (bin_fcs (row_bins row) (last_fc runs)) 0 =
-    subst (λ (n : ℕ). save.base ≤ slice_index (bin_fcs (row_bins row) n) 0) end
-    (subst (λ (b : List Bin). save.base ≤ slice_index (bin_fcs b (added_end save)) 0) more (begins_there kind r)) in
+    (subst (λ (b : List Bin). ArePrintableBins (bins ++ b) (bins_end kind save)) more (bins_printable kind r)) in
+    let begins : place ≤ slice_index (bin_fcs (row_bins row) (last_fc runs)) 0 =
+    subst (λ (n : ℕ). place ≤ slice_index (bin_fcs (row_bins row) n) 0) end
+    (subst (λ (b : List Bin). place ≤ slice_index (bin_fcs b (bins_end kind save)) 0) more (begins_there kind r)) in
     let both =
-    longer_tables_name_both kind (new_wd m) runs first save.base old bins row
-    (first_are_before old save.base bins (kept_are_first old save.base (old_table_is kind r))) printable begins in
-    let table : printed_bin (bins ++ row_bins row) (last_fc runs) ≡ printed_bin (bins ++ own) (added_end save) =
+    longer_tables_name_both kind (new_wd m) runs first place old bins row
+    (first_are_before old place bins (kept_low kind r)) printable begins in
+    let table : printed_bin (bins ++ row_bins row) (last_fc runs) ≡ printed_bin (bins ++ own) (bins_end kind save) =
     (λ i. printed_bin (bins ++ sym more i) (sym end i)) in
     subst (λ (t : List ℕ). NamesRow row t) table both.names
 

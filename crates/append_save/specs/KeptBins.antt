@@ -1,5 +1,5 @@
 -- The ranges of an old bin table that a save behind its stream keeps: those that begin before the added text.
-use Rattle.std.specs.Prelude.{ℕ, nat_lt, List, map, filter}
+use Rattle.std.specs.Prelude.{ℕ, nat_lt, min, List, map, filter}
 use Rattle.std.specs.List.{range_with_len}
 use Rattle.doc_bits.specs.Plc.{plc_cp}
 use Rattle.fkp_pages.specs.declared.lists.Bin.{Bin}
@@ -14,3 +14,7 @@ bins_of table = map (bin_of table) (range_with_len 0 (bin_count table))
 
 abbrev pub kept_bins : List ℕ → ℕ → List Bin
 kept_bins table before = filter (λ bin. nat_lt bin.first before) (bins_of table)
+
+-- where these ranges end: the table's end, but before the added text
+abbrev pub kept_end : List ℕ → ℕ → ℕ
+kept_end table before = min (plc_cp table (bin_count table)) before

@@ -1,6 +1,7 @@
 pub mod Saves
 pub mod JoinedRuns
 pub mod KeptBins
+pub mod MarkRuns
 pub mod PlannedSections
 pub mod RenewedStreams
 pub mod OldParts

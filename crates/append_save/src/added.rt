@@ -13,13 +13,13 @@ ghost use Rattle.plain_doc.specs.Formed.{IsFormed};
 ghost use Rattle.save_laws.specs.Ends.{ends_of};
 ghost use Rattle.save_laws.specs.Slots.{story_counts};
 ghost use Rattle.append_save.specs.Saves.{save_of};
-ghost use Rattle.append_save.specs.JoinedRuns.{joined_runs};
-ghost use Rattle.append_save.specs.KeptBins.{kept_bins as bins_before};
+ghost use Rattle.append_save.specs.KeptBins.{kept_bins};
+ghost use Rattle.append_save.specs.MarkRuns.{mark_runs, mark_runs_end};
 ghost use Rattle.append_save.specs.Kept.{CanBeAppended};
 ghost use Rattle.append_save.specs.Bodies.{IsAddedBody};
 
-use crate::joined_runs::join_runs;
-use crate::kept_bins::kept_bins;
+use crate::joined_runs::{end_of, join_runs};
+use crate::kept_bins::{keep_bins, kept_end};
 use crate::old_streams::old_part;
 use crate::runs::{UNIT_LEN, character_runs, paragraph_runs};
 use crate::saving::{EditedText, SavedFile};
@@ -27,7 +27,7 @@ use crate::sections::append_sections;
 use crate::word_document::push_zeros;
 use doc_bits::{Bytes, Memory};
 use fib_form::TablePart;
-use fkp_pages::{PAGE_LEN, write_bin};
+use fkp_pages::{Bins, PAGE_LEN, write_bin};
 use full_save::{TableText, append_chpx_pages, append_papx_pages, append_units};
 use plain_doc::{Document, Item, Texts};
 use save_laws::Ends;
@@ -100,26 +100,28 @@ fn add_characters(
     requires small { base + 2 * length items.now < 2 ^ 32 }
     requires runs { AreRuns PageKind.Chpx (text_runs PageKind.Chpx base items.now) }
     requires room { number + length (text_runs PageKind.Chpx base items.now) ≤ 2 ^ 22 }
-    requires printable { ArePrintableBins (bins_before old.now base
+    requires printable { ArePrintableBins (kept_bins old.now base
         ++ numbered_bins number (pages_of PageKind.Chpx (text_runs PageKind.Chpx base items.now)).starts)
         (base + 2 * length items.now) }
     ensures bytes { OnOk result
         (out.new ≡ out.old ++ (pages_of PageKind.Chpx (text_runs PageKind.Chpx base items.now)).bytes) }
-    ensures table { IfOk result (λ made. made.table ≡ printed_bin (bins_before old.now base
+    ensures table { IfOk result (λ made. made.table ≡ printed_bin (kept_bins old.now base
         ++ numbered_bins number (pages_of PageKind.Chpx (text_runs PageKind.Chpx base items.now)).starts)
         (base + 2 * length items.now)) }
     ensures next { IfOk result (λ made. made.next
         ≡ number + length (pages_of PageKind.Chpx (text_runs PageKind.Chpx base items.now)).starts) }
 {
     let runs = character_runs(alloc, items, base)?;
-    let mut bins = kept_bins(alloc, old, base)?;
+    let mut bins = Bins::new(alloc);
+    keep_bins(&mut bins, old, base)?;
     let next = append_chpx_pages(alloc, out, &mut bins, &runs, number)?;
     let table = write_bin(alloc, &bins, base + UNIT_LEN * items.len() as u32)?;
     Ok(BinTable { table, next })
 }
 
 /// Appends the pages of the runs of paragraphs, as `add_characters` does. Equal paragraphs that follow one another are
-/// one run.
+/// one run, the first one goes on from where the old ranges end, and what no mark ends has none: without a mark there
+/// is no page, and the bin table ends where the old one did.
 fn add_paragraphs(
     alloc: Global,
     out: &mut Bytes,
@@ -130,22 +132,24 @@ fn add_paragraphs(
 ) -> Result<BinTable, Memory>
     requires old { IsBinTable old.now }
     requires small { base + 2 * length items.now < 2 ^ 32 }
-    requires runs { AreRuns PageKind.Papx (joined_runs (text_runs PageKind.Papx base items.now)) }
-    requires room { number + length (joined_runs (text_runs PageKind.Papx base items.now)) ≤ 2 ^ 22 }
-    requires printable { ArePrintableBins (bins_before old.now base
-        ++ numbered_bins number (pages_of PageKind.Papx (joined_runs (text_runs PageKind.Papx base items.now))).starts)
-        (base + 2 * length items.now) }
+    requires runs { AreRuns PageKind.Papx (mark_runs old.now base items.now) }
+    requires room { number + length (mark_runs old.now base items.now) ≤ 2 ^ 22 }
+    requires printable { ArePrintableBins (kept_bins old.now base
+        ++ numbered_bins number (pages_of PageKind.Papx (mark_runs old.now base items.now)).starts)
+        (mark_runs_end old.now base items.now) }
     ensures bytes { OnOk result
-        (out.new ≡ out.old ++ (pages_of PageKind.Papx (joined_runs (text_runs PageKind.Papx base items.now))).bytes) }
-    ensures table { IfOk result (λ made. made.table ≡ printed_bin (bins_before old.now base
-        ++ numbered_bins number (pages_of PageKind.Papx (joined_runs (text_runs PageKind.Papx base items.now))).starts)
-        (base + 2 * length items.now)) }
+        (out.new ≡ out.old ++ (pages_of PageKind.Papx (mark_runs old.now base items.now)).bytes) }
+    ensures table { IfOk result (λ made. made.table ≡ printed_bin (kept_bins old.now base
+        ++ numbered_bins number (pages_of PageKind.Papx (mark_runs old.now base items.now)).starts)
+        (mark_runs_end old.now base items.now)) }
 {
+    let start = kept_end(old, base);
     let runs = paragraph_runs(alloc, items, base)?;
-    let runs = join_runs(alloc, &runs)?;
-    let mut bins = kept_bins(alloc, old, base)?;
+    let runs = join_runs(alloc, &runs, start)?;
+    let mut bins = Bins::new(alloc);
+    keep_bins(&mut bins, old, base)?;
     let next = append_papx_pages(alloc, out, &mut bins, &runs, number)?;
-    let table = write_bin(alloc, &bins, base + UNIT_LEN * items.len() as u32)?;
+    let table = write_bin(alloc, &bins, end_of(&runs, start))?;
     Ok(BinTable { table, next })
 }
 

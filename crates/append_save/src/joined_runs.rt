@@ -2,14 +2,15 @@
 ghost use Rattle.std.specs.Prelude.{◌≡◌, ◌<◌, ◌≤◌, [], ◌∷◌, ◌++◌, length, slice_get, Some, IfOk, OnOk};
 ghost use Rattle.fkp_pages.specs.declared.lists.Run.{Run};
 ghost use Rattle.append_save.specs.JoinedRuns.{joined_runs, is_same_run, spanned};
+ghost use Rattle.append_save.specs.MarkRuns.{begun, runs_end};
 
 use doc_bits::Memory;
 use fkp_pages::PapRuns;
 use std::alloc::Global;
 
-/// The runs, with those joined that are the same.
-pub(crate) fn join_runs(alloc: Global, runs: &PapRuns) -> Result<PapRuns, Memory>
-    ensures { IfOk result (λ joined. joined ≡ joined_runs runs.now) }
+/// The runs, of which the first one begins at `start`, with those joined that are the same.
+pub(crate) fn join_runs(alloc: Global, runs: &PapRuns, start: u32) -> Result<PapRuns, Memory>
+    ensures { IfOk result (λ joined. joined ≡ joined_runs (begun start runs.now)) }
 {
     let mut joined = PapRuns::new(alloc);
     let count = runs.len();
@@ -19,11 +20,11 @@ pub(crate) fn join_runs(alloc: Global, runs: &PapRuns) -> Result<PapRuns, Memory
     let mut first = 0;
     for k in 1..count {
         if !same_runs(runs, first, k) {
-            add_spanned(alloc, &mut joined, runs, first, k - 1)?;
+            add_spanned(alloc, &mut joined, runs, start, first, k - 1)?;
             first = k;
         }
     }
-    add_spanned(alloc, &mut joined, runs, first, count - 1)?;
+    add_spanned(alloc, &mut joined, runs, start, first, count - 1)?;
     Ok(joined)
 }
 
@@ -44,16 +45,42 @@ fn add_spanned(
     alloc: Global,
     joined: &mut PapRuns,
     runs: &PapRuns,
+    start: u32,
     first: usize,
     last: usize,
 ) -> Result<(), Memory>
     requires order { first ≤ last }
     requires within { last < length runs.now }
-    ensures { OnOk result ((run end : Run) → slice_get runs.now first ≡ Some run →
-        slice_get runs.now last ≡ Some end → joined.new ≡ joined.old ++ spanned run end ∷ []) }
+    ensures { OnOk result ((run end : Run) → slice_get (begun start runs.now) first ≡ Some run →
+        slice_get (begun start runs.now) last ≡ Some end → joined.new ≡ joined.old ++ spanned run end ∷ []) }
 {
-    let (from, _, istd, map) = runs.get(first);
+    let from = begin_of(runs, start, first);
+    let (_, _, istd, map) = runs.get(first);
     let (_, to, _, _) = runs.get(last);
     joined.add(from, to, istd, map.copy(alloc)?)?;
     Ok(())
+}
+
+/// Where a run begins, if the first one begins at `start`.
+fn begin_of(runs: &PapRuns, start: u32, k: usize) -> u32
+    requires { k < length runs.now }
+    ensures { (run : Run) → slice_get (begun start runs.now) k ≡ Some run → result ≡ run.from }
+{
+    if k == 0 {
+        return start;
+    }
+    let (from, _, _, _) = runs.get(k);
+    from
+}
+
+/// Where runs end that begin at `start`.
+pub(crate) fn end_of(runs: &PapRuns, start: u32) -> u32
+    ensures { result ≡ runs_end start runs.now }
+{
+    let count = runs.len();
+    if count == 0 {
+        return start;
+    }
+    let (_, to, _, _) = runs.get(count - 1);
+    to
 }

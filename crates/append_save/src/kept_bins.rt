@@ -1,11 +1,10 @@
 // The ranges of an old bin table that are kept.
-ghost use Rattle.std.specs.Prelude.{◌≡◌, ◌<◌, IfOk};
+ghost use Rattle.std.specs.Prelude.{◌≡◌, ◌<◌, ◌++◌, OnOk};
 ghost use Rattle.fkp_pages.specs.Bin.{IsBinTable, bin_count, page_number};
-ghost use Rattle.append_save.specs.KeptBins.{kept_bins as bins_before};
+ghost use Rattle.append_save.specs.KeptBins.{kept_bins, kept_end as end_before};
 
 use doc_bits::{Memory, get32};
 use fkp_pages::Bins;
-use std::alloc::Global;
 
 /// The bytes of an fc, and of the number of a page.
 const FC_LEN: usize = 4;
@@ -15,13 +14,12 @@ const NUMBER_LEN: usize = 4;
 /// The bits of an entry that number a page.
 const PAGE_BITS: u32 = 0x3F_FFFF;
 
-/// The ranges of a bin table that begin before a byte.
-pub(crate) fn kept_bins(alloc: Global, table: &[u8], before: u32) -> Result<Bins, Memory>
+/// Puts the ranges of a bin table that begin before a byte behind others.
+pub(crate) fn keep_bins(bins: &mut Bins, table: &[u8], before: u32) -> Result<(), Memory>
     requires { IsBinTable table.now }
-    ensures { IfOk result (λ bins. bins ≡ bins_before table.now before) }
+    ensures { OnOk result (bins.new ≡ bins.old ++ kept_bins table.now before) }
 {
-    let count = (table.len() - FC_LEN) / (FC_LEN + NUMBER_LEN);
-    let mut bins = Bins::new(alloc);
+    let count = range_count(table);
     for k in 0..count {
         let first = get32(table, FC_LEN * k);
         if first < before {
@@ -29,7 +27,23 @@ pub(crate) fn kept_bins(alloc: Global, table: &[u8], before: u32) -> Result<Bins
             bins.add(first, page)?;
         }
     }
-    Ok(bins)
+    Ok(())
+}
+
+/// Where these ranges end.
+pub(crate) fn kept_end(table: &[u8], before: u32) -> u32
+    requires { IsBinTable table.now }
+    ensures { result ≡ end_before table.now before }
+{
+    get32(table, FC_LEN * range_count(table)).min(before)
+}
+
+/// The number of ranges.
+fn range_count(table: &[u8]) -> usize
+    requires { IsBinTable table.now }
+    ensures { result ≡ bin_count table.now }
+{
+    (table.len() - FC_LEN) / (FC_LEN + NUMBER_LEN)
 }
 
 /// The number of the page of a range.
@@ -38,6 +52,6 @@ fn page_of(table: &[u8], k: usize) -> u32
     requires below { k < bin_count table.now }
     ensures { result ≡ page_number table.now k }
 {
-    let count = (table.len() - FC_LEN) / (FC_LEN + NUMBER_LEN);
+    let count = range_count(table);
     get32(table, FC_LEN * (count + 1) + NUMBER_LEN * k) & PAGE_BITS
 }

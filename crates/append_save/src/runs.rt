@@ -3,7 +3,8 @@ ghost use Rattle.std.specs.Prelude.{◌≡◌, ◌+◌, ◌*◌, ◌^◌, ◌<�
 ghost use Rattle.fkp_pages.specs.declared.kind.PageKind.{PageKind};
 ghost use Rattle.plain_doc.specs.declared.item.Item.{Item as TextItem};
 ghost use Rattle.full_save.specs.Runs.{text_runs};
-ghost use Rattle.full_save.specs.RunsSoFar.{AreCharactersSoFar, AreParagraphsSoFar};
+ghost use Rattle.full_save.specs.RunsSoFar.{AreCharactersSoFar};
+ghost use Rattle.append_save.specs.MarkRuns.{up_to_mark, AreMarksSoFar};
 
 use doc_bits::Memory;
 use fkp_pages::{ChpRuns, PapRuns};
@@ -27,16 +28,16 @@ pub(crate) fn character_runs(alloc: Global, items: &[Item], base: u32) -> Result
     runs.finish(base + UNIT_LEN * items.len() as u32)
 }
 
-/// The runs of paragraphs of items whose units stand from a byte on. What no mark ends is a run of style 0.
+/// The runs of paragraphs of items whose units stand from a byte on. What stands behind the last mark has none.
 pub(crate) fn paragraph_runs(alloc: Global, items: &[Item], base: u32) -> Result<PapRuns, Memory>
     requires { base + 2 * length items.now < 2 ^ 32 }
-    ensures { IfOk result (λ runs. runs ≡ text_runs PageKind.Papx base items.now) }
+    ensures { IfOk result (λ runs. runs ≡ text_runs PageKind.Papx base (up_to_mark items.now)) }
 {
     let mut runs = ParagraphRuns::new(alloc, base);
     for (i, item) in items.iter().enumerate() {
         runs.push(alloc, item, base + UNIT_LEN * (i as u32 + 1))?;
     }
-    runs.finish(alloc, base + UNIT_LEN * items.len() as u32)
+    Ok(runs.closed)
 }
 
 /// The runs of characters so far. The last one may go on.
@@ -99,7 +100,7 @@ impl CharacterRuns {
     }
 }
 
-/// The runs of paragraphs so far. The last one may go on.
+/// The runs of paragraphs so far, each up to its mark.
 #[derive(Drop)]
 struct ParagraphRuns {
     closed: PapRuns,
@@ -110,7 +111,7 @@ struct ParagraphRuns {
 impl ParagraphRuns {
     /// No runs of a text that begins at `base`.
     fn new(alloc: Global, base: u32) -> ParagraphRuns
-        ensures { AreParagraphsSoFar base [] (record { closed = result.closed; from = result.from }) }
+        ensures { AreMarksSoFar base [] result.closed result.from }
     {
         ParagraphRuns {
             closed: PapRuns::new(alloc),
@@ -121,8 +122,8 @@ impl ParagraphRuns {
     /// Goes on by an item, whose unit stands before `end`.
     fn push(&mut self, alloc: Global, item: &Item, end: u32) -> Result<(), Memory>
         ensures { OnOk result ((at : ℕ) (done : List TextItem) → end ≡ at + 2 * length (done ++ item.now ∷ []) →
-            AreParagraphsSoFar at done (record { closed = self.old.closed; from = self.old.from }) →
-            AreParagraphsSoFar at (done ++ item.now ∷ []) (record { closed = self.new.closed; from = self.new.from })) }
+            AreMarksSoFar at done self.old.closed self.old.from →
+            AreMarksSoFar at (done ++ item.now ∷ []) self.new.closed self.new.from) }
     {
         match &item.mark {
             None => Ok(()),
@@ -133,19 +134,5 @@ impl ParagraphRuns {
                 Ok(())
             }
         }
-    }
-
-    /// All runs of a text that ends at `end`. What no mark ends is a run of style 0.
-    fn finish(self, alloc: Global, end: u32) -> Result<PapRuns, Memory>
-        ensures { IfOk result (λ runs. (at : ℕ) (done : List TextItem) → end ≡ at + 2 * length done →
-            AreParagraphsSoFar at done (record { closed = self.closed; from = self.from }) →
-            runs ≡ text_runs PageKind.Papx at done) }
-    {
-        let ParagraphRuns { mut closed, from } = self;
-        if from == end {
-            return Ok(closed);
-        }
-        closed.add(from, end, 0, PropMap::new(alloc))?;
-        Ok(closed)
     }
 }

@@ -1,4 +1,4 @@
-use Rattle.std.proofs.Common.{◌≡◌, ◌∙◌, sym, ap}
+use Rattle.std.proofs.Common.{◌∙◌, ap}
 use Rattle.std.proofs.lemmas.Option.{get_or_from_slice_get}
 use Rattle.fkp_pages.specs.declared.lists.Run.{Run}
 use Rattle.append_save.proofs.SameRuns.{same_by_test, other_by_test}

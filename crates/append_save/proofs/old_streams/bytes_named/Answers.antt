@@ -1,4 +1,4 @@
-use Rattle.std.proofs.Common.{◌≡◌, ◌∙◌, ◌<◌, ◌≤◌, sym, length, arith}
+use Rattle.std.proofs.Common.{◌∙◌, ◌<◌, sym, length, arith}
 use Rattle.append_save.proofs.StreamSteps.{stream_at, named_here, named_later, named_nowhere}
 use Rattle.append_save.proofs.old_streams.bytes_named.Goals as goal
 

@@ -1,4 +1,4 @@
-use Rattle.std.proofs.Common.{◌≡◌, ◌∙◌, ◌<◌, ◌≤◌, ◌+◌, ◌++◌, [], ◌∷◌, List, ℕ, length, take, sym, ap, subst, arith}
+use Rattle.std.proofs.Common.{◌∙◌, ◌<◌, ◌++◌, [], ◌∷◌, List, length, take, sym, ap, subst, arith}
 use Rattle.cfb_streams.specs.Contents.{NamedBytes, AreStreams}
 use Rattle.append_save.specs.RenewedStreams.{renewed_streams}
 use Rattle.append_save.proofs.StreamSteps.{none_renewed, renewed_more, renewed_next, IsNext, next_wd, next_table, next_other}

@@ -1,6 +1,6 @@
 use Rattle.std.proofs.Common.{take}
-use Rattle.full_save.specs.RunsSoFar.{AreParagraphsSoFar}
+use Rattle.append_save.specs.MarkRuns.{AreMarksSoFar}
 use Rattle.append_save.proofs.runs.paragraph_runs.Given as goal
 
 abbrev pub invariant-loop-i : goal.invariant-loop-i
-invariant-loop-i l = AreParagraphsSoFar l.base (take l.i l.items) (record { closed = l.runs.closed; from = l.runs.from })
+invariant-loop-i l = AreMarksSoFar l.base (take l.i l.items) l.runs.closed l.runs.from

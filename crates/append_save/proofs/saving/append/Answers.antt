@@ -1,12 +1,11 @@
-use Rattle.std.proofs.Common.{◌≡◌, ◌∙◌, refl, ◌+◌, ◌<◌, ◌≤◌, ℕ, List, length, sym, ap, subst, arith}
+use Rattle.std.proofs.Common.{◌≡◌, ◌∙◌, refl, ◌+◌, ℕ, List, length, sym, ap, subst, arith}
 use Rattle.cfb_streams.specs.Contents.{NamedBytes, AreStreams}
 use Rattle.cfb_streams.specs.Names.{table_name}
-use Rattle.cfb_layout.specs.Counts.{Fits, sectors_needed, most_sectors}
+use Rattle.cfb_layout.specs.Counts.{Fits, sectors_needed}
 use Rattle.cfb_layout.specs.Faults.{IsLayoutFault}
 use Rattle.cfb_layout.specs.declared.faults.LayoutFault.TheVariants.{TooLarge}
 use Rattle.cfb_layout.specs.Layout.{lengths_of, compound_file}
-use Rattle.fib_form.specs.FibFields.{FibFields, AreCounts, ArePairs}
-use Rattle.fib_form.specs.Fib.{early_form}
+use Rattle.fib_form.specs.FibFields.{AreCounts, ArePairs}
 use Rattle.full_save.specs.declared.table_text.TableText.{TableText}
 use Rattle.full_save.specs.TableText.{table_entries}
 use Rattle.full_save.specs.TableStream.{entries_bytes, entries_pairs}
@@ -14,8 +13,8 @@ use Rattle.full_save.proofs.EntriesFound.{entries_are_pairs}
 use Rattle.full_save.proofs.TextLaidOut.{few_items}
 use Rattle.save_laws.specs.Saves.{IsFileOf}
 use Rattle.append_save.specs.Saves.{FastSave, save_of}
-use Rattle.append_save.specs.RenewedStreams.{bytes_named, renewed_streams}
-use Rattle.append_save.specs.Appended.{table_name_of, old_wd, added_bytes, fast_entries, fast_table, fast_wd, fast_streams, fast_contents}
+use Rattle.append_save.specs.RenewedStreams.{bytes_named}
+use Rattle.append_save.specs.Appended.{table_name_of, old_wd, fast_entries, fast_table, fast_streams, fast_contents}
 use Rattle.append_save.proofs.ReadyLemmas.{Ready, is_right, long_wd}
 use Rattle.append_save.proofs.WrittenLemmas.{Made, counts_by, fib_read}
 use Rattle.append_save.proofs.SavedLemmas.{streams_are, streams_few, fast_saved, file_is}

@@ -1,12 +1,11 @@
-use Rattle.std.proofs.Common.{◌≡◌, ◌+◌, ◌≤◌, ◌<◌, ◌++◌, ℕ, List, Option, [], ◌∷◌, length, get_or, Some, None, ap, sym, subst, ◌∙◌, arith}
+use Rattle.std.proofs.Common.{◌≡◌, ◌+◌, ◌++◌, ℕ, [], ◌∷◌, get_or, Some, ap, sym, subst, ◌∙◌, arith}
 use Rattle.std.specs.Prelude.{slice_get}
 use Rattle.std.proofs.lemmas.Option.{slice_get-get_or}
 use Rattle.doc_bits.proofs.ListLemmas.{All_at}
 use Rattle.plain_doc.specs.declared.item.Item.{Item}
 use Rattle.full_save.specs.Sections.{HasSavableSection, IsSavableSection}
 use Rattle.full_save.proofs.SectionLemmas.{SectionsSoFar}
-use Rattle.append_save.specs.PlannedSections.{new_sepx, planned_fc}
-use Rattle.append_save.proofs.PlannedLemmas.{ArePlannedUpTo, planned_start, planned_skip, planned_more, planned_all}
+use Rattle.append_save.proofs.PlannedLemmas.{ArePlannedUpTo, planned_skip, planned_more, planned_all}
 use Rattle.append_save.proofs.PlannedLemmas.{place_within, length-new}
 use Rattle.append_save.proofs.sections.append_sections.Goals as goal
 use Rattle.append_save.proofs.sections.append_sections.Goals.{in-Some+in_ok-place+in_ok-add, in_default}

@@ -1,5 +1,5 @@
 use Rattle.std.specs.Prelude.{replicate}
-use Rattle.std.proofs.Common.{◌≡◌, ◌∙◌, ◌+◌, ◌-◌, ◌≤◌, ◌++◌, ℕ, List, length, take, drop, sym, ap, arith, length-append}
+use Rattle.std.proofs.Common.{◌≡◌, ◌∙◌, ◌-◌, ◌++◌, ℕ, List, length, take, drop, sym, ap, arith, length-append}
 use Rattle.std.proofs.lemmas.List.{length-drop, take_all}
 use Rattle.cfb_layout.specs.Sectors.{filled}
 use Rattle.fib_form.specs.Fib.{early_form}

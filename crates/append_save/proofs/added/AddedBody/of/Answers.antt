@@ -1,4 +1,4 @@
-use Rattle.std.proofs.Common.{◌≡◌, ◌∙◌, ◌+◌, ◌*◌, ◌<◌, ◌≤◌, ◌++◌, ℕ, List, [], length, map, sym, ap, subst, arith}
+use Rattle.std.proofs.Common.{◌≡◌, ◌∙◌, ◌+◌, ◌*◌, ◌≤◌, ◌++◌, ℕ, List, length, sym, ap, subst, arith}
 use Rattle.std.specs.Prelude.{All}
 use Rattle.cfb_layout.specs.Sectors.{units_for}
 use Rattle.fkp_pages.specs.declared.kind.PageKind.TheVariants.{Chpx, Papx}
@@ -13,14 +13,14 @@ use Rattle.full_save.specs.Sections.{HasSavableSection}
 use Rattle.full_save.proofs.BodyLemmas.{sections_savable}
 use Rattle.full_save.proofs.TextLaidOut.{few_items}
 use Rattle.append_save.specs.Saves.{FastSave, save_of}
-use Rattle.append_save.specs.JoinedRuns.{joined_runs}
 use Rattle.append_save.specs.KeptBins.{kept_bins}
+use Rattle.append_save.specs.MarkRuns.{mark_runs, mark_runs_end}
 use Rattle.append_save.specs.PlannedSections.{planned_sepxes, planned_seds}
-use Rattle.append_save.specs.Appended.{old_bins, first_page, pages_end, fast_bin_table, fast_seds}
+use Rattle.append_save.specs.Appended.{fast_bin_table, fast_seds}
 use Rattle.append_save.proofs.ReadyLemmas.{Ready, is_right, characters_within, paragraphs_within, characters_named}
 use Rattle.append_save.proofs.ReadyLemmas.{paragraphs_named, old_table_is, runs_right, have_room}
 use Rattle.append_save.proofs.TableLemmas.{bins_printable}
-use Rattle.append_save.proofs.BodyLemmas.{text_and_pages, body_end, body_short, body_is}
+use Rattle.append_save.proofs.BodyLemmas.{body_end, body_short, body_is}
 use Rattle.append_save.proofs.SavedLemmas.{printable}
 use Rattle.append_save.proofs.AppendSteps.{pages_made}
 use Rattle.append_save.proofs.added.AddedBody.of.Goals as goal
@@ -109,7 +109,9 @@ add_paragraphs-requires-clause-runs c =
       items = c.as_slice-items.ensures.formed;
     } in
     let same = c.as_slice-items.ensures.items in
-    subst (λ (xs : List Item). AreRuns Papx (joined_runs (text_runs Papx save.base xs))) (sym same) (runs_right Papx r)
+    let old = c.old_part-table-2.ensures ∙ paragraphs_named r in
+    subst (λ (x : List ℕ × List Item). AreRuns Papx (mark_runs x.0 save.base x.1)) (λ i. (sym old i, sym same i))
+    (runs_right Papx r)
 
 pub add_paragraphs-requires-clause-room : goal.add_paragraphs-requires-clause-room
 add_paragraphs-requires-clause-room c =
@@ -124,8 +126,9 @@ add_paragraphs-requires-clause-room c =
     let first = c.pages_for-first.ensures ∙ ap (λ (xs : List Item). units_for 512 (save.base + 2 * length xs)) same in
     let next = c.in_ok-characters.ensures.next
     ∙ (λ i. first i + length (pages_of Chpx (text_runs Chpx save.base (same i))).starts) in
-    subst (λ (x : ℕ × List Item). x.0 + length (joined_runs (text_runs Papx save.base x.1)) ≤ 4194304)
-    (λ i. (sym next i, sym same i)) (have_room r).paragraphs
+    let old = c.old_part-table-2.ensures ∙ paragraphs_named r in
+    subst (λ (x : List ℕ × (ℕ × List Item)). x.1.0 + length (mark_runs x.0 save.base x.1.1) ≤ 4194304)
+    (λ i. (sym old i, (sym next i, sym same i))) (have_room r).paragraphs
 
 pub add_paragraphs-requires-clause-printable : goal.add_paragraphs-requires-clause-printable
 add_paragraphs-requires-clause-printable c =
@@ -142,9 +145,8 @@ add_paragraphs-requires-clause-printable c =
     let next = c.in_ok-characters.ensures.next
     ∙ (λ i. first i + length (pages_of Chpx (text_runs Chpx save.base (same i))).starts) in
     subst (λ (x : List ℕ × (ℕ × List Item)). ArePrintableBins
-    (kept_bins x.0 save.base
-    ++ numbered_bins x.1.0 (pages_of Papx (joined_runs (text_runs Papx save.base x.1.1))).starts)
-    (save.base + 2 * length x.1.1)) (λ i. (sym old i, (sym next i, sym same i))) (bins_printable Papx r)
+    (kept_bins x.0 save.base ++ numbered_bins x.1.0 (pages_of Papx (mark_runs x.0 save.base x.1.1)).starts)
+    (mark_runs_end x.0 save.base x.1.1)) (λ i. (sym old i, (sym next i, sym same i))) (bins_printable Papx r)
 
 pub append_sections-requires-clause-sections : goal.append_sections-requires-clause-sections
 append_sections-requires-clause-sections c =
@@ -182,9 +184,10 @@ append_sections-requires-clause-room c =
       items = c.as_slice-items.ensures.formed;
     } in
     let same = c.as_slice-items.ensures.items in
-    let made = pages_made save c.as_slice-items.result.now c.new-bytes.result c.append_text.new.out
-    c.add_characters.new.out c.add_paragraphs.new.out same c.new-bytes.ensures c.in_ok-append_text.ensures
-    c.in_ok-characters.ensures.bytes c.in_ok-paragraphs.ensures.bytes in
+    let old = c.old_part-table-2.ensures ∙ paragraphs_named r in
+    let made = pages_made save c.as_slice-items.result.now c.old_part-table-2.result.now c.new-bytes.result
+    c.append_text.new.out c.add_characters.new.out c.add_paragraphs.new.out same old c.new-bytes.ensures
+    c.in_ok-append_text.ensures c.in_ok-characters.ensures.bytes c.in_ok-paragraphs.ensures.bytes in
     let len = ap length made in
     let short = body_short r in
     omega (arith, len, short)
@@ -253,11 +256,11 @@ returns c =
     let first = c.pages_for-first.ensures ∙ ap (λ (xs : List Item). units_for 512 (save.base + 2 * length xs)) same in
     let next = c.in_ok-characters.ensures.next
     ∙ (λ i. first i + length (pages_of Chpx (text_runs Chpx save.base (same i))).starts) in
-    let made = pages_made save c.as_slice-items.result.now c.new-bytes.result c.append_text.new.out
-    c.add_characters.new.out c.add_paragraphs.new.out same c.new-bytes.ensures c.in_ok-append_text.ensures
-    c.in_ok-characters.ensures.bytes c.in_ok-paragraphs.ensures.bytes in
     let characters = c.old_part-table.ensures ∙ characters_named r in
     let paragraphs = c.old_part-table-2.ensures ∙ paragraphs_named r in
+    let made = pages_made save c.as_slice-items.result.now c.old_part-table-2.result.now c.new-bytes.result
+    c.append_text.new.out c.add_characters.new.out c.add_paragraphs.new.out same paragraphs c.new-bytes.ensures
+    c.in_ok-append_text.ensures c.in_ok-characters.ensures.bytes c.in_ok-paragraphs.ensures.bytes in
     let main = c.as_slice.ensures.items in
     let table : c.in_ok-characters.characters.table ≡ fast_bin_table Chpx save = c.in_ok-characters.ensures.table
     ∙ (λ i. printed_bin
@@ -267,8 +270,8 @@ returns c =
     let marks : c.in_ok-paragraphs.paragraphs.table ≡ fast_bin_table Papx save = c.in_ok-paragraphs.ensures.table
     ∙ (λ i. printed_bin
     (kept_bins (paragraphs i) save.base
-    ++ numbered_bins (next i) (pages_of Papx (joined_runs (text_runs Papx save.base (same i)))).starts)
-    (save.base + 2 * length (same i))) in
+    ++ numbered_bins (next i) (pages_of Papx (mark_runs (paragraphs i) save.base (same i))).starts)
+    (mark_runs_end (paragraphs i) save.base (same i))) in
     let seds : c.in_ok-seds.seds ≡ fast_seds save = c.in_ok-seds.ensures.seds
     ∙ ((λ i. planned_seds 0 (save.base + length (made i)) save.places (sections_of (main i)))
     ∙ ap (λ (n : ℕ). planned_seds 0 n save.places (sections_of save.document.main)) (body_end r)) in

@@ -1,6 +1,6 @@
 use Rattle.std.proofs.Common.{[], ◌∷◌, ◌++◌, ap, ◌∙◌, refl}
 use Rattle.prop_map.specs.Settings.{Settings}
-use Rattle.full_save.proofs.SoFarLemmas.{characters_begin, characters_go_on, characters_change}
+use Rattle.full_save.proofs.SoFarLemmas.{characters_go_on, characters_change}
 use Rattle.append_save.proofs.runs.CharacterRuns.push.Goals as goal
 
 pub returns-then-equal : goal.returns-then-equal
