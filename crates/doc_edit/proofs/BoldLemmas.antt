@@ -1,21 +1,16 @@
--- The settings of what is generated, none or bold, and those of the blank document's styles.
-use Rattle.std.proofs.Common.{◌≡◌, ◌∙◌, refl, sym, ap, inl, inr, ℕ, Bool, true, false, cond, not, List, [], ◌∷◌, ◌++◌}
+-- The settings of what is generated: none, or bold.
+use Rattle.std.proofs.Common.{◌≡◌, ◌∙◌, refl, sym, ap, inl, inr, ℕ, Bool, true, false, cond, not, List, [], ◌∷◌}
 use Rattle.std.proofs.Common.{Option, Some, None}
-use Rattle.std.specs.List.{flat_map}
 use Rattle.std.specs.Ordering.{nat_cmp, eq_by_cmp}
 use Rattle.std.specs.Cmp.{nat_cmp_total, unsigned_tied}
 use Rattle.std.specs.Option.{option_or}
-use Rattle.std.specs.FinMap.{get, empty, retain_keys, put, get-empty, get-insert, entries-insert}
+use Rattle.std.specs.FinMap.{get, empty, retain_keys, get-empty, get-insert}
 use Rattle.std.proofs.lemmas.Bool.{eqb-true}
 use Rattle.sprm_table.specs.Codes.{is_among}
-use Rattle.sprm_table.specs.Sprm.{spelling}
 use Rattle.prop_map.specs.Settings.{Settings}
 use Rattle.prop_map.specs.Overlay.{overlay, without, modified_characters}
-use Rattle.prop_map.specs.Printing.{printed_list}
 use Rattle.prop_map.proofs.ChangeLemmas.{get-retained}
-use Rattle.prop_map.proofs.EntriesLemmas.{entries-empty}
 use Rattle.prop_map.proofs.MapLemmas.{same_settings, get-overlay, overlay-empty}
-use Rattle.plain_doc.specs.Blank.{one_setting}
 use Rattle.edit_ops.specs.Fresh.{special_codes}
 use Rattle.edit_ops.specs.Edits.{setting_characters}
 use Rattle.doc_edit.specs.GeneratedDocuments.{bold, IsBoldOrNone}
@@ -77,13 +72,3 @@ twice map = same_settings (overlay map map) map (λ code. get-overlay map map co
 pub set_bold : (chp : Settings) → IsBoldOrNone chp → modified_characters (setting_characters bold) chp ≡ bold
 set_bold chp (inl none) = ap (overlay bold) none ∙ overlay-empty bold
 set_bold chp (inr is) = ap (overlay bold) is ∙ twice bold
-
--- ---- their bytes
-
-pub none_printed : printed_list empty ≡ []
-none_printed = ap (flat_map spelling) entries-empty
-
-pub one_printed : (code byte : ℕ) → printed_list (one_setting code byte) ≡ flat_map spelling ((code, byte ∷ []) ∷ [])
-one_printed code byte =
-    ap (flat_map spelling)
-    (entries-insert nat_cmp_total empty code (byte ∷ []) ∙ ap (put nat_cmp code (byte ∷ [])) entries-empty)

@@ -42,8 +42,7 @@ use Rattle.plain_doc.proofs.RightLemmas.{right_is_sound}
 use Rattle.plain_doc.proofs.RowLemmas.{open_cells-nil, open_cells_more}
 use Rattle.doc_edit.specs.GeneratedDocuments.{bold, IsBoldOrNone, IsLetter, IsPlainMark, IsGeneratedItem}
 use Rattle.doc_edit.specs.GeneratedDocuments.{IsGeneratedText}
-use Rattle.doc_edit.proofs.BoldLemmas.{none_printed, one_printed}
-use Rattle.doc_edit.proofs.BlankSheetLemmas.{blank_bases, blank_short, blank_writable}
+use Rattle.plain_doc.proofs.BlankSheetLemmas.{blank_bases, blank_short, blank_writable, none_printed, one_printed}
 use Rattle.doc_edit.proofs.GeneratedTextLemmas.{IsSmallMark, marked}
 
 -- ---- each item

@@ -39,8 +39,9 @@ use Rattle.full_save.specs.WordDocument.{text_at, one_piece_clx, pages_end, full
 use Rattle.full_save.proofs.EntriesFound.{AreNumbered, plain as plain_part, entry_stands}
 use Rattle.save_bounds.proofs.TableLemmas.{tables_differ_by_own_parts}
 use Rattle.doc_edit.specs.GeneratedDocuments.{IsGeneratedItem, IsGeneratedText}
-use Rattle.doc_edit.proofs.BlankSheetLemmas.{length-blank_sheet}
+use Rattle.plain_doc.proofs.BlankSheetLemmas.{length-blank_sheet}
 use Rattle.doc_edit.proofs.GeneratedRightLemmas.{generated_with, sect_empty, one_section}
+use Rattle.full_save.proofs.StreamLengths.{clx_short}
 
 -- ---- what is not there
 
@@ -103,32 +104,6 @@ unfolding seds_from
 length-seds start place [] = refl
 length-seds start place (section ∷ sections) =
     ap suc (length-seds (section.0 + 1) (place + length (sepx_bytes section.1)) sections)
-
-clx_short : (len : ℕ) → length (one_piece_clx len) ≤ 64
-clx_short len =
-    let pcd = pcd_bytes (record { at = text_at; wide = true; len = len }) 0 in
-    let cps = cps_of (len ∷ []) in
-    let plc = plc_bytes (len ∷ []) (pcd ∷ []) in
-    let a = length-append (number_bytes 4 (length plc)) plc in
-    let b = length-append (numbers cps) (flat_map (λ bytes. bytes) (pcd ∷ [])) in
-    let c = length-append pcd [] in
-    let number : List ℕ = number_bytes 4 text_at in
-    let d = length-append (number_bytes 2 0) (number ++ number_bytes 2 0) in
-    let e = length-append number (number_bytes 2 0) in
-    let two : length cps ≡ 2 = refl in
-    omega (
-      arith,
-      a,
-      b,
-      c,
-      d,
-      e,
-      two,
-      length-numbers cps,
-      length-number_bytes 4 (length plc),
-      length-number_bytes 2 0,
-      length-number_bytes 4 text_at,
-    )
 
 -- the parts of a document without notes and header texts, by what they list of the main text
 abbrev parts_behind : List NoteRef → List Fld → TableText → List TableEntry

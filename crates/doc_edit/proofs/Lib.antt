@@ -6,7 +6,6 @@ pub mod RunCountLemmas
 pub mod EditRunLemmas
 pub mod FullSizeLemmas
 pub mod BoldLemmas
-pub mod BlankSheetLemmas
 pub mod GeneratedTextLemmas
 pub mod GeneratedRightLemmas
 pub mod GeneratedTableLemmas

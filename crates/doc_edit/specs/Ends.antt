@@ -15,19 +15,13 @@ use Rattle.doc_edit.specs.declared.faults.RunFault.{RunFault}
 use Rattle.doc_edit.specs.declared.faults.RunFault.TheVariants.{Stopped, Memory}
 use Rattle.doc_edit.specs.declared.running.Saved.{Saved}
 use Rattle.fast_save.specs.Ledgers.{most_pieces_added}
+use Rattle.fast_save.specs.Fast.{most_quick_saves, most_pieces}
 use Rattle.doc_edit.specs.Saves.{save_mode, save_count}
 use Rattle.doc_edit.specs.States.{RunState, fast_sectors, most_grown}
 use Rattle.doc_edit.specs.Files.{HasGrownFrom}
 use Rattle.fast_save.specs.Session.{SessionView}
 use Rattle.fast_save.specs.Edited.{bytes_added}
 use Rattle.doc_edit.specs.Commands.{Commands, listed, command_at, state_before}
-
--- Profile: the most fast saves in a row, and the most pieces of a file
-abbrev pub most_quick_saves : ℕ
-most_quick_saves = 15
-
-abbrev pub most_pieces : ℕ
-most_pieces = 16384
 
 -- the edit is accepted, and each guard allows it
 pub record IsGrantedEdit (state : RunState) (command : Command) : Type 0 where

@@ -23,7 +23,7 @@ use Rattle.edit_ops.specs.Edits.{document_after}
 use Rattle.edit_ops.specs.Runs.{most_runs}
 use Rattle.fast_save.specs.declared.ledgers.Counts.{Counts}
 use Rattle.fast_save.specs.Ledgers.{after_edit, after_fast, sections_set, sector_bound, most_pieces_added}
-use Rattle.doc_edit.specs.Ends.{most_pieces}
+use Rattle.fast_save.specs.Fast.{most_pieces}
 
 -- Profile: the most sectors and bytes of bin tables of a full save of what is generated, and the most bytes of Table
 abbrev pub most_full_sectors : ℕ

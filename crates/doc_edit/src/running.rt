@@ -1,12 +1,14 @@
 // Commands run over a session.
-ghost use Rattle.std.specs.Prelude.{◌≡◌, ◌≢◌, ◌<◌, ◌≤◌, Some, None, true, false, length, map, IfErr, IfOk, OnErr};
+ghost use Rattle.std.specs.Prelude.{◌≡◌, ◌≢◌, ◌<◌, ◌≤◌, ℕ, Some, None, true, false, length, map, IfErr, IfOk, OnErr};
 ghost use Rattle.std.specs.Prelude.{OnOk, MatchResult};
-ghost use Rattle.edit_guards.specs.Policies.{Policy};
+ghost use Rattle.edit_guards.specs.Policies.{Policy, AllGrant, IsFirstRefuser};
 ghost use Rattle.edit_script.specs.Scripts.{EndsWithSave, most_commands};
 ghost use Rattle.edit_ops.specs.Causes.{IsEditFault};
 ghost use Rattle.full_save.specs.Layout.{IsTooLarge};
-ghost use Rattle.fast_save.specs.Edited.{HasRoom};
+ghost use Rattle.fast_save.specs.Edited.{HasRoom, IsPlanned};
 ghost use Rattle.fast_save.specs.Fast.{IsSavedFast};
+ghost use Rattle.doc_edit.specs.declared.faults.RunFault.TheVariants.{Stopped};
+ghost use Rattle.doc_edit.specs.declared.faults.Stop.TheVariants.{Guarded};
 ghost use Rattle.doc_edit.specs.Saves.{save_mode};
 ghost use Rattle.doc_edit.specs.States.{RunState, start_of};
 ghost use Rattle.doc_edit.specs.Commands.{listed};
@@ -19,7 +21,7 @@ use crate::source::Source;
 use crate::{RunFault, SaveCounts, Stop, count_saves};
 use doc_bits::Bytes;
 use edit_guards::{Guard, first_refuser, note_all};
-use edit_ops::{Command, EditFault, Script};
+use edit_ops::{Command, Edit, EditFault, Facts, Script};
 use fast_save::{FastFault, Session};
 use full_save::SaveFault;
 use std::alloc::Global;
@@ -128,22 +130,45 @@ fn edit(
     ensures err { IfErr result (Halts command.now session.old (map (λ b. policy b) guards.old) index) }
     ensures told { OnErr result (map (λ b. policy b) guards.new ≡ map (λ b. policy b) guards.old) }
 {
-    let facts = match session.test(command) {
-        Ok(facts) => facts,
-        Err(fault) => return Err(refused(index, fault)),
-    };
-    if let Some(guard) = first_refuser(guards, facts) {
-        return Err(RunFault::Stopped {
-            index,
-            stop: Stop::Guarded { guard },
-        });
-    }
-    match session.edit(command) {
-        Ok(()) => {}
-        Err(fault) => return Err(refused(index, fault)),
-    }
+    let edit = planned(session, command, index)?;
+    let facts = edit.facts;
+    let edit = granted(guards, facts, index, edit)?;
+    session.make(command, edit)?;
     note_all(guards, facts);
     Ok(())
+}
+
+/// The edit, where all guards allow it.
+fn granted<E: Drop>(
+    guards: &[Box<dyn Guard>],
+    facts: Facts,
+    index: usize,
+    edit: E,
+) -> Result<E, RunFault>
+    ensures { MatchResult result
+        (λ made. (made ≡ edit) × AllGrant (map (λ b. policy b) guards.now) facts)
+        (λ fault. (guard : ℕ) × ((fault ≡ Stopped index (Guarded guard))
+        × IsFirstRefuser (map (λ b. policy b) guards.now) facts guard)) }
+{
+    match first_refuser(guards, facts) {
+        None => Ok(edit),
+        Some(guard) => Err(RunFault::Stopped {
+            index,
+            stop: Stop::Guarded { guard },
+        }),
+    }
+}
+
+/// The edit of this number, or the end of the run by it.
+fn planned(session: &Session, command: &Command, index: usize) -> Result<Edit, RunFault>
+    ensures { MatchResult result (IsPlanned session.now.document command.now)
+        (λ fault. (state : RunState) → state.document ≡ session.now.document →
+        HaltsBy index (StopsEdit state command.now) fault) }
+{
+    match session.plan(command) {
+        Ok(edit) => Ok(edit),
+        Err(fault) => Err(refused(index, fault)),
+    }
 }
 
 /// The end of a run by an edit that is refused.

@@ -27,7 +27,7 @@ use Rattle.doc_run.specs.Stages.{longest_file}
 use Rattle.doc_run.specs.Edits.{stop_status, counts_line, PutsLastSave, SavesLast, Edits, EditsBy, EditsByFile}
 use Rattle.doc_run.specs.Edits.{ReadsScript, EditsFile}
 use Rattle.doc_run.proofs.AlikeLemmas.{IsOne, one_same, one_when, puts_alike}
-use Rattle.doc_run.proofs.SessionLemmas.{session_one}
+use Rattle.fast_save.proofs.OneSession.{session_one}
 
 -- a script has no more commands than a run takes
 pub script_few : (bytes : List ℕ) (commands : List Command) → IsScript bytes commands → length commands ≤ most_commands

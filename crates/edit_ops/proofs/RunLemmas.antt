@@ -14,6 +14,7 @@ use Rattle.plain_doc.specs.declared.document.Document.{Document}
 use Rattle.plain_doc.specs.Stretches.{stretch_from, stretches}
 use Rattle.plain_doc.specs.Settings.{is_alike}
 use Rattle.plain_doc.proofs.SettingsLemmas.{same_settings-Decides}
+use Rattle.plain_doc.proofs.StretchLemmas.{one_more, none_more}
 use Rattle.doc_bits.specs.declared.places.Story.{Story}
 use Rattle.doc_bits.specs.declared.places.Story.TheVariants.{Main, Note as NoteText, Head as HeadText}
 use Rattle.edit_script.specs.declared.commands.Command.TheVariants.{Insert, Erase, Char, Plain, Para, Style, Field, Note, Split, Merge, Sect, Row, StyleChar, StylePara, Save}
@@ -23,35 +24,6 @@ use Rattle.edit_ops.specs.Edits.{erased, section_changes}
 use Rattle.edit_ops.specs.Runs.{paragraph_count, run_count, texts_put, most_runs_of_section, RunsAreFew}
 
 -- ---- stretches of any list
-
-record Leads {A : Type 0} (x : A) (parts : List (List A)) : Type 0 where
-  front : List A
-  more : List (List A)
-  is : parts ≡ (x ∷ front) ∷ more
-
--- an element before stretches begins the first of them
-leads : {A : Type 0} (joins : A → A → Bool) (x : A) (parts : List (List A)) → Leads x (stretch_from joins x parts)
-leads joins x [] = record { front = []; more = []; is = refl }
-leads joins x ([] ∷ more) = record { front = []; more = more; is = refl }
-leads joins x ((y ∷ ys) ∷ more) =
-    elim (joins x y) as (λ b. Leads x (if b then (x ∷ y ∷ ys) ∷ more else (x ∷ []) ∷ (y ∷ ys) ∷ more)) [
-      | true ↦ record { front = y ∷ ys; more = more; is = refl }
-      | false ↦ record { front = []; more = (y ∷ ys) ∷ more; is = refl }
-    ]
-
--- it is one more at most
-one_more : {A : Type 0} (joins : A → A → Bool) (x : A) (parts : List (List A)) → length (stretch_from joins x parts) ≤ 1 + length parts
-one_more joins x [] = omega arith
-one_more joins x ([] ∷ more) = omega arith
-one_more joins x ((y ∷ ys) ∷ more) =
-    elim (joins x y) as (λ b. length (if b then (x ∷ y ∷ ys) ∷ more else (x ∷ []) ∷ (y ∷ ys) ∷ more) ≤ 1 + length ((y ∷ ys) ∷ more)) [
-      | true ↦ omega arith
-      | false ↦ omega arith
-    ]
-
--- and none where it joins the first element
-none_more : {A : Type 0} (joins : A → A → Bool) (x y : A) (parts : List (List A)) → joins x y ≡ true → length (stretch_from joins x (stretch_from joins y parts)) ≡ length (stretch_from joins y parts)
-none_more joins x y parts joined = let next = leads joins y parts in rw (next.is, joined) refl
 
 first_more : {A : Type 0} (joins : A → A → Bool) (x : A) (xs : List A) → length (stretches joins (x ∷ xs)) ≤ 1 + length (stretches joins xs)
 unfolding stretches
@@ -73,13 +45,13 @@ joined_one joins P same xs all = subst (λ list. length (stretches joins list) �
 
 -- ---- items of equal settings
 
-abbrev HasChp : Settings → Item → Type 0
+abbrev pub HasChp : Settings → Item → Type 0
 HasChp chp item = item.chp ≡ chp
 
 alike : (chp : Settings) (x y : Item) → HasChp chp x → HasChp chp y → is_alike x y ≡ true
 alike chp x y one other = (same_settings-Decides x.chp y.chp).1 (one ∙ sym other)
 
-units_have : (chp : Settings) (units : List ℕ) → All (HasChp chp) (unit_items chp units)
+pub units_have : (chp : Settings) (units : List ℕ) → All (HasChp chp) (unit_items chp units)
 units_have chp [] = All-nil (HasChp chp)
 units_have chp (unit ∷ units) = All-cons (HasChp chp) (unit_item chp unit) (unit_items chp units) refl (units_have chp units)
 
@@ -90,6 +62,10 @@ cells_have (text ∷ cells) =
     All-append (HasChp empty) (cell_items text) (flat_map cell_items cells)
     (All-append (HasChp empty) (unit_items empty text) (mark ∷ []) (units_have empty text) (All-cons (HasChp empty) mark [] refl (All-nil (HasChp empty))))
     (cells_have cells)
+
+-- they are one run
+pub one_run : (chp : Settings) (items : List Item) → All (HasChp chp) items → length (stretches is_alike items) ≤ 1
+one_run chp items all = joined_one is_alike (HasChp chp) (alike chp) items all
 
 -- units are one run more
 units_before : (chp : Settings) (units : List ℕ) (rest : List Item) → length (stretches is_alike (unit_items chp units ++ rest)) ≤ 1 + length (stretches is_alike rest)

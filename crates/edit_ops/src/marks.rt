@@ -36,9 +36,10 @@ fn outside_tables(alloc: Global, pap: &PropMap) -> Result<PropMap, Memory>
     ensures formed { IfOk result (λ made. StaysFormed paragraph_groups pap.now made) }
 {
     let mut codes = Vec::new(alloc);
-    for entry in pap.entries() {
-        if is_table_code(entry.0) {
-            codes.push(Code(entry.0))?;
+    let mut left = pap.entries();
+    while let Some((code, _)) = left.next() {
+        if is_table_code(code.0) {
+            codes.push(code)?;
         }
     }
     let made = pap.without(alloc, &codes)?;

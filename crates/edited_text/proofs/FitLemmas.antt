@@ -31,6 +31,7 @@ use Rattle.save_laws.specs.Places.{Given, IsMarkedAfter}
 use Rattle.save_laws.specs.Slots.{Slot, shown, IsPlaced}
 use Rattle.edited_text.specs.EditSteps.{IsShortAfter}
 use Rattle.edited_text.proofs.TextLemmas.{All-front, All-back}
+use Rattle.save_laws.proofs.SessionLemmas.{zip_before}
 
 -- ---- one place
 
@@ -90,18 +91,6 @@ place_fits Stands Gives by place made item fits is placed short =
     }
 
 -- ---- places of a range
-
--- what stands beside an element of the second list in the first one
-zip_before : {A B : Type 0} (R : A → B → Type 0) (xs : List A) (ys : List B) (k : ℕ) (y : B) → AllZip R xs ys →
-    slice_get ys k ≡ Some y → Beside R xs k y
-zip_before R [] [] k y zipped here = absurd (none-some y here)
-zip_before R [] (z ∷ ys) k y zipped here = absurd zipped
-zip_before R (x ∷ xs) [] k y zipped here = absurd zipped
-zip_before R (x ∷ xs) (z ∷ ys) zero y zipped here =
-    record { other = x; here = refl; is = subst (R x) (same_Some z y here) zipped.0 }
-zip_before R (x ∷ xs) (z ∷ ys) (suc k) y zipped here =
-    let found = zip_before R xs ys k y zipped.1 here in
-    record { other = found.other; here = found.here; is = found.is }
 
 pub range_fits : (Stands : ℕ → Bool → Type 0) (Gives : ℕ → Bool → Given → Type 0) (by : Modifier)
     (places made : List UnitPlace) (items : List Item) → All (λ place. FitsPages place.modifier) places →

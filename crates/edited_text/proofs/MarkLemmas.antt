@@ -19,18 +19,9 @@ use Rattle.std.proofs.lemmas.List.Concat.{flat_map-cons}
 use Rattle.std.proofs.lemmas.Option.{slice_get_within, get_or_from_slice_get}
 use Rattle.std.proofs.Common.{get_or, ◌<◌}
 use Rattle.std.proofs.lemmas.Grind.{flat_map-append}
+use Rattle.save_laws.proofs.SessionLemmas.{splice_front, map_splice}
 
 -- ---- splices of joined lists
-
--- a splice within the first of two lists
-splice_front : {A : Type 0} (xs ys zs : List A) (from to : ℕ) → from ≤ to → to ≤ length xs →
-    splice xs from to zs ++ ys ≡ splice (xs ++ ys) from to zs
-splice_front xs ys zs from to order within =
-    let a : take from (xs ++ ys) ≡ take from xs = take-append-le from xs ys (omega (arith, order, within)) in
-    let b : drop to (xs ++ ys) ≡ drop to xs ++ ys = drop-append-le to xs ys within in
-    append_assoc (take from xs) (zs ++ drop to xs) ys
-    ∙ (ap (λ l. take from xs ++ l) (append_assoc zs (drop to xs) ys)
-    ∙ (ap (λ l. l ++ (zs ++ (drop to xs ++ ys))) (sym a) ∙ ap (λ l. take from (xs ++ ys) ++ (zs ++ l)) (sym b)))
 
 -- what is before and behind a place that lies in the second list
 take_behind : {A : Type 0} (xs ys : List A) (n : ℕ) → take (length xs + n) (xs ++ ys) ≡ xs ++ take n ys
@@ -54,14 +45,6 @@ splice_behind xs ys zs from to =
     sym (append_assoc xs (take from ys) (zs ++ drop to ys))
     ∙ (ap (λ l. l ++ (zs ++ drop to ys)) (sym a)
     ∙ ap (λ l. take (length xs + from) (xs ++ ys) ++ (zs ++ l)) (sym b))
-
-map_splice : (items fresh : List Item) (from to : ℕ) →
-    map shown (splice items from to fresh) ≡ splice (map shown items) from to (map shown fresh)
-map_splice items fresh from to =
-    map-append shown (take from items) (fresh ++ drop to items)
-    ∙ (ap (λ l. map shown (take from items) ++ l) (map-append shown fresh (drop to items))
-    ∙ (ap (λ l. l ++ (map shown fresh ++ map shown (drop to items))) (sym (take-map shown from items))
-    ∙ ap (λ l. take from (map shown items) ++ (map shown fresh ++ l)) (sym (drop-map shown to items))))
 
 -- ---- one story, what stands behind it, and the slots of the other story
 

@@ -40,7 +40,7 @@ use Rattle.edited_text.specs.EditSteps.{HasGrownBy, IsBlockOf, NamesEmptyStory, 
 use Rattle.save_bounds.specs.RunCounts.{joined_run_count, marks_of, same_marks}
 use Rattle.save_bounds.proofs.JoinedRunLemmas.{joined_runs_are_fewer, joined_run_counts_add, ends_add_no_run}
 use Rattle.fast_save.proofs.GrownLemmas.{together_tail, joined_sum}
-use Rattle.fast_save.proofs.SettingRuns.{HasCharacters, one_stretch, units_have}
+use Rattle.edit_ops.proofs.RunLemmas.{HasChp, one_run, units_have}
 
 abbrev pub bytes_of : List Item → ℕ
 bytes_of items = 2 * length items + 512 * joined_run_count items
@@ -152,9 +152,9 @@ unfolding stretches
 plain_text units =
     let items = unit_items empty units ++ plain_end ∷ [] in
     let all =
-    All-append (HasCharacters empty) (unit_items empty units) (plain_end ∷ []) (units_have empty units)
-    (All-cons (HasCharacters empty) plain_end [] refl (All-nil (HasCharacters empty))) in
-    let one = one_stretch empty items all in
+    All-append (HasChp empty) (unit_items empty units) (plain_end ∷ []) (units_have empty units)
+    (All-cons (HasChp empty) plain_end [] refl (All-nil (HasChp empty))) in
+    let one = one_run empty items all in
     let marks : marks_of items ≡ mark_with empty ∷ [] =
     filter_map-append (λ (item : Item). item.mark) (unit_items empty units) (plain_end ∷ [])
     ∙ ap (λ (list : List Mark). list ++ mark_with empty ∷ []) (unit_marks empty units) in

@@ -34,7 +34,6 @@ use Rattle.plain_doc.specs.Formed.{IsFormed}
 use Rattle.plain_doc.specs.Settings.{is_alike}
 use Rattle.plain_doc.specs.Stretches.{stretches}
 use Rattle.doc_load.specs.FileRules.{table_stream_name}
-use Rattle.full_save.specs.Runs.{text_runs}
 use Rattle.full_save.specs.WordDocument.{table_stream}
 use Rattle.full_save.proofs.StreamLengths.{length-runs_from}
 use Rattle.save_laws.specs.Saves.{HasSettingsAt}
@@ -42,17 +41,16 @@ use Rattle.save_bounds.specs.ClxLengths.{HaveShortPrcs}
 use Rattle.save_bounds.specs.RunCounts.{joined_run_count}
 use Rattle.save_bounds.specs.FastSizes.{SaveCounts, reckoned_sectors}
 use Rattle.save_bounds.proofs.ClxLemmas.{clx_is_short, reckoned_prcs_are_short}
-use Rattle.save_bounds.proofs.JoinedRunLemmas.{paragraph_runs_are_counted}
 use Rattle.save_bounds.proofs.TableLemmas.{tables_are_short}
-use Rattle.append_save.specs.Appended.{old_wd, old_table, old_bins, added_end, added_runs, added_pages, first_page, pages_end}
+use Rattle.append_save.specs.Appended.{old_wd, old_table, old_bins, bins_end, added_runs, added_pages, first_page}
+use Rattle.append_save.specs.Appended.{pages_end}
 use Rattle.append_save.specs.Appended.{fast_bins, fast_bin_table, fast_text, fast_table, table_name_of}
 use Rattle.append_save.specs.AppendedLengths.{IsCounted as IsCountedSave}
-use Rattle.append_save.specs.JoinedRuns.{is_same_run}
 use Rattle.append_save.specs.Kept.{CanBeAppended}
 use Rattle.append_save.specs.KeptBins.{bin_of, bins_of, kept_bins}
 use Rattle.append_save.specs.RenewedStreams.{bytes_named}
 use Rattle.append_save.specs.Saves.{FastSave}
-use Rattle.append_save.proofs.RunLengths.{joined_runs_are_few}
+use Rattle.append_save.proofs.RunLengths.{mark_runs_are_few}
 use Rattle.append_save.proofs.StreamLemmas.{named_is}
 use Rattle.append_save.proofs.StreamLengths.{length-seds}
 use Rattle.edited_text.specs.SessionText.{IsSectionPlan, ArePlannedSections}
@@ -214,9 +212,8 @@ module _ (document : Document) (parts : SessionParts) (can : CanSaveFast documen
   few_runs =
       let base = parts.text.added.base in
       let added = parts.text.added.items in
-      let joined = joined_runs_are_few (text_runs Papx base added) in
-      let counted = paragraph_runs_are_counted base added in
-      omega (arith, length-runs_from Chpx base (stretches is_alike added), joined, counted)
+      let marks = mark_runs_are_few (old_bins Papx the_save) base added in
+      omega (arith, length-runs_from Chpx base (stretches is_alike added), marks)
 
   room : parts.text.added.base
       + 2 * length parts.text.added.items
@@ -241,7 +238,7 @@ module _ (document : Document) (parts : SessionParts) (can : CanSaveFast documen
         few_ranges old,
         bins_short kind,
         pages,
-        length-printed_bin (fast_bins kind the_save) (added_end the_save),
+        length-printed_bin (fast_bins kind the_save) (bins_end kind the_save),
         length-append (kept_bins old parts.text.added.base) bins,
         length-numbered_bins (first_page kind the_save) starts,
       )

@@ -16,6 +16,7 @@ use Rattle.prop_map.specs.Modifiers.{no_modifier, style_prls, clear_prls, printe
 use Rattle.prop_map.specs.Printing.{printed_list}
 use Rattle.prop_map.proofs.EntriesLemmas.{entries-empty}
 use Rattle.prop_map.proofs.PrintedLemmas.{length-style, length-clear}
+use Rattle.prop_map.proofs.PrintedLengths.{modifier_parts}
 use Rattle.plain_doc.specs.declared.item.Item.{Item}
 use Rattle.plain_doc.specs.declared.document.Document.{Document}
 use Rattle.edit_script.specs.declared.commands.Command.{Command}
@@ -109,28 +110,6 @@ sections_few document (StylePara istd set) = omega arith
 sections_few document (Save full) = omega arith
 
 -- ---- printed modifiers
-
-abbrev spelt_length : List Prl → ℕ
-spelt_length prls = length (flat_map spelling prls)
-
-spelt-append : (one other : List Prl) → spelt_length (one ++ other) ≡ spelt_length one + spelt_length other
-spelt-append one other =
-    ap length (flat_map-append spelling one other) ∙ length-append (flat_map spelling one) (flat_map spelling other)
-
-modifier_parts : (modifier : Modifier) →
-    length (printed_modifier modifier)
-    ≡ spelt_length (style_prls modifier.istd) + (length (printed_list modifier.pap)
-    + (spelt_length (clear_prls modifier.clear) + length (printed_list modifier.chp)))
-modifier_parts modifier =
-    let clear = clear_prls modifier.clear in
-    let chp = entries modifier.chp in
-    let pap = entries modifier.pap in
-    omega (
-      arith,
-      spelt-append (style_prls modifier.istd) (pap ++ (clear ++ chp)),
-      spelt-append pap (clear ++ chp),
-      spelt-append clear chp,
-    )
 
 none_printed : length (printed_list no_modifier.chp) ≡ 0
 none_printed = rw entries-empty refl

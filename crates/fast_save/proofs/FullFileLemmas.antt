@@ -37,7 +37,8 @@ use Rattle.full_save.proofs.NameOrder.{same_as_itself}
 use Rattle.full_save.proofs.PutStreams.{IsPutAmong, length-put, put_there, kept_there, each_put, put_ascend}
 use Rattle.full_save.proofs.PutStreams.{put_are_streams, total-put}
 use Rattle.full_save.proofs.PutStreams.{put_among, put_left_out, all_pass}
-use Rattle.fast_save.proofs.ContainerLemmas.{contents_has, contents_clsid, contents_carried, stream_short}
+use Rattle.append_save.proofs.StreamLemmas.{contents_has, contents_clsid, contents_carried}
+use Rattle.full_save.proofs.FitLemmas.{stream_short}
 
 -- ---- the two streams that a save makes
 
@@ -194,9 +195,11 @@ has_layout document formed =
     let clsid = document.carried.clsid in
     let wd = wd_there document formed in
     let table = table_there document formed in
+    let one = the_wd document in
+    let other = the_table document in
     record {
-      wd = contents_has streams clsid wd.0 (the_wd document) wd.1;
-      table = contents_has streams clsid table.0 (the_table document) table.1;
+      wd = contents_has streams clsid wd.0 one one.name wd.1 (same_as_itself one.name one.name refl);
+      table = contents_has streams clsid table.0 other other.name table.1 (same_as_itself other.name other.name refl);
       clsid = sym (contents_clsid streams clsid);
       streams = sym (contents_carried streams clsid ∙ carried_again document formed);
     }

@@ -1,4 +1,3 @@
-pub mod ContainerLemmas
 pub mod FullFileLemmas
 pub mod OpenLemmas
 pub mod StartLemmas
@@ -9,8 +8,8 @@ pub mod FullLemmas
 pub mod GrownLemmas
 pub mod RoomLemmas
 pub mod ResultLemmas
-pub mod SettingRuns
 pub mod AddedBytes
 pub mod CanLemmas
 pub mod FastLemmas
 pub mod HeldLemmas
+pub mod OneSession

@@ -18,11 +18,15 @@ use Rattle.fast_save.specs.declared.fast.FastFault.TheVariants.{Sixteenth, TooMa
 use Rattle.fast_save.specs.declared.fast_parts.FastParts.{FastParts}
 use Rattle.fast_save.specs.declared.ledgers.Counts.{Counts}
 use Rattle.fast_save.specs.declared.parts.SessionParts.{SessionParts}
-use Rattle.fast_save.specs.Ledgers.{modifier_bytes, sector_bound, after_fast}
+use Rattle.fast_save.specs.Ledgers.{modifier_bytes, sector_bound, after_fast, most_pieces_added}
 use Rattle.fast_save.specs.Session.{SessionView, IsSession, IsCounted, text_base, bin_length}
 use Rattle.fast_save.specs.Started.{written_places}
 
 -- ---- when it is refused
+
+-- Profile: the most fast saves in a row
+abbrev pub most_quick_saves : ℕ
+most_quick_saves = 15
 
 -- Profile: the most pieces of a fast save, before the pieces that one more edit adds
 abbrev pub most_pieces : ℕ
@@ -30,26 +34,27 @@ most_pieces = 16384
 
 -- the counts do not refuse it: fewer than fifteen quick saves in a row, few pieces, and few sectors
 pub record IsJudged (quick_saves : ℕ) (counts : Counts) (table_bytes : ℕ) : Type 0 where
-  pub saves : quick_saves < 15
-  pub pieces : counts.pieces + 4 ≤ most_pieces
+  pub saves : quick_saves < most_quick_saves
+  pub pieces : counts.pieces + most_pieces_added ≤ most_pieces
   pub sectors : sector_bound counts table_bytes ≤ most_sectors
 
 -- there are too many pieces, with their number
 pub record HasManyPieces (quick_saves : ℕ) (counts : Counts) (pieces : ℕ) : Type 0 where
-  pub saves : quick_saves < 15
-  pub many : most_pieces < counts.pieces + 4
+  pub saves : quick_saves < most_quick_saves
+  pub many : most_pieces < counts.pieces + most_pieces_added
   pub number : pieces ≡ counts.pieces
 
 -- too many sectors are reckoned, with their number
 pub record HasManySectors (quick_saves : ℕ) (counts : Counts) (table_bytes sectors : ℕ) : Type 0 where
-  pub saves : quick_saves < 15
-  pub few : counts.pieces + 4 ≤ most_pieces
+  pub saves : quick_saves < most_quick_saves
+  pub few : counts.pieces + most_pieces_added ≤ most_pieces
   pub many : most_sectors < sectors
   pub number : sectors ≡ sector_bound counts table_bytes
 
 -- there were fifteen quick saves in a row; else too many pieces; else too many sectors. Want of memory is free
 abbrev pub IsFastFault : ℕ → Counts → ℕ → FastFault → Type 0
-IsFastFault quick_saves counts table_bytes (Sixteenth count) = (quick_saves ≡ 15) × (count ≡ 15)
+IsFastFault quick_saves counts table_bytes (Sixteenth count) =
+    (quick_saves ≡ most_quick_saves) × (count ≡ most_quick_saves)
 IsFastFault quick_saves counts table_bytes (TooManyPieces pieces) = HasManyPieces quick_saves counts pieces
 IsFastFault quick_saves counts table_bytes (TooLarge sectors) = HasManySectors quick_saves counts table_bytes sectors
 IsFastFault quick_saves counts table_bytes Memory = Unit {0}

@@ -1,5 +1,5 @@
 // A session: a document that is edited beside the pieces of its text. After want of memory it is what it was.
-ghost use Rattle.std.specs.Prelude.{◌≡◌, ◌<◌, ◌≤◌, length, OnOk, IfOk, IfErr, MatchResult};
+ghost use Rattle.std.specs.Prelude.{◌≡◌, ◌<◌, ◌≤◌, length, OnOk, OnErr, IfOk, IfErr, MatchResult};
 ghost use Rattle.cfb_streams.specs.Header.{sector_count};
 ghost use Rattle.plain_doc.specs.Sound.{IsSound};
 ghost use Rattle.full_save.specs.WordDocument.{table_stream};
@@ -11,7 +11,7 @@ ghost use Rattle.edit_ops.specs.EditFacts.{edit_facts};
 ghost use Rattle.fast_save.specs.Laws.{IsHeldInFull};
 ghost use Rattle.fast_save.specs.Ledgers.{ledgers_of, AreCountsOf};
 ghost use Rattle.fast_save.specs.Session.{bin_length};
-ghost use Rattle.fast_save.specs.Edited.{HasRoom, session_after};
+ghost use Rattle.fast_save.specs.Edited.{HasRoom, IsPlanned, session_after};
 ghost use Rattle.fast_save.specs.Started.{IsStarted, session_after_full};
 ghost use Rattle.fast_save.specs.Fast.{IsFastFault, IsSavedFast};
 
@@ -22,7 +22,7 @@ use crate::ledgers::{Counts, Ledgers};
 use crate::parts::{SessionParts, bin_bytes, pieces_are_few};
 use doc_bits::{Bytes, Memory};
 use doc_read::{ReadFault, read};
-use edit_ops::{Command, EditFault, Facts, changes_of, edit_of, test};
+use edit_ops::{Command, Edit, EditFault, Facts, changes_of, edit_of};
 use edited_text::Added;
 use full_save::{SaveFault, full, table_len};
 use plain_doc::{Document, Items, documents_are_formed};
@@ -83,7 +83,31 @@ impl Session {
             × (facts ≡ edit_facts self.now.document command.now))
             (IsEditFault self.now.document command.now) }
     {
-        test(self.alloc, &self.document, command)
+        let edit = self.plan(command)?;
+        Ok(edit.facts)
+    }
+
+    /// An edit as `make` takes it, or why it is refused.
+    pub fn plan(&self, command: &Command) -> Result<Edit, EditFault>
+        ensures { MatchResult result
+            (IsPlanned self.now.document command.now) (IsEditFault self.now.document command.now) }
+    {
+        edit_of(self.alloc, &self.document, command)
+    }
+
+    /// Makes a planned edit. The file stays. After want of memory the session is as it was.
+    pub fn make(&mut self, command: &Command, edit: Edit) -> Result<(), Memory>
+        requires room { HasRoom self.old.counts }
+        requires planned { IsPlanned self.old.document command.now edit }
+        ensures ok { OnOk result (self.new ≡ session_after command.now self.old) }
+        ensures err { OnErr result (self.new ≡ self.old) }
+    {
+        let changes = changes_of(self.alloc, &self.document, command)?;
+        self.parts.text.edit(self.alloc, &self.document, &changes)?;
+        pieces_are_few(&self.parts.text.pieces);
+        self.counts = self.counts.after_edit(command, edit.facts.units_in);
+        self.document = edit.document;
+        Ok(())
     }
 
     /// Makes an edit. The file stays. A refused edit leaves the session as it was.
@@ -94,12 +118,8 @@ impl Session {
         ensures err { IfErr result
             (λ fault. (self.new ≡ self.old) × IsEditFault self.old.document command.now fault) }
     {
-        let edit = edit_of(self.alloc, &self.document, command)?;
-        let changes = changes_of(self.alloc, &self.document, command)?;
-        self.parts.text.edit(self.alloc, &self.document, &changes)?;
-        pieces_are_few(&self.parts.text.pieces);
-        self.counts = self.counts.after_edit(command, edit.facts.units_in);
-        self.document = edit.document;
+        let edit = self.plan(command)?;
+        self.make(command, edit)?;
         Ok(())
     }
 

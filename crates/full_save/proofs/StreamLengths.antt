@@ -296,7 +296,7 @@ table_short kind document number formed right =
     let bins = bins_short (numbered_bins number starts) (last_fc (document_runs kind document)) in
     omega (arith, bins, length-numbered_bins number starts, few_pages kind document formed right)
 
-clx_short : (len : ℕ) → length (one_piece_clx len) ≤ 64
+pub clx_short : (len : ℕ) → length (one_piece_clx len) ≤ 64
 clx_short len =
     let pcd = pcd_bytes (record { at = text_at; wide = true; len = len }) 0 in
     let cps = cps_of (len ∷ []) in

@@ -14,6 +14,7 @@ pub mod SheetLemmas
 pub mod TextWalkLemmas
 pub mod SoundLemmas
 pub mod BlankLemmas
+pub mod BlankSheetLemmas
 pub mod StretchLemmas
 pub mod CutLemmas
 pub mod SettingsLemmas

@@ -7,12 +7,12 @@ use Rattle.std.proofs.lemmas.List.{drop-drop, take_all, drop_all, append-nil}
 use Rattle.plain_doc.specs.Stretches.{stretch_from, stretches, joins_next, joins_at, BeginsStretch}
 
 -- stretches that begin with an element
-record Leads {A : Type 0} (x : A) (parts : List (List A)) : Type 0 where
-  front : List A
-  more : List (List A)
-  is : parts ≡ (x ∷ front) ∷ more
+pub record Leads {A : Type 0} (x : A) (parts : List (List A)) : Type 0 where
+  pub front : List A
+  pub more : List (List A)
+  pub is : parts ≡ (x ∷ front) ∷ more
 
-leads : {A : Type 0} (joins : A → A → Bool) (x : A) (parts : List (List A)) → Leads x (stretch_from joins x parts)
+pub leads : {A : Type 0} (joins : A → A → Bool) (x : A) (parts : List (List A)) → Leads x (stretch_from joins x parts)
 leads joins x [] = record { front = []; more = []; is = refl }
 leads joins x ([] ∷ more) = record { front = []; more = more; is = refl }
 leads joins x ((y ∷ ys) ∷ more) =
@@ -20,6 +20,23 @@ leads joins x ((y ∷ ys) ∷ more) =
       | true ↦ record { front = y ∷ ys; more = more; is = refl }
       | false ↦ record { front = []; more = (y ∷ ys) ∷ more; is = refl }
     ]
+
+-- an element is one stretch more at most
+pub one_more : {A : Type 0} (joins : A → A → Bool) (x : A) (parts : List (List A)) →
+    length (stretch_from joins x parts) ≤ 1 + length parts
+one_more joins x [] = omega arith
+one_more joins x ([] ∷ more) = omega arith
+one_more joins x ((y ∷ ys) ∷ more) =
+    elim (joins x y) as
+    (λ b. length (if b then (x ∷ y ∷ ys) ∷ more else (x ∷ []) ∷ (y ∷ ys) ∷ more) ≤ 1 + length ((y ∷ ys) ∷ more)) [
+      | true ↦ omega arith
+      | false ↦ omega arith
+    ]
+
+-- and none where it joins the first element
+pub none_more : {A : Type 0} (joins : A → A → Bool) (x y : A) (parts : List (List A)) → joins x y ≡ true →
+    length (stretch_from joins x (stretch_from joins y parts)) ≡ length (stretch_from joins y parts)
+none_more joins x y parts joined = let next = leads joins y parts in rw (next.is, joined) refl
 
 -- an element that joins no next one is a stretch
 alone : {A : Type 0} (joins : A → A → Bool) (x : A) (xs : List A) → joins_at joins (x ∷ xs) 0 ≡ false →

@@ -285,7 +285,7 @@ full_sections s =
     saved
 
 -- a document without lists has no levels
-no_levels : (lst levels : List ℕ) → AreListsWithLevels lst levels → length lst ≡ 0 → length levels ≡ 0
+pub no_levels : (lst levels : List ℕ) → AreListsWithLevels lst levels → length lst ≡ 0 → length levels ≡ 0
 unfolding levels_before level_start number_at
 no_levels lst levels are none =
     let whole : AreLevelsFrom levels 0 (level_count []) (length levels) =

@@ -35,11 +35,11 @@ use Rattle.save_laws.proofs.GivenSections.{given_sections}
 use Rattle.save_laws.proofs.GivenLemmas.{ReadText}
 
 -- the rules hold of the text and the streams that the file was read by
-record AreHeld (file : List ℕ) (parts : FileParts) : Type 0 where
-  loading : Hold (loading_rules parts.contents)
-  parts_hold : Hold (part_rules (source_of parts.text))
+pub record AreHeld (file : List ℕ) (parts : FileParts) : Type 0 where
+  pub loading : Hold (loading_rules parts.contents)
+  pub parts_hold : Hold (part_rules (source_of parts.text))
 
-held_rules : (file : List ℕ) (parts : FileParts) → Hold (file_rules file) → HasFileParts file parts → AreHeld file parts
+pub held_rules : (file : List ℕ) (parts : FileParts) → Hold (file_rules file) → HasFileParts file parts → AreHeld file parts
 held_rules file parts h has =
     let contents : h.1.0 ≡ parts.contents = contents_unique file h.1.0 parts.contents h.1.1.0 has.has_contents in
     let rest = h.1.1.1 in

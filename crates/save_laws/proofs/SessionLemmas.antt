@@ -100,7 +100,7 @@ zip_len R (x ∷ xs) [] zipped = absurd zipped
 zip_len R (x ∷ xs) (y ∷ ys) zipped = ap suc (zip_len R xs ys zipped.1)
 
 -- what stands beside an element of the changed list in the old one
-zip_before : {A B : Type 0} (R : A → B → Type 0) (xs : List A) (ys : List B) (k : ℕ) (y : B) → AllZip R xs ys →
+pub zip_before : {A B : Type 0} (R : A → B → Type 0) (xs : List A) (ys : List B) (k : ℕ) (y : B) → AllZip R xs ys →
     slice_get ys k ≡ Some y → Beside R xs k y
 zip_before R [] [] k y zipped here = absurd (none-some y here)
 zip_before R [] (z ∷ ys) k y zipped here = absurd zipped
@@ -217,7 +217,7 @@ longer_plans_keep old base added more places slots together = record {
 -- ---- the main text
 
 -- a splice within the first of two lists
-splice_front : {A : Type 0} (xs ys zs : List A) (from to : ℕ) → from ≤ to → to ≤ length xs →
+pub splice_front : {A : Type 0} (xs ys zs : List A) (from to : ℕ) → from ≤ to → to ≤ length xs →
     splice xs from to zs ++ ys ≡ splice (xs ++ ys) from to zs
 splice_front xs ys zs from to order within =
     let a : take from (xs ++ ys) ≡ take from xs = take-append-le from xs ys (omega (arith, order, within)) in
@@ -226,7 +226,7 @@ splice_front xs ys zs from to order within =
     ∙ (ap (λ l. take from xs ++ l) (append_assoc zs (drop to xs) ys)
     ∙ (ap (λ l. l ++ (zs ++ (drop to xs ++ ys))) (sym a) ∙ ap (λ l. take from (xs ++ ys) ++ (zs ++ l)) (sym b)))
 
-map_splice : (items fresh : List Item) (from to : ℕ) →
+pub map_splice : (items fresh : List Item) (from to : ℕ) →
     map shown (splice items from to fresh) ≡ splice (map shown items) from to (map shown fresh)
 map_splice items fresh from to =
     map-append shown (take from items) (fresh ++ drop to items)

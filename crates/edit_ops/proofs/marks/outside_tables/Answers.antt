@@ -1,7 +1,7 @@
-use Rattle.std.proofs.Common.{◌≡◌, ◌∙◌, ◌≤◌, ap, length, map, arith}
+use Rattle.std.proofs.Common.{◌≡◌, ◌∙◌, ◌++◌, [], sym, ap, map}
 use Rattle.std.specs.List.{filter}
 use Rattle.std.specs.FinMap.{entries}
-use Rattle.std.proofs.lemmas.List.{take_all}
+use Rattle.std.proofs.lemmas.List.{append-nil}
 use Rattle.prop_map.specs.Formed.{paragraph_groups}
 use Rattle.prop_map.specs.Overlay.{without}
 use Rattle.edit_ops.specs.Fresh.{is_table_code}
@@ -11,10 +11,11 @@ use Rattle.edit_ops.proofs.marks.outside_tables.Goals as goal
 pub returns-clause-map : goal.returns-clause-map
 returns-clause-map c =
     let pap = c.args.pap.now in
-    let items = c.entries-entry-items.result.now in
-    let all : length items ≤ c.loop-entry.entry-index = omega arith in
-    let listed : map (λ code. code.0) c.loop-entry.codes.items ≡ filter is_table_code (keys (entries pap)) =
-    c.loop-entry.invariant ∙ ap (λ es. filter is_table_code (keys es)) (take_all c.loop-entry.entry-index items all ∙ c.entries-entry-items.ensures) in
+    let codes = map (λ code. code.0) c.loop-code.codes.items in
+    let none : c.loop-code.left ≡ [] = c.in_default.ensures.0 in
+    let listed : codes ≡ filter is_table_code (keys (entries pap)) =
+    sym (append-nil codes)
+    ∙ (ap (λ l. codes ++ filter is_table_code (keys l)) (sym none) ∙ c.loop-code.invariant) in
     c.in_ok-made.ensures.map
     ∙ (ap (λ codes. without (map (λ code. code.0) codes) pap) c.deref.ensures.value
     ∙ (ap (λ ks. without ks pap) listed ∙ without_listed is_table_code pap))

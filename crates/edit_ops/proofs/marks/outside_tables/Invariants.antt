@@ -1,8 +1,13 @@
-use Rattle.std.proofs.Common.{◌≡◌, map, take}
+use Rattle.std.proofs.Common.{◌≡◌, ◌++◌, length, map}
 use Rattle.std.specs.List.{filter}
+use Rattle.std.specs.FinMap.{entries}
 use Rattle.edit_ops.specs.Fresh.{is_table_code}
+use Rattle.edit_ops.proofs.WithoutLemmas.{keys}
 use Rattle.edit_ops.proofs.marks.outside_tables.Given as goal
 
--- the codes of tables so far
-abbrev pub invariant-loop-entry : goal.invariant-loop-entry
-invariant-loop-entry l = map (λ code. code.0) l.codes.items ≡ filter is_table_code (map (λ entry. entry.0) (take l.entry-index l.entry-items))
+-- the codes of tables so far, and those of what is left
+abbrev pub invariant-loop-code : goal.invariant-loop-code
+invariant-loop-code l = map (λ code. code.0) l.codes.items ++ filter is_table_code (keys l.left) ≡ filter is_table_code (keys (entries l.pap))
+
+abbrev pub decreases-loop-code : goal.decreases-loop-code
+decreases-loop-code l = length l.left

@@ -1,10 +1,8 @@
 use Rattle.std.proofs.Common.{◌≡◌, ◌∙◌, refl, sym, ap, subst, List, ℕ, Option, ◌+◌, arith}
-use Rattle.std.proofs.lemmas.Result.{err_from_is_err_and}
 use Rattle.piece_table.specs.Piece.{TextPiece}
 use Rattle.plain_doc.specs.declared.document.Document.{Document}
 use Rattle.edit_guards.specs.declared.facts.Facts.{Facts}
 use Rattle.edit_ops.specs.declared.changes.Change.{Change}
-use Rattle.edit_ops.specs.Causes.{IsEditFault, IsAcceptedEdit}
 use Rattle.edit_ops.specs.Edits.{changes_of, document_after}
 use Rattle.edit_ops.specs.EditFacts.{edit_facts}
 use Rattle.edited_text.specs.EditSteps.{AreEditSteps}
@@ -16,29 +14,23 @@ use Rattle.fast_save.specs.declared.ledgers.Counts.{Counts}
 use Rattle.fast_save.specs.declared.parts.SessionParts.{SessionParts}
 use Rattle.fast_save.specs.Ledgers.{after_edit}
 use Rattle.fast_save.specs.Session.{SessionView, IsSession, IsCounted, saved_stream}
-use Rattle.fast_save.specs.Edited.{HasRoom}
+use Rattle.fast_save.specs.Edited.{HasRoom, IsPlanned}
 use Rattle.fast_save.proofs.EditLemmas.{has_room, session_stays, counted_stays, session_edited}
 use Rattle.fast_save.proofs.CountLemmas.{counted_after}
 use Rattle.fast_save.proofs.AddedBytes.{runs_after, bytes_after}
 use Rattle.fast_save.proofs.GrownLemmas.{grown_within}
 use Rattle.fast_save.proofs.RoomLemmas.{few_units}
-use Rattle.fast_save.proofs.session.Session.edit.Goals as goal
-
-pub returns-in_err-edit-clause-err : goal.returns-in_err-edit-clause-err
-returns-in_err-edit-clause-err c =
-    let p = err_from_is_err_and c.from_residual.result c.from_residual.ensures.1 in
-    let fault = c.in_err-edit.field-0.0 in
-    let same = ap (λ (view : SessionView). view.document) c.self.view_is in
-    let is : IsEditFault c.args.self.now.document c.args.command.now fault =
-    subst (λ (document : Document). IsEditFault document c.args.command.now fault) same c.in_err-edit.ensures in
-    rw (p.1, p.2) (refl, is)
+use Rattle.fast_save.proofs.session.Session.make.Goals as goal
 
 pub edit-requires-clause-steps : goal.edit-requires-clause-steps
 edit-requires-clause-steps c =
     let document = c.self.inside.document in
     let command = c.args.command.now in
+    let planned : IsPlanned document command c.args.edit =
+    subst (λ (document : Document). IsPlanned document command c.args.edit)
+    (sym (ap (λ (view : SessionView). view.document) c.self.view_is)) c.requires.planned in
     subst (AreEditSteps document) (sym c.in_ok-changes.ensures)
-    (commands_are_steps document command c.self.invariant.0.sound c.in_ok-edit.ensures.0)
+    (commands_are_steps document command c.self.invariant.0.sound planned.0)
 
 pub edit-requires-clause-count : goal.edit-requires-clause-count
 edit-requires-clause-count c =
@@ -49,7 +41,7 @@ pub edit-requires-clause-room : goal.edit-requires-clause-room
 edit-requires-clause-room c =
     let inside = c.self.inside in
     let room : HasRoom inside.counts =
-    subst HasRoom (sym (ap (λ (view : SessionView). view.counts) c.self.view_is)) c.requires in
+    subst HasRoom (sym (ap (λ (view : SessionView). view.counts) c.self.view_is)) c.requires.room in
     has_room inside.file inside.document inside.parts inside.counts c.self.invariant.0 c.self.invariant.1 room
 
 pub invariant_of-self : goal.invariant_of-self
@@ -57,7 +49,7 @@ invariant_of-self c =
     let inside = c.self.inside in
     let new : SessionParts =
     record { text = c.edit.new.self; fib = inside.parts.fib; container = inside.parts.container } in
-    let same : IsSameText inside.parts.text c.edit.new.self = c.in_err-edit-2.ensures.err in (
+    let same : IsSameText inside.parts.text c.edit.new.self = c.in_err-edit.ensures.err in (
       session_stays inside.file inside.document inside.parts new same refl refl c.self.invariant.0,
       counted_stays inside.file inside.document inside.parts new same refl refl inside.counts c.self.invariant.1,
     )
@@ -70,24 +62,24 @@ invariant_of-self-2 c =
     let new : SessionParts =
     record { text = c.edit.new.self; fib = inside.parts.fib; container = inside.parts.container } in
     let is = c.self.invariant.0 in
-    let made : IsAcceptedEdit document command
-    × ((c.in_ok-edit.edit.document ≡ document_after document command)
-    × (c.in_ok-edit.edit.facts ≡ edit_facts document command)) = c.in_ok-edit.ensures in
+    let made : IsPlanned document command c.args.edit =
+    subst (λ (document : Document). IsPlanned document command c.args.edit)
+    (sym (ap (λ (view : SessionView). view.document) c.self.view_is)) c.requires.planned in
     let changes : c.in_ok-changes.changes ≡ changes_of document command = c.in_ok-changes.ensures in
     let text : IsTextEdit document (changes_of document command) inside.parts.text c.edit.new.self =
     subst (λ (list : List Change). IsTextEdit document list inside.parts.text c.edit.new.self) changes
-    c.in_ok-edit-2.ensures.text in
+    c.in_ok-edit.ensures.text in
     let sections : IsSectionsEdit document (changes_of document command) inside.parts.text.sections.items
     c.edit.new.self.sections.items =
     subst
     (λ (list : List Change).
     IsSectionsEdit document list inside.parts.text.sections.items c.edit.new.self.sections.items)
-    changes c.in_ok-edit-2.ensures.sections in
+    changes c.in_ok-edit.ensures.sections in
     let room : HasRoom inside.counts =
-    subst HasRoom (sym (ap (λ (view : SessionView). view.counts) c.self.view_is)) c.requires in
+    subst HasRoom (sym (ap (λ (view : SessionView). view.counts) c.self.view_is)) c.requires.room in
     let units : ℕ = (edit_facts document command).units_in in
     let few = few_units document command made.0 in
-    let session : IsSession inside.file c.in_ok-edit.edit.document new =
+    let session : IsSession inside.file c.args.edit.document new =
     subst (λ (after : Document). IsSession inside.file after new) (sym made.1.0)
     (session_edited inside.file document command inside.parts new is made.0 text sections refl refl) in
     let counted : IsCounted inside.file new (after_edit command units inside.counts) =

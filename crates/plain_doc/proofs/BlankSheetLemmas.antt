@@ -1,12 +1,16 @@
--- The styles of the blank document break no rule, and how many bytes they are written as. It belongs to plain_doc.
+-- The styles of the blank document break no rule, and how many bytes they are written as.
 use Rattle.std.proofs.Common.{◌≡◌, ◌∙◌, ◌⊎◌, inl, inr, refl, sym, ap, subst, ℕ, zero, suc, ◌+◌, ◌*◌, ◌<◌, ◌≤◌, List}
 use Rattle.std.proofs.Common.{[], ◌∷◌, ◌++◌, length, Option, Some, None, arith}
 use Rattle.std.specs.Prelude.{slice_index}
 use Rattle.std.specs.List.{flat_map}
+use Rattle.std.specs.Ordering.{nat_cmp}
+use Rattle.std.specs.Cmp.{nat_cmp_total}
+use Rattle.std.specs.FinMap.{empty, put, entries-insert}
 use Rattle.std.proofs.lemmas.Option.{same_Some, none-some}
 use Rattle.doc_bits.specs.Number.{number_bytes}
 use Rattle.sprm_table.specs.Sprm.{spelling}
 use Rattle.prop_map.specs.Printing.{printed_list}
+use Rattle.prop_map.proofs.EntriesLemmas.{entries-empty}
 use Rattle.style_sheet.specs.declared.styles.Style.{Style}
 use Rattle.style_sheet.specs.Sheet.{style_at}
 use Rattle.style_sheet.specs.Chain.{kind_at, kind_in, base_at, AreOfOneKind, IsBaseChain, HasSoundBases}
@@ -15,7 +19,18 @@ use Rattle.style_sheet.specs.Written.{word, written_stk, written_base, written_s
 use Rattle.style_sheet.specs.Written.{IsWritable}
 use Rattle.plain_doc.specs.Blank.{one_setting, normal_style, heading_style, default_font_style, blank_sheet}
 use Rattle.plain_doc.specs.RulesOfSheet.{HasShortKind, HasShortStyle}
-use Rattle.doc_edit.proofs.BoldLemmas.{none_printed, one_printed}
+
+-- ---- the bytes of their settings
+
+pub none_printed : printed_list empty ≡ []
+none_printed = ap (flat_map spelling) entries-empty
+
+pub one_printed : (code byte : ℕ) → printed_list (one_setting code byte) ≡ flat_map spelling ((code, byte ∷ []) ∷ [])
+one_printed code byte =
+    ap (flat_map spelling)
+    (entries-insert nat_cmp_total empty code (byte ∷ []) ∙ ap (put nat_cmp code (byte ∷ [])) entries-empty)
+
+-- ---- the slots
 
 -- the styles stand in the slots 0, 1 and 10
 abbrev IsSlot : ℕ → Type 0
