@@ -4,6 +4,7 @@ ghost use Rattle.plain_doc.specs.Sound.{IsSound};
 use crate::row_fault::RowFault;
 use doc_bits::Where;
 use edit_ops::{Command, EditFault, Facts, apply_plain, test};
+use fast_save::{FastFault, Ledgers};
 use plain_doc::{Document, check, equal};
 use std::alloc::Global;
 
@@ -15,6 +16,18 @@ pub(crate) fn edit(
 ) -> Result<Result<Facts, EditFault>, RowFault> {
     match check(document) {
         Ok(()) => edit_sound(alloc, document, command),
+        Err(_) => Err(RowFault::NotSound),
+    }
+}
+
+/// Makes a command on a document that breaks no rule.
+pub(crate) fn edit_alone(
+    alloc: Global,
+    document: &mut Document,
+    command: &Command,
+) -> Result<Result<(), EditFault>, RowFault> {
+    match check(document) {
+        Ok(()) => Ok(apply_plain(alloc, document, command)),
         Err(_) => Err(RowFault::NotSound),
     }
 }
@@ -31,6 +44,7 @@ fn edit_sound(
     let tried = test(alloc, document, command);
     let made = apply_plain(alloc, document, command);
     match (tried, made) {
+        (Err(EditFault::Memory), _) | (_, Err(EditFault::Memory)) => Err(RowFault::Memory),
         (Ok(_), Ok(())) => Ok(tried),
         (Err(fault), Err(other)) if fault == other && equal(&before, document) => Ok(tried),
         _ => Err(RowFault::TwoAnswers),
@@ -67,6 +81,33 @@ fn refused(
         Where::Head(number) => format!(in alloc; "{cause} {rule} Head {number} {at}\n")?,
         Where::Sheet => format!(in alloc; "{cause} {rule} Sheet {at}\n")?,
         Where::File | Where::Wd | Where::Table => return Err(RowFault::NoPlace),
+    };
+    Ok(text)
+}
+
+/// The line on the ledgers of a session.
+pub(crate) fn shown_ledgers(alloc: Global, ledgers: &Ledgers) -> Result<String, RowFault> {
+    let text = format!(in alloc;
+        "pieces {}, modifiers {}, sectors {}, bin tables {}, ",
+        ledgers.pieces, ledgers.modifier_bytes, ledgers.sectors, ledgers.bin_bytes
+    )?;
+    let counted = format!(in alloc;
+        "units {}, sections {}, runs {}, table {}\n",
+        ledgers.units, ledgers.sections, ledgers.runs, ledgers.table_bytes
+    )?;
+    Ok(format!(in alloc; "{text}{counted}")?)
+}
+
+/// The line on a save.
+pub(crate) fn shown_save(alloc: Global, answer: Result<(), FastFault>) -> Result<String, RowFault> {
+    let text = match answer {
+        Ok(()) => String::from_str(alloc, "saved\n")?,
+        Err(FastFault::Sixteenth { count }) => format!(in alloc; "sixteenth, count {count}\n")?,
+        Err(FastFault::TooManyPieces { pieces }) => format!(in alloc; "{pieces} pieces\n")?,
+        Err(FastFault::TooLarge { sectors }) => {
+            format!(in alloc; "too large, {sectors} sectors\n")?
+        }
+        Err(FastFault::Memory) => return Err(RowFault::Memory),
     };
     Ok(text)
 }

@@ -1,4 +1,5 @@
 use crate::row_fault::RowFault;
+use crate::subject::Mode;
 
 /// What a line says.
 #[derive(Drop)]
@@ -17,8 +18,21 @@ pub(crate) enum Line<'a> {
     },
     /// The document of the row: the blank one, or that of a file of data.
     Document(&'a str),
+    /// Something is done with the document of the row.
+    On(Step<'a>),
+}
+
+/// What is done with a document.
+#[derive(Drop)]
+pub(crate) enum Step<'a> {
     /// An edit is tried and made.
     Do(&'a str),
+    /// The same, so many times.
+    Again { count: u32, object: &'a str },
+    /// The document is saved.
+    Save(Mode),
+    /// The ledgers of the session are shown.
+    Ledgers,
     /// The styles are shown.
     Styles,
     /// The texts are shown.
@@ -35,9 +49,12 @@ impl<'a> Line<'a> {
             "from" => Ok(Line::From),
             "repeat" => repeat(rest),
             "document" => Ok(Line::Document(rest)),
-            "do" => Ok(Line::Do(rest)),
-            "styles" => Ok(Line::Styles),
-            "texts" => Ok(Line::Texts),
+            "do" => Ok(Line::On(Step::Do(rest))),
+            "again" => again(rest),
+            "save" => save(rest),
+            "ledgers" => Ok(Line::On(Step::Ledgers)),
+            "styles" => Ok(Line::On(Step::Styles)),
+            "texts" => Ok(Line::On(Step::Texts)),
             _ => Err(RowFault::NoCommand),
         }
     }
@@ -57,5 +74,21 @@ fn repeat(rest: &str) -> Result<Line<'_>, RowFault> {
     match count.parse::<u32>() {
         Ok(count) => Ok(Line::Repeat { name, count, text }),
         Err(_) => Err(RowFault::NoNumber),
+    }
+}
+
+fn again(rest: &str) -> Result<Line<'_>, RowFault> {
+    let (count, object) = word(rest);
+    match count.parse::<u32>() {
+        Ok(count) => Ok(Line::On(Step::Again { count, object })),
+        Err(_) => Err(RowFault::NoNumber),
+    }
+}
+
+fn save(mode: &str) -> Result<Line<'_>, RowFault> {
+    match mode {
+        "fast" => Ok(Line::On(Step::Save(Mode::Fast))),
+        "full" => Ok(Line::On(Step::Save(Mode::Full))),
+        _ => Err(RowFault::NoCommand),
     }
 }

@@ -25,8 +25,18 @@ pub(crate) enum RowFault {
     TwoAnswers,
     #[error("the edit is refused at a place of a file")]
     NoPlace,
+    #[error("the session answers otherwise, or its document is another one")]
+    OtherSession,
+    #[error("what the session saved is not the file of the document")]
+    OtherFile,
+    #[error("the session refused, and is not what it was")]
+    Changed,
+    #[error("too much was added since the last save")]
+    NoRoom,
     #[error("out of memory")]
     Memory,
+    #[error("the session is out of memory, and is what it was")]
+    Kept,
 }
 
 impl From<Memory> for RowFault {

@@ -1,115 +1,159 @@
 // What the lines do.
-use crate::answers::{edit, shown};
-use crate::line::Line;
+use crate::line::{Line, Step};
 use crate::repeats::Repeats;
 use crate::row_fault::RowFault;
-use doc_outer::{Shelf, read_whole};
-use doc_read::read;
-use doc_show::listing;
-use edit_ops::{Script, read_script};
-use plain_doc::{Document, blank};
+use crate::subject::{Mode, Subject};
+use doc_bits::Bytes;
+use doc_outer::{ReadFail, Shelf, read_whole};
 use std::alloc::Global;
 
-/// The member that ends each script.
-const SAVE: &str = "{\"do\":\"save\",\"mode\":\"full\"}";
-
-/// The first line of the texts in a listing.
-const MAIN_TEXT: &str = "story main\n";
+/// The name of the document that no file of data has.
+const BLANK: &str = "blank";
 
 /// The names of repeated texts, and the row that is in progress.
 #[derive(Drop)]
-pub(crate) struct Rows {
+pub(crate) struct Rows<S: Subject + Drop> {
     alloc: Global,
     repeats: Repeats,
-    document: Option<Document>,
+    subject: Option<S>,
     has_source: bool,
 }
 
-impl Rows {
-    pub(crate) fn new(alloc: Global) -> Rows {
+impl<S: Subject + Drop> Rows<S> {
+    pub(crate) fn new(alloc: Global) -> Rows<S> {
         Rows {
             alloc,
             repeats: Repeats::new(alloc),
-            document: None,
+            subject: None,
             has_source: false,
         }
     }
 
     /// Does what a line says, and answers what is to be printed. The files of data are read from the shelf.
-    pub(crate) fn act<S: Shelf>(&mut self, line: &str, data: &mut S) -> Result<String, RowFault> {
-        let alloc = self.alloc;
+    pub(crate) fn act<D: Shelf>(&mut self, line: &str, data: &mut D) -> Result<String, RowFault> {
         match Line::read(line)? {
-            Line::Nothing => {}
-            Line::Row(name) => {
-                self.document = None;
-                self.has_source = false;
-                return Ok(format!(in alloc; "row {name}\n")?);
-            }
-            Line::From => self.has_source = true,
-            Line::Repeat { name, count, text } => self.repeats.add(name, count, text)?,
-            Line::Document(name) => self.document = Some(document_of(alloc, data, name)?),
-            Line::Do(spelled) => return self.edit(spelled),
-            Line::Styles => return self.list(true),
-            Line::Texts => return self.list(false),
+            Line::Nothing => Ok(String::new(self.alloc)),
+            Line::Row(name) => self.begin(name),
+            Line::From => Ok(self.name_source()),
+            Line::Repeat { name, count, text } => self.repeat(name, count, text),
+            Line::Document(name) => self.open(name, data),
+            Line::On(step) => self.step(step),
         }
-        Ok(String::new(alloc))
     }
 
-    /// Tries a command and makes it, and answers the line and what came of it.
+    /// Begins a row, with no document.
+    fn begin(&mut self, name: &str) -> Result<String, RowFault> {
+        self.subject = None;
+        self.has_source = false;
+        Ok(format!(in self.alloc; "row {name}\n")?)
+    }
+
+    fn name_source(&mut self) -> String {
+        self.has_source = true;
+        String::new(self.alloc)
+    }
+
+    /// Lets a name stand for a text, so many times.
+    fn repeat(&mut self, name: &str, count: u32, text: &str) -> Result<String, RowFault> {
+        self.repeats.add(name, count, text)?;
+        Ok(String::new(self.alloc))
+    }
+
+    /// Begins with the document of a name.
+    fn open<D: Shelf>(&mut self, name: &str, data: &mut D) -> Result<String, RowFault> {
+        let subject = subject_of(self.alloc, data, name)?;
+        self.subject = Some(subject);
+        Ok(String::new(self.alloc))
+    }
+
+    /// Does something with the document of the row.
+    fn step(&mut self, step: Step<'_>) -> Result<String, RowFault> {
+        match step {
+            Step::Do(object) => self.edit(object),
+            Step::Again { count, object } => self.edit_again(count, object),
+            Step::Save(mode) => self.save(mode),
+            Step::Ledgers => self.ledgers(),
+            Step::Styles => self.subject()?.styles(),
+            Step::Texts => self.subject()?.texts(),
+        }
+    }
+
+    /// Makes an edit, and answers the line and what came of it.
     fn edit(&mut self, object: &str) -> Result<String, RowFault> {
-        let alloc = self.alloc;
-        if !self.has_source {
-            return Err(RowFault::NoSource);
-        }
+        let shown = self.make(1, object)?;
+        Ok(format!(in self.alloc; "do {object}\n{shown}")?)
+    }
+
+    /// Makes an edit so many times, and answers the line and what came of the last time.
+    fn edit_again(&mut self, count: u32, object: &str) -> Result<String, RowFault> {
+        let shown = self.make(count, object)?;
+        Ok(format!(in self.alloc; "again {count} {object}\n{shown}")?)
+    }
+
+    /// What came of an edit the last time that it was made.
+    fn make(&mut self, count: u32, object: &str) -> Result<String, RowFault> {
+        self.names_source()?;
         let spelled = self.repeats.spelled(object)?;
-        let script = script_of(alloc, spelled.as_str())?;
-        if script.len() != 2 {
-            return Err(RowFault::NoScript);
+        match &mut self.subject {
+            Some(subject) => subject.make(count, spelled.as_str()),
+            None => Err(RowFault::NoDocument),
         }
-        let Some(document) = &mut self.document else {
-            return Err(RowFault::NoDocument);
-        };
-        let answer = edit(alloc, document, script.get(0))?;
-        let shown = shown(alloc, answer)?;
-        Ok(format!(in alloc; "do {object}\n{shown}")?)
     }
 
-    /// The lines of the listing on the styles, or those on the texts.
-    fn list(&self, styles: bool) -> Result<String, RowFault> {
-        let Some(document) = &self.document else {
-            return Err(RowFault::NoDocument);
+    /// Saves the document, and answers the line and what came of it.
+    fn save(&mut self, mode: Mode) -> Result<String, RowFault> {
+        self.names_source()?;
+        let shown = match &mut self.subject {
+            Some(subject) => subject.save(mode)?,
+            None => return Err(RowFault::NoDocument),
         };
-        let text = listing(self.alloc, document)?;
-        let lines = text.as_str();
-        let texts = lines.find(MAIN_TEXT).unwrap_or(lines.len());
-        let shown = if styles {
-            &lines[..texts]
+        match mode {
+            Mode::Fast => Ok(format!(in self.alloc; "save fast: {shown}")?),
+            Mode::Full => Ok(format!(in self.alloc; "save full: {shown}")?),
+        }
+    }
+
+    /// The line on the ledgers.
+    fn ledgers(&self) -> Result<String, RowFault> {
+        self.names_source()?;
+        self.subject()?.ledgers()
+    }
+
+    /// Refuses a row that does not say where what it prints comes from.
+    fn names_source(&self) -> Result<(), RowFault> {
+        if self.has_source {
+            Ok(())
         } else {
-            &lines[texts..]
-        };
-        Ok(String::from_str(self.alloc, shown)?)
+            Err(RowFault::NoSource)
+        }
+    }
+
+    /// What the row is about.
+    fn subject(&self) -> Result<&S, RowFault> {
+        match &self.subject {
+            Some(subject) => Ok(subject),
+            None => Err(RowFault::NoDocument),
+        }
     }
 }
 
-/// The blank document, or that of a file of data.
-fn document_of<S: Shelf>(alloc: Global, data: &mut S, name: &str) -> Result<Document, RowFault> {
-    if name == "blank" {
-        return Ok(blank(alloc)?);
+/// What a row with this document is about: the blank one, or that of a file of data.
+fn subject_of<S: Subject, D: Shelf>(
+    alloc: Global,
+    data: &mut D,
+    name: &str,
+) -> Result<S, RowFault> {
+    if name == BLANK {
+        return S::blank(alloc);
     }
-    let Ok(bytes) = read_whole(alloc, data, name) else {
-        return Err(RowFault::NoData);
-    };
-    match read(alloc, bytes.as_slice()) {
-        Ok(opened) => Ok(opened.into_parts().0),
+    let file = file_of(alloc, data, name)?;
+    S::open(alloc, file.as_slice())
+}
+
+fn file_of<D: Shelf>(alloc: Global, data: &mut D, name: &str) -> Result<Bytes, RowFault> {
+    match read_whole(alloc, data, name) {
+        Ok(file) => Ok(file),
+        Err(ReadFail::Memory) => Err(RowFault::Memory),
         Err(_) => Err(RowFault::NoData),
-    }
-}
-
-/// The script of one command.
-fn script_of(alloc: Global, object: &str) -> Result<Script, RowFault> {
-    let spelled = format!(in alloc; "[{object},{SAVE}]")?;
-    match read_script(alloc, spelled.as_bytes()) {
-        Ok(script) => Ok(script),
-        Err(_) => Err(RowFault::NoScript),
     }
 }
