@@ -1,5 +1,6 @@
 -- Streams that are put last in a list of them.
-use Rattle.std.proofs.Common.{◌≡◌, ◌⊎◌, inl, inr, ℕ, ◌+◌, ◌-◌, ◌^◌, ◌<◌, ◌≤◌, List, [], ◌∷◌, ◌++◌, length, Some, slice_index, sym, ap, ◌∙◌, subst, arith, length-append}
+use Rattle.std.proofs.Common.{◌≡◌, ◌⊎◌, inl, inr, ℕ, ◌+◌, ◌-◌, ◌^◌, ◌<◌, ◌≤◌, List, [], ◌∷◌, ◌++◌, length, Some}
+use Rattle.std.proofs.Common.{slice_index, sym, ap, ◌∙◌, subst, arith, length-append}
 use Rattle.std.specs.Prelude.{slice_get}
 use Rattle.std.specs.List.{sum_by}
 use Rattle.std.proofs.lemmas.Bool.{cases_lt, cases_order}
@@ -30,7 +31,9 @@ comes_before-trans a b c h k = elim h [
               record {
                 inside = l.inside;
                 front = λ i low. l.front i low ∙ m.front i (omega arith);
-                less = (let x = l.less in let y : unit b same.1.0 < unit c same.1.0 = subst (λ n. unit b n < unit c n) (sym eq) m.less in omega arith);
+                less =
+                    (let x = l.less in let y : unit b same.1.0 < unit c same.1.0 = subst (λ n. unit b n < unit c n)
+                    (sym eq) m.less in omega arith);
               },
             )
             | inr ne ↦ elim ne [
@@ -57,29 +60,39 @@ comes_before-trans a b c h k = elim h [
 ]
 
 -- a stream of the longer list is one of the list, or the last
-pub pushed_stream : (streams : List NamedBytes) (last stream : NamedBytes) (i : ℕ) → slice_get (streams ++ last ∷ []) i ≡ Some stream → (slice_get streams i ≡ Some stream) ⊎ ((i ≡ length streams) × (last ≡ stream))
+pub pushed_stream : (streams : List NamedBytes) (last stream : NamedBytes) (i : ℕ) →
+    slice_get (streams ++ last ∷ []) i ≡ Some stream →
+    (slice_get streams i ≡ Some stream) ⊎ ((i ≡ length streams) × (last ≡ stream))
 pushed_stream streams last stream i there = elim (cases_lt i (length streams)) [
   | inl low ↦ inl (sym (slice_get_before streams (last ∷ []) i low) ∙ there)
   | inr high ↦
       let within = slice_get_within (streams ++ last ∷ []) i stream there in
       let at : i ≡ length streams = omega (arith, length-append streams (last ∷ [])) in
-      inr (at, same_Some last stream (sym (slice_get_push streams last) ∙ (ap (slice_get (streams ++ last ∷ [])) (sym at) ∙ there)))
+      inr (
+        at,
+        same_Some last stream (sym (slice_get_push streams last)
+            ∙ (ap (slice_get (streams ++ last ∷ [])) (sym at) ∙ there)),
+      )
 ]
 
 -- each name comes before one that comes after the last
-all_before : (streams : List NamedBytes) (name : List ℕ) (i : ℕ) (stream : NamedBytes) → AreStreams streams → EndsBefore streams name → slice_get streams i ≡ Some stream → ComesBefore stream.name name
+all_before : (streams : List NamedBytes) (name : List ℕ) (i : ℕ) (stream : NamedBytes) → AreStreams streams →
+    EndsBefore streams name → slice_get streams i ≡ Some stream → ComesBefore stream.name name
 all_before streams name i stream are ends there =
     let within = slice_get_within streams i stream there in
     let last = there_is streams (length streams - 1) (omega arith) in
     elim (cases_lt i (length streams - 1)) [
-      | inl low ↦ comes_before-trans stream.name last.0.name name (are.order i (length streams - 1) stream last.0 low there last.1) (ends last.0 last.1)
+      | inl low ↦ comes_before-trans stream.name last.0.name name
+          (are.order i (length streams - 1) stream last.0 low there last.1) (ends last.0 last.1)
       | inr high ↦
           let at : i ≡ length streams - 1 = omega arith in
           ends stream (subst (λ n. slice_get streams n ≡ Some stream) at there)
     ]
 
 -- one stream more
-pub push-AreStreams : (streams : List NamedBytes) (last : NamedBytes) → AreStreams streams → 1 ≤ length last.name → length last.name ≤ 31 → EndsBefore streams last.name → sum_by (λ stream. length stream.bytes) streams + length last.bytes < 2 ^ 48 → AreStreams (streams ++ last ∷ [])
+pub push-AreStreams : (streams : List NamedBytes) (last : NamedBytes) → AreStreams streams → 1 ≤ length last.name →
+    length last.name ≤ 31 → EndsBefore streams last.name →
+    sum_by (λ stream. length stream.bytes) streams + length last.bytes < 2 ^ 48 → AreStreams (streams ++ last ∷ [])
 push-AreStreams streams last are some short ends room = record {
   some = λ i stream there. elim (pushed_stream streams last stream i there) [
     | inl old ↦ are.some i stream old
@@ -103,17 +116,21 @@ push-AreStreams streams last are some short ends room = record {
 }
 
 -- what the longer list has, its last stream has
-pub last-EndsBefore : (streams : List NamedBytes) (last : NamedBytes) → AreStreams (streams ++ last ∷ []) → EndsBefore streams last.name
+pub last-EndsBefore : (streams : List NamedBytes) (last : NamedBytes) → AreStreams (streams ++ last ∷ []) →
+    EndsBefore streams last.name
 last-EndsBefore streams last are = λ stream there.
     let within = slice_get_within streams (length streams - 1) stream there in
     are.order (length streams - 1) (length streams) stream last (omega arith)
     (slice_get_before streams (last ∷ []) (length streams - 1) within ∙ there) (slice_get_push streams last)
 
-pub last_total : (streams : List NamedBytes) (last : NamedBytes) → AreStreams (streams ++ last ∷ []) → sum_by (λ stream. length stream.bytes) streams + length last.bytes < 2 ^ 48
-last_total streams last are = let total = are.total in let e = sum_by_push (λ (stream : NamedBytes). length stream.bytes) streams last in omega arith
+pub last_total : (streams : List NamedBytes) (last : NamedBytes) → AreStreams (streams ++ last ∷ []) →
+    sum_by (λ stream. length stream.bytes) streams + length last.bytes < 2 ^ 48
+last_total streams last are = let total = are.total in let e = sum_by_push
+    (λ (stream : NamedBytes). length stream.bytes) streams last in omega arith
 
 -- one stored stream more
-pub push-AreStored : (streams : List NamedBytes) (last : NamedBytes) → AreStored streams → IsStored last.name last.bytes → AreStored (streams ++ last ∷ [])
+pub push-AreStored : (streams : List NamedBytes) (last : NamedBytes) → AreStored streams →
+    IsStored last.name last.bytes → AreStored (streams ++ last ∷ [])
 push-AreStored streams last are is = λ i stream there. elim (pushed_stream streams last stream i there) [
   | inl old ↦ are i stream old
   | inr new ↦ subst (λ s. IsStored s.name s.bytes) new.1 is

@@ -1,5 +1,6 @@
 -- The streams that are read, one after another, and the bytes of the mini stream.
-use Rattle.std.proofs.Common.{◌≡◌, inl, inr, ℕ, ◌+◌, ◌*◌, ◌≤◌, List, [], ◌∷◌, ◌++◌, Some, Result, Ok, Err, MatchResult, length, get_or, slice_index, refl, sym, ap, ◌∙◌, subst, arith, length-append}
+use Rattle.std.proofs.Common.{◌≡◌, inl, inr, ℕ, ◌+◌, ◌*◌, ◌≤◌, List, [], ◌∷◌, ◌++◌, Some, Result, Ok, Err, MatchResult}
+use Rattle.std.proofs.Common.{length, get_or, slice_index, refl, sym, ap, ◌∙◌, subst, arith, length-append}
 use Rattle.std.specs.List.{flat_map}
 use Rattle.std.proofs.lemmas.Bool.{cases_lt}
 use Rattle.std.proofs.lemmas.List.{get_or_append_left}
@@ -18,7 +19,10 @@ use Rattle.cfb_streams.proofs.ChainLemmas.{path_short}
 use Rattle.cfb_streams.proofs.StreamLemmas.{length_all, length-sector}
 
 -- one stream more
-pub streams_push : (file : List ℕ) (parts : Parts) (entries : List ℕ) (count : ℕ) (streams : List Stream) (stream : Stream) → AreStreamsOf file parts entries count streams → IsStreamOf file parts (slice_index entries count) stream → AreStreamsOf file parts entries (count + 1) (streams ++ stream ∷ [])
+pub streams_push : (file : List ℕ) (parts : Parts) (entries : List ℕ) (count : ℕ) (streams : List Stream)
+    (stream : Stream) → AreStreamsOf file parts entries count streams →
+    IsStreamOf file parts (slice_index entries count) stream →
+    AreStreamsOf file parts entries (count + 1) (streams ++ stream ∷ [])
 streams_push file parts entries count streams stream are is =
     let len = length-append streams (stream ∷ []) in
     let n = are.len in
@@ -29,29 +33,36 @@ streams_push file parts entries count streams stream are is =
           let here = get_or_from_slice_get (streams ++ stream ∷ []) i s stream at in
           elim (cases_lt i (length streams)) [
             | inl lo ↦
-                let old : get_or streams i stream ≡ s = sym (get_or_append_left streams (stream ∷ []) stream i lo) ∙ here in
+                let old : get_or streams i stream ≡ s = sym (get_or_append_left streams (stream ∷ []) stream i lo)
+                ∙ here in
                 are.each i s (slice_get-get_or streams i stream lo ∙ ap Some old)
             | inr hi ↦
                 let e : i ≡ length streams = omega arith in
-                let same : stream ≡ s = sym (get_or-append_seam streams stream [] stream) ∙ (ap (λ k. get_or (streams ++ stream ∷ []) k stream) (sym e) ∙ here) in
+                let same : stream ≡ s = sym (get_or-append_seam streams stream [] stream)
+                ∙ (ap (λ k. get_or (streams ++ stream ∷ []) k stream) (sym e) ∙ here) in
                 let place : count ≡ i = omega arith in
-                subst (IsStreamOf file parts (slice_index entries i)) same (subst (λ k. IsStreamOf file parts (slice_index entries k) stream) place is)
+                subst (IsStreamOf file parts (slice_index entries i)) same
+                (subst (λ k. IsStreamOf file parts (slice_index entries k) stream) place is)
           ];
     }
 
 -- the mini stream's bytes are whole sectors, and hold the root's size
-pub stored_length : (file sectors stored : List ℕ) → AreSectorsOf file sectors → stored ≡ flat_map (sector_bytes 512 512 file) sectors → length stored ≡ length sectors * 512
+pub stored_length : (file sectors stored : List ℕ) → AreSectorsOf file sectors →
+    stored ≡ flat_map (sector_bytes 512 512 file) sectors → length stored ≡ length sectors * 512
 stored_length file sectors stored inside e =
-    ap length e ∙ length_all (sector_bytes 512 512 file) 512 sectors (λ k h. let low = inside.inside k h in length-sector 512 512 file (slice_index sectors k) (omega arith))
+    ap length e ∙ length_all (sector_bytes 512 512 file) 512 sectors
+    (λ k h. let low = inside.inside k h in length-sector 512 512 file (slice_index sectors k) (omega arith))
 
-pub stored_room : (file directory sectors : List ℕ) → IsMiniStream file directory sectors → entry_size file (entry_place directory 0) ≤ length sectors * 512
+pub stored_room : (file directory sectors : List ℕ) → IsMiniStream file directory sectors →
+    entry_size file (entry_place directory 0) ≤ length sectors * 512
 stored_room file directory sectors is = elim is [
   | inl none ↦ let e = none.0 in omega arith
   | inr some ↦ some.1.enough
 ]
 
 -- the sectors of a chain by the FAT are in the file
-pub chain_inside : (file : List ℕ) (head : Head) (xs : List ℕ) → IsWhole file → HoldsChain (fat_table file) head xs → AreSectorsOf file xs
+pub chain_inside : (file : List ℕ) (head : Head) (xs : List ℕ) → IsWhole file → HoldsChain (fat_table file) head xs →
+    AreSectorsOf file xs
 chain_inside file head xs whole h =
     let most = whole.most in
     let least = whole.least in
@@ -64,7 +75,8 @@ chain_inside file head xs whole h =
     }
 
 none_inside : (file : List ℕ) → IsWhole file → AreSectorsOf file []
-none_inside file whole = let most = whole.most in record { short = omega arith; few = omega arith; inside = λ i h. absurd (omega arith) }
+none_inside file whole = let most = whole.most in record
+    { short = omega arith; few = omega arith; inside = λ i h. absurd (omega arith) }
 
 pub mini_fat_inside : (file xs : List ℕ) → IsWhole file → IsMiniFat file xs → AreSectorsOf file xs
 mini_fat_inside file xs whole is = elim is [
@@ -72,23 +84,29 @@ mini_fat_inside file xs whole is = elim is [
   | inr some ↦ chain_inside file _ xs whole some.1
 ]
 
-pub mini_stream_inside : (file directory xs : List ℕ) → IsWhole file → IsMiniStream file directory xs → AreSectorsOf file xs
+pub mini_stream_inside : (file directory xs : List ℕ) → IsWhole file → IsMiniStream file directory xs →
+    AreSectorsOf file xs
 mini_stream_inside file directory xs whole is = elim is [
   | inl none ↦ subst (AreSectorsOf file) (sym none.1) (none_inside file whole)
   | inr some ↦ chain_inside file _ xs whole some.1
 ]
 
 -- at first there is no stream
-pub streams_none : (file : List ℕ) (parts : Parts) (entries : List ℕ) (streams : List Stream) → streams ≡ [] → AreStreamsOf file parts entries 0 streams
+pub streams_none : (file : List ℕ) (parts : Parts) (entries : List ℕ) (streams : List Stream) → streams ≡ [] →
+    AreStreamsOf file parts entries 0 streams
 streams_none file parts entries streams e =
     let len = ap length e in
-    record { len = len; each = λ i stream at. let inside = slice_get_within streams i stream at in absurd (omega arith) }
+    record
+    { len = len; each = λ i stream at. let inside = slice_get_within streams i stream at in absurd (omega arith) }
 
 -- where the mini FAT stands
-pub mini_place_is : (file f directory d mini_fat m : List ℕ) (valid : ℕ) (place : TablePlace) → f ≡ file → d ≡ directory → m ≡ mini_fat → valid ≡ (mini_table_of f d m).valid → place ≡ record { file = f; sectors = mini_fat; valid = valid } → place ≡ mini_place file directory mini_fat
+pub mini_place_is : (file f directory d mini_fat m : List ℕ) (valid : ℕ) (place : TablePlace) → f ≡ file →
+    d ≡ directory → m ≡ mini_fat → valid ≡ (mini_table_of f d m).valid →
+    place ≡ record { file = f; sectors = mini_fat; valid = valid } → place ≡ mini_place file directory mini_fat
 mini_place_is file f directory d mini_fat m valid place ef ed em ev e = e ∙ rw (ev, ef, ed, em) refl
 
 -- what holds of an answer can be said in another way
-pub match_more : {T E : Type 0} (r : Result T E) (P Q : T → Type 0) (F G : E → Type 0) → ((x : T) → P x → Q x) → ((e : E) → F e → G e) → MatchResult r P F → MatchResult r Q G
+pub match_more : {T E : Type 0} (r : Result T E) (P Q : T → Type 0) (F G : E → Type 0) → ((x : T) → P x → Q x) →
+    ((e : E) → F e → G e) → MatchResult r P F → MatchResult r Q G
 match_more (Ok x) P Q F G p f h = p x h
 match_more (Err e) P Q F G p f h = f e h

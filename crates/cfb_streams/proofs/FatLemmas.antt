@@ -13,7 +13,8 @@ pub length-fat_sectors : (file : List ℕ) → length (fat_sectors file) ≡ fat
 unfolding fat_sectors
 length-fat_sectors file = length-map-range_with_len (fat_sector file) 0 (fat_sector_count file)
 
-pub fat_sectors-at : (file : List ℕ) (k : ℕ) → k < fat_sector_count file → slice_index (fat_sectors file) k ≡ fat_sector file k
+pub fat_sectors-at : (file : List ℕ) (k : ℕ) → k < fat_sector_count file →
+    slice_index (fat_sectors file) k ≡ fat_sector file k
 unfolding fat_sectors
 fat_sectors-at file k h = get_or-map-range_with_len (fat_sector file) 0 (fat_sector_count file) k k 0 h (omega arith)
 
@@ -25,10 +26,12 @@ fat_few file holds = elim (cases_lt 109 (fat_sector_count file)) [
 ]
 
 -- each is valid
-pub fat_valid : (file : List ℕ) (k : ℕ) → Nowhere (BreaksFat file) → k < fat_sector_count file → fat_sector file k < valid_below file
+pub fat_valid : (file : List ℕ) (k : ℕ) → Nowhere (BreaksFat file) → k < fat_sector_count file →
+    fat_sector file k < valid_below file
 fat_valid file k holds h = elim (cases_lt (fat_sector file k) (valid_below file)) [
   | inl lo ↦ lo
-  | inr hi ↦ absurd (holds (76 + 4 * k) (inr (record { entry = k; below = h; broken = record { here = refl; wrong = inl hi } })))
+  | inr hi ↦ absurd
+      (holds (76 + 4 * k) (inr (record { entry = k; below = h; broken = record { here = refl; wrong = inl hi } })))
 ]
 
 -- none is there twice
@@ -36,12 +39,20 @@ pub fat_apart : (file : List ℕ) → Nowhere (BreaksFat file) → AreDistinctBe
 fat_apart file holds =
     let len = length-fat_sectors file in
     record {
-      inside = λ i h. let low : i < fat_sector_count file = omega arith in rw (fat_sectors-at file i low) (fat_valid file i holds low);
+      inside = λ i h. let low : i < fat_sector_count file = omega arith in rw (fat_sectors-at file i low)
+          (fat_valid file i holds low);
       distinct = λ i j less h e.
           let low : j < fat_sector_count file = omega arith in
           let first : i < fat_sector_count file = omega arith in
-          let same : fat_sector file i ≡ fat_sector file j = sym (fat_sectors-at file i first) ∙ (e ∙ fat_sectors-at file j low) in
-          holds (76 + 4 * j) (inr (record { entry = j; below = low; broken = record { here = refl; wrong = inr (record { earlier = i; below = less; same = same }) } }));
+          let same : fat_sector file i ≡ fat_sector file j = sym (fat_sectors-at file i first)
+          ∙ (e ∙ fat_sectors-at file j low) in
+          holds (76 + 4 * j)
+          (inr (record {
+            entry = j;
+            below = low;
+            broken = record
+                { here = refl; wrong = inr (record { earlier = i; below = less; same = same }) };
+          }));
     }
 
 -- they are in the file

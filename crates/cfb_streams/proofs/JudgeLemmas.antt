@@ -7,7 +7,8 @@ use Rattle.cfb_streams.specs.Chain.{Table, Head, HoldsChain, BreaksChain, Breaks
 use Rattle.cfb_streams.proofs.ChainLemmas.{path_same, last_within, full_unique, chain_full, chain_unique}
 
 -- tables with the same entries have the same full paths
-pub full_same : (entry other : ℕ → ℕ) (valid start : ℕ) (xs : List ℕ) → ((s : ℕ) → s < valid → entry s ≡ other s) → IsFullPath entry valid start xs → IsFullPath other valid start xs
+pub full_same : (entry other : ℕ → ℕ) (valid start : ℕ) (xs : List ℕ) → ((s : ℕ) → s < valid → entry s ≡ other s) →
+    IsFullPath entry valid start xs → IsFullPath other valid start xs
 full_same entry other valid start xs same f =
     let e : entry (last_of xs) ≡ other (last_of xs) = same (last_of xs) (last_within entry valid start xs f.path) in
     record {
@@ -19,7 +20,8 @@ full_same entry other valid start xs same f =
     }
 
 -- a chain that breaks on the way breaks nowhere else
-pub way_least : (table : Table) (head : Head) (place : ℕ) → BreaksOnTheWay table head place → IsLeast (λ a b. a ≤ b) (BreaksChain table head) place
+pub way_least : (table : Table) (head : Head) (place : ℕ) → BreaksOnTheWay table head place →
+    IsLeast (λ a b. a ≤ b) (BreaksChain table head) place
 way_least table head place way = record {
   broken = inr way;
   least = λ p h. elim h [
@@ -35,7 +37,8 @@ way_least table head place way = record {
 }
 
 -- a chain whose start is not valid breaks nowhere else
-pub start_least : (table : Table) (head : Head) → table.valid ≤ head.start → IsLeast (λ a b. a ≤ b) (BreaksChain table head) head.field
+pub start_least : (table : Table) (head : Head) → table.valid ≤ head.start →
+    IsLeast (λ a b. a ≤ b) (BreaksChain table head) head.field
 start_least table head out = record {
   broken = inl (record { here = refl; wrong = out });
   least = λ p h. elim h [
@@ -48,11 +51,15 @@ start_least table head out = record {
 }
 
 -- a full path that ends with ENDOFCHAIN and has enough sectors is the chain
-pub full_holds : (table : Table) (head : Head) (xs : List ℕ) → table.valid ≤ end_of_chain → IsFullPath table.entry table.valid head.start xs → table.entry (last_of xs) ≡ end_of_chain → head.size ≤ length xs * head.unit → HoldsChain table head xs
-full_holds table head xs range full ends enough = record { range = range; chain = record { path = full.path; ends = ends }; enough = enough }
+pub full_holds : (table : Table) (head : Head) (xs : List ℕ) → table.valid ≤ end_of_chain →
+    IsFullPath table.entry table.valid head.start xs → table.entry (last_of xs) ≡ end_of_chain →
+    head.size ≤ length xs * head.unit → HoldsChain table head xs
+full_holds table head xs range full ends enough = record
+    { range = range; chain = record { path = full.path; ends = ends }; enough = enough }
 
 -- where no chain is broken a full path is the chain
-pub full_whole : (table : Table) (head : Head) (xs : List ℕ) → table.valid ≤ end_of_chain → IsFullPath table.entry table.valid head.start xs → Nowhere (BreaksChain table head) → HoldsChain table head xs
+pub full_whole : (table : Table) (head : Head) (xs : List ℕ) → table.valid ≤ end_of_chain →
+    IsFullPath table.entry table.valid head.start xs → Nowhere (BreaksChain table head) → HoldsChain table head xs
 full_whole table head xs range full none =
     let broken = λ (wrong : (table.entry (last_of xs) ≢ end_of_chain) ⊎ (length xs * head.unit < head.size)).
     none (table.place (last_of xs)) (inr (record { sectors = xs; full = full; wrong = wrong; here = refl })) in
@@ -68,7 +75,8 @@ whole_start table head none = elim (cases_lt head.start table.valid) [
 ]
 
 -- a whole chain breaks nowhere
-pub holds_none : (table : Table) (head : Head) (xs : List ℕ) → HoldsChain table head xs → Nowhere (BreaksChain table head)
+pub holds_none : (table : Table) (head : Head) (xs : List ℕ) → HoldsChain table head xs →
+    Nowhere (BreaksChain table head)
 holds_none table head xs h = λ p b. elim b [
   | inl start ↦
       let wrong = start.wrong in
@@ -76,14 +84,17 @@ holds_none table head xs h = λ p b. elim b [
       let low = h.chain.path.within 0 some in
       let first = h.chain.path.first in omega arith
   | inr way ↦
-      let e = full_unique table.entry table.valid head.start xs way.sectors (chain_full table.entry table.valid head.start xs h.range h.chain) way.full in
+      let e = full_unique table.entry table.valid head.start xs way.sectors
+      (chain_full table.entry table.valid head.start xs h.range h.chain) way.full in
       elim way.wrong [
         | inl other ↦ other (sym (ap (λ ys. table.entry (last_of ys)) e) ∙ h.chain.ends)
         | inr short ↦ let enough = h.enough in let len = ap length e in
-            let same : length xs * head.unit ≡ length way.sectors * head.unit = ap (λ n. n * head.unit) len in omega arith
+            let same : length xs * head.unit ≡ length way.sectors * head.unit = ap (λ n. n * head.unit)
+            len in omega arith
       ]
 ]
 
 -- there is one chain
-pub holds_unique : (table : Table) (head : Head) (xs ys : List ℕ) → HoldsChain table head xs → HoldsChain table head ys → xs ≡ ys
+pub holds_unique : (table : Table) (head : Head) (xs ys : List ℕ) → HoldsChain table head xs →
+    HoldsChain table head ys → xs ≡ ys
 holds_unique table head xs ys h k = chain_unique table.entry table.valid head.start xs ys h.range h.chain k.chain

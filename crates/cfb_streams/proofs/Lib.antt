@@ -10,6 +10,8 @@ pub mod ContentLemmas
 pub mod FatLemmas
 pub mod LoadLemmas
 pub mod MarkLemmas
+pub mod EndLemmas
+pub mod ClaimLemmas
 pub mod GatherLemmas
 pub mod NameLemmas
 pub mod SingleLemmas

@@ -10,29 +10,42 @@ use Rattle.cfb_streams.specs.Layout.{EntryLists, AreEntries, Places, places_of, 
 use Rattle.cfb_streams.proofs.JudgeLemmas.{holds_none}
 use Rattle.cfb_streams.proofs.ChainLemmas.{full_unique, chain_full, length_below}
 use Rattle.cfb_streams.specs.HeaderRules.{header_rules}
-use Rattle.cfb_streams.specs.Reach.{directory_head, entry_place, entry_count, ListsReached, IsDirectory, BreaksDirectory, BreaksRoot, BreaksTree, BreaksName, BreaksStorage}
-use Rattle.cfb_streams.specs.StreamRules.{Parts, mini_fat_head, stream_head, IsMiniFat, IsMiniStream, BreaksMiniFat, BreaksMiniStream, BreaksStream, BreaksSharing}
-use Rattle.cfb_streams.specs.Container.{container_rules, directory_rules, entry_rules, stream_rules, sector_rules, IsCfbFault}
+use Rattle.cfb_streams.specs.Reach.{directory_head, entry_place, entry_count, ListsReached, IsDirectory}
+use Rattle.cfb_streams.specs.Reach.{BreaksDirectory, BreaksRoot, BreaksTree, BreaksName, BreaksStorage}
+use Rattle.cfb_streams.specs.StreamRules.{Parts, mini_fat_head, stream_head, IsMiniFat, IsMiniStream, BreaksMiniFat}
+use Rattle.cfb_streams.specs.StreamRules.{BreaksMiniStream, BreaksStream, BreaksSharing}
+use Rattle.cfb_streams.specs.Container.{container_rules, directory_rules, entry_rules, stream_rules, sector_rules}
+use Rattle.cfb_streams.specs.Container.{IsCfbFault}
 
-pub stream_fault : (file directory mini_fat mini_stream : List ℕ) (e : CfbFault) → Nowhere (BreaksMiniStream file directory) → IsMiniStream file directory mini_stream → IsCfbFault (sector_rules file directory mini_fat mini_stream) e → IsCfbFault (stream_rules file directory mini_fat) e
-stream_fault file directory mini_fat mini_stream (Rule number offset) holds is first = inr (holds, (mini_stream, (is, first)))
+pub stream_fault : (file directory mini_fat mini_stream : List ℕ) (e : CfbFault) →
+    Nowhere (BreaksMiniStream file directory) → IsMiniStream file directory mini_stream →
+    IsCfbFault (sector_rules file directory mini_fat mini_stream) e →
+    IsCfbFault (stream_rules file directory mini_fat) e
+stream_fault file directory mini_fat mini_stream (Rule number offset) holds is first = inr
+    (holds, (mini_stream, (is, first)))
 stream_fault file directory mini_fat mini_stream Memory holds is first = tt
 
-pub entry_fault : (file directory mini_fat : List ℕ) (e : CfbFault) → Nowhere (BreaksRoot file directory) → Nowhere (BreaksTree file directory) → Nowhere (BreaksName file directory) → Nowhere (BreaksStorage file directory) → Nowhere (BreaksMiniFat file) → IsMiniFat file mini_fat → IsCfbFault (stream_rules file directory mini_fat) e → IsCfbFault (entry_rules file directory) e
+pub entry_fault : (file directory mini_fat : List ℕ) (e : CfbFault) → Nowhere (BreaksRoot file directory) →
+    Nowhere (BreaksTree file directory) → Nowhere (BreaksName file directory) → Nowhere (BreaksStorage file directory) →
+    Nowhere (BreaksMiniFat file) → IsMiniFat file mini_fat → IsCfbFault (stream_rules file directory mini_fat) e →
+    IsCfbFault (entry_rules file directory) e
 entry_fault file directory mini_fat (Rule number offset) h7 h8 h9 h10 h11 is first =
     inr (h7, inr (h8, inr (h9, inr (h10, inr (h11, (mini_fat, (is, first)))))))
 entry_fault file directory mini_fat Memory h7 h8 h9 h10 h11 is first = tt
 
-pub directory_fault : (file directory : List ℕ) (e : CfbFault) → Nowhere (BreaksDirectory file) → IsDirectory file directory → IsCfbFault (entry_rules file directory) e → IsCfbFault (directory_rules file) e
+pub directory_fault : (file directory : List ℕ) (e : CfbFault) → Nowhere (BreaksDirectory file) →
+    IsDirectory file directory → IsCfbFault (entry_rules file directory) e → IsCfbFault (directory_rules file) e
 directory_fault file directory (Rule number offset) holds is first = inr (holds, (directory, (is, first)))
 directory_fault file directory Memory holds is first = tt
 
-pub container_fault : (file : List ℕ) (e : CfbFault) → Hold (opening_rules file) → Hold (header_rules file) → IsCfbFault (directory_rules file) e → IsCfbFault (container_rules file) e
+pub container_fault : (file : List ℕ) (e : CfbFault) → Hold (opening_rules file) → Hold (header_rules file) →
+    IsCfbFault (directory_rules file) e → IsCfbFault (container_rules file) e
 container_fault file (Rule number offset) opening header first = inr (opening, inr (header, first))
 container_fault file Memory opening header first = tt
 
 -- what is found holds the rule before it
-pub mini_stream_holds : (file directory xs : List ℕ) → IsMiniStream file directory xs → Nowhere (BreaksMiniStream file directory)
+pub mini_stream_holds : (file directory xs : List ℕ) → IsMiniStream file directory xs →
+    Nowhere (BreaksMiniStream file directory)
 mini_stream_holds file directory xs is = λ p w. elim is [
   | inl none ↦ w.there none.0
   | inr some ↦ holds_none (fat_table file) (stream_head file 512 (entry_place directory 0)) xs some.1 p w.broken
@@ -47,7 +60,10 @@ mini_fat_holds file xs is = λ p w. elim is [
 pub directory_holds : (file xs : List ℕ) → IsDirectory file xs → Nowhere (BreaksDirectory file)
 directory_holds file xs is = λ p w. elim w [
   | inl long ↦
-      let e = full_unique (fat_table file).entry (fat_table file).valid (directory_head file).start long.sectors xs long.full (chain_full (fat_table file).entry (fat_table file).valid (directory_head file).start xs is.holds.range is.holds.chain) in
+      let e = full_unique (fat_table file).entry (fat_table file).valid (directory_head file).start long.sectors xs
+      long.full
+      (chain_full (fat_table file).entry (fat_table file).valid (directory_head file).start xs is.holds.range
+      is.holds.chain) in
       let len = ap length e in
       let short = is.short in
       let more = long.long in omega arith
@@ -55,18 +71,24 @@ directory_holds file xs is = λ p w. elim w [
 ]
 
 -- a fault of the rules 13 and 14 is the first of the file
-pub layout_fault : (places : Places) (e : CfbFault) → IsLayout places → IsCfbFault (sector_rules places.file places.parts.directory places.parts.mini_fat places.parts.mini_stream) e → IsCfbFault (container_rules places.file) e
+pub layout_fault : (places : Places) (e : CfbFault) → IsLayout places →
+    IsCfbFault (sector_rules places.file places.parts.directory places.parts.mini_fat places.parts.mini_stream) e →
+    IsCfbFault (container_rules places.file) e
 layout_fault places e is first =
     let file = places.file in
     let parts = places.parts in
     let are = is.are_entries in
     container_fault file e is.opening is.header
     (directory_fault file parts.directory e (directory_holds file parts.directory are.is_directory) are.is_directory
-    (entry_fault file parts.directory parts.mini_fat e are.root are.tree are.names are.storages (mini_fat_holds file parts.mini_fat is.mini_fat) is.mini_fat
-    (stream_fault file parts.directory parts.mini_fat parts.mini_stream e (mini_stream_holds file parts.directory parts.mini_stream is.mini_stream) is.mini_stream first)))
+    (entry_fault file parts.directory parts.mini_fat e are.root are.tree are.names are.storages
+    (mini_fat_holds file parts.mini_fat is.mini_fat) is.mini_fat
+    (stream_fault file parts.directory parts.mini_fat parts.mini_stream e
+    (mini_stream_holds file parts.directory parts.mini_stream is.mini_stream) is.mini_stream first)))
 
 -- a layout whose streams hold the rules 13 and 14 is that of a file that holds all
-pub layout_holds : (places : Places) → IsLayout places → Hold (sector_rules places.file places.parts.directory places.parts.mini_fat places.parts.mini_stream) → Hold (container_rules places.file)
+pub layout_holds : (places : Places) → IsLayout places →
+    Hold (sector_rules places.file places.parts.directory places.parts.mini_fat places.parts.mini_stream) →
+    Hold (container_rules places.file)
 layout_holds places is holds =
     let file = places.file in
     let parts = places.parts in
@@ -112,58 +134,96 @@ layout_holds places is holds =
     )
 
 -- a fault of one of the rules 8 to 11 is the first of the directory's entries, where the rules before it hold
-pub tree_fault : (file directory : List ℕ) (e : CfbFault) → Nowhere (BreaksRoot file directory) → IsCfbFault (rule 8 (BreaksTree file directory)) e → IsCfbFault (entry_rules file directory) e
+pub tree_fault : (file directory : List ℕ) (e : CfbFault) → Nowhere (BreaksRoot file directory) →
+    IsCfbFault (rule 8 (BreaksTree file directory)) e → IsCfbFault (entry_rules file directory) e
 tree_fault file directory (Rule number place) root first = inr (root, inl first)
 tree_fault file directory Memory root first = tt
 
-pub names_fault : (file directory : List ℕ) (e : CfbFault) → Nowhere (BreaksRoot file directory) → Nowhere (BreaksTree file directory) → IsCfbFault (rule 9 (BreaksName file directory)) e → IsCfbFault (entry_rules file directory) e
+pub names_fault : (file directory : List ℕ) (e : CfbFault) → Nowhere (BreaksRoot file directory) →
+    Nowhere (BreaksTree file directory) → IsCfbFault (rule 9 (BreaksName file directory)) e →
+    IsCfbFault (entry_rules file directory) e
 names_fault file directory (Rule number place) root tree first = inr (root, inr (tree, inl first))
 names_fault file directory Memory root tree first = tt
 
-pub storages_fault : (file directory : List ℕ) (e : CfbFault) → Nowhere (BreaksRoot file directory) → Nowhere (BreaksTree file directory) → Nowhere (BreaksName file directory) → IsCfbFault (rule 10 (BreaksStorage file directory)) e → IsCfbFault (entry_rules file directory) e
+pub storages_fault : (file directory : List ℕ) (e : CfbFault) → Nowhere (BreaksRoot file directory) →
+    Nowhere (BreaksTree file directory) → Nowhere (BreaksName file directory) →
+    IsCfbFault (rule 10 (BreaksStorage file directory)) e → IsCfbFault (entry_rules file directory) e
 storages_fault file directory (Rule number place) root tree names first = inr (root, inr (tree, inr (names, inl first)))
 storages_fault file directory Memory root tree names first = tt
 
-pub mini_fat_fault : (file directory : List ℕ) (e : CfbFault) → Nowhere (BreaksRoot file directory) → Nowhere (BreaksTree file directory) → Nowhere (BreaksName file directory) → Nowhere (BreaksStorage file directory) → IsCfbFault (rule 11 (BreaksMiniFat file)) e → IsCfbFault (entry_rules file directory) e
-mini_fat_fault file directory (Rule number place) root tree names storages first = inr (root, inr (tree, inr (names, inr (storages, inl first))))
+pub mini_fat_fault : (file directory : List ℕ) (e : CfbFault) → Nowhere (BreaksRoot file directory) →
+    Nowhere (BreaksTree file directory) → Nowhere (BreaksName file directory) → Nowhere (BreaksStorage file directory) →
+    IsCfbFault (rule 11 (BreaksMiniFat file)) e → IsCfbFault (entry_rules file directory) e
+mini_fat_fault file directory (Rule number place) root tree names storages first = inr
+    (root, inr (tree, inr (names, inr (storages, inl first))))
 mini_fat_fault file directory Memory root tree names storages first = tt
 
-pub mini_stream_fault : (file directory mini_fat : List ℕ) (e : CfbFault) → IsCfbFault (rule 12 (BreaksMiniStream file directory)) e → IsCfbFault (stream_rules file directory mini_fat) e
+pub mini_stream_fault : (file directory mini_fat : List ℕ) (e : CfbFault) →
+    IsCfbFault (rule 12 (BreaksMiniStream file directory)) e → IsCfbFault (stream_rules file directory mini_fat) e
 mini_stream_fault file directory mini_fat (Rule number place) first = inl first
 mini_stream_fault file directory mini_fat Memory first = tt
 
 -- a fault of the entries is the first of the file
-pub entries_fault : (file directory : List ℕ) (e : CfbFault) → Hold (opening_rules file) → Hold (header_rules file) → IsDirectory file directory → IsCfbFault (entry_rules file directory) e → IsCfbFault (container_rules file) e
+pub entries_fault : (file directory : List ℕ) (e : CfbFault) → Hold (opening_rules file) → Hold (header_rules file) →
+    IsDirectory file directory → IsCfbFault (entry_rules file directory) e → IsCfbFault (container_rules file) e
 entries_fault file directory e opening header is first =
-    container_fault file e opening header (directory_fault file directory e (directory_holds file directory is) is first)
+    container_fault file e opening header
+    (directory_fault file directory e (directory_holds file directory is) is first)
 
 -- the same of the mini FAT, and of the mini stream
-pub minis_fault : (file : List ℕ) (entries : EntryLists) (e : CfbFault) → entries.file ≡ file → Hold (opening_rules file) → Hold (header_rules file) → AreEntries entries → IsCfbFault (rule 11 (BreaksMiniFat file)) e → IsCfbFault (container_rules file) e
+pub minis_fault : (file : List ℕ) (entries : EntryLists) (e : CfbFault) → entries.file ≡ file →
+    Hold (opening_rules file) → Hold (header_rules file) → AreEntries entries →
+    IsCfbFault (rule 11 (BreaksMiniFat file)) e → IsCfbFault (container_rules file) e
 minis_fault file entries e same opening header are first =
-    let here : AreEntries (record { file = file; directory = entries.directory; reached = entries.reached; streams = entries.streams }) =
-    subst (λ f. AreEntries (record { file = f; directory = entries.directory; reached = entries.reached; streams = entries.streams })) same are in
+    let here : AreEntries
+    (record { file = file; directory = entries.directory; reached = entries.reached; streams = entries.streams }) =
+    subst
+    (λ f. AreEntries (record {
+      file = f;
+      directory = entries.directory;
+      reached = entries.reached;
+      streams =
+          entries.streams;
+    })) same are in
     entries_fault file entries.directory e opening header here.is_directory
     (mini_fat_fault file entries.directory e here.root here.tree here.names here.storages first)
 
-pub stored_fault : (file : List ℕ) (entries : EntryLists) (mini_fat : List ℕ) (e : CfbFault) → entries.file ≡ file → Hold (opening_rules file) → Hold (header_rules file) → AreEntries entries → IsMiniFat file mini_fat → IsCfbFault (rule 12 (BreaksMiniStream file entries.directory)) e → IsCfbFault (container_rules file) e
+pub stored_fault : (file : List ℕ) (entries : EntryLists) (mini_fat : List ℕ) (e : CfbFault) → entries.file ≡ file →
+    Hold (opening_rules file) → Hold (header_rules file) → AreEntries entries → IsMiniFat file mini_fat →
+    IsCfbFault (rule 12 (BreaksMiniStream file entries.directory)) e → IsCfbFault (container_rules file) e
 stored_fault file entries mini_fat e same opening header are is first =
-    let here : AreEntries (record { file = file; directory = entries.directory; reached = entries.reached; streams = entries.streams }) =
-    subst (λ f. AreEntries (record { file = f; directory = entries.directory; reached = entries.reached; streams = entries.streams })) same are in
+    let here : AreEntries
+    (record { file = file; directory = entries.directory; reached = entries.reached; streams = entries.streams }) =
+    subst
+    (λ f. AreEntries (record {
+      file = f;
+      directory = entries.directory;
+      reached = entries.reached;
+      streams =
+          entries.streams;
+    })) same are in
     entries_fault file entries.directory e opening header here.is_directory
-    (entry_fault file entries.directory mini_fat e here.root here.tree here.names here.storages (mini_fat_holds file mini_fat is) is
+    (entry_fault file entries.directory mini_fat e here.root here.tree here.names here.storages
+    (mini_fat_holds file mini_fat is) is
     (mini_stream_fault file entries.directory mini_fat e first))
 
 -- a fault of rule 13 or 14 is the first of both
-pub chains_fault : (file directory mini_fat mini_stream : List ℕ) (e : CfbFault) → IsCfbFault (rule 13 (BreaksStream file directory mini_fat)) e → IsCfbFault (sector_rules file directory mini_fat mini_stream) e
+pub chains_fault : (file directory mini_fat mini_stream : List ℕ) (e : CfbFault) →
+    IsCfbFault (rule 13 (BreaksStream file directory mini_fat)) e →
+    IsCfbFault (sector_rules file directory mini_fat mini_stream) e
 chains_fault file directory mini_fat mini_stream (Rule number place) first = inl first
 chains_fault file directory mini_fat mini_stream Memory first = tt
 
-pub sharing_fault : (file : List ℕ) (parts : Parts) (e : CfbFault) → Nowhere (BreaksStream file parts.directory parts.mini_fat) → IsCfbFault (rule 14 (BreaksSharing file parts)) e → IsCfbFault (sector_rules file parts.directory parts.mini_fat parts.mini_stream) e
+pub sharing_fault : (file : List ℕ) (parts : Parts) (e : CfbFault) →
+    Nowhere (BreaksStream file parts.directory parts.mini_fat) → IsCfbFault (rule 14 (BreaksSharing file parts)) e →
+    IsCfbFault (sector_rules file parts.directory parts.mini_fat parts.mini_stream) e
 sharing_fault file parts (Rule number place) holds first = inr (holds, first)
 sharing_fault file parts Memory holds first = tt
 
 -- the layout of a file
-pub layout_is : (file : List ℕ) (entries : EntryLists) (mini_fat mini_stream : List ℕ) → entries.file ≡ file → Hold (opening_rules file) → Hold (header_rules file) → AreEntries entries → IsMiniFat file mini_fat → IsMiniStream file entries.directory mini_stream → IsLayout (places_of entries mini_fat mini_stream)
+pub layout_is : (file : List ℕ) (entries : EntryLists) (mini_fat mini_stream : List ℕ) → entries.file ≡ file →
+    Hold (opening_rules file) → Hold (header_rules file) → AreEntries entries → IsMiniFat file mini_fat →
+    IsMiniStream file entries.directory mini_stream → IsLayout (places_of entries mini_fat mini_stream)
 layout_is file entries mini_fat mini_stream same opening header are is stored = record {
   opening = subst (λ f. Hold (opening_rules f)) (sym same) opening;
   header = subst (λ f. Hold (header_rules f)) (sym same) header;
@@ -173,14 +233,16 @@ layout_is file entries mini_fat mini_stream same opening header are is stored = 
 }
 
 -- the entries that are reached are at most 1,024
-pub reached_few : (file directory order : List ℕ) → ListsReached file directory order → length directory ≤ 256 → length order ≤ 1024
+pub reached_few : (file directory order : List ℕ) → ListsReached file directory order → length directory ≤ 256 →
+    length order ≤ 1024
 reached_few file directory order lists short =
     let most = length_below order (entry_count directory) (λ i h. (lists.within i h).1) lists.distinct in omega arith
 
 -- where rule 1 holds the length is right
 pub whole_length : (file : List ℕ) → Nowhere (BreaksLength file) → IsWhole file
 whole_length file holds =
-    let right : ¬ IsWrongLength (length file) = λ w. holds (min (length file) 7143937) (record { here = refl; wrong = w }) in
+    let right : ¬ IsWrongLength (length file) = λ w. holds (min (length file) 7143937)
+    (record { here = refl; wrong = w }) in
     record {
       sectors = elim (cases_eq (length file % 512) 0) [ inl e ↦ e | inr ne ↦ absurd (right (inl ne)) ];
       least = elim (cases_lt (length file) 1536) [ inl lo ↦ absurd (right (inr (inl lo))) | inr hi ↦ hi ];

@@ -1,25 +1,32 @@
 -- Names that are compared: as a test and as a relation.
-use Rattle.std.proofs.Common.{◌≡◌, ◌↔◌, ℕ, zero, suc, ◌+◌, ◌<◌, Bool, true, false, ◌==◌, IsTrue, List, length, slice_index, refl, sym, subst, arith, eq-eqb, eqb-true}
+use Rattle.std.proofs.Common.{◌≡◌, ◌↔◌, ℕ, zero, suc, ◌+◌, ◌<◌, Bool, true, false, ◌==◌, IsTrue, List, length}
+use Rattle.std.proofs.Common.{slice_index, refl, sym, subst, arith, eq-eqb, eqb-true}
 use Rattle.std.specs.List.{list_all, range_with_len}
 use Rattle.std.proofs.lemmas.Bool.{and_from, and_parts, false_from_ne_true}
 use Rattle.cfb_streams.specs.Directory.{upper_case, AreSameNames}
 use Rattle.cfb_streams.specs.Names.{is_same_name}
 
 -- a test that all numbers of a range pass
-all-from : (test : ℕ → Bool) (from count : ℕ) → ((i : ℕ) → i < count → test (from + i) ≡ true) → list_all test (range_with_len from count) ≡ true
+all-from : (test : ℕ → Bool) (from count : ℕ) → ((i : ℕ) → i < count → test (from + i) ≡ true) →
+    list_all test (range_with_len from count) ≡ true
 all-from test from zero passes = refl
 all-from test from (suc count) passes =
     and_from (test from) (list_all test (range_with_len (from + 1) count))
     (subst (λ k. test k ≡ true) (let e : from + 0 ≡ from = omega arith in e) (passes 0 (omega arith)))
-    (all-from test (from + 1) count (λ i below. subst (λ k. test k ≡ true) (let e : from + suc i ≡ from + 1 + i = omega arith in e) (passes (suc i) (omega arith))))
+    (all-from test (from + 1) count
+    (λ i below. subst (λ k. test k ≡ true) (let e : from + suc i ≡ from + 1 + i = omega arith in e)
+    (passes (suc i) (omega arith))))
 
-all-at : (test : ℕ → Bool) (from count : ℕ) → list_all test (range_with_len from count) ≡ true → (i : ℕ) → i < count → test (from + i) ≡ true
+all-at : (test : ℕ → Bool) (from count : ℕ) → list_all test (range_with_len from count) ≡ true → (i : ℕ) → i < count →
+    test (from + i) ≡ true
 all-at test from zero all i below = absurd (omega arith)
 all-at test from (suc count) all zero below =
-    subst (λ k. test k ≡ true) (let e : from ≡ from + 0 = omega arith in e) (and_parts (test from) (list_all test (range_with_len (from + 1) count)) all).0
+    subst (λ k. test k ≡ true) (let e : from ≡ from + 0 = omega arith in e)
+    (and_parts (test from) (list_all test (range_with_len (from + 1) count)) all).0
 all-at test from (suc count) all (suc i) below =
     subst (λ k. test k ≡ true) (let e : from + 1 + i ≡ from + suc i = omega arith in e)
-    (all-at test (from + 1) count (and_parts (test from) (list_all test (range_with_len (from + 1) count)) all).1 i (omega arith))
+    (all-at test (from + 1) count (and_parts (test from) (list_all test (range_with_len (from + 1) count)) all).1 i
+    (omega arith))
 
 -- the test says what the relation says
 pub same_name-is : (name other : List ℕ) → IsTrue (is_same_name name other) ↔ AreSameNames name other
@@ -32,7 +39,8 @@ same_name-is name other =
           record {
             long = eqb-true (length name) (length other) parts.0;
             units = λ i below. eqb-true (upper_case (slice_index name i)) (upper_case (slice_index other i))
-                (subst (λ k. test k ≡ true) (let e : 0 + i ≡ i = omega arith in e) (all-at test 0 (length name) parts.1 i below));
+                (subst (λ k. test k ≡ true) (let e : 0 + i ≡ i = omega arith in e)
+                (all-at test 0 (length name) parts.1 i below));
           }),
       (λ are. and_from long all (eq-eqb (length name) (length other) are.long)
           (all-from test 0 (length name)
@@ -41,13 +49,17 @@ same_name-is name other =
     )
 
 -- the test of a loop
-pub same_name-true : (name other : List ℕ) → length name ≡ length other → ((i : ℕ) → i < length name → upper_case (slice_index name i) ≡ upper_case (slice_index other i)) → true ≡ is_same_name name other
+pub same_name-true : (name other : List ℕ) → length name ≡ length other →
+    ((i : ℕ) → i < length name → upper_case (slice_index name i) ≡ upper_case (slice_index other i)) →
+    true ≡ is_same_name name other
 same_name-true name other long units = sym ((same_name-is name other).1 (record { long = long; units = units }))
 
 pub same_name-false : (name other : List ℕ) → ¬ AreSameNames name other → false ≡ is_same_name name other
-same_name-false name other apart = sym (false_from_ne_true (is_same_name name other) (λ same. apart ((same_name-is name other).0 same)))
+same_name-false name other apart = sym
+    (false_from_ne_true (is_same_name name other) (λ same. apart ((same_name-is name other).0 same)))
 
 -- a test that decides the relation is this one
-pub same_name-test : (name other : List ℕ) (b : Bool) → (IsTrue b ↔ AreSameNames name other) → b ≡ is_same_name name other
+pub same_name-test : (name other : List ℕ) (b : Bool) → (IsTrue b ↔ AreSameNames name other) →
+    b ≡ is_same_name name other
 same_name-test name other true is = sym ((same_name-is name other).1 (is.0 refl))
 same_name-test name other false is = same_name-false name other (λ are. absurd (cc (is.1 are)))

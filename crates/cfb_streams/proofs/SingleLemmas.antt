@@ -15,13 +15,22 @@ directory_unique file x y a b = holds_unique (fat_table file) (directory_head fi
 pub mini_fat_unique : (file x y : List ℕ) → IsMiniFat file x → IsMiniFat file y → x ≡ y
 mini_fat_unique file x y a b = elim a [
   | inl none ↦ elim b [ inl other ↦ none.1 ∙ sym other.1 | inr some ↦ absurd (some.0 none.0) ]
-  | inr some ↦ elim b [ inl none ↦ absurd (some.0 none.0) | inr other ↦ holds_unique (fat_table file) (mini_fat_head file) x y some.1 other.1 ]
+  | inr some ↦ elim b [
+    | inl none ↦ absurd (some.0 none.0)
+    | inr other ↦ holds_unique (fat_table file) (mini_fat_head file) x y some.1
+        other.1
+  ]
 ]
 
-pub mini_stream_unique : (file directory x y : List ℕ) → IsMiniStream file directory x → IsMiniStream file directory y → x ≡ y
+pub mini_stream_unique : (file directory x y : List ℕ) → IsMiniStream file directory x → IsMiniStream file directory y →
+    x ≡ y
 mini_stream_unique file directory x y a b = elim a [
   | inl none ↦ elim b [ inl other ↦ none.1 ∙ sym other.1 | inr some ↦ absurd (some.0 none.0) ]
-  | inr some ↦ elim b [ inl none ↦ absurd (some.0 none.0) | inr other ↦ holds_unique (fat_table file) (stream_head file 512 (entry_place directory 0)) x y some.1 other.1 ]
+  | inr some ↦ elim b [
+    | inl none ↦ absurd (some.0 none.0)
+    | inr other ↦ holds_unique (fat_table file)
+        (stream_head file 512 (entry_place directory 0)) x y some.1 other.1
+  ]
 ]
 
 pub container_single : (file : List ℕ) → IsSingle (container_rules file)
@@ -33,19 +42,44 @@ container_single file = (
       tt,
       (
         directory_unique file,
-        λ directory is. (tt, (tt, (tt, (tt, (tt, (mini_fat_unique file, λ mini_fat has. (tt, (mini_stream_unique file directory, λ mini_stream holds. (tt, tt))))))))),
+        λ directory is. (
+          tt,
+          (
+            tt,
+            (
+              tt,
+              (
+                tt,
+                (
+                  tt,
+                  (
+                    mini_fat_unique file,
+                    λ mini_fat has. (tt, (mini_stream_unique file directory, λ mini_stream holds. (tt, tt))),
+                  ),
+                ),
+              ),
+            ),
+          ),
+        ),
       ),
     ),
   ),
 )
 
 -- the rules 13 and 14
-sector_ascends : (file directory mini_fat mini_stream : List ℕ) → Ascends (sector_rules file directory mini_fat mini_stream) 13 15
-sector_ascends file directory mini_fat mini_stream = (14, ((omega arith, omega arith), (omega arith, omega arith, (omega arith, omega arith))))
+sector_ascends : (file directory mini_fat mini_stream : List ℕ) →
+    Ascends (sector_rules file directory mini_fat mini_stream) 13 15
+sector_ascends file directory mini_fat mini_stream =
+    (14, ((omega arith, omega arith), (omega arith, omega arith, (omega arith, omega arith))))
 
 stream_ascends : (file directory mini_fat : List ℕ) → Ascends (stream_rules file directory mini_fat) 12 15
-stream_ascends file directory mini_fat =
-    (13, ((omega arith, omega arith), (omega arith, omega arith, (omega arith, λ mini_stream is. sector_ascends file directory mini_fat mini_stream))))
+stream_ascends file directory mini_fat = (
+  13,
+  (
+    (omega arith, omega arith),
+    (omega arith, omega arith, (omega arith, λ mini_stream is. sector_ascends file directory mini_fat mini_stream)),
+  ),
+)
 
 entry_ascends : (file directory : List ℕ) → Ascends (entry_rules file directory) 7 15
 entry_ascends file directory = (
@@ -101,13 +135,42 @@ entry_ascends file directory = (
 )
 
 directory_ascends : (file : List ℕ) → Ascends (directory_rules file) 6 15
-directory_ascends file = (7, ((omega arith, omega arith), (omega arith, omega arith, (omega arith, λ directory is. entry_ascends file directory))))
+directory_ascends file = (
+  7,
+  (
+    (omega arith, omega arith),
+    (omega arith, omega arith, (omega arith, λ directory is. entry_ascends file directory)),
+  ),
+)
 
 header_ascends : (file : List ℕ) → Ascends (header_rules file) 3 6
-header_ascends file = (4, ((omega arith, omega arith), (omega arith, omega arith, (5, ((omega arith, omega arith), (omega arith, omega arith, (omega arith, omega arith)))))))
+header_ascends file = (
+  4,
+  (
+    (omega arith, omega arith),
+    (
+      omega arith,
+      omega arith,
+      (
+        5,
+        ((omega arith, omega arith), (omega arith, omega arith, (omega arith, omega arith))),
+      ),
+    ),
+  ),
+)
 
 opening_ascends : (file : List ℕ) → Ascends (opening_rules file) 1 3
 opening_ascends file = (2, ((omega arith, omega arith), (omega arith, omega arith, (omega arith, omega arith))))
 
 pub container_ascends : (file : List ℕ) → Ascends (container_rules file) 1 15
-container_ascends file = (3, (opening_ascends file, (omega arith, omega arith, (6, (header_ascends file, (omega arith, omega arith, directory_ascends file))))))
+container_ascends file = (
+  3,
+  (
+    opening_ascends file,
+    (
+      omega arith,
+      omega arith,
+      (6, (header_ascends file, (omega arith, omega arith, directory_ascends file))),
+    ),
+  ),
+)

@@ -1,5 +1,6 @@
 -- What is read of bytes is bytes, and the units of names have 16 bits.
-use Rattle.std.proofs.Common.{◌≡◌, inl, inr, ℕ, ◌+◌, ◌*◌, ◌^◌, ◌<◌, List, length, Some, slice_index, slice_get, sym, subst, arith}
+use Rattle.std.proofs.Common.{◌≡◌, inl, inr, ℕ, ◌+◌, ◌*◌, ◌^◌, ◌<◌, List, length, Some, slice_index, slice_get, sym}
+use Rattle.std.proofs.Common.{subst, arith}
 use Rattle.std.specs.List.{flat_map}
 use Rattle.std.proofs.lemmas.Bool.{cases_lt}
 use Rattle.std.proofs.lemmas.List.{get_or_past}
@@ -14,18 +15,22 @@ use Rattle.cfb_streams.specs.Contents.{Stream, Contents, IsStored}
 use Rattle.cfb_streams.specs.Container.{mini_bytes, IsStreamOf, HasContents}
 
 -- bytes of sectors
-sectors_bytes : (base unit : ℕ) (bytes sectors : List ℕ) → AreBytes bytes → AreBytes (flat_map (sector_bytes base unit bytes) sectors)
+sectors_bytes : (base unit : ℕ) (bytes sectors : List ℕ) → AreBytes bytes →
+    AreBytes (flat_map (sector_bytes base unit bytes) sectors)
 sectors_bytes base unit bytes sectors are =
-    AreBytes-flat_map (sector_bytes base unit bytes) sectors (λ sector. AreBytes-range bytes (base + sector * unit) (base + sector * unit + unit) are)
+    AreBytes-flat_map (sector_bytes base unit bytes) sectors
+    (λ sector. AreBytes-range bytes (base + sector * unit) (base + sector * unit + unit) are)
 
-name_units : (file : List ℕ) (at : ℕ) (name : List ℕ) → AreBytes file → IsNameOf file at name → (i : ℕ) → slice_index name i < 2 ^ 16
+name_units : (file : List ℕ) (at : ℕ) (name : List ℕ) → AreBytes file → IsNameOf file at name → (i : ℕ) →
+    slice_index name i < 2 ^ 16
 name_units file at name are is i = elim (cases_lt i (length name)) [
   | inl low ↦ rw (is.units i low) (number_at-bound file (at + 2 * i) 2 are)
   | inr high ↦ let past : slice_index name i ≡ 0 = get_or_past name i 0 high in rw past (omega arith)
 ]
 
 -- a stream of a file
-pub stream_stored : (file : List ℕ) (parts : Parts) (entry : ℕ) (stream : Stream) → AreBytes file → IsStreamOf file parts entry stream → IsStored stream.name stream.bytes
+pub stream_stored : (file : List ℕ) (parts : Parts) (entry : ℕ) (stream : Stream) → AreBytes file →
+    IsStreamOf file parts entry stream → IsStored stream.name stream.bytes
 stream_stored file parts entry stream are is = record {
   units = name_units file (entry_place parts.directory entry) stream.name are is.name;
   small =
@@ -35,20 +40,24 @@ stream_stored file parts entry stream are is = record {
         | inr more ↦ elim more [
           | inl short ↦ subst AreBytes (sym short.body.joined)
               (AreBytes-take size (flat_map (sector_bytes 0 64 (mini_bytes file parts)) short.body.sectors)
-              (sectors_bytes 0 64 (mini_bytes file parts) short.body.sectors (sectors_bytes 512 512 file parts.mini_stream are)))
+              (sectors_bytes 0 64 (mini_bytes file parts) short.body.sectors
+              (sectors_bytes 512 512 file parts.mini_stream are)))
           | inr long ↦ subst AreBytes (sym long.body.joined)
-              (AreBytes-take size (flat_map (sector_bytes 512 512 file) long.sectors) (sectors_bytes 512 512 file long.sectors are))
+              (AreBytes-take size (flat_map (sector_bytes 512 512 file) long.sectors)
+              (sectors_bytes 512 512 file long.sectors are))
         ]
       ];
 }
 
 -- the streams of a file
-pub contents_stored : (file : List ℕ) (contents : Contents) → AreBytes file → HasContents file contents → (i : ℕ) (stream : Stream) → slice_get contents.streams i ≡ Some stream → IsStored stream.name stream.bytes
+pub contents_stored : (file : List ℕ) (contents : Contents) → AreBytes file → HasContents file contents →
+    (i : ℕ) (stream : Stream) → slice_get contents.streams i ≡ Some stream → IsStored stream.name stream.bytes
 contents_stored file contents are has i stream there =
     stream_stored file has.parts (slice_index has.entries i) stream are (has.streams.each i stream there)
 
 -- the CLSID of a file
-pub clsid_bytes : (file : List ℕ) (contents : Contents) → AreBytes file → HasContents file contents → AreBytes contents.clsid
+pub clsid_bytes : (file : List ℕ) (contents : Contents) → AreBytes file → HasContents file contents →
+    AreBytes contents.clsid
 clsid_bytes file contents are has =
     let at = entry_place has.parts.directory 0 in
     subst AreBytes (sym has.clsid) (AreBytes-range file (at + 80) (at + 96) are)

@@ -41,7 +41,8 @@ pub record AreSectorsOf (file sectors : List ℕ) : Type 0 where
 -- the entries of the table that stands in these sectors
 pub record IsTable (file sectors entries : List ℕ) : Type 0 where
   pub len : length entries ≡ 128 * length sectors
-  pub each : (s : ℕ) → s < length entries → slice_index entries s ≡ u32_at file (table_place (λ k. slice_index sectors k) s)
+  pub each : (s : ℕ) → s < length entries →
+      slice_index entries s ≡ u32_at file (table_place (λ k. slice_index sectors k) s)
 
 -- a whole chain of enough sectors; ENDOFCHAIN is no valid sector number
 pub record HoldsChain (table : Table) (head : Head) (sectors : List ℕ) : Type 0 where

@@ -11,8 +11,11 @@ use Rattle.cfb_streams.specs.Header.{sector_bytes}
 use Rattle.cfb_streams.specs.HeaderRules.{header_rules}
 use Rattle.cfb_streams.specs.Chain.{fat_table, HoldsChain}
 use Rattle.cfb_streams.specs.Directory.{entry_size, entry_clsid, IsNameOf}
-use Rattle.cfb_streams.specs.Reach.{BreaksDirectory, IsDirectory, BreaksRoot, BreaksTree, BreaksName, BreaksStorage, entry_place}
-use Rattle.cfb_streams.specs.StreamRules.{BreaksMiniFat, IsMiniFat, BreaksMiniStream, IsMiniStream, BreaksStream, BreaksSharing, Parts, IsStreamEntry, IsLargeStream, IsSmallStream, mini_table_of, stream_head}
+use Rattle.cfb_streams.specs.Reach.{BreaksDirectory, IsDirectory, BreaksRoot, BreaksTree, BreaksName, BreaksStorage}
+use Rattle.cfb_streams.specs.Reach.{entry_place}
+use Rattle.cfb_streams.specs.StreamRules.{BreaksMiniFat, IsMiniFat, BreaksMiniStream, IsMiniStream, BreaksStream}
+use Rattle.cfb_streams.specs.StreamRules.{BreaksSharing, Parts, IsStreamEntry, IsLargeStream, IsSmallStream}
+use Rattle.cfb_streams.specs.StreamRules.{mini_table_of, stream_head}
 
 -- the rules of the streams
 abbrev pub sector_rules : List ℕ → List ℕ → List ℕ → List ℕ → Rules ℕ
@@ -23,7 +26,8 @@ sector_rules file directory mini_fat mini_stream =
 -- the rule of the mini stream, and those of the streams
 abbrev pub stream_rules : List ℕ → List ℕ → List ℕ → Rules ℕ
 stream_rules file directory mini_fat =
-    rule 12 (BreaksMiniStream file directory) then given (IsMiniStream file directory) (sector_rules file directory mini_fat)
+    rule 12 (BreaksMiniStream file directory) then given (IsMiniStream file directory)
+    (sector_rules file directory mini_fat)
 
 -- the rules of the directory's entries, and all that follow
 abbrev pub entry_rules : List ℕ → List ℕ → Rules ℕ
@@ -48,14 +52,17 @@ mini_bytes file parts = flat_map (sector_bytes 512 512 file) parts.mini_stream
 pub record IsLongBody (file directory : List ℕ) (entry : ℕ) (bytes sectors : List ℕ) : Type 0 where
   pub is_large : IsLargeStream file directory entry
   pub holds : HoldsChain (fat_table file) (stream_head file 512 (entry_place directory entry)) sectors
-  pub joined : bytes ≡ take (entry_size file (entry_place directory entry)) (flat_map (sector_bytes 512 512 file) sectors)
+  pub joined : bytes ≡ take (entry_size file (entry_place directory entry))
+      (flat_map (sector_bytes 512 512 file) sectors)
 
 -- the bytes of a stream that stands in the mini stream, whose bytes are `stored`
 pub record IsShortBody (file directory mini_fat stored : List ℕ) (entry : ℕ) (bytes : List ℕ) : Type 0 where
   pub is_small : IsSmallStream file directory entry
   pub sectors : List ℕ
-  pub holds : HoldsChain (mini_table_of file directory mini_fat) (stream_head file 64 (entry_place directory entry)) sectors
-  pub joined : bytes ≡ take (entry_size file (entry_place directory entry)) (flat_map (sector_bytes 0 64 stored) sectors)
+  pub holds : HoldsChain (mini_table_of file directory mini_fat) (stream_head file 64 (entry_place directory entry))
+      sectors
+  pub joined : bytes ≡ take (entry_size file (entry_place directory entry))
+      (flat_map (sector_bytes 0 64 stored) sectors)
 
 -- the bytes and the chain of the stream of an entry
 pub record IsEmptyStream (file : List ℕ) (parts : Parts) (entry : ℕ) (stream : Stream) : Type 0 where
@@ -76,12 +83,15 @@ pub record IsLongStream (file : List ℕ) (parts : Parts) (entry : ℕ) (stream 
 pub record IsStreamOf (file : List ℕ) (parts : Parts) (entry : ℕ) (stream : Stream) : Type 0 where
   pub is_entry : IsStreamEntry file parts.directory entry
   pub name : IsNameOf file (entry_place parts.directory entry) stream.name
-  pub holds : IsEmptyStream file parts entry stream ⊎ (IsShortStream file parts entry stream ⊎ IsLongStream file parts entry stream)
+  pub holds : IsEmptyStream file parts entry
+      stream ⊎ (IsShortStream file parts entry stream ⊎ IsLongStream file parts entry stream)
 
 -- the streams of the first `count` entries, in their order
-pub record AreStreamsOf (file : List ℕ) (parts : Parts) (entries : List ℕ) (count : ℕ) (streams : List Stream) : Type 0 where
-  pub len : length streams ≡ count
-  pub each : (i : ℕ) (stream : Stream) → slice_get streams i ≡ Some stream → IsStreamOf file parts (slice_index entries i) stream
+pub record AreStreamsOf (file : List ℕ) (parts : Parts) (entries : List ℕ) (count : ℕ) (streams : List Stream) : Type 0
+  where
+    pub len : length streams ≡ count
+    pub each : (i : ℕ) (stream : Stream) → slice_get streams i ≡ Some stream →
+        IsStreamOf file parts (slice_index entries i) stream
 
 -- exactly the streams of the root, in the order of their names, and its CLSID
 pub record HasContents (file : List ℕ) (contents : Contents) : Type 0 where

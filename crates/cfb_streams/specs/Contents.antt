@@ -1,5 +1,6 @@
 -- What a compound file holds.
-use Rattle.std.specs.Prelude.{◌≡◌, ℕ, ◌-◌, ◌^◌, ◌<◌, ◌≤◌, List, length, Option, Some, MatchOption, slice_get, slice_index}
+use Rattle.std.specs.Prelude.{◌≡◌, ℕ, ◌-◌, ◌^◌, ◌<◌, ◌≤◌, List, length, Option, Some, MatchOption, slice_get}
+use Rattle.std.specs.Prelude.{slice_index}
 use Rattle.std.specs.List.{sum_by}
 use Rattle.doc_bits.specs.Number.{AreBytes}
 use Rattle.cfb_streams.specs.Directory.{AreSameNames, ComesBefore}
@@ -29,7 +30,8 @@ pub record HasNamed (streams : List Stream) (name bytes : List ℕ) : Type 0 whe
 
 -- no stream has the name
 abbrev pub HasNoNamed : List Stream → List ℕ → Type 0
-HasNoNamed streams name = (i : ℕ) (stream : Stream) → slice_get streams i ≡ Some stream → ¬ AreSameNames stream.name name
+HasNoNamed streams name = (i : ℕ) (stream : Stream) → slice_get streams i ≡ Some stream → ¬ AreSameNames stream.name
+    name
 
 -- the name and the bytes of a stream that is to be put into a container
 pub record NamedBytes : Type 0 where
@@ -40,7 +42,8 @@ pub record NamedBytes : Type 0 where
 pub record AreStreams (streams : List NamedBytes) : Type 0 where
   pub some : (i : ℕ) (stream : NamedBytes) → slice_get streams i ≡ Some stream → 1 ≤ length stream.name
   pub short : (i : ℕ) (stream : NamedBytes) → slice_get streams i ≡ Some stream → length stream.name ≤ 31
-  pub order : (i j : ℕ) (stream later : NamedBytes) → i < j → slice_get streams i ≡ Some stream → slice_get streams j ≡ Some later → ComesBefore stream.name later.name
+  pub order : (i j : ℕ) (stream later : NamedBytes) → i < j → slice_get streams i ≡ Some stream →
+      slice_get streams j ≡ Some later → ComesBefore stream.name later.name
   pub total : sum_by (λ stream. length stream.bytes) streams < 2 ^ 48
 
 -- a name and bytes that a file can hold: the units have 16 bits, and the bytes are below 256
@@ -49,8 +52,10 @@ pub record IsStored (name bytes : List ℕ) : Type 0 where
   pub small : AreBytes bytes
 
 abbrev pub AreStored : List NamedBytes → Type 0
-AreStored streams = (i : ℕ) (stream : NamedBytes) → slice_get streams i ≡ Some stream → IsStored stream.name stream.bytes
+AreStored streams = (i : ℕ) (stream : NamedBytes) → slice_get streams i ≡ Some stream → IsStored stream.name
+    stream.bytes
 
 -- the name comes after that of the last stream
 abbrev pub EndsBefore : List NamedBytes → List ℕ → Type 0
-EndsBefore streams name = (stream : NamedBytes) → slice_get streams (length streams - 1) ≡ Some stream → ComesBefore stream.name name
+EndsBefore streams name = (stream : NamedBytes) → slice_get streams (length streams - 1) ≡ Some stream → ComesBefore
+    stream.name name

@@ -1,5 +1,6 @@
 -- [MS-CFB] Directory Entry: 128 bytes, whose fields are named here by the offset in the file at which the entry stands.
-use Rattle.std.specs.Prelude.{◌≡◌, ◌⊎◌, ℕ, ◌+◌, ◌-◌, ◌*◌, ◌/◌, ◌<◌, List, length, slice_index, slice_range, nat_lt, if◌then◌else◌}
+use Rattle.std.specs.Prelude.{◌≡◌, ◌⊎◌, ℕ, ◌+◌, ◌-◌, ◌*◌, ◌/◌, ◌<◌, List, length, slice_index, slice_range, nat_lt}
+use Rattle.std.specs.Prelude.{if◌then◌else◌}
 use Rattle.doc_bits.specs.Number.{u16_at, u32_at}
 
 -- a unit of the name
@@ -56,7 +57,8 @@ pub record IsNameOf (file : List ℕ) (at : ℕ) (name : List ℕ) : Type 0 wher
 -- two entries have one name: names of one length, whose units are equal in upper case
 pub record HaveOneName (file : List ℕ) (at other : ℕ) : Type 0 where
   pub long : entry_name_length file at ≡ entry_name_length file other
-  pub units : (i : ℕ) → i < entry_name_units file at → upper_case (entry_unit file at i) ≡ upper_case (entry_unit file other i)
+  pub units : (i : ℕ) → i < entry_name_units file at →
+      upper_case (entry_unit file at i) ≡ upper_case (entry_unit file other i)
 
 -- names are equal: they have one length, and their units are equal in upper case
 pub record AreSameNames (name other : List ℕ) : Type 0 where
@@ -83,4 +85,5 @@ pub record IsNameLessAt (name other : List ℕ) (place : ℕ) : Type 0 where
   pub less : upper_case (slice_index name place) < upper_case (slice_index other place)
 
 abbrev pub ComesBefore : List ℕ → List ℕ → Type 0
-ComesBefore name other = (length name < length other) ⊎ ((length name ≡ length other) × ((place : ℕ) × IsNameLessAt name other place))
+ComesBefore name other =
+    (length name < length other) ⊎ ((length name ≡ length other) × ((place : ℕ) × IsNameLessAt name other place))

@@ -1,12 +1,12 @@
 -- One pass over the streams: what it takes, and what it reads.
-use Rattle.std.specs.Prelude.{◌≡◌, ℕ, ◌+◌, Option, Some, None, List, [], ◌∷◌, ◌++◌, length, take, slice_index}
+use Rattle.std.specs.Prelude.{◌≡◌, ℕ, Option, Some, None, List, [], ◌∷◌, ◌++◌, length, take}
 use Rattle.std.specs.List.{flat_map}
 use Rattle.cfb_streams.specs.declared.gather.Taken.{Taken}
 use Rattle.cfb_streams.specs.Header.{sector_bytes}
 use Rattle.cfb_streams.specs.SectorChain.{HasSector}
 use Rattle.cfb_streams.specs.Chain.{Table, Head, fat_table, HoldsChain}
 use Rattle.cfb_streams.specs.StreamRules.{Owns, HasLargeSector, HasSmallSector, mini_table_of}
-use Rattle.cfb_streams.specs.Sharing.{Claimed, Takes, IsShareFront, owner_at}
+use Rattle.cfb_streams.specs.Sharing.{Claimed, HasFront, IsUnshared, Takes, IsClosed, IsShareFront, IsDone}
 use Rattle.cfb_streams.specs.Layout.{Places}
 use Rattle.cfb_streams.specs.Contents.{Stream}
 
@@ -20,11 +20,11 @@ pub record IsRead (table : Table) (head : Head) (base : ℕ) (stored bytes secto
 pub record TakesChain (table : Table) (head : Head) (old new : Claimed) : Type 0 where
   pub sectors : List ℕ
   pub holds : HoldsChain table head sectors
-  pub takes : Takes (HasSector sectors) table.place old new
+  pub takes : Takes (HasSector sectors) old new
 
 -- no sector was taken twice
 abbrev pub AreUnshared : Taken → Type 0
-AreUnshared taken = (taken.sectors.least ≡ None) × (taken.minis.least ≡ None)
+AreUnshared taken = IsUnshared taken.sectors × IsUnshared taken.minis
 
 -- the list with a stream put last, where it is there
 abbrev pub with_some : List Stream → Option Stream → List Stream
@@ -33,16 +33,21 @@ with_some streams (Some stream) = streams ++ stream ∷ []
 
 -- the sectors and the mini sectors of an entry's stream are taken
 pub record TakesStream (places : Places) (entry : ℕ) (old new : Taken) : Type 0 where
-  pub sectors_taken : Takes (HasLargeSector places.file places.parts.directory entry) (fat_table places.file).place old.sectors new.sectors
-  pub minis_taken : Takes (HasSmallSector places.file places.parts.directory places.parts.mini_fat entry) (mini_table_of places.file places.parts.directory places.parts.mini_fat).place old.minis new.minis
+  pub sectors_taken : Takes (HasLargeSector places.file places.parts.directory entry) old.sectors new.sectors
+  pub minis_taken : Takes (HasSmallSector places.file places.parts.directory places.parts.mini_fat entry)
+      old.minis new.minis
 
--- there is a mark for each sector and each mini sector
+-- there is a mark for each sector and each mini sector, and whole chains are taken
 pub record HasMarks (places : Places) (taken : Taken) : Type 0 where
   pub for_sectors : length taken.sectors.taken ≡ (fat_table places.file).valid
-  pub for_minis : length taken.minis.taken ≡ (mini_table_of places.file places.parts.directory places.parts.mini_fat).valid
+  pub for_minis : length
+      taken.minis.taken ≡ (mini_table_of places.file places.parts.directory places.parts.mini_fat).valid
+  pub sectors_closed : IsClosed (fat_table places.file) taken.sectors
+  pub minis_closed : IsClosed (mini_table_of places.file places.parts.directory places.parts.mini_fat) taken.minis
 
--- the sectors of the parts and of the first `count` streams are taken
+-- the sectors of the parts, but for the FAT, and of the first `count` streams are taken
 pub record IsTakenFront (places : Places) (count : ℕ) (taken : Taken) : Type 0 where
   pub marks : HasMarks places taken
-  pub of_sectors : IsShareFront (λ a. Owns places.file places.parts (owner_at places.streams a)) (fat_table places.file).place (4 + count) taken.sectors.taken taken.sectors.least
-  pub of_minis : IsShareFront (λ a. HasSmallSector places.file places.parts.directory places.parts.mini_fat (slice_index places.streams a)) (mini_table_of places.file places.parts.directory places.parts.mini_fat).place count taken.minis.taken taken.minis.least
+  pub of_sectors : IsShareFront (Owns places.file places.parts) (IsDone places.streams count) taken.sectors
+  pub of_minis : IsShareFront (HasSmallSector places.file places.parts.directory places.parts.mini_fat)
+      (HasFront places.streams count) taken.minis

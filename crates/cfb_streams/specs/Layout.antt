@@ -9,7 +9,8 @@ use Rattle.cfb_streams.specs.Opening.{opening_rules}
 use Rattle.cfb_streams.specs.HeaderRules.{header_rules}
 use Rattle.cfb_streams.specs.Chain.{AreSectorsOf}
 use Rattle.cfb_streams.specs.Directory.{entry_size}
-use Rattle.cfb_streams.specs.Reach.{entry_place, IsDirectory, ListsReached, BreaksRoot, BreaksTree, BreaksName, BreaksStorage}
+use Rattle.cfb_streams.specs.Reach.{entry_place, IsDirectory, ListsReached, BreaksRoot, BreaksTree, BreaksName}
+use Rattle.cfb_streams.specs.Reach.{BreaksStorage}
 use Rattle.cfb_streams.specs.StreamRules.{Parts, IsMiniFat, IsMiniStream, IsLargeStream, IsSmallStream, stream_head}
 use Rattle.cfb_streams.specs.Order.{ListsStreams}
 use Rattle.cfb_streams.specs.Tables.{TablePlace, fat_place, mini_place}
@@ -22,7 +23,8 @@ pub record EntryLists : Type 0 where
   pub streams : List ℕ
 
 abbrev pub lists_of : List ℕ → List ℕ → List ℕ → List ℕ → EntryLists
-lists_of file directory reached streams = record { file = file; directory = directory; reached = reached; streams = streams }
+lists_of file directory reached streams = record
+    { file = file; directory = directory; reached = reached; streams = streams }
 
 -- what the rules 6 to 10 promise of them
 pub record AreEntries (entries : EntryLists) : Type 0 where
@@ -38,8 +40,10 @@ pub record AreEntries (entries : EntryLists) : Type 0 where
 -- what the stream of an entry has: nothing, a chain of mini sectors, or one of sectors
 abbrev pub IsBody : List ℕ → List ℕ → ℕ → Body → Type 0
 IsBody file directory entry Empty = entry_size file (entry_place directory entry) ≡ 0
-IsBody file directory entry (Short claim) = IsSmallStream file directory entry × (claim ≡ stream_head file 64 (entry_place directory entry))
-IsBody file directory entry (Long claim) = IsLargeStream file directory entry × (claim ≡ stream_head file 512 (entry_place directory entry))
+IsBody file directory entry (Short claim) = IsSmallStream file directory
+    entry × (claim ≡ stream_head file 64 (entry_place directory entry))
+IsBody file directory entry (Long claim) = IsLargeStream file directory
+    entry × (claim ≡ stream_head file 512 (entry_place directory entry))
 
 -- the directory, the mini FAT and the mini stream by their sectors, and the entries by their numbers
 pub record Places : Type 0 where

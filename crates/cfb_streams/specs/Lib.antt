@@ -1,7 +1,9 @@
 pub mod Header
 pub mod SectorChain
 pub mod Chain
+pub mod Walk
 pub mod Marks
+pub mod Ends
 pub mod Judged
 pub mod Directory
 pub mod Names

@@ -17,8 +17,10 @@ pub record NamesEntry (file links : List ℕ) (entry place : ℕ) : Type 0 where
 
 -- for each entry the least place of the first `count` links that name it, or a number above all places
 pub record IsFirstNamed (file links : List ℕ) (count : ℕ) (first : List ℕ) : Type 0 where
-  pub least : (i : ℕ) → i < count → u32_at file (slice_index links i) < length first → slice_index first (u32_at file (slice_index links i)) ≤ slice_index links i
-  pub named : (entry : ℕ) → entry < length first → slice_index first entry < length file → NamesEntry file links entry (slice_index first entry)
+  pub least : (i : ℕ) → i < count → u32_at file (slice_index links i) < length first →
+      slice_index first (u32_at file (slice_index links i)) ≤ slice_index links i
+  pub named : (entry : ℕ) → entry < length first → slice_index first entry < length file →
+      NamesEntry file links entry (slice_index first entry)
 
 -- the link at a place is wrong
 pub record IsWrongAt (file directory : List ℕ) (link place : ℕ) : Type 0 where

@@ -21,4 +21,5 @@ table_name which = if which == 1 then second_table_name else first_table_name
 abbrev pub is_same_name : List ℕ → List ℕ → Bool
 is_same_name name other =
     length name == length other
-    && list_all (λ i. upper_case (slice_index name i) == upper_case (slice_index other i)) (range_with_len 0 (length name))
+    && list_all (λ i. upper_case (slice_index name i) == upper_case (slice_index other i))
+    (range_with_len 0 (length name))

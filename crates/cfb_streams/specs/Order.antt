@@ -9,7 +9,8 @@ use Rattle.cfb_streams.specs.StreamRules.{IsStreamEntry}
 -- each name comes before all later ones
 abbrev pub AreOrdered : List ℕ → List ℕ → List ℕ → Type 0
 AreOrdered file directory entries =
-    (i j : ℕ) → i < j → j < length entries → EntryBefore file (entry_place directory (slice_index entries i)) (entry_place directory (slice_index entries j))
+    (i j : ℕ) → i < j → j < length entries → EntryBefore file (entry_place directory (slice_index entries i))
+    (entry_place directory (slice_index entries j))
 
 -- exactly the entries of the streams, in the order of their names
 pub record ListsStreams (file directory entries : List ℕ) : Type 0 where
@@ -20,11 +21,14 @@ pub record ListsStreams (file directory entries : List ℕ) : Type 0 where
 -- the place is that of the first entry whose name comes after the entry's
 pub record IsFirstAfter (file directory entries : List ℕ) (entry place : ℕ) : Type 0 where
   pub inside : place ≤ length entries
-  pub before : (i : ℕ) → i < place → ¬ EntryBefore file (entry_place directory entry) (entry_place directory (slice_index entries i))
-  pub after : place < length entries → EntryBefore file (entry_place directory entry) (entry_place directory (slice_index entries place))
+  pub before : (i : ℕ) → i < place →
+      ¬ EntryBefore file (entry_place directory entry) (entry_place directory (slice_index entries i))
+  pub after : place < length entries → EntryBefore file (entry_place directory entry)
+      (entry_place directory (slice_index entries place))
 
 -- the entry was put there if it is a stream
 abbrev pub PutsStream : List ℕ → List ℕ → ℕ → List ℕ → List ℕ → Type 0
 PutsStream file directory entry old new =
     ((entry_type file (entry_place directory entry) ≢ 2) × (new ≡ old))
-    ⊎ ((entry_type file (entry_place directory entry) ≡ 2) × ((place : ℕ) × (IsFirstAfter file directory old entry place × (new ≡ insert old place entry))))
+    ⊎ ((entry_type file (entry_place directory entry) ≡ 2) × ((place : ℕ) × (IsFirstAfter file directory old entry
+    place × (new ≡ insert old place entry))))

@@ -3,7 +3,8 @@ use Rattle.std.specs.Prelude.{◌≡◌, ◌≢◌, ◌⊎◌, ℕ, ◌+◌, ◌
 use Rattle.doc_bits.specs.Number.{u32_at}
 use Rattle.cfb_streams.specs.SectorChain.{HasSector, IsFullPath}
 use Rattle.cfb_streams.specs.Chain.{Head, fat_table, HoldsChain, BreaksChain}
-use Rattle.cfb_streams.specs.Directory.{entry_left, entry_right, entry_child, entry_type, entry_name_length, no_entry, HaveOneName}
+use Rattle.cfb_streams.specs.Directory.{entry_left, entry_right, entry_child, entry_type, entry_name_length, no_entry}
+use Rattle.cfb_streams.specs.Directory.{HaveOneName}
 
 -- the chain of the directory starts at the number at 48
 abbrev pub directory_head : List ℕ → Head
@@ -39,8 +40,10 @@ IsEntry directory k = (0 < k) × (k < entry_count directory)
 -- the entries that are reached from the root's child by left and right: no fewer, and no others
 pub data IsReached (file directory : List ℕ) : ℕ → Type 0 where
   child : (k : ℕ) → entry_child file (entry_place directory 0) ≡ k → IsEntry directory k → IsReached file directory k
-  left : (from k : ℕ) → IsReached file directory from → entry_left file (entry_place directory from) ≡ k → IsEntry directory k → IsReached file directory k
-  right : (from k : ℕ) → IsReached file directory from → entry_right file (entry_place directory from) ≡ k → IsEntry directory k → IsReached file directory k
+  left : (from k : ℕ) → IsReached file directory from → entry_left file (entry_place directory from) ≡ k →
+      IsEntry directory k → IsReached file directory k
+  right : (from k : ℕ) → IsReached file directory from → entry_right file (entry_place directory from) ≡ k →
+      IsEntry directory k → IsReached file directory k
 
 -- a list of the entries that are reached, each of them once
 pub record ListsReached (file directory order : List ℕ) : Type 0 where
@@ -89,11 +92,13 @@ pub record IsWrongType (file directory : List ℕ) (entry place : ℕ) : Type 0 
 
 -- rule 7: entry 0 is the root
 abbrev pub BreaksRoot : List ℕ → List ℕ → ℕ → Type 0
-BreaksRoot file directory place = (place ≡ entry_place directory 0 + 66) × (entry_type file (entry_place directory 0) ≢ 5)
+BreaksRoot file directory place =
+    (place ≡ entry_place directory 0 + 66) × (entry_type file (entry_place directory 0) ≢ 5)
 
 -- rule 8
 abbrev pub BreaksTree : List ℕ → List ℕ → ℕ → Type 0
-BreaksTree file directory place = BreaksLink file directory place ⊎ AmongReached file directory (IsWrongType file directory) place
+BreaksTree file directory place = BreaksLink file directory place ⊎ AmongReached file directory
+    (IsWrongType file directory) place
 
 -- the length of a name in bytes with its terminator is odd, or not from 4 to 64
 abbrev pub IsWrongNameLength : ℕ → Type 0
@@ -109,7 +114,8 @@ pub record IsNameTaken (file directory : List ℕ) (at : ℕ) : Type 0 where
 -- the name's length is wrong, or the name is taken
 pub record IsWrongName (file directory : List ℕ) (entry place : ℕ) : Type 0 where
   pub here : place ≡ entry_place directory entry + 64
-  pub wrong : IsWrongNameLength (entry_name_length file (entry_place directory entry)) ⊎ IsNameTaken file directory (entry_place directory entry)
+  pub wrong : IsWrongNameLength (entry_name_length file (entry_place directory entry)) ⊎ IsNameTaken file directory
+      (entry_place directory entry)
 
 -- rule 9
 abbrev pub BreaksName : List ℕ → List ℕ → ℕ → Type 0

@@ -1,7 +1,9 @@
--- Sectors that are marked as taken, owner by owner.
-use Rattle.std.specs.Prelude.{◌≡◌, ◌≢◌, ◌⊎◌, ℕ, zero, suc, ◌<◌, Bool, Option, List, length, slice_index}
-use Rattle.doc_bits.specs.Rules.{LeastOrNone, lesser_of}
+-- Sectors that are marked as taken, owner by owner, and those that a second owner took.
+use Rattle.std.specs.Prelude.{◌≡◌, ◌≢◌, ◌⊎◌, ℕ, ◌<◌, ◌≤◌, ⊤, Bool, List, length, slice_index}
+use Rattle.cfb_streams.specs.SectorChain.{HasSector}
 use Rattle.cfb_streams.specs.Marks.{IsMarked}
+use Rattle.cfb_streams.specs.Chain.{Table}
+use Rattle.cfb_streams.specs.declared.chain.Walked.{Walked}
 use Rattle.cfb_streams.specs.StreamRules.{Owner, of_fat, of_directory, of_mini_fat, of_mini_stream, of_stream}
 
 -- sectors that may be taken: inside, and none twice
@@ -9,57 +11,79 @@ pub record AreDistinctBelow (count : ℕ) (sectors : List ℕ) : Type 0 where
   pub inside : (i : ℕ) → i < length sectors → slice_index sectors i < count
   pub distinct : (i j : ℕ) → i < j → j < length sectors → slice_index sectors i ≢ slice_index sectors j
 
--- a sector of the owner was taken already
-pub record IsTakenTwice (owns : ℕ → Type 0) (taken : List Bool) (place_of : ℕ → ℕ) (place : ℕ) : Type 0 where
-  pub sector : ℕ
-  pub taken_before : IsMarked taken sector
-  pub owned : owns sector
-  pub here : place ≡ place_of sector
+-- one of the first `count` numbers
+pub record HasFront (numbers : List ℕ) (count number : ℕ) : Type 0 where
+  pub index : ℕ
+  pub below : index < count
+  pub here : slice_index numbers index ≡ number
 
--- an owner took its sectors, and the least of those that were taken already is named
-pub record ClaimsSectors (owns : ℕ → Type 0) (place_of : ℕ → ℕ) (old new : List Bool) (least : Option ℕ) : Type 0 where
-  pub kept : (s : ℕ) → IsMarked old s → IsMarked new s
-  pub added : (s : ℕ) → owns s → IsMarked new s
-  pub only : (s : ℕ) → IsMarked new s → IsMarked old s ⊎ owns s
-  pub twice : LeastOrNone (IsTakenTwice owns old place_of) least
-
--- the sectors of a table that are taken, and the least place of one that was taken twice
+-- the sectors of a table that are taken, and those that were taken twice
 pub record Claimed : Type 0 where
   pub taken : List Bool
-  pub least : Option ℕ
+  pub shared : List Bool
 
--- an owner took its sectors
-pub record Takes (owns : ℕ → Type 0) (place_of : ℕ → ℕ) (old new : Claimed) : Type 0 where
-  pub wrong : Option ℕ
-  pub claims : ClaimsSectors owns place_of old.taken new.taken wrong
-  pub lesser : new.least ≡ lesser_of old.least wrong
+-- no sector was taken twice
+abbrev pub IsUnshared : Claimed → Type 0
+IsUnshared claimed = (s : ℕ) → ¬ IsMarked claimed.shared s
 
--- two of the first owners have a sector
-pub record IsSharedBelow (owns : ℕ → ℕ → Type 0) (place_of : ℕ → ℕ) (count place : ℕ) : Type 0 where
-  pub one : ℕ
-  pub other : ℕ
-  pub before : one < other
-  pub below : other < count
+-- an owner took its sectors: those that were taken already are shared
+pub record Takes (owns : ℕ → Type 0) (old new : Claimed) : Type 0 where
+  pub kept : (s : ℕ) → IsMarked old.taken s → IsMarked new.taken s
+  pub added : (s : ℕ) → owns s → IsMarked new.taken s
+  pub only : (s : ℕ) → IsMarked new.taken s → IsMarked old.taken s ⊎ owns s
+  pub kept_shared : (s : ℕ) → IsMarked old.shared s → IsMarked new.shared s
+  pub added_shared : (s : ℕ) → IsMarked old.taken s → owns s → IsMarked new.shared s
+  pub only_shared : (s : ℕ) → IsMarked new.shared s → IsMarked old.shared s ⊎ (IsMarked old.taken s × owns s)
+
+-- the sector that follows a marked one is marked
+abbrev pub AreClosed : (ℕ → ℕ) → ℕ → List Bool → Type 0
+AreClosed entry valid marks = (s : ℕ) → IsMarked marks s → entry s < valid → IsMarked marks (entry s)
+
+-- whole chains were taken
+pub record IsClosed (table : Table) (claimed : Claimed) : Type 0 where
+  pub taken : AreClosed table.entry table.valid claimed.taken
+  pub shared : AreClosed table.entry table.valid claimed.shared
+
+-- the sectors of a chain were taken; the walk stopped where it ends, or at a sector that is shared now
+pub record TakesWalked (chain : List ℕ) (valid : ℕ) (old new : Claimed) (walked : Walked) : Type 0 where
+  pub takes : Takes (HasSector chain) old new
+  pub free : valid ≤ walked.next → walked.path.items ≡ chain
+  pub met : walked.next < valid → IsMarked new.shared walked.next
+
+-- the place of a sector that was taken twice
+pub record IsSharedPlace (claimed : Claimed) (place_of : ℕ → ℕ) (place : ℕ) : Type 0 where
   pub sector : ℕ
-  pub first : owns one sector
-  pub second : owns other sector
+  pub shared : IsMarked claimed.shared sector
   pub here : place ≡ place_of sector
 
-pub record HasOwner (owns : ℕ → ℕ → Type 0) (count sector : ℕ) : Type 0 where
-  pub owner : ℕ
-  pub below : owner < count
+-- one of these owners has the sector
+pub record HasOwner {A : Type 0} (owns : A → ℕ → Type 0) (done : A → Type 0) (sector : ℕ) : Type 0 where
+  pub owner : A
+  pub is_done : done owner
   pub owned : owns owner sector
 
--- the first owners took their sectors
-pub record IsShareFront (owns : ℕ → ℕ → Type 0) (place_of : ℕ → ℕ) (count : ℕ) (taken : List Bool) (least : Option ℕ) : Type 0 where
-  pub marked : (s : ℕ) → IsMarked taken s → HasOwner owns count s
-  pub owned : (a s : ℕ) → a < count → owns a s → IsMarked taken s
-  pub shared : LeastOrNone (IsSharedBelow owns place_of count) least
+-- two of these owners have the sector
+pub record HasTwoOwners {A : Type 0} (owns : A → ℕ → Type 0) (done : A → Type 0) (sector : ℕ) : Type 0 where
+  pub one : A
+  pub other : A
+  pub apart : one ≢ other
+  pub one_done : done one
+  pub other_done : done other
+  pub first : owns one sector
+  pub second : owns other sector
 
--- the owners by their numbers: the FAT, the directory, the mini FAT, the mini stream, and then the streams
-abbrev pub owner_at : List ℕ → ℕ → Owner
-owner_at order zero = of_fat
-owner_at order (suc zero) = of_directory
-owner_at order (suc (suc zero)) = of_mini_fat
-owner_at order (suc (suc (suc zero))) = of_mini_stream
-owner_at order (suc (suc (suc (suc i)))) = of_stream (slice_index order i)
+-- these owners took their sectors
+pub record IsShareFront {A : Type 0} (owns : A → ℕ → Type 0) (done : A → Type 0) (claimed : Claimed) : Type 0 where
+  pub owner : (s : ℕ) → IsMarked claimed.taken s → HasOwner owns done s
+  pub taken : (x : A) (s : ℕ) → done x → owns x s → IsMarked claimed.taken s
+  pub owners : (s : ℕ) → IsMarked claimed.shared s → HasTwoOwners owns done s
+  pub shared : (x y : A) (s : ℕ) → done x → done y → x ≢ y → owns x s → owns y s → IsMarked claimed.shared s
+
+-- the directory, the mini FAT, the mini stream, and the first `count` streams; the FAT comes last, since its sectors
+-- are no chain
+abbrev pub IsDone : List ℕ → ℕ → Owner → Type 0
+IsDone order count of_fat = ⊥
+IsDone order count of_directory = ⊤
+IsDone order count of_mini_fat = ⊤
+IsDone order count of_mini_stream = ⊤
+IsDone order count (of_stream entry) = HasFront order count entry

@@ -18,11 +18,13 @@ pub record BreaksMiniFat (file : List ℕ) (place : ℕ) : Type 0 where
 -- the sectors of the mini FAT
 abbrev pub IsMiniFat : List ℕ → List ℕ → Type 0
 IsMiniFat file sectors =
-    ((u32_at file 64 ≡ 0) × (sectors ≡ [])) ⊎ ((u32_at file 64 ≢ 0) × HoldsChain (fat_table file) (mini_fat_head file) sectors)
+    ((u32_at file 64 ≡ 0) × (sectors ≡ [])) ⊎ ((u32_at file 64 ≢ 0) × HoldsChain (fat_table file) (mini_fat_head file)
+    sectors)
 
 -- the chain of the stream whose entry stands at an offset, in sectors of so many bytes
 abbrev pub stream_head : List ℕ → ℕ → ℕ → Head
-stream_head file unit at = record { field = at + 116; start = entry_start file at; unit = unit; size = entry_size file at }
+stream_head file unit at = record
+    { field = at + 116; start = entry_start file at; unit = unit; size = entry_size file at }
 
 -- rule 12; Profile: the chain of an empty mini stream is not looked at
 pub record BreaksMiniStream (file directory : List ℕ) (place : ℕ) : Type 0 where
@@ -33,7 +35,8 @@ pub record BreaksMiniStream (file directory : List ℕ) (place : ℕ) : Type 0 w
 abbrev pub IsMiniStream : List ℕ → List ℕ → List ℕ → Type 0
 IsMiniStream file directory sectors =
     ((entry_size file (entry_place directory 0) ≡ 0) × (sectors ≡ []))
-    ⊎ ((entry_size file (entry_place directory 0) ≢ 0) × HoldsChain (fat_table file) (stream_head file 512 (entry_place directory 0)) sectors)
+    ⊎ ((entry_size file (entry_place directory 0) ≢ 0) × HoldsChain (fat_table file)
+    (stream_head file 512 (entry_place directory 0)) sectors)
 
 -- the mini FAT by which the file's short streams go
 abbrev pub mini_table_of : List ℕ → List ℕ → List ℕ → Table
@@ -62,10 +65,12 @@ pub record IsWrongLarge (file directory : List ℕ) (entry place : ℕ) : Type 0
 
 pub record IsWrongSmall (file directory mini_fat : List ℕ) (entry place : ℕ) : Type 0 where
   pub is_small : IsSmallStream file directory entry
-  pub broken : BreaksChain (mini_table_of file directory mini_fat) (stream_head file 64 (entry_place directory entry)) place
+  pub broken : BreaksChain (mini_table_of file directory mini_fat) (stream_head file 64 (entry_place directory entry))
+      place
 
 abbrev pub IsWrongStream : List ℕ → List ℕ → List ℕ → ℕ → ℕ → Type 0
-IsWrongStream file directory mini_fat entry place = IsWrongLarge file directory entry place ⊎ IsWrongSmall file directory mini_fat entry place
+IsWrongStream file directory mini_fat entry place = IsWrongLarge file directory entry place ⊎ IsWrongSmall file
+    directory mini_fat entry place
 
 -- rule 13
 abbrev pub BreaksStream : List ℕ → List ℕ → List ℕ → ℕ → Type 0
@@ -89,7 +94,8 @@ pub record HasLargeSector (file directory : List ℕ) (entry sector : ℕ) : Typ
 pub record HasSmallSector (file directory mini_fat : List ℕ) (entry sector : ℕ) : Type 0 where
   pub is_small : IsSmallStream file directory entry
   pub sectors : List ℕ
-  pub holds : HoldsChain (mini_table_of file directory mini_fat) (stream_head file 64 (entry_place directory entry)) sectors
+  pub holds : HoldsChain (mini_table_of file directory mini_fat) (stream_head file 64 (entry_place directory entry))
+      sectors
   pub has : HasSector sectors sector
 
 -- the sectors of the directory, of the mini FAT and of the mini stream
@@ -119,4 +125,5 @@ pub record IsShared {A : Type 0} (owns : A → ℕ → Type 0) (place_of : ℕ �
 abbrev pub BreaksSharing : List ℕ → Parts → ℕ → Type 0
 BreaksSharing file parts place =
     IsShared (Owns file parts) (fat_table file).place place
-    ⊎ IsShared (HasSmallSector file parts.directory parts.mini_fat) (mini_table_of file parts.directory parts.mini_fat).place place
+    ⊎ IsShared (HasSmallSector file parts.directory parts.mini_fat)
+    (mini_table_of file parts.directory parts.mini_fat).place place

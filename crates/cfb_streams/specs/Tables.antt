@@ -1,8 +1,9 @@
 -- What the code keeps of the FAT and of the mini FAT, and what it finds by them.
-use Rattle.std.specs.Prelude.{ℕ, ◌+◌, ◌*◌, ◌/◌, ◌^◌, ◌<◌, ◌≤◌, min, List, length}
+use Rattle.std.specs.Prelude.{ℕ, ◌+◌, ◌*◌, ◌/◌, ◌^◌, ◌<◌, ◌≤◌, min, List, length, slice_index}
 use Rattle.cfb_streams.specs.declared.chain.Chain.{Chain}
 use Rattle.cfb_streams.specs.Header.{fat_sectors, valid_below}
 use Rattle.cfb_streams.specs.Chain.{Table, table_of, AreSectorsOf, IsTable}
+use Rattle.cfb_streams.specs.Ends.{KnownEnds, Remembers}
 use Rattle.cfb_streams.specs.Judged.{IsFoundBy}
 use Rattle.cfb_streams.specs.Directory.{entry_size}
 use Rattle.cfb_streams.specs.Reach.{entry_place, IsDirectory, BreaksDirectory}
@@ -35,6 +36,11 @@ pub record IsKept (file sectors entries : List ℕ) (valid : ℕ) : Type 0 where
   pub is_table : IsTable file sectors entries
   pub room : valid ≤ length entries
   pub few : valid < 2 ^ 31
+
+-- the ends of paths that are remembered with them
+pub record RemembersTable (file sectors entries : List ℕ) (valid : ℕ) (known : KnownEnds) : Type 0 where
+  pub kept : IsKept file sectors entries valid
+  pub remembers : Remembers (λ s. slice_index entries s) valid known
 
 -- the directory's sectors, or where rule 6 is broken
 abbrev pub IsFoundDirectory : List ℕ → Chain → Type 0

@@ -1,6 +1,8 @@
 // One walk for the chains of the FAT and of the mini FAT.
-ghost use Rattle.std.specs.Prelude.{◌≡◌, ℕ, ◌+◌, ◌*◌, ◌^◌, ◌<◌, ◌≤◌, length, slice_index, IfOk};
+ghost use Rattle.std.specs.Prelude.{◌≡◌, ◌⊎◌, ℕ, ◌+◌, ◌*◌, ◌^◌, ◌<◌, ◌≤◌, length, slice_index, IfOk};
 ghost use Rattle.cfb_streams.specs.SectorChain.{IsFullPath, last_of};
+ghost use Rattle.cfb_streams.specs.Marks.{IsMarked, IsMetSince};
+ghost use Rattle.cfb_streams.specs.Walk.{IsWalk};
 
 use crate::marks::Marks;
 use doc_bits::Memory;
@@ -35,6 +37,39 @@ pub enum Chain {
     Breaks(u32),
 }
 
+/// The sectors of a walk, and the number at which it would go on.
+#[derive(Drop)]
+pub struct Walked {
+    pub path: Vec<u32>,
+    pub next: u32,
+}
+
+/// The path from `start` over sectors that are not marked; they are marked then. The numbers below that of the marks
+/// are
+/// valid.
+pub(crate) fn walk_on(
+    alloc: Global,
+    entries: &[u32],
+    marks: &mut Marks,
+    start: u32,
+) -> Result<Walked, Memory>
+    requires room { length marks.old ≤ length entries.now }
+    ensures walk { IfOk result (λ walked.
+        IsWalk (λ s. slice_index entries.now s) (length marks.old) start walked.next walked.path.items) }
+    ensures met { IfOk result (λ walked. IsMetSince marks.old marks.new walked.path.items) }
+    ensures stops { IfOk result (λ walked. (length marks.old ≤ walked.next) ⊎ IsMarked marks.new walked.next) }
+    ensures kept { length marks.new ≡ length marks.old }
+{
+    let mut path = Vec::new(alloc);
+    let mut at = start;
+    while (at as usize) < marks.len() && !marks.has(at as usize) {
+        marks.meet(at as usize);
+        path.push(at)?;
+        at = entries[at as usize];
+    }
+    Ok(Walked { path, next: at })
+}
+
 /// The path from `start` as far as it goes: to an entry that is not valid, or that names a sector of the path. The
 /// numbers below that of the marks are valid.
 pub(crate) fn walk(
@@ -51,14 +86,8 @@ pub(crate) fn walk(
     ensures kept { length marks.new ≡ length marks.old }
 {
     marks.begin();
-    let mut path = Vec::new(alloc);
-    let mut at = start as usize;
-    while at < marks.len() && !marks.has(at) {
-        marks.meet(at);
-        path.push(at as u32)?;
-        at = entries[at] as usize;
-    }
-    Ok(path)
+    let walked = walk_on(alloc, entries, marks, start)?;
+    Ok(walked.path)
 }
 
 /// The last sector of a path.

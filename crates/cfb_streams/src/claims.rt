@@ -1,29 +1,34 @@
 // Rule 14: sectors that two parts of the file have.
-ghost use Rattle.std.specs.Prelude.{◌≡◌, ℕ, ◌<◌, IfOk, length, slice_index, slice_set, true, None};
+ghost use Rattle.std.specs.Prelude.{◌≡◌, ℕ, ◌^◌, ◌<◌, IfOk, List, length, slice_index};
 ghost use Rattle.doc_bits.specs.Rules.{LeastOrNone};
-ghost use Rattle.cfb_streams.specs.SectorChain.{HasSector};
+ghost use Rattle.cfb_streams.specs.SectorChain.{HasSector, IsSectorChain};
 ghost use Rattle.cfb_streams.specs.Marks.{IsMarked};
 ghost use Rattle.cfb_streams.specs.Tables.{table_at};
-ghost use Rattle.cfb_streams.specs.Sharing.{AreDistinctBelow, ClaimsSectors, IsTakenTwice, Takes};
+ghost use Rattle.cfb_streams.specs.Sharing.{AreDistinctBelow, IsClosed, IsUnshared, IsSharedPlace, Takes, TakesWalked};
 
+use crate::chain::Walked;
+use crate::marks::Marks;
 use crate::table::Table;
 use doc_bits::{Memory, lesser};
 use std::alloc::Global;
 use std::marker::Model;
 
-/// The sectors of a table that are taken, and the least place of one that was taken twice.
+/// The sectors of a table that are taken, and those that were taken twice.
 #[derive(Drop)]
 pub struct Claims {
-    taken: Vec<bool>,
-    least: Option<u32>,
+    taken: Marks,
+    shared: Marks,
 }
 
 impl Model for Claims {
+    ghost use Rattle.std.specs.Prelude.{◌≡◌, length};
     ghost use Rattle.cfb_streams.specs.Sharing.{Claimed};
 
     ghost Value = { Claimed };
 
-    ghost view = { λ c. record { taken = c.taken.items; least = c.least } };
+    ghost view = { λ c. record { taken = c.taken; shared = c.shared } };
+
+    ghost invariant = { λ c. length c.shared ≡ length c.taken };
 }
 
 impl Claims {
@@ -31,53 +36,80 @@ impl Claims {
     pub(crate) fn new(alloc: Global, count: usize) -> Result<Claims, Memory>
         ensures len { IfOk result (λ claims. length claims.taken ≡ count) }
         ensures none { IfOk result (λ claims. (s : ℕ) → ¬ IsMarked claims.taken s) }
-        ensures least { IfOk result (λ claims. claims.least ≡ None) }
+        ensures unshared { IfOk result IsUnshared }
     {
-        let taken = vec![in alloc; false; count]?;
-        Ok(Claims { taken, least: None })
+        let taken = Marks::new(alloc, count)?;
+        let shared = Marks::new(alloc, count)?;
+        Ok(Claims { taken, shared })
     }
 
-    /// The least place of a sector that was taken twice.
-    pub(crate) fn least(&self) -> Option<u32>
-        ensures { result ≡ self.now.least }
+    /// Takes a sector.
+    fn take(&mut self, sector: usize)
+        requires { sector < length self.old.taken }
+        ensures takes { Takes (λ s. s ≡ sector) self.old self.new }
+        ensures len { length self.new.taken ≡ length self.old.taken }
     {
-        self.least
+        if self.taken.has(sector) {
+            self.shared.meet(sector);
+            return;
+        }
+        self.taken.meet(sector);
     }
 
     /// Takes the sectors of an owner.
-    pub(crate) fn claim(&mut self, table: &Table<'_>, sectors: &[u32])
-        requires count { length self.old.taken ≡ table.now.valid }
-        requires apart { AreDistinctBelow table.now.valid sectors.now }
-        ensures takes { Takes (HasSector sectors.now) (table_at table.now).place self.old self.new }
-        ensures count { length self.new.taken ≡ length self.old.taken }
+    pub(crate) fn claim(&mut self, sectors: &[u32])
+        requires { AreDistinctBelow (length self.old.taken) sectors.now }
+        ensures takes { Takes (HasSector sectors.now) self.old self.new }
+        ensures len { length self.new.taken ≡ length self.old.taken }
     {
-        let wrong = claim_sectors(table, &mut self.taken, sectors);
-        self.least = lesser(self.least, wrong);
+        for sector in sectors {
+            self.take(*sector as usize);
+        }
     }
-}
 
-/// Takes the sectors of an owner, and answers the least place in the table of one that was taken.
-fn claim_sectors(table: &Table<'_>, taken: &mut [bool], sectors: &[u32]) -> Option<u32>
-    requires count { length taken.old ≡ table.now.valid }
-    requires apart { AreDistinctBelow (length taken.old) sectors.now }
-    ensures { ClaimsSectors (HasSector sectors.now) (table_at table.now).place taken.old taken.new result }
-{
-    let mut least = None;
-    for sector in sectors {
-        let wrong = take_sector(table, taken, *sector);
-        least = lesser(least, wrong);
+    /// Takes the chain that begins with a sector. Only the sectors that were free are walked, and those that become
+    /// shared: what follows a taken sector is taken, and what follows a shared one is shared.
+    pub(crate) fn claim_chain(
+        &mut self,
+        alloc: Global,
+        table: &Table<'_>,
+        start: u32,
+    ) -> Result<Walked, Memory>
+        requires count { length self.old.taken ≡ table.now.valid }
+        requires closed { IsClosed (table_at table.now) self.old }
+        ensures takes { IfOk result (λ walked. (chain : List ℕ)
+            → IsSectorChain (table_at table.now).entry table.now.valid start chain
+            → TakesWalked chain table.now.valid self.old self.new walked) }
+        ensures range { IfOk result (λ _. table.now.valid < 2 ^ 31) }
+        ensures len { length self.new.taken ≡ length self.old.taken }
+    {
+        let walked = table.walk_on(alloc, &mut self.taken, start)?;
+        table.walk_on(alloc, &mut self.shared, walked.next)?;
+        Ok(walked)
     }
-    least
-}
 
-/// Takes a sector, and answers its place in the table where it was taken.
-fn take_sector(table: &Table<'_>, taken: &mut [bool], sector: u32) -> Option<u32>
-    requires count { length taken.old ≡ table.now.valid }
-    requires inside { sector < length taken.old }
-    ensures taken { taken.new ≡ slice_set taken.old sector true }
-    ensures twice { LeastOrNone (IsTakenTwice (λ s. s ≡ sector) taken.old (table_at table.now).place) result }
-{
-    let was = taken[sector as usize];
-    taken[sector as usize] = true;
-    if was { Some(table.place(sector)) } else { None }
+    /// The place in the table of a sector, where it was taken twice.
+    fn shared_place(&self, table: &Table<'_>, sector: usize) -> Option<u32>
+        requires count { length self.now.taken ≡ table.now.valid }
+        requires inside { sector < length self.now.taken }
+        ensures { LeastOrNone
+            (λ place. IsMarked self.now.shared sector × (place ≡ (table_at table.now).place sector)) result }
+    {
+        if self.shared.has(sector) {
+            return Some(table.place(sector));
+        }
+        None
+    }
+
+    /// The least place in the table of a sector that was taken twice.
+    pub(crate) fn least(&self, table: &Table<'_>) -> Option<u32>
+        requires { length self.now.taken ≡ table.now.valid }
+        ensures { LeastOrNone (IsSharedPlace self.now (table_at table.now).place) result }
+    {
+        let mut least = None;
+        for sector in 0..self.taken.len() {
+            least = lesser(least, self.shared_place(table, sector));
+        }
+        least
+    }
 }

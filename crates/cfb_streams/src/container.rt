@@ -28,7 +28,9 @@ impl Model for Container {
 impl Container {
     /// Reads a compound file of version 3. Refused is what breaks one of the rules 1 to 14.
     pub fn load(alloc: Global, file: &[u8]) -> Result<Container, CfbFault>
-        ensures { MatchResult result (λ c. Hold (container_rules file.now) × HasContents file.now c) (IsCfbFault (container_rules file.now)) }
+        ensures { MatchResult result
+            (λ c. Hold (container_rules file.now) × HasContents file.now c)
+            (IsCfbFault (container_rules file.now)) }
     {
         let mut layout = Layout::judge(alloc, file)?;
         layout.judge_streams(alloc)?;
@@ -65,8 +67,10 @@ impl Container {
     /// none.
     pub fn chain(&self, i: usize) -> Option<&[u32]>
         requires { i < length self.now.streams }
-        ensures chain { option_map (λ s. s.chain) (slice_get self.now.streams i) ≡ Some (option_map (λ c. c.now) result) }
-        ensures by_length { IfSome (slice_get self.now.streams i) (λ s. HasChainByLength s.bytes (option_map (λ c. c.now) result)) }
+        ensures chain { option_map (λ s. s.chain) (slice_get self.now.streams i)
+            ≡ Some (option_map (λ c. c.now) result) }
+        ensures by_length { IfSome (slice_get self.now.streams i)
+            (λ s. HasChainByLength s.bytes (option_map (λ c. c.now) result)) }
     {
         let stream = &self.streams[i];
         stream.chain()
@@ -74,7 +78,9 @@ impl Container {
 
     /// The bytes of the stream with the name. ASCII letters are compared by their upper case.
     pub fn stream(&self, name: &[u16]) -> Option<&[u8]>
-        ensures { MatchOption result (HasNoNamed self.now.streams name.now) (λ bytes. HasNamed self.now.streams name.now bytes.now) }
+        ensures { MatchOption result
+            (HasNoNamed self.now.streams name.now)
+            (λ bytes. HasNamed self.now.streams name.now bytes.now) }
     {
         find_named(&self.streams, name)
     }

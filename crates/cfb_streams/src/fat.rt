@@ -2,7 +2,8 @@
 ghost use Rattle.std.specs.Prelude.{◌≡◌, ℕ, ◌+◌, ◌*◌, ◌/◌, ◌%◌, ◌<◌, ◌≤◌, ◌↔◌, IsTrue, length, slice_index, IfOk};
 ghost use Rattle.doc_bits.specs.Number.{u32_at};
 ghost use Rattle.doc_bits.specs.Rules.{LeastOrNone};
-ghost use Rattle.cfb_streams.specs.Header.{fat_sector, fat_sector_count, fat_sectors, table_place as place_of, valid_below, sector_count};
+ghost use Rattle.cfb_streams.specs.Header.{fat_sector, fat_sector_count, fat_sectors};
+ghost use Rattle.cfb_streams.specs.Header.{table_place as place_of, valid_below, sector_count};
 ghost use Rattle.cfb_streams.specs.HeaderRules.{BreaksFat, IsListedBefore};
 ghost use Rattle.cfb_streams.specs.Chain.{AreSectorsOf, IsTable};
 

@@ -1,13 +1,14 @@
 // One pass over the streams: it takes their sectors, and reads them.
-ghost use Rattle.std.specs.Prelude.{◌≡◌, ◌≢◌, ℕ, ◌+◌, ◌*◌, ◌<◌, ◌≤◌, None, IfOk, OnOk, MatchOption, MatchResult, length};
+ghost use Rattle.std.specs.Prelude.{◌≡◌, ℕ, ◌+◌, ◌*◌, ◌<◌, ◌≤◌, None, length};
+ghost use Rattle.std.specs.Prelude.{IfOk, OnOk, MatchOption, MatchResult};
 ghost use Rattle.doc_bits.specs.Rules.{Nowhere, LeastOrNone, rule};
-ghost use Rattle.cfb_streams.specs.SectorChain.{HasSector};
 ghost use Rattle.cfb_streams.specs.Chain.{BreaksChain};
 ghost use Rattle.cfb_streams.specs.StreamRules.{IsStreamEntry, IsWrongStream, BreaksStream, BreaksSharing};
-ghost use Rattle.cfb_streams.specs.Sharing.{Takes};
+ghost use Rattle.cfb_streams.specs.Sharing.{IsUnshared, IsClosed};
 ghost use Rattle.cfb_streams.specs.Tables.{table_at};
 ghost use Rattle.cfb_streams.specs.Layout.{IsLayout};
-ghost use Rattle.cfb_streams.specs.Gathered.{IsRead, TakesChain, TakesStream, HasMarks, AreUnshared, with_some, IsTakenFront};
+ghost use Rattle.cfb_streams.specs.Gathered.{IsRead, TakesChain, TakesStream, HasMarks};
+ghost use Rattle.cfb_streams.specs.Gathered.{AreUnshared, with_some, IsTakenFront};
 ghost use Rattle.cfb_streams.specs.Container.{HasContents, IsCfbFault, IsStreamOf, AreStreamsOf};
 
 use crate::CfbFault;
@@ -39,7 +40,8 @@ impl<'a> Layout<'a> {
     /// The place at which the chain of the stream of an entry is broken.
     fn wrong_stream(&mut self, alloc: Global, entry: u32) -> Result<Option<u32>, Memory>
         requires { IsStreamEntry self.old.file self.old.parts.directory entry }
-        ensures least { IfOk result (LeastOrNone (IsWrongStream self.old.file self.old.parts.directory self.old.parts.mini_fat entry)) }
+        ensures least { IfOk result (LeastOrNone
+            (IsWrongStream self.old.file self.old.parts.directory self.old.parts.mini_fat entry)) }
         ensures kept { self.new ≡ self.old }
     {
         match self.entries.body(entry) {
@@ -70,35 +72,34 @@ impl<'a> Layout<'a> {
         refuse(RULE_STREAM_CHAIN, least)
     }
 
-    /// The sectors of the FAT, of the directory, of the mini FAT and of the mini stream, taken.
+    /// The sectors of the directory, of the mini FAT and of the mini stream, taken.
     fn take_parts(&self, alloc: Global) -> Result<Taken, Memory>
         ensures { IfOk result (IsTakenFront self.now 0) }
     {
         let mut sectors = Claims::new(alloc, self.fat.valid())?;
         let minis = Claims::new(alloc, self.mini.valid())?;
-        sectors.claim(&self.fat, self.fat.sectors());
-        sectors.claim(&self.fat, self.entries.directory());
-        sectors.claim(&self.fat, self.mini.sectors());
-        sectors.claim(&self.fat, &self.mini_stream);
+        sectors.claim(self.entries.directory());
+        sectors.claim(self.mini.sectors());
+        sectors.claim(&self.mini_stream);
         Ok(Taken { sectors, minis })
     }
 
-    /// Takes the sectors of the stream of an entry, and reads it, where no sector is shared so far.
+    /// Takes the sectors of the stream of an entry, and reads it, where none of them was taken.
     fn read_stream(
-        &mut self,
+        &self,
         alloc: Global,
         taken: &mut Taken,
         entry: u32,
     ) -> Result<Option<RootStream>, Memory>
-        requires is_entry { IsStreamEntry self.old.file self.old.parts.directory entry }
-        requires is_whole { Nowhere (IsWrongStream self.old.file self.old.parts.directory self.old.parts.mini_fat entry) }
-        requires marks { HasMarks self.old taken.old }
+        requires is_entry { IsStreamEntry self.now.file self.now.parts.directory entry }
+        requires is_whole { Nowhere
+            (IsWrongStream self.now.file self.now.parts.directory self.now.parts.mini_fat entry) }
+        requires marks { HasMarks self.now taken.old }
         ensures stream { IfOk result (λ stream. MatchOption stream
             (¬ AreUnshared taken.new)
-            (IsStreamOf self.old.file self.old.parts entry)) }
-        ensures takes { IfOk result (λ _. TakesStream self.old entry taken.old taken.new) }
-        ensures marks { HasMarks self.old taken.new }
-        ensures kept { self.new ≡ self.old }
+            (IsStreamOf self.now.file self.now.parts entry)) }
+        ensures takes { IfOk result (λ _. TakesStream self.now entry taken.old taken.new) }
+        ensures marks { IfOk result (λ _. HasMarks self.now taken.new) }
     {
         let name = self.entries.name(alloc, entry)?;
         match self.entries.body(entry) {
@@ -110,7 +111,7 @@ impl<'a> Layout<'a> {
             Body::Short(claim) => {
                 let read = read_chain(
                     alloc,
-                    &mut self.mini,
+                    &self.mini,
                     &mut taken.minis,
                     &self.stored,
                     0,
@@ -129,7 +130,7 @@ impl<'a> Layout<'a> {
                 let file = self.entries.file();
                 let read = read_chain(
                     alloc,
-                    &mut self.fat,
+                    &self.fat,
                     &mut taken.sectors,
                     file,
                     SECTOR_LEN,
@@ -148,14 +149,13 @@ impl<'a> Layout<'a> {
     }
 
     /// Takes the sectors of the root's streams, and reads them in the order of their names.
-    fn read_all(&mut self, alloc: Global, taken: &mut Taken) -> Result<Vec<RootStream>, Memory>
-        requires is_whole { Nowhere (BreaksStream self.old.file self.old.parts.directory self.old.parts.mini_fat) }
-        requires front { IsTakenFront self.old 0 taken.old }
+    fn read_all(&self, alloc: Global, taken: &mut Taken) -> Result<Vec<RootStream>, Memory>
+        requires is_whole { Nowhere (BreaksStream self.now.file self.now.parts.directory self.now.parts.mini_fat) }
+        requires front { IsTakenFront self.now 0 taken.old }
         ensures streams { IfOk result (λ streams. AreUnshared taken.new
-            → AreStreamsOf self.old.file self.old.parts self.old.streams (length self.old.streams) streams.items) }
-        ensures all { IfOk result (λ _. IsTakenFront self.old (length self.old.streams) taken.new) }
-        ensures is_layout { IsLayout self.old }
-        ensures kept { self.new ≡ self.old }
+            → AreStreamsOf self.now.file self.now.parts self.now.streams (length self.now.streams) streams.items) }
+        ensures all { IfOk result (λ _. IsTakenFront self.now (length self.now.streams) taken.new) }
+        ensures is_layout { IsLayout self.now }
     {
         let mut streams = Vec::new(alloc);
         for i in 0..self.stream_count() {
@@ -165,19 +165,29 @@ impl<'a> Layout<'a> {
         Ok(streams)
     }
 
+    /// Takes the sectors of the FAT, after all chains, and answers the least place of a sector that is shared.
+    fn wrong_sharing(&self, taken: &mut Taken) -> Option<u32>
+        requires { IsTakenFront self.now (length self.now.streams) taken.old }
+        ensures least { LeastOrNone (BreaksSharing self.now.file self.now.parts) result }
+        ensures none { result ≡ None → AreUnshared taken.old }
+    {
+        taken.sectors.claim(self.fat.sectors());
+        lesser(
+            taken.sectors.least(&self.fat),
+            taken.minis.least(&self.mini),
+        )
+    }
+
     /// Judges rule 14, and reads the streams.
-    pub(crate) fn gather(&mut self, alloc: Global) -> Result<Container, CfbFault>
-        requires { Nowhere (BreaksStream self.old.file self.old.parts.directory self.old.parts.mini_fat) }
+    pub(crate) fn gather(&self, alloc: Global) -> Result<Container, CfbFault>
+        requires { Nowhere (BreaksStream self.now.file self.now.parts.directory self.now.parts.mini_fat) }
         ensures { MatchResult result
-            (λ c. Nowhere (BreaksSharing self.old.file self.old.parts) × HasContents self.old.file c)
-            (IsCfbFault (rule 14 (BreaksSharing self.old.file self.old.parts))) }
+            (λ c. Nowhere (BreaksSharing self.now.file self.now.parts) × HasContents self.now.file c)
+            (IsCfbFault (rule 14 (BreaksSharing self.now.file self.now.parts))) }
     {
         let mut taken = self.take_parts(alloc)?;
         let streams = self.read_all(alloc, &mut taken)?;
-        refuse(
-            RULE_SHARING,
-            lesser(taken.sectors.least(), taken.minis.least()),
-        )?;
+        refuse(RULE_SHARING, self.wrong_sharing(&mut taken))?;
         let clsid = self.entries.clsid();
         Ok(Container { streams, clsid })
     }
@@ -200,32 +210,32 @@ fn push_some(streams: &mut Vec<RootStream>, stream: Option<RootStream>) -> Resul
     Ok(())
 }
 
-/// Takes the sectors of a chain, and reads its bytes where no sector is shared so far: sector 0 of the table stands at
+/// Takes the sectors of a chain, and reads its bytes where none of them was taken: sector 0 of the table stands at
 /// `base` of `stored`.
 fn read_chain(
     alloc: Global,
-    table: &mut Table<'_>,
+    table: &Table<'_>,
     claims: &mut Claims,
     stored: &[u8],
     base: usize,
     claim: &Claim,
 ) -> Result<Option<ReadChain>, Memory>
-    requires is_whole { Nowhere (BreaksChain (table_at table.old) claim.now) }
-    requires marks { length claims.old.taken ≡ table.old.valid }
-    requires inside { (s : ℕ) → s < table.old.valid
+    requires is_whole { Nowhere (BreaksChain (table_at table.now) claim.now) }
+    requires marks { length claims.old.taken ≡ table.now.valid }
+    requires closed { IsClosed (table_at table.now) claims.old }
+    requires inside { (s : ℕ) → s < table.now.valid
         → base + s * claim.now.unit + claim.now.unit ≤ length stored.now }
     ensures read { IfOk result (λ read. MatchOption read
-        (claims.new.least ≢ None)
-        (λ r. IsRead (table_at table.old) claim.now base stored.now r.bytes.items r.sectors.items)) }
-    ensures takes { IfOk result (λ _. TakesChain (table_at table.old) claim.now claims.old claims.new) }
+        (¬ IsUnshared claims.new)
+        (λ r. IsRead (table_at table.now) claim.now base stored.now r.bytes.items r.sectors.items)) }
+    ensures takes { IfOk result (λ _. TakesChain (table_at table.now) claim.now claims.old claims.new) }
     ensures marks { length claims.new.taken ≡ length claims.old.taken }
-    ensures kept { table.new ≡ table.old }
 {
-    let sectors = table.path(alloc, claim.start)?;
-    claims.claim(table, &sectors);
-    if claims.least().is_some() {
+    let walked = claims.claim_chain(alloc, table, claim.start)?;
+    if (walked.next as usize) < table.valid() {
         return Ok(None);
     }
+    let sectors = walked.path;
     let size = claim.size as usize;
     let bytes = join(alloc, stored, base, claim.unit as usize, &sectors, size)?;
     Ok(Some(ReadChain { bytes, sectors }))

@@ -6,6 +6,7 @@ mod chain;
 mod claims;
 mod container;
 mod directory;
+mod ends;
 mod entries;
 mod fat;
 mod faults;

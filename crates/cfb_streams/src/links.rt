@@ -2,7 +2,8 @@
 ghost use Rattle.std.specs.Prelude.{◌≡◌, ℕ, ◌+◌, ◌*◌, ◌<◌, ◌≤◌, ◌↔◌, IsTrue, IfOk, length, slice_index};
 ghost use Rattle.doc_bits.specs.Rules.{LeastOrNone};
 ghost use Rattle.cfb_streams.specs.Chain.{AreSectorsOf};
-ghost use Rattle.cfb_streams.specs.Reach.{entry_count, ListsReached, IsNamedBefore, IsWrongLink, BreaksLink, BreaksTree, AmongReached, IsWrongType, IsWrongStorage, BreaksStorage};
+ghost use Rattle.cfb_streams.specs.Reach.{entry_count, ListsReached, IsNamedBefore, IsWrongLink, BreaksLink};
+ghost use Rattle.cfb_streams.specs.Reach.{BreaksTree, AmongReached, IsWrongType, IsWrongStorage, BreaksStorage};
 ghost use Rattle.cfb_streams.specs.Links.{ListsLinks, IsFirstNamed, IsWrongAt};
 ghost use Rattle.doc_bits.specs.Number.{u32_at};
 

@@ -71,7 +71,7 @@ impl Marks {
 }
 
 /// So many sectors that no walk has met.
-fn no_stamps(alloc: Global, count: usize) -> Result<Vec<u32>, Memory>
+pub(crate) fn no_stamps(alloc: Global, count: usize) -> Result<Vec<u32>, Memory>
     ensures len { IfOk result (λ stamps. length stamps.items ≡ count) }
     ensures clear { IfOk result (λ stamps. (s : ℕ) → slice_index stamps.items s < 1) }
 {

@@ -31,7 +31,9 @@ pub struct BrokenRule {
 
 /// The first of rules 1 and 2 that the file breaks.
 pub(crate) fn opening_fault(file: &[u8]) -> Option<BrokenRule>
-    ensures { MatchOption result (Hold (opening_rules file.now)) (λ broken. IsFirst (opening_rules file.now) broken.rule broken.offset) }
+    ensures { MatchOption result
+        (Hold (opening_rules file.now))
+        (λ broken. IsFirst (opening_rules file.now) broken.rule broken.offset) }
 {
     if file.len() % SECTOR_LEN != 0 || file.len() < MIN_LEN || file.len() > MAX_LEN {
         let offset = file.len().min(MAX_LEN + 1) as u32;

@@ -58,7 +58,8 @@ fn put_stream(
     entry: u32,
 ) -> Result<(), Memory>
     requires sectors { AreSectorsOf file.now directory.now }
-    requires within { (i : ℕ) → i < length entries.old.items → slice_index entries.old.items i < entry_count directory.now }
+    requires within { (i : ℕ) → i < length entries.old.items
+        → slice_index entries.old.items i < entry_count directory.now }
     requires there { entry < entry_count directory.now }
     requires short { entry_name_length file.now (place_of directory.now entry) ≤ 64 }
     ensures { OnOk result (PutsStream file.now directory.now entry entries.old.items entries.new.items) }

@@ -19,7 +19,11 @@ impl Model for RootStream {
 
     ghost Value = { Stream };
 
-    ghost view = { λ s. record { name = s.name.items; bytes = s.bytes.items; chain = option_map (λ c. c.items) s.chain } };
+    ghost view = { λ s. record {
+      name = s.name.items;
+      bytes = s.bytes.items;
+      chain = option_map (λ c. c.items) s.chain;
+    } };
 
     ghost invariant = { λ s. HasChainByLength s.bytes.items (option_map (λ c. c.items) s.chain) };
 }

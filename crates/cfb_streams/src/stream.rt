@@ -17,7 +17,8 @@ pub(crate) fn join(
     size: usize,
 ) -> Result<Vec<u8>, Memory>
     requires inside { (i : ℕ) → i < length chain.now → base + slice_index chain.now i * unit + unit ≤ length bytes.now }
-    ensures joined { IfOk result (λ joined. joined.items ≡ take size (flat_map (sector_bytes base unit bytes.now) chain.now)) }
+    ensures joined { IfOk result (λ joined.
+        joined.items ≡ take size (flat_map (sector_bytes base unit bytes.now) chain.now)) }
     ensures len { IfOk result (λ joined. length joined.items ≡ min size (length chain.now * unit)) }
 {
     let mut joined = Vec::with_capacity(alloc, size)?;

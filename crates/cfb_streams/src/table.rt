@@ -1,12 +1,16 @@
 // The FAT and the mini FAT: a table that stands in sectors of the file, and the chains that go by it.
-ghost use Rattle.std.specs.Prelude.{◌≡◌, ℕ, ◌+◌, ◌*◌, ◌^◌, ◌<◌, ◌≤◌, length, slice_index, IfOk, IsTrue, ◌↔◌};
+ghost use Rattle.std.specs.Prelude.{◌≡◌, ◌⊎◌, ℕ, ◌+◌, ◌*◌, ◌^◌, ◌<◌, ◌≤◌, length, slice_index, IfOk, IsTrue, ◌↔◌};
 ghost use Rattle.doc_bits.specs.Rules.{LeastOrNone};
 ghost use Rattle.cfb_streams.specs.SectorChain.{IsFullPath};
 ghost use Rattle.cfb_streams.specs.Chain.{AreSectorsOf, BreaksChain};
 ghost use Rattle.cfb_streams.specs.Tables.{TablePlace, table_at};
-ghost use Rattle.cfb_streams.specs.Judged.{IsFound, broken_place};
+ghost use Rattle.cfb_streams.specs.Ends.{IsEnd};
+ghost use Rattle.cfb_streams.specs.Marks.{IsMarked, IsMetSince};
+ghost use Rattle.cfb_streams.specs.Walk.{IsWalk};
+ghost use Rattle.cfb_streams.specs.Judged.{IsFound};
 
-use crate::chain::{Chain, Claim, ENDOFCHAIN, last_sector, walk};
+use crate::chain::{Chain, Claim, ENDOFCHAIN, Walked, last_sector, walk, walk_on};
+use crate::ends::{End, Ends, settle, walk_fresh};
 use crate::fat::{read_table, table_place};
 use crate::marks::Marks;
 use doc_bits::Memory;
@@ -20,17 +24,18 @@ pub struct Table<'a> {
     sectors: Vec<u32>,
     entries: Vec<u32>,
     marks: Marks,
+    ends: Ends,
 }
 
 impl<'a> Model for Table<'a> {
     ghost use Rattle.std.specs.Prelude.{length};
-    ghost use Rattle.cfb_streams.specs.Tables.{TablePlace, IsKept};
+    ghost use Rattle.cfb_streams.specs.Tables.{TablePlace, RemembersTable};
 
     ghost Value = { TablePlace };
 
     ghost view = { λ t. record { file = t.file.now; sectors = t.sectors.items; valid = length t.marks } };
 
-    ghost invariant = { λ t. IsKept t.file.now t.sectors.items t.entries.items (length t.marks) };
+    ghost invariant = { λ t. RemembersTable t.file.now t.sectors.items t.entries.items (length t.marks) t.ends };
 }
 
 impl<'a> Table<'a> {
@@ -47,11 +52,13 @@ impl<'a> Table<'a> {
     {
         let entries = read_table(alloc, file, &sectors)?;
         let marks = Marks::new(alloc, valid)?;
+        let ends = Ends::new(alloc, valid)?;
         Ok(Table {
             file,
             sectors,
             entries,
             marks,
+            ends,
         })
     }
 
@@ -70,11 +77,11 @@ impl<'a> Table<'a> {
     }
 
     /// Where the entry of a sector stands, in bytes from the start of the file.
-    pub(crate) fn place(&self, sector: u32) -> u32
+    pub(crate) fn place(&self, sector: usize) -> u32
         requires { sector < self.now.valid }
         ensures { result ≡ (table_at self.now).place sector }
     {
-        table_place(&self.sectors, sector as usize) as u32
+        table_place(&self.sectors, sector) as u32
     }
 
     /// The entry of a sector.
@@ -83,6 +90,25 @@ impl<'a> Table<'a> {
         ensures { result ≡ (table_at self.now).entry sector }
     {
         self.entries[sector as usize]
+    }
+
+    /// Walks on from a sector over those that are not marked, and marks them.
+    pub(crate) fn walk_on(
+        &self,
+        alloc: Global,
+        marks: &mut Marks,
+        start: u32,
+    ) -> Result<Walked, Memory>
+        requires { length marks.old ≡ self.now.valid }
+        ensures walk { IfOk result (λ walked.
+            IsWalk (table_at self.now).entry self.now.valid start walked.next walked.path.items) }
+        ensures met { IfOk result (λ walked. IsMetSince marks.old marks.new walked.path.items) }
+        ensures stops { IfOk result (λ walked. (self.now.valid ≤ walked.next) ⊎ IsMarked marks.new walked.next) }
+        ensures range { self.now.valid < 2 ^ 31 }
+        ensures kept { length marks.new ≡ length marks.old }
+    {
+        let walked = walk_on(alloc, &self.entries, marks, start)?;
+        Ok(walked)
     }
 
     /// The path from a sector as far as it goes.
@@ -108,9 +134,24 @@ impl<'a> Table<'a> {
         let path = self.path(alloc, claim.start)?;
         let last = last_sector(&path);
         if self.entry(last) != ENDOFCHAIN || is_less(path.len(), claim) {
-            return Ok(Chain::Breaks(self.place(last)));
+            return Ok(Chain::Breaks(self.place(last as usize)));
         }
         Ok(Chain::Found(path))
+    }
+
+    /// The end of the path from a sector.
+    fn end(&mut self, alloc: Global, start: u32) -> Result<End, Memory>
+        requires { start < self.old.valid }
+        ensures end { IfOk result (IsEnd (table_at self.old).entry self.old.valid start) }
+        ensures range { self.old.valid < 2 ^ 31 }
+        ensures kept { self.new ≡ self.old }
+    {
+        if let Some(end) = self.ends.get(start as usize) {
+            return Ok(end);
+        }
+        let path = walk_fresh(alloc, &self.entries, &mut self.marks, &self.ends, start)?;
+        let end = settle(&self.entries, &mut self.ends, &path);
+        Ok(end)
     }
 
     /// The place at which the chain of a claim is broken.
@@ -118,18 +159,14 @@ impl<'a> Table<'a> {
         ensures broken { IfOk result (LeastOrNone (BreaksChain (table_at self.old) claim.now)) }
         ensures kept { self.new ≡ self.old }
     {
-        let found = self.find(alloc, claim)?;
-        Ok(place_of(found))
-    }
-}
-
-/// The place at which a chain is broken.
-fn place_of(found: Chain) -> Option<u32>
-    ensures { result ≡ broken_place found }
-{
-    match found {
-        Chain::Found(_) => None,
-        Chain::Breaks(place) => Some(place),
+        if claim.start as usize >= self.valid() {
+            return Ok(Some(claim.field));
+        }
+        let end = self.end(alloc, claim.start)?;
+        if self.entry(end.last) != ENDOFCHAIN || is_less(end.count as usize, claim) {
+            return Ok(Some(self.place(end.last as usize)));
+        }
+        Ok(None)
     }
 }
 

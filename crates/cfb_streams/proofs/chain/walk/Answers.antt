@@ -1,33 +1,20 @@
-use Rattle.std.proofs.Common.{◌≡◌, ◌<◌, false, length, slice_index, ap, ◌∙◌, sym, arith, length-set}
-use Rattle.std.specs.Prelude.{slice_index_or}
-use Rattle.cfb_streams.proofs.ChainLemmas.{walk_step, walk_room, met_step, met_apart, length_pushed, length_below}
+use Rattle.std.proofs.Common.{length, slice_index, subst, arith}
+use Rattle.cfb_streams.specs.SectorChain.{IsFullPath}
+use Rattle.cfb_streams.proofs.ChainLemmas.{length_below}
+use Rattle.cfb_streams.proofs.ClaimLemmas.{fresh_full}
 use Rattle.cfb_streams.proofs.chain.walk.Goals as goal
 
-pub loop-at-smaller : goal.loop-at-smaller
-loop-at-smaller c =
-    let fresh : slice_index_or c.loop-at.marks c.loop-at.at false ≡ false = sym c.has.ensures ∙ c.if-not-has.true in
-    let apart = met_apart c.loop-at.marks c.loop-at.path.items c.loop-at.at c.loop-at.invariant.met fresh in
-    let low : c.loop-at.at < length c.loop-at.marks = omega (arith, c.len.ensures) in
-    let room = walk_room (λ s. slice_index c.args.entries.now s) (length c.loop-at.marks) c.args.start c.loop-at.at c.loop-at.path.items c.loop-at.invariant.walked low apart in
-    let more = ap length c.in_ok-push.ensures.items in
-    let one = length_pushed c.loop-at.path.items c.loop-at.at in
-    let same = ap length c.meet.ensures ∙ length-set c.loop-at.marks c.loop-at.at _ in
-    omega arith
-
-pub loop-at-preserved : goal.loop-at-preserved
-loop-at-preserved c =
-    let fresh : slice_index_or c.loop-at.marks c.loop-at.at false ≡ false = sym c.has.ensures ∙ c.if-not-has.true in
-    let apart = met_apart c.loop-at.marks c.loop-at.path.items c.loop-at.at c.loop-at.invariant.met fresh in
-    let low : c.loop-at.at < length c.loop-at.marks = omega (arith, c.len.ensures) in
-    let next = walk_step (λ s. slice_index c.args.entries.now s) (length c.loop-at.marks) c.args.start c.loop-at.at c.loop-at.path.items c.loop-at.invariant.walked low apart in
-    let met = met_step c.loop-at.at c.loop-at.marks c.loop-at.path.items c.loop-at.invariant.met low in
-    let items = c.in_ok-push.ensures.items in
-    let same = ap length c.meet.ensures ∙ length-set c.loop-at.marks c.loop-at.at _ in
-    record { walked = rw (same, items) next; met = rw (c.meet.ensures, items) met; kept = same ∙ c.loop-at.invariant.kept }
+pub returns-clause-path : goal.returns-clause-path
+returns-clause-path c =
+    subst (λ n. IsFullPath (λ s. slice_index c.args.entries.now s) n c.args.start c.in_ok-walked.walked.path.items)
+    c.begin.ensures.len
+    (fresh_full (λ s. slice_index c.args.entries.now s) (length c.begin.new.self) c.args.start
+    c.in_ok-walked.walked.next c.in_ok-walked.walked.path.items c.begin.new.self c.walk_on.new.marks
+    (omega (arith, c.begin.ensures.len, c.requires.starts)) c.begin.ensures.none c.in_ok-walked.ensures.walk
+    c.in_ok-walked.ensures.met c.in_ok-walked.ensures.stops)
 
 pub returns-clause-short : goal.returns-clause-short
 returns-clause-short c =
-    let w = c.loop-at.invariant.walked in
-    let kept = c.loop-at.invariant.kept in
-    let short = length_below c.loop-at.path.items (length c.loop-at.marks) w.within w.distinct in
-    omega arith
+    let w = c.in_ok-walked.ensures.walk in
+    let short = length_below c.in_ok-walked.walked.path.items _ w.within w.distinct in
+    omega (arith, c.begin.ensures.len)

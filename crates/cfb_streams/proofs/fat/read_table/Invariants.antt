@@ -6,5 +6,6 @@ use Rattle.cfb_streams.proofs.fat.read_table.Given as goal
 abbrev pub invariant-loop-s : goal.invariant-loop-s
 invariant-loop-s l = record {
   len : length l.entries.items ≡ l.s;
-  each : (i : ℕ) → i < l.s → slice_index l.entries.items i ≡ u32_at l.file (table_place (λ k. slice_index l.sectors k) i);
+  each : (i : ℕ) → i < l.s →
+      slice_index l.entries.items i ≡ u32_at l.file (table_place (λ k. slice_index l.sectors k) i);
 }

@@ -2,4 +2,9 @@ use Rattle.cfb_streams.proofs.NameLemmas.{EntryBefore-names, ComesBefore-entries
 use Rattle.cfb_streams.proofs.laws.entry_order_is_name_order.Goals as goal
 
 pub returns : goal.returns
-returns c = λ file at other name later a b. (ComesBefore-entries file at other name later a b, EntryBefore-names file at other name later a b)
+returns c =
+    λ file at other name later a b. (
+      ComesBefore-entries file at other name later a b,
+      EntryBefore-names file at other
+          name later a b,
+    )

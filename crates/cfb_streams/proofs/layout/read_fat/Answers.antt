@@ -9,9 +9,11 @@ read_fat_sectors-requires-clause-few c = fat_few c.args.file.now c.requires.is_f
 
 pub read-requires-clause-inside : goal.read-requires-clause-inside
 read-requires-clause-inside c =
-    subst (AreSectorsOf c.args.file.now) (sym c.in_ok-sectors.ensures) (fat_inside c.args.file.now c.requires.is_whole c.requires.is_fat)
+    subst (AreSectorsOf c.args.file.now) (sym c.in_ok-sectors.ensures)
+    (fat_inside c.args.file.now c.requires.is_whole c.requires.is_fat)
 
 pub read-requires-clause-room : goal.read-requires-clause-room
 read-requires-clause-room c =
     subst (λ xs. c.valid_sectors.result ≤ 128 * length xs) (sym c.in_ok-sectors.ensures)
-    (subst (λ n. n ≤ 128 * length (fat_sectors c.args.file.now)) (sym c.valid_sectors.ensures) (fat_room c.args.file.now))
+    (subst (λ n. n ≤ 128 * length (fat_sectors c.args.file.now)) (sym c.valid_sectors.ensures)
+    (fat_room c.args.file.now))

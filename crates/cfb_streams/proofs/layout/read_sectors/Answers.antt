@@ -8,5 +8,7 @@ use Rattle.cfb_streams.proofs.layout.read_sectors.Goals as goal
 pub returns : goal.returns
 returns c =
     let all = length_all (sector_bytes 512 512 c.args.file.now) 512 c.args.sectors.now
-    (λ k h. let inside = c.requires.inside k h in length-sector 512 512 c.args.file.now (slice_index c.args.sectors.now k) (omega arith)) in
-    c.in_ok-bytes.ensures.joined ∙ take_all _ (flat_map (sector_bytes 512 512 c.args.file.now) c.args.sectors.now) (omega arith)
+    (λ k h. let inside = c.requires.inside k h in length-sector 512 512 c.args.file.now
+    (slice_index c.args.sectors.now k) (omega arith)) in
+    c.in_ok-bytes.ensures.joined ∙ take_all _ (flat_map (sector_bytes 512 512 c.args.file.now) c.args.sectors.now)
+    (omega arith)

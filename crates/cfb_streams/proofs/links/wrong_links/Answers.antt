@@ -10,11 +10,17 @@ loop-link-init c = least_none (λ i. IsWrongAt c.args.file.now c.args.directory.
 
 pub loop-link-preserved : goal.loop-link-preserved
 loop-link-preserved c =
-    subst (LeastOrNone (Among (c.loop-link.link-index + 1) (λ i. IsWrongAt c.args.file.now c.args.directory.now (slice_index c.args.links.now i)))) (sym c.lesser-least.ensures)
-    (least_step (λ i. IsWrongAt c.args.file.now c.args.directory.now (slice_index c.args.links.now i)) c.loop-link.link-index c.loop-link.least c.wrong_link.result c.loop-link.invariant c.wrong_link.ensures)
+    subst
+    (LeastOrNone (Among (c.loop-link.link-index + 1)
+    (λ i. IsWrongAt c.args.file.now c.args.directory.now (slice_index c.args.links.now i))))
+    (sym c.lesser-least.ensures)
+    (least_step (λ i. IsWrongAt c.args.file.now c.args.directory.now (slice_index c.args.links.now i))
+    c.loop-link.link-index c.loop-link.least c.wrong_link.result c.loop-link.invariant c.wrong_link.ensures)
 
 pub returns : goal.returns
 returns c =
     let e : c.loop-link.link-index ≡ length c.args.links.now = omega arith in
     links_least c.args.file.now c.args.directory.now c.args.links.now c.loop-link.least c.requires.lists
-    (subst (λ n. LeastOrNone (Among n (λ i. IsWrongAt c.args.file.now c.args.directory.now (slice_index c.args.links.now i))) c.loop-link.least) e c.loop-link.invariant)
+    (subst (λ n. LeastOrNone (Among n
+    (λ i. IsWrongAt c.args.file.now c.args.directory.now (slice_index c.args.links.now i))) c.loop-link.least) e
+    c.loop-link.invariant)

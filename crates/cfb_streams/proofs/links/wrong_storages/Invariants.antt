@@ -4,4 +4,5 @@ use Rattle.cfb_streams.specs.Reach.{IsWrongStorage}
 use Rattle.cfb_streams.proofs.links.wrong_storages.Given as goal
 
 abbrev pub invariant-loop-entry : goal.invariant-loop-entry
-invariant-loop-entry l = LeastOrNone (Among l.entry-index (λ i. IsWrongStorage l.file l.directory (slice_index l.order i))) l.least
+invariant-loop-entry l = LeastOrNone
+    (Among l.entry-index (λ i. IsWrongStorage l.file l.directory (slice_index l.order i))) l.least

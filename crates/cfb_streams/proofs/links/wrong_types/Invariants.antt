@@ -4,4 +4,5 @@ use Rattle.cfb_streams.specs.Reach.{IsWrongType}
 use Rattle.cfb_streams.proofs.links.wrong_types.Given as goal
 
 abbrev pub invariant-loop-entry : goal.invariant-loop-entry
-invariant-loop-entry l = LeastOrNone (Among l.entry-index (λ i. IsWrongType l.file l.directory (slice_index l.order i))) l.least
+invariant-loop-entry l = LeastOrNone (Among l.entry-index (λ i. IsWrongType l.file l.directory (slice_index l.order i)))
+    l.least

@@ -5,4 +5,5 @@ use Rattle.cfb_streams.proofs.names.is_name_taken.Given as goal
 
 abbrev pub invariant-loop-entry : goal.invariant-loop-entry
 invariant-loop-entry l =
-    (i : ℕ) → i < l.entry-index → entry_place l.directory (slice_index l.order i) < l.at → ¬ HaveOneName l.file (entry_place l.directory (slice_index l.order i)) l.at
+    (i : ℕ) → i < l.entry-index → entry_place l.directory (slice_index l.order i) < l.at → ¬ HaveOneName l.file
+    (entry_place l.directory (slice_index l.order i)) l.at

@@ -10,11 +10,18 @@ loop-entry-init c = least_none (λ i. IsWrongName c.args.file.now c.args.directo
 
 pub loop-entry-preserved : goal.loop-entry-preserved
 loop-entry-preserved c =
-    subst (LeastOrNone (Among (c.loop-entry.entry-index + 1) (λ i. IsWrongName c.args.file.now c.args.directory.now (slice_index c.args.order.now i)))) (sym c.lesser-least.ensures)
-    (least_step (λ i. IsWrongName c.args.file.now c.args.directory.now (slice_index c.args.order.now i)) c.loop-entry.entry-index c.loop-entry.least c.wrong_name.result c.loop-entry.invariant c.wrong_name.ensures)
+    subst
+    (LeastOrNone (Among (c.loop-entry.entry-index + 1)
+    (λ i. IsWrongName c.args.file.now c.args.directory.now (slice_index c.args.order.now i))))
+    (sym c.lesser-least.ensures)
+    (least_step (λ i. IsWrongName c.args.file.now c.args.directory.now (slice_index c.args.order.now i))
+    c.loop-entry.entry-index c.loop-entry.least c.wrong_name.result c.loop-entry.invariant c.wrong_name.ensures)
 
 pub returns : goal.returns
 returns c =
     let e : c.loop-entry.entry-index ≡ length c.args.order.now = omega arith in
-    reached_least c.args.file.now c.args.directory.now c.args.order.now (IsWrongName c.args.file.now c.args.directory.now) c.loop-entry.least c.requires.lists
-    (subst (λ n. LeastOrNone (Among n (λ i. IsWrongName c.args.file.now c.args.directory.now (slice_index c.args.order.now i))) c.loop-entry.least) e c.loop-entry.invariant)
+    reached_least c.args.file.now c.args.directory.now c.args.order.now
+    (IsWrongName c.args.file.now c.args.directory.now) c.loop-entry.least c.requires.lists
+    (subst (λ n. LeastOrNone (Among n
+    (λ i. IsWrongName c.args.file.now c.args.directory.now (slice_index c.args.order.now i))) c.loop-entry.least) e
+    c.loop-entry.invariant)

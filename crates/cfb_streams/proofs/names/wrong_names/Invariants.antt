@@ -4,4 +4,5 @@ use Rattle.cfb_streams.specs.Reach.{IsWrongName}
 use Rattle.cfb_streams.proofs.names.wrong_names.Given as goal
 
 abbrev pub invariant-loop-entry : goal.invariant-loop-entry
-invariant-loop-entry l = LeastOrNone (Among l.entry-index (λ i. IsWrongName l.file l.directory (slice_index l.order i))) l.least
+invariant-loop-entry l = LeastOrNone (Among l.entry-index (λ i. IsWrongName l.file l.directory (slice_index l.order i)))
+    l.least

@@ -9,4 +9,5 @@ pub returns-clause-found : goal.returns-clause-found
 returns-clause-found c =
     found_mini_fat c.args.file.now c.in_ok-found.found (λ e. c.if-get32-eq0.false (c.get32.ensures ∙ e))
     (subst (λ t. IsFound (table_at t) (mini_fat_head c.args.file.now) c.in_ok-found.found) c.requires.is_fat
-    (subst (λ h. IsFound (table_at c.args.fat.now) h c.in_ok-found.found) c.header_claim-claim.ensures c.in_ok-found.ensures.found))
+    (subst (λ h. IsFound (table_at c.args.fat.now) h c.in_ok-found.found) c.header_claim-claim.ensures
+    c.in_ok-found.ensures.found))

@@ -12,5 +12,6 @@ returns-clause-found c =
     let head = c.stream_claim-claim.ensures ∙ ap (λ at. stream_head c.args.file.now 512 at) place in
     let size = ap (λ h. h.size) (c.claim.view_is ∙ head) in
     found_mini_stream c.args.file.now c.args.directory.now c.in_ok-found.found (λ e. c.if-claim-eq0.false (size ∙ e))
-    (subst (λ t. IsFound (table_at t) (stream_head c.args.file.now 512 (entry_place c.args.directory.now 0)) c.in_ok-found.found) c.requires.is_fat
+    (subst (λ t. IsFound (table_at t) (stream_head c.args.file.now 512 (entry_place c.args.directory.now 0))
+    c.in_ok-found.found) c.requires.is_fat
     (subst (λ h. IsFound (table_at c.args.fat.now) h c.in_ok-found.found) head c.in_ok-found.ensures.found))

@@ -4,4 +4,5 @@ use Rattle.cfb_streams.specs.Directory.{AreSameNames}
 use Rattle.cfb_streams.proofs.root_stream.find_named.Given as goal
 
 abbrev pub invariant-loop-stream : goal.invariant-loop-stream
-invariant-loop-stream l = (i : ℕ) (s : Stream) → i < l.stream-index → slice_get l.streams i ≡ Some s → ¬ AreSameNames s.name l.name
+invariant-loop-stream l = (i : ℕ) (s : Stream) → i < l.stream-index → slice_get l.streams i ≡ Some s → ¬ AreSameNames
+    s.name l.name

@@ -8,24 +8,29 @@ use Rattle.cfb_streams.proofs.container.Container.load.Goals as goal
 
 pub gather-requires : goal.gather-requires
 gather-requires c =
-    subst (λ q. Nowhere (BreaksStream q.file q.parts.directory q.parts.mini_fat)) (sym c.in_ok-judge_streams.ensures.kept) c.in_ok-judge_streams.ensures.judged
+    subst (λ q. Nowhere (BreaksStream q.file q.parts.directory q.parts.mini_fat))
+    (sym c.in_ok-judge_streams.ensures.kept) c.in_ok-judge_streams.ensures.judged
 
 pub returns-in_err-judge_streams : goal.returns-in_err-judge_streams
 returns-in_err-judge_streams c =
-    let p = err_from_is_err_and c.from_residual-in_err-judge_streams.result c.from_residual-in_err-judge_streams.ensures.1 in
+    let p = err_from_is_err_and c.from_residual-in_err-judge_streams.result
+    c.from_residual-in_err-judge_streams.ensures.1 in
     rw (p.1, p.2)
     (subst (λ f. IsCfbFault (container_rules f) c.in_err-judge_streams.field-0.0) c.in_ok-layout.ensures.0
     (layout_fault c.in_ok-layout.layout c.in_err-judge_streams.field-0.0 c.in_ok-layout.ensures.1
-    (chains_fault c.in_ok-layout.layout.file c.in_ok-layout.layout.parts.directory c.in_ok-layout.layout.parts.mini_fat c.in_ok-layout.layout.parts.mini_stream c.in_err-judge_streams.field-0.0 c.in_err-judge_streams.ensures.judged)))
+    (chains_fault c.in_ok-layout.layout.file c.in_ok-layout.layout.parts.directory c.in_ok-layout.layout.parts.mini_fat
+    c.in_ok-layout.layout.parts.mini_stream c.in_err-judge_streams.field-0.0 c.in_err-judge_streams.ensures.judged)))
 
 pub returns-in_err-container : goal.returns-in_err-container
 returns-in_err-container c =
-    let first = subst (λ q. IsCfbFault (rule 14 (BreaksSharing q.file q.parts)) c.in_err-container.field-0.0) c.in_ok-judge_streams.ensures.kept c.in_err-container.ensures in
+    let first = subst (λ q. IsCfbFault (rule 14 (BreaksSharing q.file q.parts)) c.in_err-container.field-0.0)
+    c.in_ok-judge_streams.ensures.kept c.in_err-container.ensures in
     let p = err_from_is_err_and c.from_residual-in_err-container.result c.from_residual-in_err-container.ensures.1 in
     rw (p.1, p.2)
     (subst (λ f. IsCfbFault (container_rules f) c.in_err-container.field-0.0) c.in_ok-layout.ensures.0
     (layout_fault c.in_ok-layout.layout c.in_err-container.field-0.0 c.in_ok-layout.ensures.1
-    (sharing_fault c.in_ok-layout.layout.file c.in_ok-layout.layout.parts c.in_err-container.field-0.0 c.in_ok-judge_streams.ensures.judged first)))
+    (sharing_fault c.in_ok-layout.layout.file c.in_ok-layout.layout.parts c.in_err-container.field-0.0
+    c.in_ok-judge_streams.ensures.judged first)))
 
 pub returns : goal.returns
 returns c =

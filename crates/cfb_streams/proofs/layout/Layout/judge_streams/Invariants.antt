@@ -6,5 +6,7 @@ use Rattle.cfb_streams.proofs.layout.Layout.judge_streams.Given as goal
 abbrev pub invariant-loop-i : goal.invariant-loop-i
 invariant-loop-i l = record {
   kept : l.self ≡ l.fn.self;
-  least : LeastOrNone (Among l.i (λ k. IsWrongStream l.self.file l.self.parts.directory l.self.parts.mini_fat (slice_index l.self.streams k))) l.least;
+  least : LeastOrNone
+      (Among l.i (λ k. IsWrongStream l.self.file l.self.parts.directory l.self.parts.mini_fat
+      (slice_index l.self.streams k))) l.least;
 }

@@ -17,22 +17,27 @@ mini_sectors-valid-requires-clause-few c =
 pub read-requires-clause-inside : goal.read-requires-clause-inside
 read-requires-clause-inside c =
     let whole = whole_length c.args.entries.file c.requires.is_layout.opening.0 in
-    subst (λ f. AreSectorsOf f c.args.mini_fat.items) (sym c.file-file.ensures) (mini_fat_inside c.args.entries.file c.args.mini_fat.items whole c.requires.is_layout.mini_fat)
+    subst (λ f. AreSectorsOf f c.args.mini_fat.items) (sym c.file-file.ensures)
+    (mini_fat_inside c.args.entries.file c.args.mini_fat.items whole c.requires.is_layout.mini_fat)
 
 pub read_sectors-requires : goal.read_sectors-requires
 read_sectors-requires c =
     let whole = whole_length c.args.entries.file c.requires.is_layout.opening.0 in
     subst (λ f. AreSectorsOf f c.deref-2.result.now) (sym c.file-file.ensures)
     (subst (AreSectorsOf c.args.entries.file) (sym c.deref-2.ensures.value)
-    (mini_stream_inside c.args.entries.file c.args.entries.directory c.args.mini_stream.items whole c.requires.is_layout.mini_stream))
+    (mini_stream_inside c.args.entries.file c.args.entries.directory c.args.mini_stream.items whole
+    c.requires.is_layout.mini_stream))
 
 pub invariant_of-result : goal.invariant_of-result
 invariant_of-result c =
-    let mini = mini_place_is c.args.entries.file c.file-file.result.now c.args.entries.directory c.directory.result.now c.args.mini_fat.items c.deref.result.now c.mini_sectors-valid.result c.in_ok-mini.mini
-    c.file-file.ensures c.directory.ensures.sectors c.deref.ensures.value c.mini_sectors-valid.ensures c.in_ok-mini.ensures in
+    let mini = mini_place_is c.args.entries.file c.file-file.result.now c.args.entries.directory c.directory.result.now
+    c.args.mini_fat.items c.deref.result.now c.mini_sectors-valid.result c.in_ok-mini.mini
+    c.file-file.ensures c.directory.ensures.sectors c.deref.ensures.value c.mini_sectors-valid.ensures
+    c.in_ok-mini.ensures in
     let sectors = ap (λ t. t.sectors) mini in
     record {
-      is_layout = subst (λ m. IsLayout (places_of c.args.entries m c.args.mini_stream.items)) (sym sectors) c.requires.is_layout;
+      is_layout = subst (λ m. IsLayout (places_of c.args.entries m c.args.mini_stream.items)) (sym sectors)
+          c.requires.is_layout;
       is_fat = c.requires.is_fat;
       is_mini = mini ∙ ap (mini_place c.args.entries.file c.args.entries.directory) (sym sectors);
       joined = c.in_ok-stored.ensures

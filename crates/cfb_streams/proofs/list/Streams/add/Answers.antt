@@ -8,6 +8,9 @@ invariant_of-self-2 c =
     let before : List NamedBytes = c.args.self.now in
     let last : NamedBytes = record { name = c.args.name.now; bytes = c.args.bytes.now } in
     let stored : AreStored before = subst AreStored c.self.view_is c.self.invariant.1 in
-    let is : IsStored last.name last.bytes = record { units = λ i. omega (arith, c.type_inv.name i); small = λ i. omega (arith, c.type_inv.bytes i) } in
-    let pushed : c.push.new.self.items ≡ before ++ last ∷ [] = cc (c.in_ok-push.ensures.items, c.in_ok-name.ensures.items, c.in_ok-bytes.ensures.items, c.self.view_is) in
-    subst (λ streams. AreStreams streams × AreStored streams) (sym pushed) (c.requires, push-AreStored before last stored is)
+    let is : IsStored last.name last.bytes = record
+    { units = λ i. omega (arith, c.type_inv.name i); small = λ i. omega (arith, c.type_inv.bytes i) } in
+    let pushed : c.push.new.self.items ≡ before ++ last ∷ [] = cc
+    (c.in_ok-push.ensures.items, c.in_ok-name.ensures.items, c.in_ok-bytes.ensures.items, c.self.view_is) in
+    subst (λ streams. AreStreams streams × AreStored streams) (sym pushed)
+    (c.requires, push-AreStored before last stored is)

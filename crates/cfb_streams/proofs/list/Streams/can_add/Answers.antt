@@ -16,7 +16,8 @@ returns c =
           let some : 1 ≤ length last.name = omega arith in
           let short : length last.name ≤ 31 = omega arith in
           let ends : EndsBefore streams last.name = search rules in
-          let room : sum_by (λ (stream : NamedBytes). length stream.bytes) streams + length last.bytes < 2 ^ 48 = omega (arith, less) in
+          let room : sum_by (λ (stream : NamedBytes). length stream.bytes) streams + length last.bytes < 2 ^ 48 =
+          omega (arith, less) in
           push-AreStreams streams last c.total.ensures.ordered some short ends room,
       λ are.
           let all = last_total streams last are in

@@ -13,7 +13,9 @@ loop-i-preserved c =
     let same = ap length c.self.view_is in
     let within : i < length streams = omega arith in
     let here : (get_or streams i none).bytes ≡ c.bytes.result.now =
-    same_Some _ _ (ap (option_map (λ (stream : NamedBytes). stream.bytes)) (sym (slice_get-get_or streams i none within)) ∙ c.bytes.ensures) in
+    same_Some _ _
+    (ap (option_map (λ (stream : NamedBytes). stream.bytes)) (sym (slice_get-get_or streams i none within))
+    ∙ c.bytes.ensures) in
     let size = ap length here in
     let more = sum_by_more (λ (stream : NamedBytes). length stream.bytes) streams i none within in
     let before = c.loop-i.invariant in

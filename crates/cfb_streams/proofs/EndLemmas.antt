@@ -1,0 +1,304 @@
+-- Ends of paths that are remembered.
+use Rattle.std.proofs.Common.{◌≡◌, ◌≢◌, inl, inr, ℕ, zero, suc, ◌+◌, ◌-◌, ◌<◌, ◌≤◌, ◌⊎◌, ◌^◌, Option, Some, None}
+use Rattle.std.proofs.Common.{MatchOption, false}
+use Rattle.std.proofs.Common.{List, [], ◌∷◌, length, set, slice_index, refl, sym, ap, ◌∙◌, subst, arith, length-set}
+use Rattle.std.specs.Prelude.{IfSome, is_some}
+use Rattle.std.proofs.lemmas.Bool.{cases_lt, cases_eq}
+use Rattle.std.proofs.lemmas.List.{get_or-set_same, get_or-set_other}
+use Rattle.cfb_streams.specs.declared.ends.End.{End}
+use Rattle.cfb_streams.specs.SectorChain.{HasSector, IsSectorPath, IsFullPath, last_of}
+use Rattle.cfb_streams.proofs.ChainLemmas.{path_short}
+use Rattle.cfb_streams.specs.Ends.{IsEnd, KnownEnds, IsKnown, end_at, with_end, Remembers, IsFreshPath, GoesOn, before}
+
+-- a sector before a list
+cons_within : (s : ℕ) (ys : List ℕ) (valid : ℕ) → s < valid → ((i : ℕ) → i < length ys → slice_index ys i < valid) →
+    (i : ℕ) → i < length (s ∷ ys) → slice_index (s ∷ ys) i < valid
+cons_within s ys valid low each zero h = low
+cons_within s ys valid low each (suc i) h = each i (omega arith)
+
+cons_distinct : (s : ℕ) (ys : List ℕ) → ¬ HasSector ys s →
+    ((i j : ℕ) → i < j → j < length ys → slice_index ys i ≢ slice_index ys j) →
+    (i j : ℕ) → i < j → j < length (s ∷ ys) → slice_index (s ∷ ys) i ≢ slice_index (s ∷ ys) j
+cons_distinct s ys out apart zero zero less h e = omega arith
+cons_distinct s ys out apart zero (suc j) less h e = out (record { index = j; inside = omega arith; here = sym e })
+cons_distinct s ys out apart (suc i) zero less h e = omega arith
+cons_distinct s ys out apart (suc i) (suc j) less h e = apart i j (omega arith) (omega arith) e
+
+cons_links : (entry : ℕ → ℕ) (s : ℕ) (ys : List ℕ) → entry s ≡ slice_index ys 0 →
+    ((i : ℕ) → i + 1 < length ys → entry (slice_index ys i) ≡ slice_index ys (i + 1)) →
+    (i : ℕ) → i + 1 < length (s ∷ ys) → entry (slice_index (s ∷ ys) i) ≡ slice_index (s ∷ ys) (i + 1)
+cons_links entry s ys first links zero h = first
+cons_links entry s ys first links (suc i) h =
+    let e : suc (i + 1) ≡ suc i + 1 = omega arith in
+    subst (λ k. entry (slice_index ys i) ≡ slice_index (s ∷ ys) k) e (links i (omega arith))
+
+last_cons : (s : ℕ) (ys : List ℕ) → 0 < length ys → last_of (s ∷ ys) ≡ last_of ys
+last_cons s ys some =
+    let e : length (s ∷ ys) - 1 ≡ suc (length ys - 1) = omega arith in ap (λ k. slice_index (s ∷ ys) k) e
+
+-- a sector before a full path that does not have it
+pub full_cons : (entry : ℕ → ℕ) (valid s : ℕ) (ys : List ℕ) → s < valid → IsFullPath entry valid (entry s) ys →
+    ¬ HasSector ys s → IsFullPath entry valid s (s ∷ ys)
+full_cons entry valid s ys low f out =
+    let last = last_cons s ys f.path.some in
+    record {
+      path = record {
+        some = omega arith;
+        first = refl;
+        within = cons_within s ys valid low f.path.within;
+        distinct = cons_distinct s ys out f.path.distinct;
+        links = cons_links entry s ys (sym f.path.first) f.path.links;
+      };
+      stops = elim f.stops [
+        | inl over ↦ inl (subst (λ t. valid ≤ entry t) (sym last) over)
+        | inr again ↦ inr (record {
+          index = suc again.index;
+          inside = (let a = again.inside in omega arith);
+          here = again.here ∙ sym (ap entry last);
+        })
+      ];
+    }
+
+-- a sector whose entry is not valid
+pub full_one : (entry : ℕ → ℕ) (valid s : ℕ) → s < valid → valid ≤ entry s → IsFullPath entry valid s (s ∷ [])
+full_one entry valid s low over = record {
+  path = record {
+    some = omega arith;
+    first = refl;
+    within = cons_within s [] valid low (λ i h. absurd (omega arith));
+    distinct = cons_distinct s [] (λ h. let a = h.inside in omega arith) (λ i j less h. absurd (omega arith));
+    links = λ i h. absurd (omega arith);
+  };
+  stops = inl over;
+}
+
+-- all sectors of the path from a known one are known
+pub known_all : (entry : ℕ → ℕ) (valid : ℕ) (known : KnownEnds) (s : ℕ) (xs : List ℕ) → Remembers entry valid known →
+    IsKnown known s → IsSectorPath entry valid s xs → (i : ℕ) → i < length xs → IsKnown known (slice_index xs i)
+known_all entry valid known s xs r is p zero h = subst (IsKnown known) (sym p.first) is
+known_all entry valid known s xs r is p (suc i) h =
+    let e : i + 1 ≡ suc i = omega arith in
+    let link = p.links i (omega arith) in
+    let low = p.within (i + 1) (omega arith) in
+    subst (λ k. IsKnown known (slice_index xs k)) e
+    (subst (IsKnown known) link
+    (r.closed (slice_index xs i) (known_all entry valid known s xs r is p i (omega arith))
+    (subst (λ t. t < valid) (sym link) low)))
+
+-- the end of the path from a sector that is not known
+pub end_step : (entry : ℕ → ℕ) (valid : ℕ) (known : KnownEnds) (s : ℕ) (rest : Option End) →
+    Remembers entry valid known → s < valid → ¬ IsKnown known s → (entry s < valid → IsKnown known (entry s)) →
+    MatchOption rest (¬ IsKnown known (entry s)) (λ end. IsKnown known (entry s) × (end ≡ end_at known (entry s))) →
+    IsEnd entry valid s (before s rest)
+end_step entry valid known s None r low new goes none = record {
+  sectors = s ∷ [];
+  full = full_one entry valid s low (elim (cases_lt (entry s) valid) [
+    | inl in_range ↦ absurd (none (goes in_range))
+    | inr over ↦ over
+  ]);
+  count = refl;
+  last = refl;
+}
+end_step entry valid known s (Some end) r low new goes found =
+    let is = r.ends (entry s) found.0 in
+    let e = found.1 in
+    let count : end.count ≡ length is.sectors = ap (λ x. x.count) e ∙ is.count in
+    record {
+      sectors = s ∷ is.sectors;
+      full = full_cons entry valid s is.sectors low is.full
+          (λ h. new (subst (IsKnown known) h.here
+          (known_all entry valid known (entry s) is.sectors r found.0 is.full.path h.index h.inside)));
+      count = omega arith;
+      last = ap (λ x. x.last) e ∙ (is.last ∙ sym (last_cons s is.sectors is.full.path.some));
+    }
+
+-- what is known stays known
+pub kept_known : (known : KnownEnds) (s t : ℕ) (end : End) → s < length known.counts → 0 < end.count → IsKnown known t →
+    IsKnown (with_end known s end) t
+kept_known known s t end low some is = elim (cases_eq t s) [
+  | inl same ↦ subst (λ n. 0 < n) (sym (ap (λ k. slice_index (set known.counts s end.count) k) same
+      ∙ get_or-set_same known.counts s end.count 0 low)) some
+  | inr other ↦ subst (λ n. 0 < n) (sym (get_or-set_other known.counts s t end.count 0 other)) is
+]
+
+-- the sector itself is known then
+pub put_known : (known : KnownEnds) (s : ℕ) (end : End) → s < length known.counts → 0 < end.count →
+    IsKnown (with_end known s end) s
+put_known known s end low some = subst (λ n. 0 < n) (sym (get_or-set_same known.counts s end.count 0 low)) some
+
+-- no other sector becomes known
+pub only_known : (known : KnownEnds) (s t : ℕ) (end : End) → t ≢ s → IsKnown (with_end known s end) t → IsKnown known t
+only_known known s t end other is = subst (λ n. 0 < n) (get_or-set_other known.counts s t end.count 0 other) is
+
+-- one end more is remembered
+pub put_step : (entry : ℕ → ℕ) (valid : ℕ) (known : KnownEnds) (s : ℕ) (end : End) → Remembers entry valid known →
+    s < valid → (entry s < valid → IsKnown known (entry s)) → 0 < end.count → IsEnd entry valid s end →
+    Remembers entry valid (with_end known s end)
+put_step entry valid known s end r low goes some is =
+    let counts = r.counts_len in
+    let lasts = r.lasts_len in
+    let n = length-set known.counts s end.count in
+    let m = length-set known.lasts s end.last in
+    let inside : s < length known.counts = omega arith in
+    let inside_lasts : s < length known.lasts = omega arith in
+    record {
+      counts_len = omega arith;
+      lasts_len = omega arith;
+      ends = λ t h. elim (cases_eq t s) [
+        | inl same ↦
+            let e : end_at (with_end known s end) s ≡ end =
+            ap (λ c. record { count = c; last = slice_index (set known.lasts s end.last) s })
+            (get_or-set_same known.counts s end.count 0 inside)
+            ∙ ap (λ l. record { count = end.count; last = l })
+            (get_or-set_same known.lasts s end.last 0 inside_lasts) in
+            subst (λ k. IsEnd entry valid k (end_at (with_end known s end) k)) (sym same)
+            (subst (IsEnd entry valid s) (sym e) is)
+        | inr other ↦
+            let e : end_at (with_end known s end) t ≡ end_at known t =
+            ap (λ c. record { count = c; last = slice_index (set known.lasts s end.last) t })
+            (get_or-set_other known.counts s t end.count 0 other)
+            ∙ ap (λ l. record { count = slice_index known.counts t; last = l })
+            (get_or-set_other known.lasts s t end.last 0 other) in
+            subst (IsEnd entry valid t) (sym e) (r.ends t (only_known known s t end other h))
+      ];
+      closed = λ t h less. elim (cases_eq t s) [
+        | inl same ↦
+            subst (λ k. IsKnown (with_end known s end) (entry k)) (sym same)
+            (kept_known known s (entry s) end inside some (goes (subst (λ k. entry k < valid) same less)))
+        | inr other ↦ kept_known known s (entry t) end inside some (r.closed t (only_known known s t end other h) less)
+      ];
+    }
+
+-- the sector is one of the last `count` of the path
+pub record IsBehind (path : List ℕ) (count sector : ℕ) : Type 0 where
+  pub index : ℕ
+  pub inside : index < length path
+  pub behind : length path ≤ index + count
+  pub here : slice_index path index ≡ sector
+
+-- the sectors behind are remembered, and no others besides those that were
+pub record IsRemembered (entry : ℕ → ℕ) (valid : ℕ) (old known : KnownEnds) (path : List ℕ) (count : ℕ) : Type 0 where
+  pub remembers : Remembers entry valid known
+  pub kept : (s : ℕ) → IsKnown old s → IsKnown known s
+  pub behind : (k : ℕ) → length path ≤ k + count → k < length path → IsKnown known (slice_index path k)
+  pub only : (s : ℕ) → IsKnown known s → IsKnown old s ⊎ IsBehind path count s
+
+pub remembered_none : (entry : ℕ → ℕ) (valid : ℕ) (old : KnownEnds) (path : List ℕ) → Remembers entry valid old →
+    IsRemembered entry valid old old path 0
+remembered_none entry valid old path r = record {
+  remembers = r;
+  kept = λ s h. h;
+  behind = λ k h low. absurd (omega arith);
+  only = λ s h. inl h;
+}
+
+before_some : (s : ℕ) (rest : Option End) → 0 < (before s rest).count
+before_some s None = omega arith
+before_some s (Some end) = omega arith
+
+pub remember_step : (entry : ℕ → ℕ) (valid : ℕ) (old known : KnownEnds) (path : List ℕ) (i s : ℕ) (rest : Option End) →
+    ((k : ℕ) → k < length path → slice_index path k < valid) →
+    ((k j : ℕ) → k < j → j < length path → slice_index path k ≢ slice_index path j) →
+    ((k : ℕ) → k + 1 < length path → entry (slice_index path k) ≡ slice_index path (k + 1)) →
+    ((k : ℕ) → k < length path → ¬ IsKnown old (slice_index path k)) → GoesOn entry valid old path →
+    i < length path → s ≡ slice_index path (length path - 1 - i) → IsRemembered entry valid old known path i →
+    MatchOption rest (¬ IsKnown known (entry s)) (λ end. IsKnown known (entry s) × (end ≡ end_at known (entry s))) →
+    IsRemembered entry valid old (with_end known s (before s rest)) path (i + 1)
+remember_step entry valid old known path i s rest within distinct links fresh goes_on low is r found =
+    let here : length path - 1 - i < length path = omega arith in
+    let in_range : s < valid = subst (λ t. t < valid) (sym is) (within (length path - 1 - i) here) in
+    let new : ¬ IsKnown known s = λ h. elim (r.only s h) [
+      | inl was ↦ fresh (length path - 1 - i) here (subst (IsKnown old) is was)
+      | inr b ↦
+          let inside = b.inside in
+          let behind = b.behind in
+          distinct (length path - 1 - i) b.index (omega arith) b.inside (sym is ∙ sym b.here)
+    ] in
+    let goes : entry s < valid → IsKnown known (entry s) = λ less. elim (cases_eq i 0) [
+      | inl none ↦
+          let e : length path - 1 - i ≡ length path - 1 = omega arith in
+          let last : s ≡ last_of path = is ∙ ap (λ j. slice_index path j) e in
+          subst (λ t. IsKnown known (entry t)) (sym last)
+          (r.kept (entry (last_of path)) (goes_on (subst (λ t. entry t < valid) last less)))
+      | inr some ↦
+          let link = links (length path - 1 - i) (omega arith) in
+          subst (IsKnown known) (sym (ap entry is ∙ link))
+          (r.behind (length path - 1 - i + 1) (omega arith) (omega arith))
+    ] in
+    let counts = r.remembers.counts_len in
+    let inside : s < length known.counts = omega arith in
+    let some = before_some s rest in
+    record {
+      remembers = put_step entry valid known s (before s rest) r.remembers in_range goes some
+          (end_step entry valid known s rest r.remembers in_range new goes found);
+      kept = λ t h. kept_known known s t (before s rest) inside some (r.kept t h);
+      behind = λ j h less. elim (cases_eq j (length path - 1 - i)) [
+        | inl same ↦ subst (IsKnown (with_end known s (before s rest))) (is ∙ ap (λ m. slice_index path m) (sym same))
+            (put_known known s (before s rest) inside some)
+        | inr other ↦ kept_known known s (slice_index path j) (before s rest) inside some
+            (r.behind j (omega arith) less)
+      ];
+      only = λ t h. elim (cases_eq t s) [
+        | inl same ↦ inr
+            (record { index = length path - 1 - i; inside = here; behind = omega arith; here = sym is ∙ sym same })
+        | inr other ↦ elim (r.only t (only_known known s t (before s rest) other h)) [
+          | inl was ↦ inl was
+          | inr b ↦ inr
+              (record { index = b.index; inside = b.inside; behind = (let a = b.behind in omega arith); here = b.here })
+        ]
+      ];
+    }
+
+-- the ends are small numbers
+pub end_few : (entry : ℕ → ℕ) (valid : ℕ) (known : KnownEnds) (s : ℕ) (rest : Option End) →
+    Remembers entry valid known →
+    valid < 2 ^ 31 → MatchOption rest (¬ IsKnown known s) (λ end. IsKnown known s × (end ≡ end_at known s)) →
+    IfSome rest (λ end. end.count < 2 ^ 32 - 1)
+end_few entry valid known s None r few found = tt
+end_few entry valid known s (Some end) r few found =
+    let is = r.ends s found.0 in
+    let short = path_short entry valid s is.sectors is.full.path in
+    let count : end.count ≡ length is.sectors = ap (λ x. x.count) found.1 ∙ is.count in
+    omega arith
+
+-- a sector whose end is not found is not known
+pub not_known : (known : KnownEnds) (s : ℕ) (rest : Option End) →
+    MatchOption rest (¬ IsKnown known s) (λ end. IsKnown known s × (end ≡ end_at known s)) → is_some rest ≡ false →
+    ¬ IsKnown known s
+not_known known s None found none = found
+not_known known s (Some end) found none = absurd (cc none)
+
+-- at first no end is known
+pub remembers_none : (entry : ℕ → ℕ) (valid : ℕ) (known : KnownEnds) → length known.counts ≡ valid →
+    length known.lasts ≡ valid → ((s : ℕ) → ¬ IsKnown known s) → Remembers entry valid known
+remembers_none entry valid known counts lasts none = record {
+  counts_len = counts;
+  lasts_len = lasts;
+  ends = λ s h. absurd (none s h);
+  closed = λ s h less. absurd (none s h);
+}
+
+-- a path that comes back to itself
+pub turns_end : (entry : ℕ → ℕ) (valid : ℕ) (known : KnownEnds) (start : ℕ) (path : List ℕ) (end : End) →
+    IsFreshPath entry valid known start path → entry (last_of path) < valid → ¬ IsKnown known (entry (last_of path)) →
+    end.count ≡ length path → end.last ≡ last_of path → IsEnd entry valid start end
+turns_end entry valid known start path end fresh less new count last = record {
+  sectors = path;
+  full = record {
+    path = fresh.path;
+    stops = elim fresh.stops [
+      | inl over ↦ inl over
+      | inr more ↦ elim more [ inl again ↦ inr again | inr is ↦ absurd (new is) ]
+    ];
+  };
+  count = count;
+  last = last;
+}
+
+-- a path that does not
+pub goes_end : (entry : ℕ → ℕ) (valid : ℕ) (known : KnownEnds) (path : List ℕ) →
+    (entry (last_of path) < valid → ¬ (¬ IsKnown known (entry (last_of path)))) → GoesOn entry valid known path
+goes_end entry valid known path is = λ less. elim (cases_lt 0 (slice_index known.counts (entry (last_of path)))) [
+  | inl some ↦ some
+  | inr none ↦ absurd (is less (λ h. omega arith))
+]
