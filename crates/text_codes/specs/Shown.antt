@@ -1,5 +1,6 @@
 -- The text that is shown for 16-bit units.
-use Rattle.std.specs.Prelude.{ℕ, ◌+◌, ◌-◌, ◌*◌, ◌/◌, ◌%◌, Bool, ◌&&◌, ◌||◌, ◌==◌, nat_lt, nat_le, List, [], ◌∷◌, ◌++◌, if◌then◌else◌, encode_utf8}
+use Rattle.std.specs.Prelude.{◌≡◌, ℕ, ◌+◌, ◌-◌, ◌*◌, ◌/◌, ◌%◌, ◌<◌, Bool, false, ◌&&◌, ◌||◌, ◌==◌, nat_lt, nat_le, List}
+use Rattle.std.specs.Prelude.{[], ◌∷◌, ◌++◌, if◌then◌else◌, encode_utf8}
 
 -- the two units are a surrogate pair
 abbrev pub is_pair : ℕ → ℕ → Bool
@@ -13,6 +14,11 @@ pair_code first second = 0x10000 + (first - 0xD800) * 0x400 + (second - 0xDC00)
 abbrev pub is_escaped : ℕ → Bool
 is_escaped unit = nat_lt unit 0x20 || (unit == 0x5C || (nat_le 0xD800 unit && nat_lt unit 0xE000))
 
+-- a unit that is shown as its own byte
+pub record IsPlain (unit : ℕ) : Type 0 where
+  pub ascii : unit < 0x80
+  pub itself : is_escaped unit ≡ false
+
 -- the lower-case hexadecimal digit of a number below 16
 abbrev pub hex_digit : ℕ → ℕ
 hex_digit number = if nat_lt number 10 then 48 + number else 97 + (number - 10)
@@ -20,7 +26,8 @@ hex_digit number = if nat_lt number 10 then 48 + number else 97 + (number - 10)
 -- a reverse solidus, the letter u and four digits
 unfoldable pub escape : ℕ → List ℕ
 escape unit =
-    92 ∷ 117 ∷ hex_digit (unit / 0x1000) ∷ hex_digit (unit / 0x100 % 16) ∷ hex_digit (unit / 0x10 % 16) ∷ hex_digit (unit % 16) ∷ []
+    92 ∷ 117 ∷ hex_digit (unit / 0x1000) ∷ hex_digit (unit / 0x100 % 16) ∷ hex_digit (unit / 0x10 % 16) ∷ hex_digit
+    (unit % 16) ∷ []
 
 -- a unit in no pair; where paragraphs are lines, the paragraph mark is a line feed
 abbrev pub shown_alone : Bool → ℕ → List ℕ
@@ -32,7 +39,8 @@ unfoldable pub shown : Bool → List ℕ → List ℕ
 shown lines [] = []
 shown lines (unit ∷ []) = shown_alone lines unit
 shown lines (first ∷ second ∷ rest) =
-    if is_pair first second then encode_utf8 (pair_code first second) ++ shown lines rest else shown_alone lines first ++ shown lines (second ∷ rest)
+    if is_pair first second then encode_utf8 (pair_code first second) ++ shown lines rest else shown_alone lines
+    first ++ shown lines (second ∷ rest)
 
 -- a text that more units may follow: what is settled, and the units that wait for the next one
 pub record Showing : Type 0 where

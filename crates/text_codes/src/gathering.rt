@@ -1,8 +1,8 @@
 // The units at the front of a list that are shown as themselves, as bytes in a block.
 ghost use Rattle.std.specs.Prelude.{◌≡◌, ◌+◌, ◌%◌, ◌<◌, ◌≤◌, ◌++◌, ◌⊎◌};
-ghost use Rattle.std.specs.Prelude.{List, ℕ, length, take, Bool, encode_utf8};
+ghost use Rattle.std.specs.Prelude.{List, ℕ, length, take, slice_index, Bool, IsTrue, encode_utf8};
 ghost use Rattle.std.specs.Str.{IsUtf8};
-ghost use Rattle.text_codes.specs.Shown.{shown};
+ghost use Rattle.text_codes.specs.Shown.{shown, IsPlain};
 
 use crate::showing::escapes;
 
@@ -17,8 +17,46 @@ const TWO_BYTES: u16 = 0x80;
 
 const THREE_BYTES: u16 = 0x800;
 
-/// How many units at the front are shown as themselves, as many as the block has room for, and the bytes that they take.
-/// Their bytes stand at the front of the block.
+/// How many units at the front are printable ASCII and no reverse solidus, as many as the block has room for. Their
+/// bytes stand at the front of the block.
+pub(crate) fn narrow(units: &[u16], block: &mut [u8]) -> usize
+    ensures inside { result ≤ length units.now }
+    ensures room { result ≤ length block.new }
+    ensures valid { IsUtf8 (take result block.new) }
+    ensures text { (lines : Bool) (after : List ℕ)
+        → shown lines (take result units.now ++ after) ≡ take result block.new ++ shown lines after }
+{
+    let count = plain_len(units).min(block.len());
+    for i in 0..count {
+        block[i] = units[i] as u8;
+    }
+    count
+}
+
+/// How many units at the front are printable ASCII and no reverse solidus, at most those of a block.
+fn plain_len(units: &[u16]) -> usize
+    ensures inside { result ≤ length units.now }
+    ensures plain { (k : ℕ) → k < result → IsPlain (slice_index units.now k) }
+{
+    let most = units.len().min(BLOCK_LEN);
+    for i in 0..most {
+        if !is_plain(units[i]) {
+            return i;
+        }
+    }
+    most
+}
+
+/// Whether a unit is printable ASCII and no reverse solidus.
+#[inline(always)]
+fn is_plain(unit: u16) -> bool
+    ensures { IsTrue result → IsPlain unit }
+{
+    unit >= 0x20 && unit < TWO_BYTES && unit != 0x5C
+}
+
+/// How many units at the front are shown as themselves, as many as the block has room for, and how many bytes they
+/// take. Their bytes stand at the front of the block.
 pub(crate) fn gather(units: &[u16], block: &mut [u8]) -> (usize, usize)
     ensures inside { result.0 ≤ length units.now }
     ensures room { result.1 ≤ length block.new }

@@ -6,7 +6,7 @@ ghost use Rattle.std.specs.String.{string_bytes};
 ghost use Rattle.text_codes.specs.Shown.{Showing, shown, shown_alone, completed, escape, hex_digit, is_pair};
 ghost use Rattle.text_codes.specs.Shown.{pair_code, is_escaped};
 
-use crate::gathering::{BLOCK_LEN, gather};
+use crate::gathering::{BLOCK_LEN, gather, narrow};
 use doc_bits::{Memory, Text};
 use std::alloc::Global;
 use std::marker::Model;
@@ -102,6 +102,12 @@ impl ShownText {
     {
         if self.waiting.is_none() {
             let mut block = [0u8; BLOCK_LEN];
+            let plain = narrow(units, &mut block);
+            if plain > 0 {
+                self.text
+                    .push_str(str::from_utf8(&block[..plain]).unwrap())?;
+                return Ok(plain);
+            }
             let (count, len) = gather(units, &mut block);
             if count > 0 {
                 self.text.push_str(str::from_utf8(&block[..len]).unwrap())?;

@@ -9,7 +9,8 @@ invariant-loop-count l = record {
   inside : l.count ≤ length l.units;
   room : l.len ≤ length l.block;
   valid : IsUtf8 (take l.len l.block);
-  text : (lines : Bool) (after : List ℕ) → shown lines (take l.count l.units ++ after) ≡ take l.len l.block ++ shown lines after;
+  text : (lines : Bool) (after : List ℕ) →
+      shown lines (take l.count l.units ++ after) ≡ take l.len l.block ++ shown lines after;
 }
 
 abbrev pub decreases-loop-count : goal.decreases-loop-count

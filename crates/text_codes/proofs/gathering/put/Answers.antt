@@ -4,8 +4,17 @@ use Rattle.text_codes.proofs.gathering.put.Goals as goal
 
 pub returns-then-unit-lt-THREE_BYTES-clause-bytes : goal.returns-then-unit-lt-THREE_BYTES-clause-bytes
 returns-then-unit-lt-THREE_BYTES-clause-bytes c =
-    rw (encode_utf8-two c.args.unit c.if-unit-lt-TWO_BYTES.false c.if-unit-lt-THREE_BYTES.true, ← c.continuation.ensures) (take-two_set _ _ _ _ (omega (arith, c.requires.room)))
+    rw (
+      encode_utf8-two c.args.unit c.if-unit-lt-TWO_BYTES.false c.if-unit-lt-THREE_BYTES.true,
+      ←
+          c.continuation.ensures,
+    ) (take-two_set _ _ _ _ (omega (arith, c.requires.room)))
 
 pub returns-clause-bytes : goal.returns-clause-bytes
 returns-clause-bytes c =
-    rw (encode_utf8-three c.args.unit c.if-unit-lt-THREE_BYTES.false c.ranges.unit.fits, ← c.continuation-2.ensures, ← c.continuation-3.ensures) (take-three_set _ _ _ _ _ c.requires.room)
+    rw (
+      encode_utf8-three c.args.unit c.if-unit-lt-THREE_BYTES.false c.ranges.unit.fits,
+      ← c.continuation-2.ensures,
+      ←
+          c.continuation-3.ensures,
+    ) (take-three_set _ _ _ _ _ c.requires.room)

@@ -6,8 +6,10 @@ use Rattle.text_codes.proofs.showing.ShownText.finish.Goals as goal
 
 pub returns-in_default : goal.returns-in_default
 returns-in_default c =
-    rw (← c.self.view_is, c.in_default.is, shown-nil c.self.inside.lines, append-nil (string_bytes c.self.inside.text)) c.from_string.ensures
+    rw (← c.self.view_is, c.in_default.is, shown-nil c.self.inside.lines, append-nil (string_bytes c.self.inside.text))
+    c.from_string.ensures
 
 pub returns : goal.returns
 returns c =
-    rw (← c.self.view_is, c.in-Some.is, shown-last c.self.inside.lines c.in-Some.last) (c.from_string-2.ensures ∙ c.in_ok-push_alone.ensures.ok)
+    rw (← c.self.view_is, c.in-Some.is, shown-last c.self.inside.lines c.in-Some.last)
+    (c.from_string-2.ensures ∙ c.in_ok-push_alone.ensures.ok)

@@ -1,4 +1,5 @@
-use Rattle.std.proofs.Common.{◌≡◌, ℕ, ◌-◌, ◌≤◌, List, ◌++◌, length, take, drop, arith, append_assoc, sym, ap, subst, ◌∙◌, length-drop}
+use Rattle.std.proofs.Common.{◌≡◌, ℕ, ◌-◌, ◌≤◌, List, ◌++◌, length, take, drop, arith, append_assoc, sym, ap, subst}
+use Rattle.std.proofs.Common.{◌∙◌, length-drop}
 use Rattle.std.proofs.lemmas.List.{take-append-drop, drop-drop, take_all}
 use Rattle.text_codes.specs.Shown.{completed}
 use Rattle.text_codes.proofs.showing.ShownText.push_all.Goals as goal
@@ -16,7 +17,9 @@ loop-done-preserved c =
       inside = omega (arith, short, long, c.loop-done.invariant.inside);
       text = λ after.
           let rest : List ℕ = drop count left ++ after in
-          let parts : take count left ++ rest ≡ left ++ after = sym (append_assoc (take count left) (drop count left) after) ∙ ap (λ (t : List ℕ). t ++ after) (take-append-drop count left) in
+          let parts : take count left ++ rest ≡ left ++ after = sym
+          (append_assoc (take count left) (drop count left) after) ∙ ap (λ (t : List ℕ). t ++ after)
+          (take-append-drop count left) in
           ap (λ (t : List ℕ). completed c.push_front.new.self (t ++ after)) (sym (drop-drop count done units))
           ∙ c.in_ok-done.ensures.text rest
           ∙ ap (λ (t : List ℕ). completed c.loop-done.self (take count t ++ rest)) whole
