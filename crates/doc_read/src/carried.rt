@@ -14,7 +14,7 @@ use plain_doc::Carried;
 use std::alloc::Global;
 
 /// Reads what the document carries along.
-pub(crate) fn read_carried(
+pub fn read_carried(
     alloc: Global,
     container: &Container,
     text: &LoadedText<'_>,

@@ -65,7 +65,7 @@ pub(crate) fn read_items(
 }
 
 /// A text has a unit for each CP of its stories. This does nothing when it runs.
-fn has_units(source: &Source<'_>)
+pub fn has_units(source: &Source<'_>)
     ensures { text_count source.now ≤ length source.now.text.units }
 {
     let _begin = source.story_begin(StoryKind::Heads);
@@ -108,7 +108,7 @@ fn items_of_pieces(
 }
 
 /// The number of a reader for pieces with the modifier, which is made where none of the last ones is for it.
-fn reader_for<'a>(
+pub fn reader_for<'a>(
     alloc: Global,
     text: &TextSource<'a>,
     modifier: &Modifier,

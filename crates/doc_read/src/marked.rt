@@ -22,18 +22,18 @@ use std::alloc::Global;
 
 /// The CPs of what stands at CPs, which ascend, and what stands there.
 #[derive(Drop)]
-pub(crate) struct TextMarks {
-    pub(crate) field_cps: Vec<u32>,
-    pub(crate) field_bytes: Vec<u8>,
-    pub(crate) note_cps: Vec<u32>,
-    pub(crate) note_kinds: Vec<NoteKind>,
+pub struct TextMarks {
+    pub field_cps: Vec<u32>,
+    pub field_bytes: Vec<u8>,
+    pub note_cps: Vec<u32>,
+    pub note_kinds: Vec<NoteKind>,
     /// The last CP of each section.
-    pub(crate) section_cps: Vec<u32>,
+    pub section_cps: Vec<u32>,
 }
 
 impl TextMarks {
     /// The byte of the field character at a CP.
-    pub(crate) fn byte_at(&self, next: &mut usize, cp: u32) -> Option<u8>
+    pub fn byte_at(&self, next: &mut usize, cp: u32) -> Option<u8>
         requires listed { AreListed self.now.field_cps.items self.now.field_bytes.items }
         requires passed { IsPassed self.now.field_cps.items next.old cp }
         ensures passed { IsPassed self.now.field_cps.items next.new (cp + 1) }
@@ -46,7 +46,7 @@ impl TextMarks {
     }
 
     /// The kind of the note that the unit at a CP refers to.
-    pub(crate) fn kind_at(&self, next: &mut usize, cp: u32) -> Option<NoteKind>
+    pub fn kind_at(&self, next: &mut usize, cp: u32) -> Option<NoteKind>
         requires listed { AreListed self.now.note_cps.items self.now.note_kinds.items }
         requires passed { IsPassed self.now.note_cps.items next.old cp }
         ensures passed { IsPassed self.now.note_cps.items next.new (cp + 1) }
@@ -59,7 +59,7 @@ impl TextMarks {
     }
 
     /// The settings of the section that ends with a CP.
-    pub(crate) fn section_at(
+    pub fn section_at(
         &self,
         alloc: Global,
         maps: &SectionMaps,
@@ -81,7 +81,7 @@ impl TextMarks {
 }
 
 /// Reads what stands at the CPs of the whole text.
-pub(crate) fn read_marks(
+pub fn read_marks(
     alloc: Global,
     source: &Source<'_>,
     parts: &DocParts<'_>,

@@ -103,7 +103,7 @@ pub fn read(alloc: Global, file: &[u8]) -> Result<Opened, ReadFault>
 }
 
 /// The streams of a file.
-fn load(alloc: Global, file: &[u8]) -> Result<Container, ReadFault>
+pub fn load(alloc: Global, file: &[u8]) -> Result<Container, ReadFault>
     ensures { MatchResult result
         (λ container. Hold (rules_in File (container_rules file.now)) × HasContents file.now container
         × AreWithinBounds container)

@@ -23,26 +23,26 @@ use text_codes::ends_paragraph;
 /// What the items of a text are read from: `WordDocument` with its bin tables, the units and their
 /// places by CP, and what stands at CPs.
 #[derive(Drop)]
-pub(crate) struct TextSource<'a> {
-    pub(crate) wd: &'a [u8],
-    pub(crate) characters: &'a [u8],
-    pub(crate) paragraphs: &'a [u8],
-    pub(crate) units: &'a [u16],
-    pub(crate) places: &'a [u32],
-    pub(crate) marks: &'a TextMarks,
-    pub(crate) maps: &'a SectionMaps,
+pub struct TextSource<'a> {
+    pub wd: &'a [u8],
+    pub characters: &'a [u8],
+    pub paragraphs: &'a [u8],
+    pub units: &'a [u16],
+    pub places: &'a [u32],
+    pub marks: &'a TextMarks,
+    pub maps: &'a SectionMaps,
 }
 
 /// Reads the settings of the pieces with one modifier: those of characters, and those of paragraph marks.
 #[derive(Drop)]
-pub(crate) struct PieceReader<'a> {
-    pub(crate) characters: PlaceReader<'a>,
-    pub(crate) marks: PlaceReader<'a>,
+pub struct PieceReader<'a> {
+    pub characters: PlaceReader<'a>,
+    pub marks: PlaceReader<'a>,
 }
 
 impl<'a> PieceReader<'a> {
     /// A reader of pieces with this modifier.
-    pub(crate) fn new(
+    pub fn new(
         alloc: Global,
         text: &TextSource<'a>,
         modifier: &Modifier,
@@ -66,11 +66,11 @@ impl<'a> PieceReader<'a> {
 
 /// How many CPs of each list are passed, and a CP up to which nothing more stands at one.
 #[derive(Clone, Copy)]
-pub(crate) struct Passed {
-    pub(crate) field: usize,
-    pub(crate) note: usize,
-    pub(crate) section: usize,
-    pub(crate) until: u32,
+pub struct Passed {
+    pub field: usize,
+    pub note: usize,
+    pub section: usize,
+    pub until: u32,
 }
 
 /// Reads the item of a CP, which has these settings of characters and stands in a piece of the reader.
@@ -111,7 +111,7 @@ pub(crate) fn item_at(
 }
 
 /// The next CP where something stands, or the greatest number.
-pub(crate) fn next_marked(text: &TextSource<'_>, passed: &Passed) -> u32
+pub fn next_marked(text: &TextSource<'_>, passed: &Passed) -> u32
     requires readable { IsReadable (text_view text.now) }
     ensures { (cp at : ℕ) → ArePassed (mark_lists text.now.marks.now) passed.now cp → cp ≤ at → at ≤ result
         → ArePassed (mark_lists text.now.marks.now) passed.now at }
@@ -123,7 +123,7 @@ pub(crate) fn next_marked(text: &TextSource<'_>, passed: &Passed) -> u32
 }
 
 /// Reads the mark of a unit that ends a paragraph.
-fn mark_at(
+pub fn mark_at(
     alloc: Global,
     fc: u32,
     ends: bool,

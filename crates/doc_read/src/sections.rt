@@ -17,7 +17,7 @@ use std::marker::Model;
 
 /// The settings of each section. A map may be shared.
 #[derive(Drop)]
-pub(crate) struct SectionMaps {
+pub struct SectionMaps {
     maps: Vec<PropMap>,
 }
 
@@ -34,7 +34,8 @@ impl Model for SectionMaps {
 }
 
 impl SectionMaps {
-    pub(crate) fn get(&self, k: usize) -> &PropMap
+    /// The settings of section `k`.
+    pub fn get(&self, k: usize) -> &PropMap
         requires { k < length self.now }
         ensures { slice_get self.now k ≡ Some result.now }
     {
@@ -43,7 +44,7 @@ impl SectionMaps {
 }
 
 /// Reads the settings of the sections.
-pub(crate) fn read_section_maps(
+pub fn read_section_maps(
     alloc: Global,
     text: &LoadedText<'_>,
     sections: &Seds,

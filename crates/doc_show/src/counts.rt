@@ -1,6 +1,5 @@
 // The line on a document that breaks no rule: how much it has.
 ghost use Rattle.std.specs.Prelude.{◌≡◌, IfOk};
-ghost use Rattle.std.specs.String.{string_bytes};
 ghost use Rattle.doc_show.specs.Counts.{accepted_line_of, counts_line, counts_of, style_count};
 
 use doc_bits::{Memory, Text};
@@ -10,13 +9,13 @@ use style_sheet::StyleSheet;
 
 /// How much a document has.
 #[derive(Clone, Copy)]
-struct Counts {
+pub struct Counts {
     /// The items of all texts.
-    units: u128,
-    styles: usize,
-    sections: usize,
-    notes: usize,
-    streams: usize,
+    pub units: u128,
+    pub styles: usize,
+    pub sections: usize,
+    pub notes: usize,
+    pub streams: usize,
 }
 
 /// The line that says how much an accepted document has: the items of all its texts, its styles,
@@ -24,8 +23,7 @@ struct Counts {
 pub fn accepted_line(alloc: Global, document: &Document) -> Result<Text, Memory>
     ensures { IfOk result (λ text. text ≡ accepted_line_of document.now) }
 {
-    let line = counts_text(alloc, &counts_in(document))?;
-    Ok(Text::from_string(line))
+    counts_text(alloc, &counts_in(document))
 }
 
 /// How much a document has.
@@ -42,8 +40,8 @@ fn counts_in(document: &Document) -> Counts
 }
 
 /// The line on these counts.
-fn counts_text(alloc: Global, counts: &Counts) -> Result<String, Memory>
-    ensures { IfOk result (λ text. string_bytes text ≡ counts_line counts.now) }
+pub fn counts_text(alloc: Global, counts: &Counts) -> Result<Text, Memory>
+    ensures { IfOk result (λ text. text ≡ counts_line counts.now) }
 {
     let Counts {
         units,
@@ -55,11 +53,11 @@ fn counts_text(alloc: Global, counts: &Counts) -> Result<String, Memory>
     let line = format!(in alloc;
         "accepted: units {units} styles {styles} sections {sections} notes {notes} streams {streams}\n"
     )?;
-    Ok(line)
+    Ok(Text::from_string(line))
 }
 
 /// How many slots of a sheet have a style.
-fn styles_in(sheet: &StyleSheet) -> usize
+pub fn styles_in(sheet: &StyleSheet) -> usize
     ensures { result ≡ style_count sheet.now }
 {
     let mut count = 0;

@@ -10,7 +10,7 @@ mod story;
 mod styles;
 mod texts;
 
-pub use counts::accepted_line;
+pub use counts::{Counts, accepted_line, counts_text, styles_in};
 pub use laws::property_lines_are_one;
 pub use plain_text::main_text;
 pub use properties::props_lines;

@@ -22,21 +22,25 @@ use text_codes::PARAGRAPH_MARK;
 const SPRM_C_F_SPEC: Code = Code(0x0855);
 
 /// [MS-DOC] sprmCFSpec, sprmCFData and sprmCPicLocation.
-const SPECIAL_CODES: [Code; 3] = [Code(0x0855), Code(0x0806), Code(0x6A03)];
+pub const SPECIAL_CODES: [Code; 3] = [Code(0x0855), Code(0x0806), Code(0x6A03)];
 
-const FIELD_BEGIN: u16 = 0x13;
+/// [MS-DOC] The unit that begins a field.
+pub const FIELD_BEGIN: u16 = 0x13;
 
-const FIELD_SEPARATOR: u16 = 0x14;
+/// The unit between the code and the result of a field.
+pub const FIELD_SEPARATOR: u16 = 0x14;
 
-const FIELD_END: u16 = 0x15;
+/// The unit that ends a field.
+pub const FIELD_END: u16 = 0x15;
 
-/// The byte of a separator and of an end.
-const SEPARATOR_BYTE: u8 = 0xFF;
+/// The byte of a separator.
+pub const SEPARATOR_BYTE: u8 = 0xFF;
 
-const END_BYTE: u8 = 0x80;
+/// The byte of an end.
+pub const END_BYTE: u8 = 0x80;
 
 /// The unit that refers to a note, and that begins its text.
-const NOTE_UNIT: u16 = 0x02;
+pub const NOTE_UNIT: u16 = 0x02;
 
 /// The settings of the item at the place, without what makes a unit special.
 pub(crate) fn base_settings(alloc: Global, text: &[Item], at: usize) -> Result<PropMap, Memory>
@@ -61,7 +65,7 @@ fn without_special(alloc: Global, item: &Item) -> Result<PropMap, Memory>
 }
 
 /// The settings, of a special unit.
-fn special(alloc: Global, base: &PropMap) -> Result<PropMap, Memory>
+pub fn special(alloc: Global, base: &PropMap) -> Result<PropMap, Memory>
     requires { IsPropertyMap character_groups base.now }
     ensures map { IfOk result (λ made. made ≡ special_of base.now) }
     ensures formed { IfOk result (IsPropertyMap character_groups) }
@@ -72,7 +76,7 @@ fn special(alloc: Global, base: &PropMap) -> Result<PropMap, Memory>
 }
 
 /// A unit with these settings and nothing beside them.
-fn unit_item(alloc: Global, chp: &PropMap, unit: u16) -> Result<Item, Memory>
+pub fn unit_item(alloc: Global, chp: &PropMap, unit: u16) -> Result<Item, Memory>
     requires { IsPropertyMap character_groups chp.now }
     ensures item { IfOk result (λ made. made ≡ item_of chp.now unit) }
     ensures maps { IfOk result HasPropertyMaps }
@@ -88,7 +92,7 @@ fn unit_item(alloc: Global, chp: &PropMap, unit: u16) -> Result<Item, Memory>
 }
 
 /// A unit with a mark.
-pub(crate) fn mark_item(alloc: Global, chp: &PropMap, unit: u16, mark: Mark) -> Result<Item, Memory>
+pub fn mark_item(alloc: Global, chp: &PropMap, unit: u16, mark: Mark) -> Result<Item, Memory>
     requires chp { IsPropertyMap character_groups chp.now }
     requires pap { IsPropertyMap paragraph_groups mark.pap }
     ensures item { IfOk result (λ made. made ≡ marked_item chp.now unit mark) }
@@ -105,7 +109,7 @@ pub(crate) fn mark_item(alloc: Global, chp: &PropMap, unit: u16, mark: Mark) -> 
 }
 
 /// A paragraph mark of style 0 without settings. It takes no memory.
-fn plain_end(alloc: Global) -> Item
+pub fn plain_end(alloc: Global) -> Item
     ensures item { result ≡ end_of }
     ensures maps { HasPropertyMaps result }
 {
@@ -174,7 +178,7 @@ fn first_items(alloc: Global, units: &[u16]) -> Result<Items, Memory>
 }
 
 /// A field character with its byte, of special settings.
-fn field_mark(alloc: Global, chp: &PropMap, unit: u16, byte: u8) -> Result<Item, Memory>
+pub fn field_mark(alloc: Global, chp: &PropMap, unit: u16, byte: u8) -> Result<Item, Memory>
     requires { IsPropertyMap character_groups chp.now }
     ensures item { IfOk result (λ made. made ≡ record (item_of chp.now unit) { fld = Some byte }) }
     ensures maps { IfOk result HasPropertyMaps }

@@ -31,7 +31,7 @@ fn is_table_code(code: u16) -> bool
 }
 
 /// The settings without codes of tables.
-fn outside_tables(alloc: Global, pap: &PropMap) -> Result<PropMap, Memory>
+pub fn outside_tables(alloc: Global, pap: &PropMap) -> Result<PropMap, Memory>
     ensures map { IfOk result (λ made. made ≡ retain_keys pap.now (λ code. not (of_table code))) }
     ensures formed { IfOk result (λ made. StaysFormed paragraph_groups pap.now made) }
 {

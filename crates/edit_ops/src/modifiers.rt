@@ -8,7 +8,7 @@ use prop_map::{Modifier, PropMap};
 use std::alloc::Global;
 
 /// The modifier that sets characters.
-pub(crate) fn setting_characters(alloc: Global, set: &PropMap) -> Result<Modifier, Memory>
+pub fn setting_characters(alloc: Global, set: &PropMap) -> Result<Modifier, Memory>
     ensures { IfOk result (λ made. made ≡ that_sets set.now) }
 {
     let mut modifier = Modifier::none(alloc);
@@ -17,7 +17,7 @@ pub(crate) fn setting_characters(alloc: Global, set: &PropMap) -> Result<Modifie
 }
 
 /// The modifier that clears characters.
-pub(crate) fn clearing(alloc: Global) -> Modifier
+pub fn clearing(alloc: Global) -> Modifier
     ensures { result ≡ that_clears }
 {
     let mut modifier = Modifier::none(alloc);
@@ -26,7 +26,7 @@ pub(crate) fn clearing(alloc: Global) -> Modifier
 }
 
 /// The modifier that sets paragraphs.
-pub(crate) fn setting_paragraphs(alloc: Global, set: &PropMap) -> Result<Modifier, Memory>
+pub fn setting_paragraphs(alloc: Global, set: &PropMap) -> Result<Modifier, Memory>
     ensures { IfOk result (λ made. made ≡ that_sets_marks set.now) }
 {
     let mut modifier = Modifier::none(alloc);
@@ -35,7 +35,7 @@ pub(crate) fn setting_paragraphs(alloc: Global, set: &PropMap) -> Result<Modifie
 }
 
 /// The modifier that names a style.
-pub(crate) fn naming_style(alloc: Global, istd: u16) -> Modifier
+pub fn naming_style(alloc: Global, istd: u16) -> Modifier
     ensures { result ≡ that_names istd }
 {
     let mut modifier = Modifier::none(alloc);

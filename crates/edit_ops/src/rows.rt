@@ -33,7 +33,7 @@ const TC_LEN: usize = 20;
 const MOST_TC_BYTES: usize = 1260;
 
 /// The settings of a paragraph in a table.
-fn cell_settings(alloc: Global) -> Result<PropMap, Memory>
+pub fn cell_settings(alloc: Global) -> Result<PropMap, Memory>
     ensures map { IfOk result (λ made. made ≡ settings_of_cells) }
     ensures formed { IfOk result (IsPropertyMap paragraph_groups) }
 {
@@ -67,7 +67,7 @@ fn push_zeros(bytes: &mut Bytes, count: usize) -> Result<(), Memory>
 }
 
 /// The settings of the mark of a row.
-fn row_settings(alloc: Global, cells: u8, width: u16) -> Result<PropMap, Memory>
+pub fn row_settings(alloc: Global, cells: u8, width: u16) -> Result<PropMap, Memory>
     requires cells { cells ≤ 63 }
     requires within { cells * width ≤ 32767 }
     ensures map { IfOk result (λ made. made ≡ settings_of_row cells width) }
@@ -82,7 +82,7 @@ fn row_settings(alloc: Global, cells: u8, width: u16) -> Result<PropMap, Memory>
 }
 
 /// The mark that ends a cell or a row, with these settings.
-fn table_mark(alloc: Global, pap: PropMap) -> Result<Item, Memory>
+pub fn table_mark(alloc: Global, pap: PropMap) -> Result<Item, Memory>
     requires { IsPropertyMap paragraph_groups pap }
     ensures item { IfOk result (λ made. made ≡ marked_item empty 0x07 (mark_with pap)) }
     ensures maps { IfOk result HasPropertyMaps }
