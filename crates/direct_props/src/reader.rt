@@ -1,5 +1,5 @@
 // Readers of the settings of places, which keep what each list makes.
-ghost use Rattle.std.specs.Prelude.{◌≡◌, ◌<◌, ◌≤◌, ◌^◌, ℕ, length, IsTrue, IfOk, OnOk, OnErr};
+ghost use Rattle.std.specs.Prelude.{◌≡◌, ◌+◌, ◌<◌, ◌≤◌, ◌^◌, ℕ, length, slice_index, IsTrue, IfOk, OnOk, OnErr};
 ghost use Rattle.prop_map.specs.Formed.{IsPropertyMap, paragraph_groups};
 ghost use Rattle.prop_map.specs.Modifiers.{IsFormedModifier};
 ghost use Rattle.fkp_pages.specs.declared.kind.PageKind.TheVariants.{Chpx, Papx};
@@ -15,6 +15,7 @@ use crate::{CharacterSettings, DirectMark};
 use doc_bits::Memory;
 use fkp_pages::PageKind;
 use prop_map::{Modifier, PropMap};
+use run_lists::Runs;
 use std::alloc::Global;
 use std::marker::Model;
 
@@ -125,6 +126,46 @@ impl<'a> PlaceReader<'a> {
         Ok(())
     }
 
+    /// Appends the direct settings of the characters at these places, run by run. After want of memory some of them
+    /// may stand in the list.
+    pub fn push_character_runs(
+        &mut self,
+        alloc: Global,
+        places: &[u32],
+        runs: &mut Runs<PropMap>,
+    ) -> Result<(), Memory>
+        requires kind { self.old.kind ≡ Chpx }
+        requires right { AreRightPlaces Chpx self.old.wd self.old.bin places.now }
+        requires few { length runs.old + length places.now < 2 ^ 32 }
+        ensures same { self.new ≡ self.old }
+        ensures ok { OnOk result
+            (AddsCharacters self.old.wd self.old.bin places.now self.old.modifier runs.old runs.new) }
+        ensures err { OnErr result (BeginsWith runs.old runs.new) }
+    {
+        let mut done = 0;
+        while done < places.len() {
+            let stretch = self.stretch_around(alloc, places[done])?;
+            let CharacterStretch { first, last, map } = stretch;
+            let count = count_within(places, done, first, last);
+            runs.add(count as u32, map)?;
+            done += count;
+        }
+        Ok(())
+    }
+
+    /// The places around one that have its settings.
+    fn stretch_around(&mut self, alloc: Global, fc: u32) -> Result<CharacterStretch, Memory>
+        requires kind { self.old.kind ≡ Chpx }
+        requires right { IsRightPlace Chpx self.old.wd self.old.bin fc }
+        ensures same { self.new ≡ self.old }
+        ensures around { IfOk result
+            (λ s. HasSettingsAround self.old.wd self.old.bin self.old.modifier fc s.first s.last s.map) }
+    {
+        let MadeStretch { first, last, made } = self.made_around(alloc, fc)?;
+        let Made { istd: _, map } = made;
+        Ok(CharacterStretch { first, last, map })
+    }
+
     /// The stretch where it has the place, or else the one around the place.
     fn stretch_with(
         &mut self,
@@ -143,9 +184,8 @@ impl<'a> PlaceReader<'a> {
         if current.first <= fc && fc <= current.last {
             return Ok(current);
         }
-        let MadeStretch { first, last, made } = self.made_around(alloc, fc)?;
-        let Made { istd: _, map } = made;
-        Ok(CharacterStretch { first, last, map })
+        let stretch = self.stretch_around(alloc, fc)?;
+        Ok(stretch)
     }
 
     /// Reads the mark at a place.
@@ -199,4 +239,20 @@ struct CharacterStretch {
     first: u32,
     last: u32,
     map: PropMap,
+}
+
+/// How many places in a row, from the one of number `done` on, are from `first` to `last`, as that one is.
+fn count_within(places: &[u32], done: usize, first: u32, last: u32) -> usize
+    requires there { done < length places.now }
+    ensures some { 0 < result }
+    ensures inside { done + result ≤ length places.now }
+    ensures above { (k : ℕ) → done < k → k < done + result → first ≤ slice_index places.now k }
+    ensures below { (k : ℕ) → done < k → k < done + result → slice_index places.now k ≤ last }
+{
+    for k in done + 1..places.len() {
+        if places[k] < first || places[k] > last {
+            return k - done;
+        }
+    }
+    places.len() - done
 }

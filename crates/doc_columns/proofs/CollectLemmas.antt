@@ -120,6 +120,18 @@ run_items text units chps besides place count beside whole range =
     ∙ items_of-range units chps besides place (place + count)
     ∙ ap (λ (items : List Item). slice_range items place (place + count)) whole
 
+-- the items of a run are put behind those before it
+pub run_put : (text : List Item) (units : List ℕ) (chps : List Settings) (besides : List Beside) (place : ℕ)
+    (run : Run Beside) (items new : List Item) → items_of units chps besides ≡ text →
+    slice_range besides place (place + run.count) ≡ replicate run.count run.value → items ≡ take place text
+    → new ≡ items ++ items_of_run units chps place run → new ≡ take (place + run.count) text
+run_put text units chps besides place run items new whole range so_far put =
+    put
+    ∙ ap (λ (some : List Item). some ++ items_of_run units chps place run) so_far
+    ∙ ap (λ (some : List Item). take place text ++ some)
+    (run_items text units chps besides place run.count run.value whole range)
+    ∙ sym (front_more text place run.count)
+
 -- a run of items that have something beside
 pub special_collected : (text : List Item) (units : List ℕ) (chps : List Settings) (besides : List Beside)
     (place count : ℕ) (beside : Beside) (items : List Item) → items_of units chps besides ≡ text →

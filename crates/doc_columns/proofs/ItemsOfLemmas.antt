@@ -1,15 +1,18 @@
 -- The items of three columns: lengths, parts, places.
-use Rattle.std.proofs.Common.{◌≡◌, ℕ, zero, suc, ◌+◌, ◌-◌, ◌<◌, ◌≤◌, ◌^◌, List, [], ◌∷◌, ◌++◌, length, take, drop, map, Some, refl, sym, ◌∙◌, ap, arith, length-append, length-take-le}
-use Rattle.std.specs.Prelude.{slice_get, slice_range}
+use Rattle.std.proofs.Common.{◌≡◌, ℕ, zero, suc, ◌+◌, ◌-◌, ◌<◌, ◌≤◌, ◌^◌, List, [], ◌∷◌, ◌++◌, length, take, drop, map, Some, refl, sym, ◌∙◌, ap, subst, arith, length-append, length-take-le}
+use Rattle.std.specs.Prelude.{slice_get, slice_range, replicate}
 use Rattle.std.specs.List.{All, splice}
-use Rattle.std.proofs.lemmas.List.Elements.{All-nil, All-cons, All-head, All-tail}
+use Rattle.std.proofs.lemmas.List.{length-map, length-replicate}
+use Rattle.std.proofs.lemmas.List.Elements.{All-nil, All-cons, All-head, All-tail, All-append}
+use Rattle.prop_map.specs.Formed.{IsPropertyMap, character_groups}
 use Rattle.prop_map.specs.Settings.{Settings}
 use Rattle.plain_doc.specs.declared.item.Item.{Item}
-use Rattle.plain_doc.specs.Document.{HasPropertyMaps, IsFormedItem}
-use Rattle.plain_doc.proofs.FormedLemmas.{length-splice, IsFormedList-splice, IsFormedList-add}
+use Rattle.plain_doc.specs.declared.item.Mark.{Mark}
+use Rattle.plain_doc.specs.Document.{HasPropertyMaps, IsFormedItem, IsFormedText}
+use Rattle.plain_doc.proofs.FormedLemmas.{length-splice, IsFormedList-splice, IsFormedList-add, ForSome-from_cases, HasPropertyMaps-from_parts}
 use Rattle.doc_columns.specs.declared.beside.Beside.{Beside}
-use Rattle.doc_columns.specs.Beside.{beside_of, IsRanged}
-use Rattle.doc_columns.specs.Columns.{item_of, items_of, AreColumns}
+use Rattle.doc_columns.specs.Beside.{beside_of, nothing, IsRanged}
+use Rattle.doc_columns.specs.Columns.{item_of, items_of, bare_items, AreColumns}
 
 -- ---- lengths
 
@@ -301,4 +304,80 @@ added_are units chps besides new_units new_chps new_besides unit chp beside are 
       formed =
           IsFormedList-add IsFormedItem (items_of units chps besides) (items_of new_units new_chps new_besides)
           (item_of unit chp beside) made (omega (arith, all)) are.formed (formed_item unit chp beside word ranged maps);
+    }
+
+-- ---- bare items more
+
+-- units with the same settings and nothing beside them are such columns
+pub bare_columns : (units : List ℕ) (chp : Settings) →
+    items_of units (replicate (length units) chp) (replicate (length units) nothing) ≡ bare_items chp units
+bare_columns [] chp = refl
+bare_columns (unit ∷ units) chp = ap (λ (rest : List Item). item_of unit chp nothing ∷ rest) (bare_columns units chp)
+
+bare_are : (units : List ℕ) (chp : Settings) → IsPropertyMap character_groups chp → All (λ unit. unit < 2 ^ 16) units →
+    All IsFormedItem (bare_items chp units)
+bare_are [] chp map words = All-nil IsFormedItem
+bare_are (unit ∷ units) chp map words =
+    All-cons IsFormedItem (item_of unit chp nothing) (bare_items chp units)
+    (formed_item unit chp nothing (All-head (λ n. n < 2 ^ 16) unit units words)
+    (record { style = ForSome-from_cases _ (λ (mark : Mark). mark.istd < 2 ^ 16) tt; field = ForSome-from_cases _ (λ (byte : ℕ). byte < 2 ^ 8) tt })
+    (HasPropertyMaps-from_parts (item_of unit chp nothing) map tt tt))
+    (bare_are units chp map (All-tail (λ n. n < 2 ^ 16) unit units words))
+
+-- the text of columns with bare items more
+pub appended_columns : (units : List ℕ) (chps : List Settings) (besides : List Beside) (new_units : List ℕ)
+    (new_chps : List Settings) (new_besides : List Beside) (more : List ℕ) (chp : Settings)
+    (text : List Item) → AreColumns units chps besides → items_of units chps besides ≡ text →
+    new_units ≡ units ++ more → new_chps ≡ chps ++ replicate (length more) chp
+    → new_besides ≡ besides ++ replicate (length more) nothing
+    → items_of new_units new_chps new_besides ≡ text ++ bare_items chp more
+appended_columns units chps besides new_units new_chps new_besides more chp text are text_is first second third =
+    let columns : items_of new_units new_chps new_besides
+    ≡ items_of (units ++ more) (chps ++ replicate (length more) chp) (besides ++ replicate (length more) nothing) =
+    rw (first, second, third) refl in
+    columns
+    ∙ items_of-append units chps besides more (replicate (length more) chp) (replicate (length more) nothing)
+    are.chps_long are.besides_long
+    ∙ ap (λ (items : List Item). items ++ items_of more (replicate (length more) chp) (replicate (length more) nothing))
+    text_is
+    ∙ ap (λ (items : List Item). text ++ items) (bare_columns more chp)
+
+pub appended_are : (units : List ℕ) (chps : List Settings) (besides : List Beside) (new_units : List ℕ)
+    (new_chps : List Settings) (new_besides : List Beside) (more : List ℕ) (chp : Settings) →
+    AreColumns units chps besides → new_units ≡ units ++ more → new_chps ≡ chps ++ replicate (length more) chp
+    → new_besides ≡ besides ++ replicate (length more) nothing → length units + length more < 2 ^ 32
+    → IsPropertyMap character_groups chp → All (λ unit. unit < 2 ^ 16) more
+    → AreColumns new_units new_chps new_besides
+appended_are units chps besides new_units new_chps new_besides more chp are first second third few map words =
+    let all = length-items_of units chps besides are.chps_long are.besides_long in
+    let made = appended_columns units chps besides new_units new_chps new_besides more chp
+    (items_of units chps besides) are refl first second third in
+    let front = items_of units chps besides in
+    let long : length (bare_items chp more) ≡ length more = length-map more (λ (unit : ℕ). item_of unit chp nothing) in
+    record {
+      chps_long =
+          omega (
+            arith,
+            ap length first,
+            ap length second,
+            length-append units more,
+            length-append chps (replicate (length more) chp),
+            length-replicate (length more) chp,
+            are.chps_long,
+          );
+      besides_long =
+          omega (
+            arith,
+            ap length first,
+            ap length third,
+            length-append units more,
+            length-append besides (replicate (length more) nothing),
+            length-replicate (length more) nothing,
+            are.besides_long,
+          );
+      formed =
+          subst IsFormedText (sym made) (record {
+            few = omega (arith, length-append front (bare_items chp more), long, all, few);
+            each = All-append IsFormedItem front (bare_items chp more) are.formed.each (bare_are more chp map words);
+          });
     }

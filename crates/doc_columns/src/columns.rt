@@ -2,10 +2,11 @@
 ghost use Rattle.std.specs.Prelude.{◌≡◌, ◌+◌, ◌-◌, ◌^◌, ◌<◌, ◌≤◌};
 ghost use Rattle.std.specs.Prelude.{[], ◌∷◌, ◌++◌, length, map, slice_get, All, Some, IfOk};
 ghost use Rattle.std.specs.List.{splice};
+ghost use Rattle.prop_map.specs.Formed.{IsPropertyMap, character_groups};
 ghost use Rattle.run_lists.specs.Spread.{spread};
 ghost use Rattle.plain_doc.specs.Document.{HasPropertyMaps, IsFormedText};
 ghost use Rattle.doc_columns.specs.Beside.{beside_of};
-ghost use Rattle.doc_columns.specs.Columns.{item_of, items_of};
+ghost use Rattle.doc_columns.specs.Columns.{item_of, items_of, bare_items};
 
 use crate::Beside;
 use crate::ranges::{are_ranged, are_words, is_ranged, is_word};
@@ -125,6 +126,28 @@ impl Columns {
         units.push(unit)?;
         chps.add(1, chp)?;
         besides.add(1, beside)?;
+        Ok(Columns {
+            units,
+            chps,
+            besides,
+        })
+    }
+
+    /// The text with units more, which have the same settings and nothing beside them.
+    pub fn add_units(self, more: &[u16], chp: PropMap) -> Result<Columns, Memory>
+        requires few { length self + length more.now < 2 ^ 32 }
+        requires map { IsPropertyMap character_groups chp }
+        ensures { IfOk result (λ made. made ≡ self ++ bare_items chp more.now) }
+    {
+        let Columns {
+            mut units,
+            mut chps,
+            mut besides,
+        } = self;
+        are_words(more);
+        units.extend_from_slice(more)?;
+        chps.add(more.len() as u32, chp)?;
+        besides.add(more.len() as u32, Beside::none())?;
         Ok(Columns {
             units,
             chps,

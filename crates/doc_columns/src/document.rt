@@ -1,6 +1,10 @@
 // A document by columns. Contracts see the document.
+ghost use Rattle.std.specs.Prelude.{◌≡◌, IfOk};
+
 use crate::{ColumnTexts, Columns};
+use doc_bits::Memory;
 use plain_doc::Carried;
+use std::alloc::Global;
 use std::marker::Model;
 use style_sheet::StyleSheet;
 
@@ -29,4 +33,19 @@ impl Model for ColumnDocument {
       sheet = d.sheet;
       carried = d.carried;
     } };
+}
+
+impl ColumnDocument {
+    /// The same document. Maps and styles are shared.
+    pub fn copy(&self, alloc: Global) -> Result<ColumnDocument, Memory>
+        ensures { IfOk result (λ copy. copy ≡ self.now) }
+    {
+        Ok(ColumnDocument {
+            main: self.main.copy(alloc, 0, self.main.len())?,
+            notes: self.notes.copy(alloc, 0, self.notes.len())?,
+            heads: self.heads.copy(alloc, 0, self.heads.len())?,
+            sheet: self.sheet.copy(alloc)?,
+            carried: self.carried.copy(alloc)?,
+        })
+    }
 }

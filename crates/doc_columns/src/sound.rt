@@ -77,7 +77,7 @@ fn breaks_no_rule(document: &Document) -> bool
 }
 
 /// How many items all texts have.
-fn all_items(document: &ColumnDocument) -> u128
+pub fn all_items(document: &ColumnDocument) -> u128
     ensures { result ≡ item_count document.now }
 {
     let beside = items_of(&document.notes) as u128 + items_of(&document.heads) as u128;

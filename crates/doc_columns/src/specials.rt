@@ -24,9 +24,9 @@ const CHP_MOST: u64 = 255;
 
 /// The units of a text and the runs of their settings.
 #[derive(Drop)]
-struct TextParts<'a> {
-    units: &'a [u16],
-    chps: &'a [Run<PropMap>],
+pub(crate) struct TextParts<'a> {
+    pub(crate) units: &'a [u16],
+    pub(crate) chps: &'a [Run<PropMap>],
 }
 
 /// The items of each text that have something beside their settings. There is no answer where
@@ -169,7 +169,7 @@ fn take_run(
 }
 
 /// Appends the items of a run from a place on.
-fn push_run(
+pub(crate) fn push_run(
     alloc: Global,
     parts: &TextParts<'_>,
     cursor: &mut Cursor,

@@ -1,11 +1,15 @@
 // The notes or the header texts of a document by columns.
-ghost use Rattle.std.specs.Prelude.{◌≡◌, ◌+◌, ◌^◌, ◌<◌, [], ◌∷◌, ◌++◌, length, slice_get, Some, OnOk, OnErr};
+ghost use Rattle.std.specs.Prelude.{◌≡◌, ◌+◌, ◌-◌, ◌^◌, ◌<◌, ◌≤◌, [], ◌∷◌, ◌++◌, length};
+ghost use Rattle.std.specs.Prelude.{slice_get, slice_set, slice_range, Some, IfOk, OnOk, OnErr};
+ghost use Rattle.std.specs.List.{splice};
 ghost use Rattle.plain_doc.specs.Document.{AreFormedTexts};
 
 use crate::Columns;
 use doc_bits::Memory;
+use run_lists::splice_list;
 use std::alloc::Global;
 use std::marker::Model;
+use std::mem;
 
 /// A list of texts by columns: the notes, or the header texts.
 #[derive(Drop)]
@@ -62,5 +66,41 @@ impl ColumnTexts {
         let _len = text.len();
         self.texts.push(text)?;
         Ok(())
+    }
+
+    /// The texts from `from` to before `to`. Their maps are shared.
+    pub fn copy(&self, alloc: Global, from: usize, to: usize) -> Result<ColumnTexts, Memory>
+        requires ordered { from ≤ to }
+        requires within { to ≤ length self.now }
+        ensures { IfOk result (λ copy. copy ≡ slice_range self.now from to) }
+    {
+        let range = &self.texts[from..to];
+        let mut texts = Vec::with_capacity(alloc, range.len())?;
+        for text in range {
+            texts.push(text.copy(alloc, 0, text.len())?)?;
+        }
+        Ok(ColumnTexts { texts })
+    }
+
+    /// Puts `fresh` in place of the texts from `from` to before `to`. Each text is moved once.
+    pub fn splice(&mut self, from: usize, to: usize, fresh: ColumnTexts) -> Result<(), Memory>
+        requires ordered { from ≤ to }
+        requires within { to ≤ length self.old }
+        requires few { length self.old + length fresh < 2 ^ 32 + (to - from) }
+        ensures ok { OnOk result (self.new ≡ splice self.old from to fresh) }
+        ensures err { OnErr result (self.new ≡ self.old) }
+    {
+        splice_list(&mut self.texts, from, to, fresh.texts)?;
+        Ok(())
+    }
+
+    /// Puts a text in place of another, and hands back the old one. It takes no memory.
+    pub fn replace(&mut self, i: usize, text: Columns) -> Columns
+        requires within { i < length self.old }
+        ensures old { slice_get self.old i ≡ Some result }
+        ensures new { self.new ≡ slice_set self.old i text }
+    {
+        let _len = text.len();
+        mem::replace(&mut self.texts[i], text)
     }
 }

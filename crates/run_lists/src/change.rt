@@ -2,9 +2,11 @@
 ghost use Rattle.std.specs.Prelude.{◌≡◌, ◌≤◌, ◌<◌, ◌^◌, length, slice_range, IfOk, OnOk, OnErr};
 ghost use Rattle.doc_bits.specs.Together.{AreTogether};
 ghost use Rattle.run_lists.specs.Spread.{spread, extent};
+ghost use Rattle.run_lists.specs.Places.{IsAt, IsFound};
 ghost use Rattle.run_lists.specs.Changed.{IsChanged};
 
-use crate::{Run, Runs, Shared, find};
+use crate::cursor::reach;
+use crate::{Cursor, Run, Runs, Shared, Spot, find};
 use doc_bits::Memory;
 use std::alloc::Global;
 
@@ -45,7 +47,8 @@ impl<T: Shared> Runs<T> {
         ensures ok { OnOk result (IsChanged (C.becomes by.now) from to self.old self.new) }
         ensures err { OnErr result (self.new ≡ self.old) }
     {
-        let fresh = changed(alloc, &self.runs, from, to, by)?;
+        let spot = find(&self.runs, 0, from);
+        let fresh = changed(alloc, &self.runs, spot, from, to, by)?;
         self.splice(alloc, from, to, fresh)?;
         Ok(())
     }
@@ -56,25 +59,49 @@ impl<T: Shared> Runs<T> {
         requires within { to ≤ length self.now }
         ensures { IfOk result (λ copy. copy ≡ slice_range self.now from to) }
     {
-        let copy = changed(alloc, &self.runs, from, to, &Same)?;
+        let spot = find(&self.runs, 0, from);
+        let copy = changed(alloc, &self.runs, spot, from, to, &Same)?;
         Ok(copy)
     }
 }
 
-/// What the values from `from` to before `to` become.
+/// The values of runs from `from`, which the cursor is not behind and goes to, to before `to`.
+pub fn copy_runs<T: Shared>(
+    alloc: Global,
+    runs: &[Run<T>],
+    cursor: &mut Cursor,
+    from: usize,
+    to: usize,
+) -> Result<Runs<T>, Memory>
+    requires at { IsAt runs.now cursor.old }
+    requires ahead { cursor.old.begin ≤ from }
+    requires ordered { from ≤ to }
+    requires within { to ≤ extent runs.now }
+    requires few { extent runs.now < 2 ^ 32 }
+    ensures at { IsAt runs.now cursor.new }
+    ensures ahead { cursor.new.begin ≤ from }
+    ensures copy { IfOk result (λ copy. copy ≡ slice_range (spread runs.now) from to) }
+{
+    let spot = reach(runs, cursor, from);
+    let copy = changed(alloc, runs, spot, from, to, &Same)?;
+    Ok(copy)
+}
+
+/// What the values from `from`, whose run and place in it are the spot, to before `to` become.
 fn changed<T: Shared, C: Change<T>>(
     alloc: Global,
     runs: &[Run<T>],
+    spot: Spot,
     from: usize,
     to: usize,
     by: &C,
 ) -> Result<Runs<T>, Memory>
+    requires found { IsFound runs.now 0 from spot }
     requires ordered { from ≤ to }
     requires within { to ≤ extent runs.now }
     requires few { extent runs.now < 2 ^ 32 }
     ensures { IfOk result (AreTogether (C.becomes by.now) (slice_range (spread runs.now) from to)) }
 {
-    let spot = find(runs, 0, from);
     let mut fresh = Runs::new(alloc);
     let mut number = spot.run;
     let mut skipped = spot.left;

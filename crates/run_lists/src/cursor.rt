@@ -1,9 +1,9 @@
 // A walk over a list of runs.
 ghost use Rattle.std.specs.Prelude.{◌≡◌, ◌<◌, ◌≤◌, slice_get, Some};
 ghost use Rattle.run_lists.specs.Spread.{spread, extent};
-ghost use Rattle.run_lists.specs.Places.{IsAt};
+ghost use Rattle.run_lists.specs.Places.{IsAt, IsFound};
 
-use crate::{Run, find};
+use crate::{Run, Spot, find};
 
 /// Where a walk is: in which run, and at which place of the list that run begins.
 #[derive(Clone, Copy)]
@@ -30,10 +30,23 @@ pub fn seek<'a, T>(runs: &'a [Run<T>], cursor: &mut Cursor, place: usize) -> &'a
     ensures ahead { cursor.new.begin ≤ place }
     ensures value { slice_get (spread runs.now) place ≡ Some result.now }
 {
+    let spot = reach(runs, cursor, place);
+    &runs[spot.run].value
+}
+
+/// The run of a place, which the cursor is not behind and goes to.
+pub(crate) fn reach<T>(runs: &[Run<T>], cursor: &mut Cursor, place: usize) -> Spot
+    requires at { IsAt runs.now cursor.old }
+    requires ahead { cursor.old.begin ≤ place }
+    requires within { place ≤ extent runs.now }
+    ensures at { IsAt runs.now cursor.new }
+    ensures ahead { cursor.new.begin ≤ place }
+    ensures found { IsFound runs.now 0 place result }
+{
     let spot = find(runs, cursor.run, place - cursor.begin);
     *cursor = Cursor {
         run: spot.run,
         begin: place - spot.left,
     };
-    &runs[spot.run].value
+    spot
 }

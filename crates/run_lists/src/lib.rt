@@ -8,7 +8,7 @@ mod lists;
 mod runs;
 mod shared;
 
-pub use change::Change;
+pub use change::{Change, copy_runs};
 pub use cursor::{Cursor, seek};
 pub use cut::{Spot, find};
 pub use lists::splice_list;

@@ -9,22 +9,17 @@ use Rattle.run_lists.proofs.RunsLemmas.{left_of, number_inside}
 use Rattle.run_lists.proofs.ChangeLemmas.{none_changed, changed_more}
 use Rattle.run_lists.proofs.change.changed.Goals as goal
 
-pub find-spot-requires-clause-within : goal.find-spot-requires-clause-within
-find-spot-requires-clause-within g c =
-    let nothing : extent {T = g.row.T.Denot} [] ≡ 0 = extent-nil g.row.T.Denot in
-    omega (arith, c.requires.ordered, c.requires.within)
-
 pub loop-left-init : goal.loop-left-init
 loop-left-init g c =
     let nothing : extent {T = g.row.T.Denot} [] ≡ 0 = extent-nil g.row.T.Denot in
-    let spot = c.find-spot.result in
+    let spot = c.args.spot in
     let here : extent (take spot.run c.args.runs.now) + spot.left ≡ extent {T = g.row.T.Denot} [] + c.args.from =
-    c.find-spot.ensures.here in
+    c.requires.found.here in
     let end : c.args.to - (c.args.to - c.args.from) ≡ c.args.from = omega (arith, c.requires.ordered) in
     record {
       few = omega arith;
       place = λ some. omega (arith, c.requires.ordered, some);
-      part = λ some run is. left_of c.args.runs.now 0 c.args.from spot run c.find-spot.ensures is;
+      part = λ some run is. left_of c.args.runs.now 0 c.args.from spot run c.requires.found is;
       together =
           none_changed (g.C.Change.becomes c.args.by.now) (spread c.args.runs.now) c.new-fresh.result c.args.from
           (c.args.to - (c.args.to - c.args.from)) end c.new-fresh.ensures;

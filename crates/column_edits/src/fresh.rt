@@ -1,0 +1,117 @@
+// The items that commands put, as runs of equal settings.
+ghost use Rattle.std.specs.Prelude.{◌≡◌, ◌+◌, ◌≤◌, [], ◌∷◌, length, IfOk};
+ghost use Rattle.prop_map.specs.Formed.{IsPropertyMap, character_groups};
+ghost use Rattle.prop_map.specs.Overlay.{without};
+ghost use Rattle.edit_ops.specs.Codes.{most_units};
+ghost use Rattle.edit_ops.specs.Fresh.{base_settings as base_of, special_codes};
+ghost use Rattle.edit_ops.specs.Fresh.{inserted_items as inserted_of, field_items as field_of};
+ghost use Rattle.edit_ops.specs.Fresh.{note_reference as reference_of, note_items as note_of};
+
+use crate::places::chp_at;
+use doc_bits::Memory;
+use doc_columns::Columns;
+use edit_ops::{
+    END_BYTE, FIELD_BEGIN, FIELD_END, FIELD_SEPARATOR, NOTE_UNIT, SEPARATOR_BYTE, SPECIAL_CODES,
+    field_mark, plain_end, special, unit_item,
+};
+use plain_doc::NoteKind;
+use prop_map::PropMap;
+use std::alloc::Global;
+
+/// The settings of the item at the place, without what makes a unit special.
+pub(crate) fn base_settings(alloc: Global, text: &Columns, at: usize) -> Result<PropMap, Memory>
+    ensures map { IfOk result (λ base. base ≡ base_of text.now at) }
+    ensures formed { IfOk result (IsPropertyMap character_groups) }
+{
+    let _len = text.len();
+    match chp_at(text, at) {
+        None => Ok(PropMap::new(alloc)),
+        Some(chp) => without_special(alloc, chp),
+    }
+}
+
+/// The settings, without what makes a unit special.
+fn without_special(alloc: Global, chp: &PropMap) -> Result<PropMap, Memory>
+    requires { IsPropertyMap character_groups chp.now }
+    ensures map { IfOk result (λ base. base ≡ without special_codes chp.now) }
+    ensures formed { IfOk result (IsPropertyMap character_groups) }
+{
+    let base = chp.without(alloc, &SPECIAL_CODES)?;
+    Ok(base)
+}
+
+/// The units as they are put before the place of a text.
+pub(crate) fn inserted_items(
+    alloc: Global,
+    text: &Columns,
+    at: usize,
+    units: &[u16],
+) -> Result<Columns, Memory>
+    requires { length units.now ≤ most_units }
+    ensures { IfOk result (λ made. made ≡ inserted_of text.now at units.now) }
+{
+    if text.len() == 0 {
+        return first_items(alloc, units);
+    }
+    let base = base_settings(alloc, text, at)?;
+    let made = Columns::new(alloc).add_units(units, base)?;
+    Ok(made)
+}
+
+/// The units of an empty header text, with the two paragraph marks that end it.
+fn first_items(alloc: Global, units: &[u16]) -> Result<Columns, Memory>
+    requires { length units.now ≤ most_units }
+    ensures { IfOk result (λ made. made ≡ inserted_of [] 0 units.now) }
+{
+    let none = PropMap::new(alloc);
+    let shown = Columns::new(alloc).add_units(units, none)?;
+    let ended = shown.add(plain_end(alloc))?;
+    let made = ended.add(plain_end(alloc))?;
+    Ok(made)
+}
+
+/// A field of this type, with its code and its result.
+pub(crate) fn field_items(
+    alloc: Global,
+    base: &PropMap,
+    kind: u8,
+    code: &[u16],
+    shown: &[u16],
+) -> Result<Columns, Memory>
+    requires base { IsPropertyMap character_groups base.now }
+    requires few { length code.now + length shown.now ≤ most_units }
+    ensures { IfOk result (λ made. made ≡ field_of base.now kind code.now shown.now) }
+{
+    let special = special(alloc, base)?;
+    let begun = Columns::new(alloc).add(field_mark(alloc, &special, FIELD_BEGIN, kind)?)?;
+    let coded = begun.add_units(code, base.copy(alloc)?)?;
+    let separator = field_mark(alloc, &special, FIELD_SEPARATOR, SEPARATOR_BYTE)?;
+    let parted = coded.add(separator)?.add_units(shown, base.copy(alloc)?)?;
+    let made = parted.add(field_mark(alloc, &special, FIELD_END, END_BYTE)?)?;
+    Ok(made)
+}
+
+/// The reference to a note that is numbered by itself, as a text of one item.
+pub(crate) fn note_reference(alloc: Global, base: &PropMap) -> Result<Columns, Memory>
+    requires { IsPropertyMap character_groups base.now }
+    ensures { IfOk result (λ made. made ≡ reference_of base.now ∷ []) }
+{
+    let special = special(alloc, base)?;
+    let mut item = unit_item(alloc, &special, NOTE_UNIT)?;
+    item.note = Some(NoteKind::Auto);
+    let made = Columns::new(alloc).add(item)?;
+    Ok(made)
+}
+
+/// The text of a note.
+pub(crate) fn note_items(alloc: Global, units: &[u16]) -> Result<Columns, Memory>
+    requires { length units.now ≤ most_units }
+    ensures { IfOk result (λ made. made ≡ note_of units.now) }
+{
+    let none = PropMap::new(alloc);
+    let special = special(alloc, &none)?;
+    let begun = Columns::new(alloc).add(unit_item(alloc, &special, NOTE_UNIT)?)?;
+    let shown = begun.add_units(units, none)?;
+    let made = shown.add(plain_end(alloc))?;
+    Ok(made)
+}

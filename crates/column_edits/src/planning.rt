@@ -1,0 +1,318 @@
+// What a command changes of a document by columns.
+ghost use Rattle.std.specs.Prelude.{◌≡◌, ◌+◌, ◌<◌, ◌≤◌, [], ◌∷◌, ◌++◌, length, replicate, IfOk, OnOk, ⊤};
+ghost use Rattle.prop_map.specs.Formed.{IsPropertyMap, section_groups};
+ghost use Rattle.edit_script.specs.declared.commands.Command.TheVariants.{Insert};
+ghost use Rattle.edit_ops.specs.declared.changes.Change.TheVariants.{SpliceText, ModifyItems, SpliceNotes, SpliceHeads};
+ghost use Rattle.doc_bits.specs.declared.places.Story.TheVariants.{Main};
+ghost use Rattle.edit_ops.specs.Places.{items_at as items_there, mark_place as place_of_mark};
+ghost use Rattle.edit_ops.specs.Places.{note_number as number_of_note, head_number as number_of_head};
+ghost use Rattle.edit_ops.specs.Ranges.{HasText, HasPlace, HasRange, EndsWithMark};
+ghost use Rattle.edit_ops.specs.Codes.{IsPutText, most_units};
+ghost use Rattle.edit_ops.specs.Causes.{CanBeTried};
+ghost use Rattle.edit_ops.specs.Edits.{changes_of as changes_by, erased as erased_in};
+ghost use Rattle.edit_ops.specs.Edits.{put_in as put_there, modified_at_mark};
+ghost use Rattle.edit_ops.specs.Edits.{section_changes as changes_of_section};
+ghost use Rattle.edit_ops.specs.Fresh.{base_settings as base_of, note_reference as reference_of};
+ghost use Rattle.edit_ops.specs.Fresh.{note_items as note_of, split_item as item_split, field_items as field_of};
+ghost use Rattle.column_edits.specs.Changes.{as_change, as_changes};
+
+use crate::ColumnChange;
+use crate::fresh::{base_settings, field_items, inserted_items, note_items, note_reference};
+use crate::marks::{section_item, split_item};
+use crate::places::{head_number, mark_place, note_number, section_place, text_of};
+use crate::rows::row_items;
+use doc_bits::{Memory, Story};
+use doc_columns::{ColumnDocument, ColumnTexts, Columns};
+use edit_ops::{Command, clearing, naming_style, setting_characters, setting_paragraphs};
+use plain_doc::HEADS_A_SECTION;
+use prop_map::{Modifier, PropMap};
+use std::alloc::Global;
+
+/// The changes of an edit that may be tried, three at most. A save changes nothing.
+pub fn changes_of(
+    alloc: Global,
+    document: &ColumnDocument,
+    command: &Command,
+) -> Result<Vec<ColumnChange>, Memory>
+    requires { CanBeTried document.now command.now }
+    ensures { IfOk result (λ made. as_changes made.items ≡ changes_by document.now command.now) }
+{
+    match command {
+        Command::Insert(story, at, text) => inserted(alloc, document, *story, *at, text.as_slice()),
+        Command::Erase(story, from, to) => {
+            erasure(alloc, document, *story, *from as usize, *to as usize)
+        }
+        Command::Char(story, from, to, set) => {
+            modify(alloc, *story, *from, *to, setting_characters(alloc, set)?)
+        }
+        Command::Plain(story, from, to) => modify(alloc, *story, *from, *to, clearing(alloc)),
+        Command::Para(story, at, set) => {
+            let modifier = setting_paragraphs(alloc, set)?;
+            at_mark(alloc, document, *story, *at, modifier)
+        }
+        Command::Style(story, at, istd) => {
+            at_mark(alloc, document, *story, *at, naming_style(alloc, *istd))
+        }
+        Command::Field(story, at, kind, code, shown) => {
+            let text = text_of(document, *story);
+            let items = field(alloc, text, *at, *kind, code.as_slice(), shown.as_slice())?;
+            put_in(alloc, *story, *at, items)
+        }
+        Command::Note(at, text) => note(alloc, &document.main, *at, text.as_slice()),
+        Command::Split(story, at) => split(alloc, document, *story, *at),
+        Command::Merge(story, at) => merge(alloc, document, *story, *at),
+        Command::Sect(at, new, set) => section(alloc, &document.main, *at as usize, *new, set),
+        Command::Row(story, at, width, cells) => {
+            put_in(alloc, *story, *at, row_items(alloc, *width, cells)?)
+        }
+        Command::StyleChar(istd, set) => only(
+            alloc,
+            ColumnChange::SetStyleCharacters(*istd, set.copy(alloc)?),
+        ),
+        Command::StylePara(istd, set) => only(
+            alloc,
+            ColumnChange::SetStyleParagraphs(*istd, set.copy(alloc)?),
+        ),
+        Command::Save(_) => Ok(Vec::new(alloc)),
+    }
+}
+
+/// A list of one change.
+fn only(alloc: Global, change: ColumnChange) -> Result<Vec<ColumnChange>, Memory>
+    ensures { IfOk result (λ made. as_changes made.items ≡ as_change change ∷ []) }
+{
+    let mut changes = Vec::new(alloc);
+    changes.push(change)?;
+    Ok(changes)
+}
+
+/// Puts a change last.
+fn put_last(changes: &mut Vec<ColumnChange>, change: ColumnChange) -> Result<(), Memory>
+    ensures { OnOk result (as_changes changes.new.items ≡ as_changes changes.old.items ++ as_change change ∷ []) }
+{
+    changes.push(change)?;
+    Ok(())
+}
+
+/// Items put before a place of a text.
+fn put_in(alloc: Global, story: Story, at: u32, items: Columns) -> Result<Vec<ColumnChange>, Memory>
+    ensures { IfOk result (λ made. as_changes made.items ≡ put_there story at items) }
+{
+    only(
+        alloc,
+        ColumnChange::SpliceText(story, at as usize, at as usize, items),
+    )
+}
+
+/// A modifier on a range of a text.
+fn modify(
+    alloc: Global,
+    story: Story,
+    from: u32,
+    to: u32,
+    modifier: Modifier,
+) -> Result<Vec<ColumnChange>, Memory>
+    ensures { IfOk result (λ made. as_changes made.items ≡ ModifyItems story from to modifier ∷ []) }
+{
+    only(
+        alloc,
+        ColumnChange::ModifyItems(story, from as usize, to as usize, modifier),
+    )
+}
+
+/// Units put before a place of a text.
+fn inserted(
+    alloc: Global,
+    document: &ColumnDocument,
+    story: Story,
+    at: u32,
+    units: &[u16],
+) -> Result<Vec<ColumnChange>, Memory>
+    requires place { HasText document.now story (λ _. ⊤) }
+    requires text { IsPutText units.now }
+    ensures { IfOk result (λ made. as_changes made.items ≡ changes_by document.now (Insert story at units.now)) }
+{
+    let text = text_of(document, story);
+    let items = inserted_items(alloc, text, at as usize, units)?;
+    put_in(alloc, story, at, items)
+}
+
+/// A field put before a place of a text.
+fn field(
+    alloc: Global,
+    text: &Columns,
+    at: u32,
+    kind: u8,
+    code: &[u16],
+    shown: &[u16],
+) -> Result<Columns, Memory>
+    requires { length code.now + length shown.now ≤ most_units }
+    ensures { IfOk result (λ made. made ≡ field_of (base_of text.now at) kind code.now shown.now) }
+{
+    let base = base_settings(alloc, text, at as usize)?;
+    let items = field_items(alloc, &base, kind, code, shown)?;
+    Ok(items)
+}
+
+/// The items of a range taken away, with the notes and header texts that go with them.
+fn erasure(
+    alloc: Global,
+    document: &ColumnDocument,
+    story: Story,
+    from: usize,
+    to: usize,
+) -> Result<Vec<ColumnChange>, Memory>
+    requires { HasText document.now story (HasRange from to) }
+    ensures { IfOk result (λ made. as_changes made.items ≡ erased_in document.now story from to) }
+{
+    match story {
+        Story::Main => erasure_in_main(alloc, &document.main, from, to),
+        Story::Note(_) => only(
+            alloc,
+            ColumnChange::SpliceText(story, from, to, Columns::new(alloc)),
+        ),
+        Story::Head(_) => only(
+            alloc,
+            ColumnChange::SpliceText(story, from, to, Columns::new(alloc)),
+        ),
+    }
+}
+
+/// The same of the main text.
+fn erasure_in_main(
+    alloc: Global,
+    main: &Columns,
+    from: usize,
+    to: usize,
+) -> Result<Vec<ColumnChange>, Memory>
+    requires { HasRange from to main.now }
+    ensures { IfOk result (λ made. as_changes made.items ≡
+        SpliceText Main from to [] ∷ SpliceNotes (number_of_note main.now from) (number_of_note main.now to) []
+        ∷ SpliceHeads (number_of_head main.now from) (number_of_head main.now to) [] ∷ []) }
+{
+    let mut changes = only(
+        alloc,
+        ColumnChange::SpliceText(Story::Main, from, to, Columns::new(alloc)),
+    )?;
+    let notes = ColumnTexts::new(alloc);
+    let heads = ColumnTexts::new(alloc);
+    let first = note_number(main, from);
+    put_last(
+        &mut changes,
+        ColumnChange::SpliceNotes(first, note_number(main, to), notes),
+    )?;
+    let first = head_number(main, from);
+    put_last(
+        &mut changes,
+        ColumnChange::SpliceHeads(first, head_number(main, to), heads),
+    )?;
+    Ok(changes)
+}
+
+/// A modifier on the mark of the paragraph that holds the place.
+fn at_mark(
+    alloc: Global,
+    document: &ColumnDocument,
+    story: Story,
+    at: u32,
+    modifier: Modifier,
+) -> Result<Vec<ColumnChange>, Memory>
+    requires { HasText document.now story (HasPlace at) }
+    ensures { IfOk result (λ made. as_changes made.items ≡ modified_at_mark document.now story at modifier) }
+{
+    let mark = mark_place(text_of(document, story), at as usize);
+    only(
+        alloc,
+        ColumnChange::ModifyItems(story, mark, mark + 1, modifier),
+    )
+}
+
+/// A note, and the reference to it before a place of the main text.
+fn note(alloc: Global, main: &Columns, at: u32, units: &[u16]) -> Result<Vec<ColumnChange>, Memory>
+    requires place { at < length main.now }
+    requires text { IsPutText units.now }
+    ensures { IfOk result (λ made. as_changes made.items ≡
+        SpliceText Main at at (reference_of (base_of main.now at) ∷ [])
+        ∷ SpliceNotes (number_of_note main.now at) (number_of_note main.now at) (note_of units.now ∷ []) ∷ []) }
+{
+    let place = at as usize;
+    let base = base_settings(alloc, main, place)?;
+    let reference = note_reference(alloc, &base)?;
+    let mut notes = ColumnTexts::new(alloc);
+    notes.add(note_items(alloc, units)?)?;
+    let mut changes = put_in(alloc, Story::Main, at, reference)?;
+    let number = note_number(main, place);
+    put_last(
+        &mut changes,
+        ColumnChange::SpliceNotes(number, number, notes),
+    )?;
+    Ok(changes)
+}
+
+/// A paragraph mark put before a place of a text.
+fn split(
+    alloc: Global,
+    document: &ColumnDocument,
+    story: Story,
+    at: u32,
+) -> Result<Vec<ColumnChange>, Memory>
+    requires { HasText document.now story (HasPlace at) }
+    ensures { IfOk result (λ made. as_changes made.items
+        ≡ put_there story at (item_split (items_there document.now story) at ∷ [])) }
+{
+    let items = split_item(alloc, text_of(document, story), at as usize)?;
+    put_in(alloc, story, at, items)
+}
+
+/// The mark of the paragraph that holds the place taken away.
+fn merge(
+    alloc: Global,
+    document: &ColumnDocument,
+    story: Story,
+    at: u32,
+) -> Result<Vec<ColumnChange>, Memory>
+    requires { HasText document.now story (EndsWithMark at) }
+    ensures { IfOk result (λ made. as_changes made.items ≡ erased_in document.now story
+        (place_of_mark (items_there document.now story) at) (place_of_mark (items_there document.now story) at + 1)) }
+{
+    let mark = mark_place(text_of(document, story), at as usize);
+    erasure(alloc, document, story, mark, mark + 1)
+}
+
+/// The settings of a section changed, or a new section before the place.
+fn section(
+    alloc: Global,
+    main: &Columns,
+    at: usize,
+    new: bool,
+    set: &PropMap,
+) -> Result<Vec<ColumnChange>, Memory>
+    requires place { at < length main.now }
+    requires set { IsPropertyMap section_groups set.now }
+    ensures { IfOk result (λ made. as_changes made.items ≡ changes_of_section main.now at new set.now) }
+{
+    if !new {
+        let place = section_place(main, at);
+        return only(alloc, ColumnChange::SetSection(place, set.copy(alloc)?));
+    }
+    let item = section_item(alloc, main, at, set)?;
+    let heads = empty_heads(alloc)?;
+    let mut changes = only(alloc, ColumnChange::SpliceText(Story::Main, at, at, item))?;
+    let number = head_number(main, at);
+    put_last(
+        &mut changes,
+        ColumnChange::SpliceHeads(number, number, heads),
+    )?;
+    Ok(changes)
+}
+
+/// The header texts of a new section.
+fn empty_heads(alloc: Global) -> Result<ColumnTexts, Memory>
+    ensures { IfOk result (λ made. made ≡ replicate 6 []) }
+{
+    let mut heads = ColumnTexts::new(alloc);
+    for _k in 0..HEADS_A_SECTION {
+        heads.add(Columns::new(alloc))?;
+    }
+    Ok(heads)
+}

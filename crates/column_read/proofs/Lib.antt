@@ -1,0 +1,4 @@
+pub mod BesideLemmas
+pub mod MeetLemmas
+pub mod CutLemmas
+mod FrontLemmas

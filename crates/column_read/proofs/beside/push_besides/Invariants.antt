@@ -1,0 +1,18 @@
+use Rattle.std.proofs.Common.{◌≡◌, ◌≤◌, ◌-◌, length}
+use Rattle.doc_read.specs.Passing.{AddsEach}
+use Rattle.doc_read.specs.Reading.{ArePassed, mark_lists, text_view}
+use Rattle.column_read.specs.Beside.{IsBesideAt}
+use Rattle.column_read.proofs.beside.push_besides.Given as goal
+
+-- what stands beside the units so far
+abbrev pub invariant-loop-cp : goal.invariant-loop-cp
+invariant-loop-cp l = record {
+  begun : l.piece.cp ≤ l.cp;
+  within : l.cp ≤ l.piece.end;
+  same : l.reader ≡ l.fn.reader;
+  added : AddsEach (IsBesideAt (text_view l.text) l.fn.reader.characters.modifier) (l.cp - l.piece.cp) l.fn.besides l.besides;
+  passed : ArePassed (mark_lists l.text.marks.now) l.passed l.cp;
+}
+
+abbrev pub decreases-loop-cp : goal.decreases-loop-cp
+decreases-loop-cp l = l.piece.end - l.cp

@@ -1,0 +1,3 @@
+pub mod Beside
+pub mod Walk
+pub mod ReadTexts

@@ -1,0 +1,137 @@
+// The text of all three stories by columns, piece by piece.
+ghost use Rattle.std.specs.Prelude.{◌≡◌, ◌-◌, ◌≤◌, length, IfOk, OnOk};
+ghost use Rattle.doc_bits.specs.Rules.{Hold};
+ghost use Rattle.piece_table.specs.Piece.{total_length};
+ghost use Rattle.doc_load.specs.FileRules.{source_of};
+ghost use Rattle.doc_load.specs.FormatRules.{text_count};
+ghost use Rattle.doc_load.specs.PartRules.{part_rules, HasPartLists};
+ghost use Rattle.doc_columns.specs.Columns.{items_of};
+ghost use Rattle.doc_read.specs.Sections.{AreSectionMaps};
+ghost use Rattle.doc_read.specs.Items.{HoldsItems};
+ghost use Rattle.doc_read.specs.Passing.{AddsEach};
+ghost use Rattle.doc_read.specs.Reading.{ArePassed, ArePlacedItems, IsReadable, IsReadCharacter, IsPieceReader};
+ghost use Rattle.doc_read.specs.Reading.{mark_lists, text_view};
+ghost use Rattle.column_read.specs.Beside.{IsBesideAt};
+
+use crate::beside::{Left, push_besides};
+use doc_bits::Memory;
+use doc_columns::{Beside, Columns};
+use doc_load::{DocParts, LoadedText};
+use doc_read::{Passed, PieceReader, SectionMaps, TextSource, has_units, read_marks, reader_for};
+use fib_form::TablePart;
+use piece_table::PieceList;
+use prop_map::PropMap;
+use run_lists::Runs;
+use std::alloc::Global;
+
+/// The settings of the units that were read, and what stands beside them.
+#[derive(Drop)]
+struct ReadColumns {
+    chps: Runs<PropMap>,
+    besides: Runs<Beside>,
+}
+
+/// The text of the CPs of all three stories.
+pub(crate) fn read_columns(
+    alloc: Global,
+    text: &LoadedText<'_>,
+    parts: &DocParts<'_>,
+    sections: &SectionMaps,
+) -> Result<Columns, Memory>
+    requires rules { Hold (part_rules (source_of text.now)) }
+    requires lists { HasPartLists (source_of text.now) parts.now }
+    requires sections { AreSectionMaps text.now.wd parts.now.sections sections.now }
+    ensures { IfOk result (HoldsItems
+        (record { source = source_of text.now; pieces = text.now.pieces; lists = parts.now; sections = sections.now })
+        0 (text_count (source_of text.now))) }
+{
+    let source = text.source();
+    has_units(&source);
+    let marks = read_marks(alloc, &source, parts)?;
+    let lists = TextSource {
+        wd: source.wd(),
+        characters: source.part(TablePart::PlcfBteChpx),
+        paragraphs: source.part(TablePart::PlcfBtePapx),
+        units: source.judged_units(),
+        places: source.judged_places(),
+        marks: &marks,
+        maps: sections,
+    };
+    let read = columns_of_pieces(alloc, &lists, text.pieces())?;
+    let units = Vec::from_slice(alloc, lists.units)?;
+    Ok(Columns::from_parts(units, read.chps, read.besides))
+}
+
+/// The columns of all pieces, one after the other, as far as there are units.
+fn columns_of_pieces(
+    alloc: Global,
+    text: &TextSource<'_>,
+    pieces: &PieceList,
+) -> Result<ReadColumns, Memory>
+    requires readable { IsReadable (text_view text.now) }
+    requires enough { length text.now.units.now ≤ total_length pieces.now.pieces }
+    ensures chps { IfOk result (λ read. length read.chps ≡ length text.now.units.now) }
+    ensures besides { IfOk result (λ read. length read.besides ≡ length text.now.units.now) }
+    ensures each { IfOk result (λ read. ArePlacedItems (text_view text.now) pieces.now.pieces
+        (items_of text.now.units.now read.chps read.besides)) }
+{
+    let count = text.units.len();
+    let mut read = ReadColumns {
+        chps: Runs::new(alloc),
+        besides: Runs::new(alloc),
+    };
+    let mut passed = Passed {
+        field: 0,
+        note: 0,
+        section: 0,
+        until: 0,
+    };
+    let mut readers = Vec::new(alloc);
+    let mut cp = 0;
+    for i in 0..pieces.len() {
+        // A piece may have one unit more than the stories.
+        let end = cp + (pieces.piece(i).len as usize).min(count - cp);
+        let number = reader_for(alloc, text, pieces.modifier(i), &mut readers)?;
+        push_piece(
+            alloc,
+            text,
+            Left { cp, end },
+            &mut readers[number],
+            &mut read,
+            &mut passed,
+        )?;
+        cp = end;
+    }
+    Ok(read)
+}
+
+/// Appends the settings of the units of a piece, and what stands beside them.
+fn push_piece(
+    alloc: Global,
+    text: &TextSource<'_>,
+    piece: Left,
+    reader: &mut PieceReader<'_>,
+    read: &mut ReadColumns,
+    passed: &mut Passed,
+) -> Result<(), Memory>
+    requires readable { IsReadable (text_view text.now) }
+    requires reader { IsPieceReader (text_view text.now) reader.old }
+    requires ordered { piece.cp ≤ piece.end }
+    requires within { piece.end ≤ length text.now.units.now }
+    requires chps { length read.old.chps ≡ piece.cp }
+    requires besides { length read.old.besides ≡ piece.cp }
+    requires passed { ArePassed (mark_lists text.now.marks.now) passed.old piece.cp }
+    ensures same { reader.new ≡ reader.old }
+    ensures passed { OnOk result (ArePassed (mark_lists text.now.marks.now) passed.new piece.end) }
+    ensures chps { OnOk result (AddsEach (IsReadCharacter (text_view text.now) reader.old.characters.modifier)
+        (piece.end - piece.cp) read.old.chps read.new.chps) }
+    ensures besides { OnOk result (AddsEach (IsBesideAt (text_view text.now) reader.old.characters.modifier)
+        (piece.end - piece.cp) read.old.besides read.new.besides) }
+{
+    let places = &text.places[piece.cp..piece.end];
+    reader
+        .characters
+        .push_character_runs(alloc, places, &mut read.chps)?;
+    push_besides(alloc, text, piece, reader, &mut read.besides, passed)?;
+    Ok(())
+}

@@ -1,0 +1,65 @@
+// Lists that are kept as runs.
+ghost use Rattle.std.specs.Prelude.{◌≡◌, length, IfOk};
+
+use doc_bits::Memory;
+use prop_map::PropMap;
+use run_lists::Runs;
+use sprm_table::Code;
+use std::alloc::Global;
+use std::test::Fail;
+
+/// A map with one character setting.
+fn bold(alloc: Global) -> Result<PropMap, Memory> {
+    let mut map = PropMap::new(alloc);
+    map.set(Code(0x0835), &[1])?;
+    Ok(map)
+}
+
+/// Two empty maps and four of one setting, of which the last is put apart.
+fn six(alloc: Global) -> Result<Runs<PropMap>, Memory>
+    ensures { IfOk result (λ list. length list ≡ 6) }
+{
+    let mut list = Runs::new(alloc);
+    list.add(2, PropMap::new(alloc))?;
+    list.add(3, bold(alloc)?)?;
+    list.add(1, bold(alloc)?)?;
+    Ok(list)
+}
+
+/// Whether the runs have these counts, and a setting or none.
+fn are(list: &Runs<PropMap>, expected: &[(u32, bool)]) -> bool {
+    let runs = list.as_runs();
+    if runs.len() != expected.len() {
+        return false;
+    }
+    for k in 0..runs.len() {
+        let (count, set) = expected[k];
+        if runs[k].count != count || runs[k].value.is_empty() == set {
+            return false;
+        }
+    }
+    true
+}
+
+#[test]
+fn equal_neighbours_are_one_run(rt: HostRuntime) -> Result<(), Fail> {
+    let list = six(rt.alloc())?;
+    assert!(rt; are(&list, &[(2, false), (4, true)]));
+    Ok(())
+}
+
+#[test]
+fn a_range_is_copied(rt: HostRuntime) -> Result<(), Fail> {
+    let list = six(rt.alloc())?;
+    let copy = list.copy(rt.alloc(), 1, 4)?;
+    assert!(rt; are(&copy, &[(1, false), (2, true)]));
+    Ok(())
+}
+
+#[test]
+fn runs_are_put_in_place_of_a_range(rt: HostRuntime) -> Result<(), Fail> {
+    let mut list = six(rt.alloc())?;
+    list.splice(rt.alloc(), 1, 3, six(rt.alloc())?)?;
+    assert!(rt; are(&list, &[(1, false), (2, false), (4, true), (3, true)]));
+    Ok(())
+}

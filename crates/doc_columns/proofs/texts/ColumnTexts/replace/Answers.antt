@@ -1,0 +1,16 @@
+-- The list with the other text is well formed, and what is handed back is what stood there.
+use Rattle.std.proofs.Common.{rules, refl, ◌<◌, length}
+use Rattle.std.proofs.lemmas.Option.{slice_get_read}
+use Rattle.plain_doc.specs.Document.{IsFormedText}
+use Rattle.plain_doc.proofs.FormedLemmas.{IsFormedList-set}
+use Rattle.doc_columns.proofs.texts.ColumnTexts.replace.Goals as goal
+
+pub invariant_of-self : goal.invariant_of-self
+invariant_of-self c =
+    IsFormedList-set IsFormedText _ _ _ c.self.invariant (rw c.replace.ensures.after c.len-len.ensures.formed)
+
+pub returns-clause-old : goal.returns-clause-old
+returns-clause-old c =
+    let within : c.args.i < length c.self.inside.texts.items = search rules in
+    rw (← c.self.view_is, c.replace.ensures.value)
+    (slice_get_read c.self.inside.texts.items _ c.args.i _ refl within c.index_mut.ensures.value)

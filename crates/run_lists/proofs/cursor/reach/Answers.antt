@@ -1,0 +1,20 @@
+-- A place is counted from the start, as the cursor is.
+use Rattle.std.proofs.Common.{◌≡◌, ◌+◌, [], take, arith}
+use Rattle.run_lists.specs.Spread.{extent}
+use Rattle.run_lists.proofs.SpreadLemmas.{extent-nil}
+use Rattle.run_lists.proofs.cursor.reach.Goals as goal
+
+pub returns-clause-found : goal.returns-clause-found
+returns-clause-found g c =
+    let runs = c.args.runs.now in
+    let spot = c.find-spot.result in
+    let found = c.find-spot.ensures in
+    let nothing : extent {T = g.row.T.Denot} [] ≡ 0 = extent-nil g.row.T.Denot in
+    let start : extent (take 0 runs) ≡ 0 = nothing in
+    record {
+      begun = omega arith;
+      there = found.there;
+      here = omega (arith, found.here, c.requires.at.begins, c.requires.ahead, start);
+      inside = found.inside;
+      ended = found.ended;
+    }
