@@ -28,7 +28,7 @@ use Rattle.doc_run.specs.Outcomes.{Outcome, says, puts, HasCause}
 use Rattle.doc_run.specs.Stages.{IsMissing, IsShelfFault, Reads, IsRefused, Judges, ReadsFile}
 use Rattle.doc_run.specs.Reading.{IsTaken, IsOpenedAt, EndsAt, IsReached, IsJudged, status_reached}
 use Rattle.doc_run.specs.Edits.{stop_status, Edits, EditsBy}
-use Rattle.doc_run.specs.Endings.{NamesRule, ListsStreams, Shows, Saves, Compares}
+use Rattle.doc_run.specs.Endings.{NamesRule, ListsStreams, Shows, ShowsFile, Saves, Compares}
 
 -- the line of a refusal names the first broken rule
 pub names-refused :
@@ -127,6 +127,13 @@ shows_status Check document outcome s = said_inside 0 _ outcome s (inl (omega ar
 shows_status Show document outcome s = said_inside 0 _ outcome s (inl (omega arith))
 shows_status (Props pos) document outcome (inl s) = said_inside 0 _ outcome s.ends (inl (omega arith))
 shows_status (Props pos) document outcome (inr s) = said_inside 8 _ outcome s.ends (inr (omega arith))
+
+pub views_status :
+    (view : View) (rules : Rules Place) (name file : List ℕ) (outcome : Outcome) →
+    Judges rules name (ShowsFile view file) outcome → IsAfterReading outcome.status
+views_status view rules name file outcome (inl x) = said_inside 1 _ outcome x.ends (inl (omega arith))
+views_status view rules name file outcome (inr x) =
+    let s = x.1 in shows_status view s.document outcome s.shows
 
 pub saves_status :
     (out : List ℕ) (document : Document) (outcome : Outcome) → Saves out document outcome →

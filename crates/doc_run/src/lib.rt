@@ -14,6 +14,7 @@ mod look;
 mod run;
 mod save;
 mod stage;
+mod view;
 
 pub use command::{Command, View};
 pub use ending::{

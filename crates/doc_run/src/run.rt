@@ -22,9 +22,10 @@ use crate::edit::{edit_by, overlong_script};
 use crate::ending::{Ending, STATUS_MEMORY, STATUS_SHELF_FAULT, STATUS_SINK_FAULT, STATUS_USAGE};
 use crate::generated::generate_under;
 use crate::lines::{shelf_fault_line, usage_line};
-use crate::look::{compare, list_streams, look_at};
+use crate::look::{compare, list_streams};
 use crate::save::save_fully;
 use crate::stage::{Reached, Taken, open, overlong, take_whole};
+use crate::view::view_file;
 use doc_bits::Memory;
 use doc_outer::{PutFault, Shelf, Sink, write_all};
 use edit_guards::Guard;
@@ -194,9 +195,10 @@ fn serve_view<S: Shelf>(
     ensures faults { GoesOn (S.faults shelf.old) (S.faults shelf.new) }
     ensures put_faults { S.put_faults shelf.new ≡ S.put_faults shelf.old }
 {
-    match open(alloc, shelf, file)? {
-        Reached::Opened(document) => look_at(alloc, view, &document),
-        Reached::Stopped(ending) => Ok(ending),
+    match take_whole(alloc, shelf, file)? {
+        Taken::Whole(bytes) => view_file(alloc, view, file, bytes.as_slice()),
+        Taken::Overlong => overlong(alloc, file),
+        Taken::Stopped(ending) => Ok(ending),
     }
 }
 
