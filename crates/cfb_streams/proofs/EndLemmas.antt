@@ -1,10 +1,10 @@
 -- Ends of paths that are remembered.
 use Rattle.std.proofs.Common.{◌≡◌, ◌≢◌, inl, inr, ℕ, zero, suc, ◌+◌, ◌-◌, ◌<◌, ◌≤◌, ◌⊎◌, ◌^◌, Option, Some, None}
-use Rattle.std.proofs.Common.{MatchOption, false}
+use Rattle.std.proofs.Common.{MatchOption, false, true}
 use Rattle.std.proofs.Common.{List, [], ◌∷◌, length, set, slice_index, refl, sym, ap, ◌∙◌, subst, arith, length-set}
 use Rattle.std.specs.Prelude.{IfSome, is_some}
 use Rattle.std.proofs.lemmas.Bool.{cases_lt, cases_eq}
-use Rattle.std.proofs.lemmas.List.{get_or-set_same, get_or-set_other}
+use Rattle.std.proofs.lemmas.List.{get_or-set_same, get_or-set_other, get_or_past}
 use Rattle.cfb_streams.specs.declared.ends.End.{End}
 use Rattle.cfb_streams.specs.SectorChain.{HasSector, IsSectorPath, IsFullPath, last_of}
 use Rattle.cfb_streams.proofs.ChainLemmas.{path_short}
@@ -130,6 +130,28 @@ put_known known s end low some = subst (λ n. 0 < n) (sym (get_or-set_same known
 pub only_known : (known : KnownEnds) (s t : ℕ) (end : End) → t ≢ s → IsKnown (with_end known s end) t → IsKnown known t
 only_known known s t end other is = subst (λ n. 0 < n) (get_or-set_other known.counts s t end.count 0 other) is
 
+-- one end more is right
+pub put_ends : (entry : ℕ → ℕ) (valid : ℕ) (known : KnownEnds) (s : ℕ) (end : End) → s < length known.counts →
+    s < length known.lasts → ((t : ℕ) → IsKnown known t → IsEnd entry valid t (end_at known t)) →
+    IsEnd entry valid s end → (t : ℕ) → IsKnown (with_end known s end) t →
+    IsEnd entry valid t (end_at (with_end known s end) t)
+put_ends entry valid known s end inside inside_lasts ends is t h = elim (cases_eq t s) [
+  | inl same ↦
+      let e : end_at (with_end known s end) s ≡ end =
+      ap (λ c. record { count = c; last = slice_index (set known.lasts s end.last) s })
+      (get_or-set_same known.counts s end.count 0 inside)
+      ∙ ap (λ l. record { count = end.count; last = l }) (get_or-set_same known.lasts s end.last 0 inside_lasts) in
+      subst (λ k. IsEnd entry valid k (end_at (with_end known s end) k)) (sym same)
+      (subst (IsEnd entry valid s) (sym e) is)
+  | inr other ↦
+      let e : end_at (with_end known s end) t ≡ end_at known t =
+      ap (λ c. record { count = c; last = slice_index (set known.lasts s end.last) t })
+      (get_or-set_other known.counts s t end.count 0 other)
+      ∙ ap (λ l. record { count = slice_index known.counts t; last = l })
+      (get_or-set_other known.lasts s t end.last 0 other) in
+      subst (IsEnd entry valid t) (sym e) (ends t (only_known known s t end other h))
+]
+
 -- one end more is remembered
 pub put_step : (entry : ℕ → ℕ) (valid : ℕ) (known : KnownEnds) (s : ℕ) (end : End) → Remembers entry valid known →
     s < valid → (entry s < valid → IsKnown known (entry s)) → 0 < end.count → IsEnd entry valid s end →
@@ -144,23 +166,7 @@ put_step entry valid known s end r low goes some is =
     record {
       counts_len = omega arith;
       lasts_len = omega arith;
-      ends = λ t h. elim (cases_eq t s) [
-        | inl same ↦
-            let e : end_at (with_end known s end) s ≡ end =
-            ap (λ c. record { count = c; last = slice_index (set known.lasts s end.last) s })
-            (get_or-set_same known.counts s end.count 0 inside)
-            ∙ ap (λ l. record { count = end.count; last = l })
-            (get_or-set_same known.lasts s end.last 0 inside_lasts) in
-            subst (λ k. IsEnd entry valid k (end_at (with_end known s end) k)) (sym same)
-            (subst (IsEnd entry valid s) (sym e) is)
-        | inr other ↦
-            let e : end_at (with_end known s end) t ≡ end_at known t =
-            ap (λ c. record { count = c; last = slice_index (set known.lasts s end.last) t })
-            (get_or-set_other known.counts s t end.count 0 other)
-            ∙ ap (λ l. record { count = slice_index known.counts t; last = l })
-            (get_or-set_other known.lasts s t end.last 0 other) in
-            subst (IsEnd entry valid t) (sym e) (r.ends t (only_known known s t end other h))
-      ];
+      ends = put_ends entry valid known s end inside inside_lasts r.ends is;
       closed = λ t h less. elim (cases_eq t s) [
         | inl same ↦
             subst (λ k. IsKnown (with_end known s end) (entry k)) (sym same)
@@ -169,19 +175,15 @@ put_step entry valid known s end r low goes some is =
       ];
     }
 
--- the sector is one of the last `count` of the path
-pub record IsBehind (path : List ℕ) (count sector : ℕ) : Type 0 where
-  pub index : ℕ
-  pub inside : index < length path
-  pub behind : length path ≤ index + count
-  pub here : slice_index path index ≡ sector
+pub before_some : (s : ℕ) (rest : Option End) → 0 < (before s rest).count
+before_some s None = omega arith
+before_some s (Some end) = omega arith
 
--- the sectors behind are remembered, and no others besides those that were
+-- the sectors behind are remembered, besides those that were
 pub record IsRemembered (entry : ℕ → ℕ) (valid : ℕ) (old known : KnownEnds) (path : List ℕ) (count : ℕ) : Type 0 where
   pub remembers : Remembers entry valid known
   pub kept : (s : ℕ) → IsKnown old s → IsKnown known s
   pub behind : (k : ℕ) → length path ≤ k + count → k < length path → IsKnown known (slice_index path k)
-  pub only : (s : ℕ) → IsKnown known s → IsKnown old s ⊎ IsBehind path count s
 
 pub remembered_none : (entry : ℕ → ℕ) (valid : ℕ) (old : KnownEnds) (path : List ℕ) → Remembers entry valid old →
     IsRemembered entry valid old old path 0
@@ -189,65 +191,45 @@ remembered_none entry valid old path r = record {
   remembers = r;
   kept = λ s h. h;
   behind = λ k h low. absurd (omega arith);
-  only = λ s h. inl h;
 }
 
-before_some : (s : ℕ) (rest : Option End) → 0 < (before s rest).count
-before_some s None = omega arith
-before_some s (Some end) = omega arith
-
-pub remember_step : (entry : ℕ → ℕ) (valid : ℕ) (old known : KnownEnds) (path : List ℕ) (i s : ℕ) (rest : Option End) →
-    ((k : ℕ) → k < length path → slice_index path k < valid) →
-    ((k j : ℕ) → k < j → j < length path → slice_index path k ≢ slice_index path j) →
+-- what follows the sector before them is known
+pub remembered_next : (entry : ℕ → ℕ) (valid : ℕ) (old known : KnownEnds) (path : List ℕ) (i s : ℕ) →
     ((k : ℕ) → k + 1 < length path → entry (slice_index path k) ≡ slice_index path (k + 1)) →
-    ((k : ℕ) → k < length path → ¬ IsKnown old (slice_index path k)) → GoesOn entry valid old path →
+    GoesOn entry valid old path → i < length path → s ≡ slice_index path (length path - 1 - i) →
+    IsRemembered entry valid old known path i → entry s < valid → IsKnown known (entry s)
+remembered_next entry valid old known path i s links goes_on low is r less = elim (cases_eq i 0) [
+  | inl none ↦
+      let e : length path - 1 - i ≡ length path - 1 = omega arith in
+      let last : s ≡ last_of path = is ∙ ap (λ j. slice_index path j) e in
+      subst (λ t. IsKnown known (entry t)) (sym last)
+      (r.kept (entry (last_of path)) (goes_on (subst (λ t. entry t < valid) last less)))
+  | inr some ↦
+      let link = links (length path - 1 - i) (omega arith) in
+      subst (IsKnown known) (sym (ap entry is ∙ link))
+      (r.behind (length path - 1 - i + 1) (omega arith) (omega arith))
+]
+
+-- one sector more
+pub remember_step : (entry : ℕ → ℕ) (valid : ℕ) (old known new : KnownEnds) (path : List ℕ) (i s : ℕ) →
     i < length path → s ≡ slice_index path (length path - 1 - i) → IsRemembered entry valid old known path i →
-    MatchOption rest (¬ IsKnown known (entry s)) (λ end. IsKnown known (entry s) × (end ≡ end_at known (entry s))) →
-    IsRemembered entry valid old (with_end known s (before s rest)) path (i + 1)
-remember_step entry valid old known path i s rest within distinct links fresh goes_on low is r found =
-    let here : length path - 1 - i < length path = omega arith in
-    let in_range : s < valid = subst (λ t. t < valid) (sym is) (within (length path - 1 - i) here) in
-    let new : ¬ IsKnown known s = λ h. elim (r.only s h) [
-      | inl was ↦ fresh (length path - 1 - i) here (subst (IsKnown old) is was)
-      | inr b ↦
-          let inside = b.inside in
-          let behind = b.behind in
-          distinct (length path - 1 - i) b.index (omega arith) b.inside (sym is ∙ sym b.here)
-    ] in
-    let goes : entry s < valid → IsKnown known (entry s) = λ less. elim (cases_eq i 0) [
-      | inl none ↦
-          let e : length path - 1 - i ≡ length path - 1 = omega arith in
-          let last : s ≡ last_of path = is ∙ ap (λ j. slice_index path j) e in
-          subst (λ t. IsKnown known (entry t)) (sym last)
-          (r.kept (entry (last_of path)) (goes_on (subst (λ t. entry t < valid) last less)))
-      | inr some ↦
-          let link = links (length path - 1 - i) (omega arith) in
-          subst (IsKnown known) (sym (ap entry is ∙ link))
-          (r.behind (length path - 1 - i + 1) (omega arith) (omega arith))
-    ] in
-    let counts = r.remembers.counts_len in
-    let inside : s < length known.counts = omega arith in
-    let some = before_some s rest in
-    record {
-      remembers = put_step entry valid known s (before s rest) r.remembers in_range goes some
-          (end_step entry valid known s rest r.remembers in_range new goes found);
-      kept = λ t h. kept_known known s t (before s rest) inside some (r.kept t h);
-      behind = λ j h less. elim (cases_eq j (length path - 1 - i)) [
-        | inl same ↦ subst (IsKnown (with_end known s (before s rest))) (is ∙ ap (λ m. slice_index path m) (sym same))
-            (put_known known s (before s rest) inside some)
-        | inr other ↦ kept_known known s (slice_index path j) (before s rest) inside some
-            (r.behind j (omega arith) less)
-      ];
-      only = λ t h. elim (cases_eq t s) [
-        | inl same ↦ inr
-            (record { index = length path - 1 - i; inside = here; behind = omega arith; here = sym is ∙ sym same })
-        | inr other ↦ elim (r.only t (only_known known s t (before s rest) other h)) [
-          | inl was ↦ inl was
-          | inr b ↦ inr
-              (record { index = b.index; inside = b.inside; behind = (let a = b.behind in omega arith); here = b.here })
-        ]
-      ];
-    }
+    Remembers entry valid new → ((t : ℕ) → IsKnown known t → IsKnown new t) → IsKnown new s →
+    IsRemembered entry valid old new path (i + 1)
+remember_step entry valid old known new path i s low is r remembers kept here = record {
+  remembers = remembers;
+  kept = λ t h. kept t (r.kept t h);
+  behind = λ j h less. elim (cases_eq j (length path - 1 - i)) [
+    | inl same ↦ subst (IsKnown new) (is ∙ ap (λ m. slice_index path m) (sym same)) here
+    | inr other ↦ kept (slice_index path j) (r.behind j (omega arith) less)
+  ];
+}
+
+-- a known sector has a place
+pub known_below : (known : KnownEnds) (s : ℕ) → IsKnown known s → s < length known.counts
+known_below known s h = elim (cases_lt s (length known.counts)) [
+  | inl lo ↦ lo
+  | inr hi ↦ let e = get_or_past known.counts s 0 hi in absurd (omega arith)
+]
 
 -- the ends are small numbers
 pub end_few : (entry : ℕ → ℕ) (valid : ℕ) (known : KnownEnds) (s : ℕ) (rest : Option End) →
@@ -268,6 +250,13 @@ pub not_known : (known : KnownEnds) (s : ℕ) (rest : Option End) →
 not_known known s None found none = found
 not_known known s (Some end) found none = absurd (cc none)
 
+-- and one whose end is found is
+pub is_known : (known : KnownEnds) (s : ℕ) (rest : Option End) →
+    MatchOption rest (¬ IsKnown known s) (λ end. IsKnown known s × (end ≡ end_at known s)) → is_some rest ≡ true →
+    IsKnown known s
+is_known known s None found some = absurd (cc some)
+is_known known s (Some end) found some = found.0
+
 -- at first no end is known
 pub remembers_none : (entry : ℕ → ℕ) (valid : ℕ) (known : KnownEnds) → length known.counts ≡ valid →
     length known.lasts ≡ valid → ((s : ℕ) → ¬ IsKnown known s) → Remembers entry valid known
@@ -277,28 +266,3 @@ remembers_none entry valid known counts lasts none = record {
   ends = λ s h. absurd (none s h);
   closed = λ s h less. absurd (none s h);
 }
-
--- a path that comes back to itself
-pub turns_end : (entry : ℕ → ℕ) (valid : ℕ) (known : KnownEnds) (start : ℕ) (path : List ℕ) (end : End) →
-    IsFreshPath entry valid known start path → entry (last_of path) < valid → ¬ IsKnown known (entry (last_of path)) →
-    end.count ≡ length path → end.last ≡ last_of path → IsEnd entry valid start end
-turns_end entry valid known start path end fresh less new count last = record {
-  sectors = path;
-  full = record {
-    path = fresh.path;
-    stops = elim fresh.stops [
-      | inl over ↦ inl over
-      | inr more ↦ elim more [ inl again ↦ inr again | inr is ↦ absurd (new is) ]
-    ];
-  };
-  count = count;
-  last = last;
-}
-
--- a path that does not
-pub goes_end : (entry : ℕ → ℕ) (valid : ℕ) (known : KnownEnds) (path : List ℕ) →
-    (entry (last_of path) < valid → ¬ (¬ IsKnown known (entry (last_of path)))) → GoesOn entry valid known path
-goes_end entry valid known path is = λ less. elim (cases_lt 0 (slice_index known.counts (entry (last_of path)))) [
-  | inl some ↦ some
-  | inr none ↦ absurd (is less (λ h. omega arith))
-]

@@ -11,6 +11,7 @@ pub mod FatLemmas
 pub mod LoadLemmas
 pub mod MarkLemmas
 pub mod EndLemmas
+pub mod RingLemmas
 pub mod ClaimLemmas
 pub mod GatherLemmas
 pub mod NameLemmas

@@ -35,9 +35,20 @@ pub record Remembers (entry : ℕ → ℕ) (valid : ℕ) (known : KnownEnds) : T
 pub record IsFreshPath (entry : ℕ → ℕ) (valid : ℕ) (known : KnownEnds) (start : ℕ) (sectors : List ℕ) : Type 0 where
   pub path : IsSectorPath entry valid start sectors
   pub fresh : (i : ℕ) → i < length sectors → ¬ IsKnown known (slice_index sectors i)
-  pub
-      stops : (valid ≤ entry (last_of sectors)) ⊎ (HasSector sectors (entry (last_of sectors)) ⊎ IsKnown known
-      (entry (last_of sectors)))
+  pub stops : (valid ≤ entry (last_of sectors))
+      ⊎ (HasSector sectors (entry (last_of sectors)) ⊎ IsKnown known (entry (last_of sectors)))
+
+-- sectors in a ring: the entry of the last names the first
+pub record IsRing (entry : ℕ → ℕ) (valid start : ℕ) (sectors : List ℕ) : Type 0 where
+  pub path : IsSectorPath entry valid start sectors
+  pub back : entry (last_of sectors) ≡ start
+
+-- the ring from a sector has so many sectors, and this is its last one
+pub record IsRingEnd (entry : ℕ → ℕ) (valid start : ℕ) (end : End) : Type 0 where
+  pub sectors : List ℕ
+  pub ring : IsRing entry valid start sectors
+  pub count : end.count ≡ length sectors
+  pub last : end.last ≡ last_of sectors
 
 -- where it ends it is known how it goes on
 abbrev pub GoesOn : (ℕ → ℕ) → ℕ → KnownEnds → List ℕ → Type 0

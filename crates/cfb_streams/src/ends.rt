@@ -1,7 +1,9 @@
 // Where the full path from a sector ends, remembered for each sector that a path has met.
-ghost use Rattle.std.specs.Prelude.{◌≡◌, ◌≢◌, ℕ, ◌+◌, ◌-◌, ◌^◌, ◌<◌, ◌≤◌, IfOk, IfSome, MatchOption, length};
+ghost use Rattle.std.specs.Prelude.{◌≡◌, ℕ, ◌+◌, ◌-◌, ◌^◌, ◌<◌, ◌≤◌, IfOk, IfSome, MatchOption, length};
 ghost use Rattle.std.specs.Prelude.{slice_index};
+ghost use Rattle.cfb_streams.specs.SectorChain.{HasSector};
 ghost use Rattle.cfb_streams.specs.Ends.{IsEnd, IsKnown, end_at, with_end, Remembers, IsFreshPath, GoesOn, before};
+ghost use Rattle.cfb_streams.specs.Ends.{IsRingEnd};
 
 use crate::chain::last_sector;
 use crate::marks::{Marks, no_stamps};
@@ -53,6 +55,17 @@ impl Ends {
         self.counts.len()
     }
 
+    /// The end of the path from a sector that is known.
+    fn at(&self, sector: usize) -> End
+        requires { IsKnown self.now sector }
+        ensures { result ≡ end_at self.now sector }
+    {
+        End {
+            count: self.counts[sector],
+            last: self.lasts[sector],
+        }
+    }
+
     /// The end of the path from a sector, where it is known.
     pub(crate) fn get(&self, sector: usize) -> Option<End>
         ensures { MatchOption result
@@ -62,10 +75,7 @@ impl Ends {
         if sector >= self.counts.len() || self.counts[sector] == 0 {
             return None;
         }
-        Some(End {
-            count: self.counts[sector],
-            last: self.lasts[sector],
-        })
+        Some(self.at(sector))
     }
 
     /// Remembers the end of the path from a sector.
@@ -121,30 +131,95 @@ fn end_before(sector: u32, rest: Option<End>) -> End
     }
 }
 
+/// Remembers the end of the path from a sector, where it is not known.
+fn note(entries: &[u32], ends: &mut Ends, sector: u32)
+    requires room { length ends.old.counts ≤ length entries.now }
+    requires few { length ends.old.counts < 2 ^ 31 }
+    requires remembers { Remembers (λ s. slice_index entries.now s) (length ends.old.counts) ends.old }
+    requires inside { sector < length ends.old.counts }
+    requires goes_on { slice_index entries.now sector < length ends.old.counts
+        → IsKnown ends.old (slice_index entries.now sector) }
+    ensures remembers { Remembers (λ s. slice_index entries.now s) (length ends.old.counts) ends.new }
+    ensures kept { (s : ℕ) → IsKnown ends.old s → IsKnown ends.new s }
+    ensures known { IsKnown ends.new sector }
+{
+    if ends.get(sector as usize).is_some() {
+        return;
+    }
+    let rest = ends.get(entries[sector as usize] as usize);
+    ends.put(sector as usize, end_before(sector, rest));
+}
+
 /// Remembers the ends of the paths from all sectors of a path.
 pub(crate) fn remember(entries: &[u32], ends: &mut Ends, path: &[u32])
     requires room { length ends.old.counts ≤ length entries.now }
     requires few { length ends.old.counts < 2 ^ 31 }
     requires remembers { Remembers (λ s. slice_index entries.now s) (length ends.old.counts) ends.old }
     requires within { (i : ℕ) → i < length path.now → slice_index path.now i < length ends.old.counts }
-    requires distinct { (i j : ℕ) → i < j → j < length path.now → slice_index path.now i ≢ slice_index path.now j }
     requires links { (i : ℕ) → i + 1 < length path.now
         → slice_index entries.now (slice_index path.now i) ≡ slice_index path.now (i + 1) }
-    requires fresh { (i : ℕ) → i < length path.now → ¬ IsKnown ends.old (slice_index path.now i) }
     requires goes_on { GoesOn (λ s. slice_index entries.now s) (length ends.old.counts) ends.old path.now }
     ensures remembers { Remembers (λ s. slice_index entries.now s) (length ends.old.counts) ends.new }
     ensures known { (i : ℕ) → i < length path.now → IsKnown ends.new (slice_index path.now i) }
 {
     for i in 0..path.len() {
-        let sector = path[path.len() - 1 - i];
-        let rest = ends.get(entries[sector as usize] as usize);
-        let end = end_before(sector, rest);
-        ends.put(sector as usize, end);
+        note(entries, ends, path[path.len() - 1 - i]);
     }
 }
 
-/// The end of a path of sectors that are not known. It is remembered, and those from all its sectors, but where the
-/// path comes back to itself.
+/// How many sectors of a path stand from a sector on.
+fn count_from(path: &[u32], sector: u32) -> usize
+    requires { HasSector path.now sector }
+    ensures some { 0 < result }
+    ensures inside { result ≤ length path.now }
+    ensures here { slice_index path.now (length path.now - result) ≡ sector }
+{
+    let mut count = 1;
+    while path[path.len() - count] != sector {
+        count += 1;
+    }
+    count
+}
+
+/// Remembers the ends of the paths from all sectors of a ring, of which that from `start` is given.
+fn remember_ring(entries: &[u32], ends: &mut Ends, start: u32, end: End)
+    requires room { length ends.old.counts ≤ length entries.now }
+    requires remembers { Remembers (λ s. slice_index entries.now s) (length ends.old.counts) ends.old }
+    requires ring { IsRingEnd (λ s. slice_index entries.now s) (length ends.old.counts) start end }
+    ensures remembers { Remembers (λ s. slice_index entries.now s) (length ends.old.counts) ends.new }
+    ensures known { IsKnown ends.new start }
+{
+    let mut at = start;
+    let mut last = end.last;
+    for _met in 0..end.count {
+        let count = end.count;
+        ends.put(at as usize, End { count, last });
+        last = at;
+        at = entries[at as usize];
+    }
+}
+
+/// Where a path of sectors that are not known comes back to itself, remembers the ends of the paths from the sectors of
+/// its ring.
+fn settle_ring(entries: &[u32], ends: &mut Ends, path: &[u32])
+    requires room { length ends.old.counts ≤ length entries.now }
+    requires few { length ends.old.counts < 2 ^ 31 }
+    requires remembers { Remembers (λ s. slice_index entries.now s) (length ends.old.counts) ends.old }
+    requires fresh { IsFreshPath (λ s. slice_index entries.now s) (length ends.old.counts) ends.old
+        (slice_index path.now 0) path.now }
+    ensures remembers { Remembers (λ s. slice_index entries.now s) (length ends.old.counts) ends.new }
+    ensures goes_on { GoesOn (λ s. slice_index entries.now s) (length ends.old.counts) ends.new path.now }
+{
+    let last = last_sector(path);
+    let next = entries[last as usize];
+    if next as usize >= ends.len() || ends.get(next as usize).is_some() {
+        return;
+    }
+    let count = count_from(path, next) as u32;
+    remember_ring(entries, ends, next, End { count, last });
+}
+
+/// The end of a path of sectors that are not known. It is remembered, and those of the paths from all its sectors.
 pub(crate) fn settle(entries: &[u32], ends: &mut Ends, path: &[u32]) -> End
     requires room { length ends.old.counts ≤ length entries.now }
     requires few { length ends.old.counts < 2 ^ 31 }
@@ -154,18 +229,7 @@ pub(crate) fn settle(entries: &[u32], ends: &mut Ends, path: &[u32]) -> End
     ensures end { IsEnd (λ s. slice_index entries.now s) (length ends.old.counts) (slice_index path.now 0) result }
     ensures remembers { Remembers (λ s. slice_index entries.now s) (length ends.old.counts) ends.new }
 {
-    let last = last_sector(path);
-    let end = End {
-        count: path.len() as u32,
-        last,
-    };
-    let next = entries[last as usize] as usize;
-    if next < ends.len() && ends.get(next).is_none() {
-        return end;
-    }
+    settle_ring(entries, ends, path);
     remember(entries, ends, path);
-    match ends.get(path[0] as usize) {
-        Some(end) => end,
-        None => end,
-    }
+    ends.at(path[0] as usize)
 }
