@@ -112,7 +112,8 @@ pub none_more : (part : Part) (runs : List (Run Beside)) (number at begin : ℕ)
 none_more part runs number at begin run is begins shows none k beside low high there = elim (cases_lt k begin) [
   | inl less ↦ none k beside low less there
   | inr more ↦
-      let value : run.value ≡ beside = beside_in runs number begin k run beside is begins (omega (arith, more)) high there in
+      let value : run.value ≡ beside =
+      beside_in runs number begin k run beside is begins (omega (arith, more)) high there in
       ap (has_part part) (sym value)
       ∙ not_true (has_part part run.value) (λ has. shows (omega (arith, more, high), has))
 ]

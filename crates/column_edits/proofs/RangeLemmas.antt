@@ -31,7 +31,8 @@ pub changed_is : {A : Type 0} (R : A → A → Type 0) (f : A → A) (from to : 
     IsChanged R from to old new → ((x y : A) → R x y → y ≡ f x) → new ≡ map_range f old from to
 changed_is {A = A} R f from to old new changes is =
     changes.spliced
-    ∙ ap (λ (t : List A). splice old from to t) (together_map R f (slice_range old from to) changes.fresh changes.each is)
+    ∙ ap (λ (t : List A). splice old from to t)
+    (together_map R f (slice_range old from to) changes.fresh changes.each is)
 
 -- it is as long as it was
 pub length-changed : {A : Type 0} (R : A → A → Type 0) (from to : ℕ) (old new : List A) → IsChanged R from to old new →
@@ -45,7 +46,8 @@ pub range_spliced : {A : Type 0} (xs ys : List A) (from to : ℕ) → from ≤ t
     slice_range (splice xs from to ys) from to ≡ ys
 range_spliced xs ys from to ordered within long =
     let front : length (take from xs) ≡ from = length-take-le from xs (omega arith) in
-    range_mid (splice xs from to ys) (take from xs) ys (drop to xs) from to refl (sym front) (omega (arith, front, long))
+    range_mid (splice xs from to ys) (take from xs) ys (drop to xs) from to refl (sym front)
+    (omega (arith, front, long))
 
 -- the second splice of a range stays
 pub splice_twice : {A : Type 0} (xs ys zs : List A) (from to : ℕ) → from ≤ to → to ≤ length xs →
@@ -61,7 +63,8 @@ splice_twice {A = A} xs ys zs from to ordered within long =
     ap (drop to) (sym (append_assoc front ys back))
     ∙ ap (λ (n : ℕ). drop n ((front ++ ys) ++ back)) both_long
     ∙ drop-append_seam (front ++ ys) back in
-    ap (λ (t : List A). t ++ (zs ++ drop to (front ++ (ys ++ back)))) first ∙ ap (λ (t : List A). front ++ (zs ++ t)) last
+    ap (λ (t : List A). t ++ (zs ++ drop to (front ++ (ys ++ back)))) first
+    ∙ ap (λ (t : List A). front ++ (zs ++ t)) last
 
 -- a range changed twice
 pub map_range_twice : {A : Type 0} (g f : A → A) (xs : List A) (from to : ℕ) → from ≤ to → to ≤ length xs →

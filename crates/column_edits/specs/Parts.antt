@@ -14,5 +14,6 @@ has_part Section beside = is_some beside.sect
 pub record IsFirst (part : Part) (besides : List Beside) (at place : ℕ) : Type 0 where
   pub after : at ≤ place
   pub within : place ≤ length besides
-  pub before : (k : ℕ) (beside : Beside) → at ≤ k → k < place → slice_get besides k ≡ Some beside → has_part part beside ≡ false
+  pub before : (k : ℕ) (beside : Beside) → at ≤ k → k < place → slice_get besides k ≡ Some beside →
+      has_part part beside ≡ false
   pub here : (beside : Beside) → slice_get besides place ≡ Some beside → has_part part beside ≡ true

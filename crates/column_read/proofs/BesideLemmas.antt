@@ -1,5 +1,6 @@
 -- What stands beside the CPs of a stretch.
-use Rattle.std.proofs.Common.{◌≡◌, ◌∙◌, refl, sym, ap, subst, inl, inr, ℕ, ◌<◌, ◌≤◌, ◌+◌, ◌-◌, false, List, ◌++◌, length, Some, None, arith, length-append}
+use Rattle.std.proofs.Common.{◌≡◌, ◌∙◌, refl, sym, ap, subst, inl, inr, ℕ, ◌<◌, ◌≤◌, ◌+◌, ◌-◌, false, List, ◌++◌}
+use Rattle.std.proofs.Common.{length, Some, None, arith, length-append}
 use Rattle.std.specs.Prelude.{slice_get, slice_index, replicate}
 use Rattle.std.proofs.lemmas.Bool.{cases_lt}
 use Rattle.std.proofs.lemmas.List.{length-replicate}
@@ -38,7 +39,8 @@ adds_times {A = A} P count old new x is right =
           let behind : slice_get fresh (k - length old) ≡ Some entry =
           sym (from_behind old fresh (k - length old)) ∙ ap (λ (n : ℕ). slice_get (old ++ fresh) n) place ∙ there in
           let same : x ≡ entry =
-          All_at (λ (y : A). x ≡ y) fresh (k - length old) entry (All-replicate (λ (y : A). x ≡ y) count x refl) behind in
+          All_at (λ (y : A). x ≡ y) fresh (k - length old) entry (All-replicate (λ (y : A). x ≡ y) count x refl)
+          behind in
           subst (P k) same (right k upper (omega (arith, within, long, fresh_long)));
     }
 

@@ -1,14 +1,12 @@
 -- Ranges of a text by columns.
-use Rattle.std.proofs.Common.{◌≡◌, ◌∙◌, ℕ, ◌+◌, ◌-◌, ◌<◌, ◌≤◌, ◌^◌, List, [], length, map, take, drop, refl, sym, ap, subst, arith, length-take, length-drop}
+use Rattle.std.proofs.Common.{◌≡◌, ◌∙◌, ℕ, ◌-◌, ◌≤◌, List, length, map, drop, sym, ap, arith}
 use Rattle.std.specs.Prelude.{slice_range}
 use Rattle.std.specs.List.{All}
 use Rattle.std.proofs.lemmas.List.{length-map}
 use Rattle.std.proofs.lemmas.List.Elements.{All-take, All-drop}
 use Rattle.prop_map.specs.Settings.{Settings}
 use Rattle.run_lists.specs.declared.runs.Run.{Run}
-use Rattle.run_lists.specs.declared.cursor.Cursor.{Cursor}
 use Rattle.run_lists.specs.Spread.{spread, extent}
-use Rattle.run_lists.specs.Places.{IsAt}
 use Rattle.run_lists.proofs.SpreadLemmas.{length-spread}
 use Rattle.plain_doc.specs.declared.item.Item.{Item}
 use Rattle.plain_doc.specs.Document.{HasPropertyMaps, IsFormedItem}
@@ -24,10 +22,6 @@ pub column_long : {T : Type 0} (runs : List (Run T)) (f : Item → T) (text : Li
     extent runs ≡ length text
 column_long runs f text is = sym (length-spread runs) ∙ ap length is ∙ length-map text f
 
--- a range of a list is as long as it says
-pub range_long : {A : Type 0} (xs : List A) (from to : ℕ) → to ≤ length xs → length (slice_range xs from to) ≡ to - from
-range_long xs from to within = simp (length-take, length-drop) (omega (arith, within))
-
 -- the ranges of the columns are the columns of the range
 pub columns_range : (text : List Item) (us : List ℕ) (cs : List Settings) (bs : List Beside) (from to : ℕ) →
     us ≡ slice_range (map (λ item. item.unit) text) from to → cs ≡ slice_range (map (λ item. item.chp) text) from to
@@ -38,9 +32,11 @@ columns_range text us cs bs from to us_is cs_is bs_is =
     ∙ ap (λ (items : List Item). slice_range items from to) (items_of-maps text))
 
 -- the maps of the items of a range
-pub range_maps : (text : List Item) (from to : ℕ) → All IsFormedItem text → All HasPropertyMaps (slice_range text from to)
+pub range_maps : (text : List Item) (from to : ℕ) → All IsFormedItem text →
+    All HasPropertyMaps (slice_range text from to)
 range_maps text from to formed =
-    λ k d below. (All-take IsFormedItem (to - from) (drop from text) (All-drop IsFormedItem from text formed) k d below).maps
+    λ k d below. (All-take IsFormedItem (to - from) (drop from text) (All-drop IsFormedItem from text formed) k d
+    below).maps
 
 -- a walk that is not behind a place is not behind a later one
 pub walk_on : (text : List Item) (walk : TextWalk) (place other : ℕ) → place ≤ other → IsWalk text walk place →

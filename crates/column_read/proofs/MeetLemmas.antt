@@ -1,5 +1,6 @@
 -- The settings of the units and what stands beside them meet in the items.
-use Rattle.std.proofs.Common.{◌≡◌, ◌∙◌, refl, sym, ap, subst, ℕ, zero, suc, ◌<◌, ◌≤◌, ◌+◌, ◌-◌, List, [], ◌∷◌, ◌++◌, length, get_or, Some, is_some, arith, length-append}
+use Rattle.std.proofs.Common.{◌≡◌, ◌∙◌, sym, ap, subst, ℕ, zero, suc, ◌<◌, ◌≤◌, ◌+◌, ◌-◌, List, [], ◌∷◌, ◌++◌, length}
+use Rattle.std.proofs.Common.{get_or, Some, is_some, arith, length-append}
 use Rattle.std.specs.Prelude.{slice_get, slice_index, slice_range}
 use Rattle.std.specs.List.{All}
 use Rattle.std.proofs.lemmas.Option.{slice_get_within, slice_get-get_or, get_or_from_slice_get}
@@ -74,7 +75,8 @@ read_of view modifier cp item unit_is characters stands = record {
   sect_is = stands.sect_is;
   mark_is =
       subst
-      (λ (u : ℕ). IsMarkAt (is_paragraph_end u (is_some item.sect)) view.wd view.paragraphs (slice_index view.places cp) modifier item.mark)
+      (λ (u : ℕ). IsMarkAt (is_paragraph_end u (is_some item.sect)) view.wd view.paragraphs (slice_index view.places cp)
+      modifier item.mark)
       (sym unit_is) stands.mark_is;
   fld_is = stands.fld_is;
   note_is = stands.note_is;

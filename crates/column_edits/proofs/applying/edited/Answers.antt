@@ -1,4 +1,4 @@
-use Rattle.std.proofs.Common.{refl, sym, subst}
+use Rattle.std.proofs.Common.{refl, subst}
 use Rattle.plain_doc.specs.Sound.{IsSound}
 use Rattle.edit_ops.specs.Causes.{CanBeTried}
 use Rattle.column_edits.proofs.applying.edited.Goals as goal

@@ -10,9 +10,15 @@ pub returns : goal.returns
 returns c =
     let own = c.document.inside in
     let made : Document =
-    record { main = own.main; notes = own.notes; heads = own.heads; sheet = c.set_para.new.self; carried = own.carried } in
-    subst (λ (d : Document). made ≡ record d { sheet = with_kind_at d.sheet c.args.istd (paragraphs_set c.args.set.now) })
-    c.document.view_is
+    record {
+      main = own.main;
+      notes = own.notes;
+      heads = own.heads;
+      sheet = c.set_para.new.self;
+      carried = own.carried;
+    } in
+    let set = paragraphs_set c.args.set.now in
+    subst (λ (d : Document). made ≡ record d { sheet = with_kind_at d.sheet c.args.istd set }) c.document.view_is
     (ap (λ (sheet : Sheet). record {
       main = own.main;
       notes = own.notes;

@@ -5,7 +5,8 @@ use Rattle.column_edits.proofs.MakingLemmas.{any_text, such_text, has_hole, text
 use Rattle.column_edits.proofs.making.splice_text.Goals as goal
 
 pub take_text-text-requires : goal.take_text-text-requires
-take_text-text-requires c = any_text c.args.document.now c.args.story (CanSplice c.args.from c.args.to c.args.fresh) c.requires
+take_text-text-requires c =
+    any_text c.args.document.now c.args.story (CanSplice c.args.from c.args.to c.args.fresh) c.requires
 
 pub splice-requires-clause-ordered : goal.splice-requires-clause-ordered
 splice-requires-clause-ordered c =

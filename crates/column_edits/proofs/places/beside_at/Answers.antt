@@ -1,5 +1,5 @@
 -- What the runs have at the place.
-use Rattle.std.proofs.Common.{◌≡◌, List, Some, None, length, map, ap, subst, arith}
+use Rattle.std.proofs.Common.{◌≡◌, List, Some, length, map, ap, subst, arith}
 use Rattle.std.specs.Prelude.{slice_get}
 use Rattle.std.proofs.lemmas.List.{length-map}
 use Rattle.std.proofs.lemmas.Option.{slice_get_past}
@@ -34,4 +34,5 @@ seek-requires-clause-within c =
 
 pub returns : goal.returns
 returns c =
-    subst (λ (t : List Beside). slice_get t c.args.place ≡ Some c.seek.result.now) c.besides.ensures c.seek.ensures.value
+    subst (λ (t : List Beside). slice_get t c.args.place ≡ Some c.seek.result.now) c.besides.ensures
+    c.seek.ensures.value

@@ -1,5 +1,5 @@
 -- The settings at the place.
-use Rattle.std.proofs.Common.{◌≡◌, List, Some, None, length, map, ap, subst, arith}
+use Rattle.std.proofs.Common.{◌≡◌, List, Some, length, map, ap, subst, arith}
 use Rattle.std.specs.Prelude.{slice_get}
 use Rattle.std.proofs.lemmas.List.{length-map}
 use Rattle.std.proofs.lemmas.Option.{slice_get_past}

@@ -11,7 +11,8 @@ use Rattle.column_edits.proofs.planning.inserted.Goals as goal
 pub returns : goal.returns
 returns c =
     let text = items_are c.args.document.now c.args.story c.text_of-text.result.now c.text_of-text.ensures in
-    let items : c.in_ok-items.items ≡ inserted_items (items_at c.args.document.now c.args.story) c.args.at c.args.units.now =
+    let items : c.in_ok-items.items
+    ≡ inserted_items (items_at c.args.document.now c.args.story) c.args.at c.args.units.now =
     c.in_ok-items.ensures ∙ ap (λ (t : List Item). inserted_items t c.args.at c.args.units.now) (sym text) in
     subst (λ (t : List Item). IfOk c.put_in.result (λ made. as_changes made.items ≡ put_in c.args.story c.args.at t))
     items c.put_in.ensures

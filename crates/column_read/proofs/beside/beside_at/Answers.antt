@@ -21,11 +21,14 @@ mark_at-requires-clause-right c =
     let unit = slice_index text.units.now c.args.cp in
     let place = slice_index text.places.now c.args.cp in
     let ends : c.ends_paragraph-ends.result ≡ ends_at (text_view text) c.args.cp =
-    c.ends_paragraph-ends.ensures ∙ ap (is_paragraph_end unit) (c.is_some.ensures ∙ ap is_some c.in_ok-sect.ensures.section) in
-    λ t. subst (λ (s : PlaceSource). IsRightPlace Papx s.wd s.bin place) (sym c.requires.reader.marks) (c.requires.readable.right_paragraphs c.args.cp c.requires.within (sym ends ∙ t))
+    c.ends_paragraph-ends.ensures ∙ ap (is_paragraph_end unit)
+    (c.is_some.ensures ∙ ap is_some c.in_ok-sect.ensures.section) in
+    λ t. subst (λ (s : PlaceSource). IsRightPlace Papx s.wd s.bin place) (sym c.requires.reader.marks)
+    (c.requires.readable.right_paragraphs c.args.cp c.requires.within (sym ends ∙ t))
 
 pub mark_at-requires-clause-formed : goal.mark_at-requires-clause-formed
-mark_at-requires-clause-formed c = subst (λ (s : PlaceSource). IsFormedModifier s.modifier) (sym c.requires.reader.marks) c.requires.reader.formed
+mark_at-requires-clause-formed c = subst (λ (s : PlaceSource). IsFormedModifier s.modifier)
+    (sym c.requires.reader.marks) c.requires.reader.formed
 
 pub returns-clause-beside : goal.returns-clause-beside
 returns-clause-beside c =
@@ -37,10 +40,12 @@ returns-clause-beside c =
     let mark = c.in_ok-mark.mark in
     let ends : c.ends_paragraph-ends.result ≡ is_paragraph_end unit (is_some sect) =
     c.ends_paragraph-ends.ensures ∙ ap (is_paragraph_end unit) c.is_some.ensures in
-    let here = subst (λ (s : PlaceSource). IsMarkAt c.ends_paragraph-ends.result s.wd s.bin place s.modifier mark) c.requires.reader.marks c.in_ok-mark.ensures.mark in
+    let here = subst (λ (s : PlaceSource). IsMarkAt c.ends_paragraph-ends.result s.wd s.bin place s.modifier mark)
+    c.requires.reader.marks c.in_ok-mark.ensures.mark in
     record {
       sect_is = c.in_ok-sect.ensures.section;
-      mark_is = subst (λ b. IsMarkAt b text.wd.now text.paragraphs.now place c.args.reader.now.characters.modifier mark) ends here;
+      mark_is = subst (λ b. IsMarkAt b text.wd.now text.paragraphs.now place c.args.reader.now.characters.modifier mark)
+          ends here;
       fld_is = c.byte_at-fld.ensures.byte;
       note_is = c.kind_at-note.ensures.kind;
       maps = record {

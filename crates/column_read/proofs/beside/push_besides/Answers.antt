@@ -32,7 +32,9 @@ loop-cp-preserved c =
     let view = text_view c.args.text.now in
     let cp = c.loop-cp.cp in
     let next = c.in_ok-cp.cp in
-    let more = subst (λ (r : PieceReader). AddsEach (IsBesideAt view r.characters.modifier) (next - cp) c.loop-cp.besides c.push_stretch.new.besides) c.loop-cp.invariant.same c.in_ok-cp.ensures.besides in
+    let more = subst
+    (λ (r : PieceReader). AddsEach (IsBesideAt view r.characters.modifier) (next - cp) c.loop-cp.besides
+    c.push_stretch.new.besides) c.loop-cp.invariant.same c.in_ok-cp.ensures.besides in
     let sum : next - c.args.piece.cp ≡ (cp - c.args.piece.cp) + (next - cp) =
     omega (arith, c.loop-cp.invariant.begun, c.in_ok-cp.ensures.on) in
     record {

@@ -1,4 +1,4 @@
-use Rattle.std.proofs.Common.{◌≡◌, ◌≤◌, ◌-◌, length}
+use Rattle.std.proofs.Common.{◌≡◌, ◌≤◌, ◌-◌}
 use Rattle.doc_read.specs.Passing.{AddsEach}
 use Rattle.doc_read.specs.Reading.{ArePassed, mark_lists, text_view}
 use Rattle.column_read.specs.Beside.{IsBesideAt}
@@ -10,7 +10,8 @@ invariant-loop-cp l = record {
   begun : l.piece.cp ≤ l.cp;
   within : l.cp ≤ l.piece.end;
   same : l.reader ≡ l.fn.reader;
-  added : AddsEach (IsBesideAt (text_view l.text) l.fn.reader.characters.modifier) (l.cp - l.piece.cp) l.fn.besides l.besides;
+  added : AddsEach (IsBesideAt (text_view l.text) l.fn.reader.characters.modifier) (l.cp - l.piece.cp) l.fn.besides
+      l.besides;
   passed : ArePassed (mark_lists l.text.marks.now) l.passed l.cp;
 }
 

@@ -19,7 +19,8 @@ loop-i-init c =
     let view = text_view c.args.text.now in
     let chps = c.new.result in
     let besides = c.new-2.result in
-    let none = length-read view.units chps besides 0 (ap length c.new.ensures) (ap length c.new-2.ensures) (omega arith) in
+    let none = length-read view.units chps besides 0 (ap length c.new.ensures) (ap length c.new-2.ensures)
+    (omega arith) in
     record {
       len = omega arith;
       chps = ap length c.new.ensures;
@@ -41,7 +42,8 @@ push_piece-requires-clause-reader c =
     let readers = c.reader_for.new.readers.items in
     let number = c.in_ok-number.number in
     let reader = c.index_mut.result.now in
-    reader_right (text_view c.args.text.now) readers number reader c.in_ok-number.ensures.readers (reader_at readers number reader c.modifier.result.now c.in_ok-number.ensures.serves c.index_mut.ensures.value).0
+    reader_right (text_view c.args.text.now) readers number reader c.in_ok-number.ensures.readers
+    (reader_at readers number reader c.modifier.result.now c.in_ok-number.ensures.serves c.index_mut.ensures.value).0
 
 pub loop-i-preserved : goal.loop-i-preserved
 loop-i-preserved c =
@@ -66,26 +68,34 @@ loop-i-preserved c =
     let old_items = items_of units old.chps old.besides in
     let new_items = items_of units new.chps new.besides in
     let old_long : length old_items ≡ cp =
-    length-read units old.chps old.besides cp c.loop-i.invariant.chps c.loop-i.invariant.besides (omega (arith, within)) in
+    length-read units old.chps old.besides cp c.loop-i.invariant.chps c.loop-i.invariant.besides
+    (omega (arith, within)) in
     let front : length old_items ≡ min (total_length (take i pieces)) count = old_long ∙ c.loop-i.invariant.len in
     let added_is : added ≡ min piece.len (count - length old_items) =
     c.min.ensures ∙ (ap (λ n. min n (count - cp)) (sym len_is) ∙ ap (λ n. min piece.len (count - n)) (sym old_long)) in
     let readers = c.reader_for.new.readers.items in
     let number = c.in_ok-number.number in
     let reader = c.index_mut.result.now in
-    let at = reader_at readers number reader c.modifier.result.now c.in_ok-number.ensures.serves c.index_mut.ensures.value in
+    let at = reader_at readers number reader c.modifier.result.now c.in_ok-number.ensures.serves
+    c.index_mut.ensures.value in
     let same = at.1 ∙ sym modifier_is in
     let long : cp + added - cp ≡ added = omega arith in
     let chps = subst (λ m. AddsEach (IsReadCharacter view m) added old.chps new.chps) same
-    (subst (λ n. AddsEach (IsReadCharacter view reader.characters.modifier) n old.chps new.chps) long c.in_ok-push_piece.ensures.chps) in
+    (subst (λ n. AddsEach (IsReadCharacter view reader.characters.modifier) n old.chps new.chps) long
+    c.in_ok-push_piece.ensures.chps) in
     let besides = subst (λ m. AddsEach (IsBesideAt view m) added old.besides new.besides) same
-    (subst (λ n. AddsEach (IsBesideAt view reader.characters.modifier) n old.besides new.besides) long c.in_ok-push_piece.ensures.besides) in
-    let adds = adds_items view piece.modifier cp added old.chps new.chps old.besides new.besides c.loop-i.invariant.chps c.loop-i.invariant.besides within chps besides in
+    (subst (λ n. AddsEach (IsBesideAt view reader.characters.modifier) n old.besides new.besides) long
+    c.in_ok-push_piece.ensures.besides) in
+    let adds = adds_items view piece.modifier cp added old.chps new.chps old.besides new.besides c.loop-i.invariant.chps
+    c.loop-i.invariant.besides within chps besides in
     record {
-      len = length-more pieces i added count piece (length old_items) (cp + added) here front added_is (ap (λ n. n + added) (sym old_long));
+      len = length-more pieces i added count piece (length old_items) (cp + added) here front added_is
+          (ap (λ n. n + added) (sym old_long));
       chps = omega (arith, chps.len, c.loop-i.invariant.chps);
       besides = omega (arith, besides.len, c.loop-i.invariant.besides);
-      placed = placed_more view pieces i added count piece old_items new_items here front added_is c.loop-i.invariant.placed adds;
-      readers = readers_same view readers number reader c.push_piece.new.reader c.in_ok-number.ensures.readers at.0 c.in_ok-push_piece.ensures.same;
+      placed = placed_more view pieces i added count piece old_items new_items here front added_is
+          c.loop-i.invariant.placed adds;
+      readers = readers_same view readers number reader c.push_piece.new.reader c.in_ok-number.ensures.readers at.0
+          c.in_ok-push_piece.ensures.same;
       passed = c.in_ok-push_piece.ensures.passed;
     }

@@ -5,7 +5,6 @@ use Rattle.fkp_pages.specs.declared.kind.PageKind.TheVariants.{Chpx}
 use Rattle.direct_props.specs.PageRules.{AreRightPlaces}
 use Rattle.direct_props.specs.Stretches.{AddsCharacters}
 use Rattle.direct_props.specs.Kept.{PlaceSource}
-use Rattle.doc_read.specs.declared.reading.PieceReader.{PieceReader}
 use Rattle.doc_read.specs.Passing.{AddsEach}
 use Rattle.doc_read.specs.Reading.{IsPieceReader, text_view}
 use Rattle.doc_read.proofs.ReaderLemmas.{right_range}
@@ -23,7 +22,8 @@ push_character_runs-requires-clause-right c =
     let from = c.args.piece.cp in
     let to = c.args.piece.end in
     let within : to ≤ length places = omega (arith, c.requires.within, c.requires.readable.same) in
-    subst (λ (s : PlaceSource). AreRightPlaces Chpx s.wd s.bin (slice_range places from to)) (sym c.requires.reader.characters)
+    subst (λ (s : PlaceSource). AreRightPlaces Chpx s.wd s.bin (slice_range places from to))
+    (sym c.requires.reader.characters)
     (right_range text.wd.now text.characters.now places from to within c.requires.readable.right_characters)
 
 pub push_besides-requires-clause-reader : goal.push_besides-requires-clause-reader
@@ -40,11 +40,15 @@ returns-clause-chps c =
     let from = c.args.piece.cp in
     let to = c.args.piece.end in
     let within : to ≤ length places = omega (arith, c.requires.within, c.requires.readable.same) in
-    let adds = subst (λ (s : PlaceSource). AddsCharacters s.wd s.bin (slice_range places from to) s.modifier c.args.read.now.chps c.push_character_runs.new.runs) c.requires.reader.characters c.in_ok-push_character_runs.ensures.ok in
-    adds_characters (text_view text) c.args.reader.now.characters.modifier from to c.args.read.now.chps c.push_character_runs.new.runs c.requires.chps c.requires.ordered within c.requires.reader.formed adds
+    let adds = subst
+    (λ (s : PlaceSource). AddsCharacters s.wd s.bin (slice_range places from to) s.modifier c.args.read.now.chps
+    c.push_character_runs.new.runs) c.requires.reader.characters c.in_ok-push_character_runs.ensures.ok in
+    adds_characters (text_view text) c.args.reader.now.characters.modifier from to c.args.read.now.chps
+    c.push_character_runs.new.runs c.requires.chps c.requires.ordered within c.requires.reader.formed adds
 
 pub returns-clause-besides : goal.returns-clause-besides
 returns-clause-besides c =
     subst
-    (λ (s : PlaceSource). AddsEach (IsBesideAt (text_view c.args.text.now) s.modifier) (c.args.piece.end - c.args.piece.cp) c.args.read.now.besides c.push_besides.new.besides)
+    (λ (s : PlaceSource). AddsEach (IsBesideAt (text_view c.args.text.now) s.modifier)
+    (c.args.piece.end - c.args.piece.cp) c.args.read.now.besides c.push_besides.new.besides)
     c.push_character_runs.ensures.same c.in_ok-push_besides.ensures.besides

@@ -34,12 +34,15 @@ columns_of_pieces-requires-clause-readable c =
     let count : length (judged_places source) ≡ length (judged_units source) =
     ap length (sym places_are) ∙ (c.judged_places.ensures.count ∙ ap (λ s. length (judged_units s)) same) in
     let are = rw same at c.in_ok-marks.ensures in
-    let readable = readable_of source c.args.parts.now marks maps c.requires.rules c.requires.lists c.requires.sections are small few count in
-    subst IsReadable (sym (view_same source marks maps _ _ _ _ _ wd_is characters_are paragraphs_are units_are places_are)) readable
+    let readable = readable_of source c.args.parts.now marks maps c.requires.rules c.requires.lists c.requires.sections
+    are small few count in
+    subst IsReadable
+    (sym (view_same source marks maps _ _ _ _ _ wd_is characters_are paragraphs_are units_are places_are)) readable
 
 pub columns_of_pieces-requires-clause-enough : goal.columns_of_pieces-requires-clause-enough
 columns_of_pieces-requires-clause-enough c =
-    enough_units c.args.text.now (source_of c.args.text.now) c.judged_units.result.now c.pieces.result.now.pieces (c.judged_units.ensures.units ∙ ap judged_units c.source-source.ensures) refl c.pieces.ensures
+    enough_units c.args.text.now (source_of c.args.text.now) c.judged_units.result.now c.pieces.result.now.pieces
+    (c.judged_units.ensures.units ∙ ap judged_units c.source-source.ensures) refl c.pieces.ensures
 
 pub from_parts-requires-clause-few : goal.from_parts-requires-clause-few
 from_parts-requires-clause-few c =
@@ -54,8 +57,10 @@ from_parts-requires-clause-besides c = c.in_ok-read.ensures.besides ∙ ap lengt
 pub from_parts-requires-clause-maps : goal.from_parts-requires-clause-maps
 from_parts-requires-clause-maps c =
     let read = c.in_ok-read.read in
-    subst (λ (units : List ℕ). All HasPropertyMaps (items_of units read.chps read.besides)) (sym c.in_ok-units.ensures.items)
-    (placed_maps _ c.pieces.result.now.pieces (items_of c.judged_units.result.now read.chps read.besides) c.in_ok-read.ensures.each)
+    subst (λ (units : List ℕ). All HasPropertyMaps (items_of units read.chps read.besides))
+    (sym c.in_ok-units.ensures.items)
+    (placed_maps _ c.pieces.result.now.pieces (items_of c.judged_units.result.now read.chps read.besides)
+    c.in_ok-read.ensures.each)
 
 pub returns : goal.returns
 returns c =
@@ -81,7 +86,8 @@ returns c =
     let enough : text_count source ≤ length source.text.units = rw same at c.has_units.ensures in
     let all : length (judged_units source) ≡ count = length-take-le count source.text.units enough in
     let len : length items ≡ count =
-    length-read units read.chps read.besides (length units) c.in_ok-read.ensures.chps c.in_ok-read.ensures.besides (omega arith)
+    length-read units read.chps read.besides (length units) c.in_ok-read.ensures.chps c.in_ok-read.ensures.besides
+    (omega arith)
     ∙ (ap length units_are ∙ all) in
     let text_is : c.from_parts.result ≡ items =
     c.from_parts.ensures ∙ ap (λ (us : List ℕ). items_of us read.chps read.besides) c.in_ok-units.ensures.items in

@@ -23,10 +23,18 @@ returns c =
     let parts = c.args.parts in
     let sections : c.parts.inside.sections ≡ parts.sections = ap (λ (p : PartLists). p.sections) c.parts.view_is in
     let sheet : c.parts.inside.sheet ≡ parts.sheet = ap (λ (p : PartLists). p.sheet) c.parts.view_is in
-    let maps = subst (λ list. AreSectionMaps text.wd list c.in_ok-sections.sections) sections c.in_ok-sections.ensures in
+    let maps = subst (λ list. AreSectionMaps text.wd list c.in_ok-sections.sections) sections
+    c.in_ok-sections.ensures in
     let texts = c.in_ok-texts.texts in
     let are = c.in_ok-texts.ensures in
     subst (IsDocumentFrom c.args.container.now text parts) (sym c.document_of.ensures)
     (document-from c.args.container.now text parts c.in_ok-sections.sections are.items
-    (record { main = texts.main; notes = texts.notes; heads = texts.heads; sheet = c.parts.inside.sheet; carried = c.in_ok-carried.carried })
+    (record {
+      main = texts.main;
+      notes = texts.notes;
+      heads = texts.heads;
+      sheet = c.parts.inside.sheet;
+      carried =
+          c.in_ok-carried.carried;
+    })
     c.requires.lists maps are.holds are.main_is are.notes_are are.heads_are sheet c.in_ok-carried.ensures)

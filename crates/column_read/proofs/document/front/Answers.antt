@@ -1,6 +1,4 @@
-use Rattle.std.proofs.Common.{◌≡◌, ◌∙◌, List, [], length, take, refl, arith}
-use Rattle.std.specs.List.{splice}
-use Rattle.plain_doc.specs.declared.item.Item.{Item}
+use Rattle.std.proofs.Common.{◌∙◌}
 use Rattle.column_read.proofs.FrontLemmas.{spliced_front}
 use Rattle.column_read.proofs.document.front.Goals as goal
 

@@ -1,5 +1,5 @@
 -- A text more.
-use Rattle.std.proofs.Common.{◌≡◌, sym, ap, subst, ◌+◌, List, arith}
+use Rattle.std.proofs.Common.{sym, ap, subst, ◌+◌, List, arith}
 use Rattle.run_lists.specs.declared.cursor.Cursor.{Cursor}
 use Rattle.plain_doc.specs.declared.item.Item.{Item}
 use Rattle.doc_read.specs.Texts.{AreCutFrom}
@@ -13,7 +13,8 @@ loop-k-init c =
     let begin = c.args.begin in
     let cuts = c.args.cuts.now in
     record {
-      cut = subst (λ (texts : List (List Item)). AreCutFrom items begin cuts 0 texts) (sym c.new-texts.ensures) (texts_none items begin cuts);
+      cut = subst (λ (texts : List (List Item)). AreCutFrom items begin cuts 0 texts) (sym c.new-texts.ensures)
+          (texts_none items begin cuts);
       walk = λ some. record {
         chps_are = c.chps.ensures;
         besides_are = c.besides.ensures;
@@ -29,8 +30,10 @@ loop-k-preserved c =
     let items = c.args.items.now in
     let begin = c.args.begin in
     let cuts = c.args.cuts.now in
-    let more = texts_more items begin cuts c.loop-k.k c.loop-k.texts c.in_ok-cut_text.field-0 c.loop-k.invariant.cut c.in_ok-cut_text.ensures.there c.in_ok-cut_text.ensures.missing in
+    let more = texts_more items begin cuts c.loop-k.k c.loop-k.texts c.in_ok-cut_text.field-0 c.loop-k.invariant.cut
+    c.in_ok-cut_text.ensures.there c.in_ok-cut_text.ensures.missing in
     record {
-      cut = subst (λ (texts : List (List Item)). AreCutFrom items begin cuts (c.loop-k.k + 1) texts) (sym c.in_ok-add.ensures.ok) more;
+      cut = subst (λ (texts : List (List Item)). AreCutFrom items begin cuts (c.loop-k.k + 1) texts)
+          (sym c.in_ok-add.ensures.ok) more;
       walk = c.in_ok-cut_text.ensures.walk;
     }

@@ -1,5 +1,5 @@
 -- The walk goes on to the next text.
-use Rattle.std.proofs.Common.{◌≡◌, ◌+◌, ◌≤◌, arith}
+use Rattle.std.proofs.Common.{◌+◌, arith}
 use Rattle.std.specs.Prelude.{slice_index}
 use Rattle.std.proofs.lemmas.Option.{get_or_from_slice_get}
 use Rattle.column_read.proofs.CutLemmas.{walk_on}
