@@ -1,6 +1,6 @@
 -- The streams of a save are short, and its file has few sectors, by what is counted.
 use Rattle.std.proofs.Common.{◌≡◌, ◌∙◌, refl, ap, ℕ, ◌<◌, ◌≤◌, List, length, arith}
-use Rattle.cfb_streams.specs.Header.{sector_count}
+use Rattle.cfb_sectors.specs.Header.{sector_count}
 use Rattle.cfb_layout.specs.Counts.{sectors_needed}
 use Rattle.cfb_layout.specs.Layout.{lengths_of}
 use Rattle.cfb_layout.specs.Laws.{IsLayout}

@@ -12,8 +12,8 @@ use Rattle.doc_bits.proofs.NumberLemmas.{number_at-bound}
 use Rattle.doc_bits.specs.Number.{AreBytes}
 use Rattle.cfb_streams.specs.Contents.{Stream, Contents, NamedBytes, HasNamed, AreStreams}
 use Rattle.cfb_streams.specs.Container.{HasContents}
-use Rattle.cfb_streams.specs.Directory.{AreSameNames, ComesBefore}
-use Rattle.cfb_streams.specs.Reach.{entry_place}
+use Rattle.cfb_directory.specs.Directory.{AreSameNames, ComesBefore}
+use Rattle.cfb_directory.specs.Reach.{entry_place}
 use Rattle.cfb_streams.specs.Names.{wd_name, first_table_name, second_table_name, is_same_name}
 use Rattle.cfb_streams.proofs.SameNameLemmas.{same_name-is}
 use Rattle.cfb_layout.specs.Layout.{no_stream, stream_at, contents_of}

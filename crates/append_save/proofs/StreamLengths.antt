@@ -12,7 +12,7 @@ use Rattle.doc_bits.specs.declared.places.Where.TheVariants.{File}
 use Rattle.prop_map.specs.Settings.{Settings}
 use Rattle.cfb_streams.specs.Contents.{Stream, NamedBytes, Contents, HasNamed}
 use Rattle.cfb_streams.specs.Container.{container_rules, HasContents}
-use Rattle.cfb_streams.specs.Directory.{AreSameNames}
+use Rattle.cfb_directory.specs.Directory.{AreSameNames}
 use Rattle.cfb_streams.specs.Names.{wd_name, table_name, first_table_name, second_table_name, is_same_name}
 use Rattle.cfb_streams.proofs.SameNameLemmas.{same_name-is}
 use Rattle.cfb_layout.specs.Sectors.{filled}

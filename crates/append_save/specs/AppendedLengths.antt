@@ -1,7 +1,7 @@
 -- How long the streams of a save behind an old stream are, and how many sectors its file has, by what is counted of it.
 use Rattle.std.specs.Prelude.{ℕ, ◌+◌, ◌*◌, ◌≤◌, List, length, Option, not, is_some}
 use Rattle.std.specs.List.{count_by}
-use Rattle.cfb_streams.specs.Header.{sector_count}
+use Rattle.cfb_sectors.specs.Header.{sector_count}
 use Rattle.cfb_layout.specs.Counts.{most_sectors}
 use Rattle.fib_form.specs.FibFields.{FibFields, fib_fields}
 use Rattle.fib_form.specs.declared.table_parts.TablePart.TheVariants.{PlcfBteChpx, PlcfBtePapx}

@@ -6,17 +6,19 @@ use Rattle.std.proofs.lemmas.List.{get_or-map, length-map}
 use Rattle.std.proofs.lemmas.List.Sums.{sum_by-append}
 use Rattle.std.proofs.lemmas.Option.{slice_get-get_or}
 use Rattle.doc_bits.specs.Rules.{Nowhere, Hold}
-use Rattle.cfb_streams.specs.Header.{sector_bytes}
-use Rattle.cfb_streams.specs.Opening.{IsWhole, BreaksLength}
-use Rattle.cfb_streams.specs.HeaderRules.{BreaksFat}
-use Rattle.cfb_streams.specs.Chain.{Table, Head, fat_table, HoldsChain}
+use Rattle.cfb_sectors.specs.Header.{sector_bytes}
+use Rattle.cfb_sectors.specs.Opening.{IsWhole, BreaksLength}
+use Rattle.cfb_sectors.specs.HeaderRules.{BreaksFat}
+use Rattle.cfb_sectors.specs.Chain.{Table, Head, fat_table, HoldsChain}
 use Rattle.cfb_streams.specs.Contents.{Stream, Contents}
-use Rattle.cfb_streams.specs.Directory.{EntryBefore, entry_size}
-use Rattle.cfb_streams.specs.Reach.{entry_place}
-use Rattle.cfb_streams.specs.StreamRules.{Parts, Owner, of_stream, Owns, HasLargeSector, HasSmallSector, BreaksSharing, IsMiniStream, mini_table_of, stream_head}
+use Rattle.cfb_directory.specs.Directory.{EntryBefore, entry_size}
+use Rattle.cfb_directory.specs.Reach.{entry_place}
+use Rattle.cfb_streams.specs.StreamRules.{Parts, Owner, of_stream, Owns, HasLargeSector, HasSmallSector, BreaksSharing}
+use Rattle.cfb_streams.specs.StreamRules.{IsMiniStream, mini_table_of}
+use Rattle.cfb_directory.specs.StreamEntries.{stream_head}
 use Rattle.cfb_streams.specs.Container.{container_rules, mini_bytes, IsStreamOf, HasContents}
 use Rattle.cfb_streams.proofs.ContentLemmas.{chain_inside}
-use Rattle.cfb_streams.proofs.StreamLemmas.{length-cut}
+use Rattle.cfb_sectors.proofs.StreamLemmas.{length-cut}
 use Rattle.cfb_streams.proofs.SingleLemmas.{directory_unique, mini_fat_unique, mini_stream_unique}
 use Rattle.cfb_layout.specs.Sectors.{units_for}
 use Rattle.cfb_layout.specs.Counts.{large_len, small_len, mini_counts, large_counts, sector_counts}

@@ -2,9 +2,10 @@
 -- this record, and the canonical container is shown to be such a file.
 use Rattle.std.proofs.Common.{◌≡◌, ℕ, ◌+◌, ◌*◌, ◌<◌, List, length, take, slice_index, slice_index_or, sum}
 use Rattle.doc_bits.specs.Number.{u16_at, u32_at}
-use Rattle.cfb_streams.specs.Opening.{signature}
+use Rattle.cfb_sectors.specs.Opening.{signature}
 use Rattle.cfb_streams.specs.Contents.{NamedBytes}
-use Rattle.cfb_streams.specs.Directory.{entry_name_length, entry_unit, entry_type, entry_left, entry_right, entry_child, entry_clsid, entry_start, entry_size}
+use Rattle.cfb_directory.specs.Directory.{entry_name_length, entry_unit, entry_type, entry_left, entry_right}
+use Rattle.cfb_directory.specs.Directory.{entry_child, entry_clsid, entry_start, entry_size}
 use Rattle.cfb_layout.specs.Sectors.{chains_from, start_of}
 use Rattle.cfb_layout.specs.Counts.{mini_counts, sector_counts, fat_count, sectors_needed, first_sector}
 use Rattle.cfb_layout.specs.Entries.{Entry}

@@ -4,11 +4,11 @@ use Rattle.std.specs.List.{range_with_len}
 use Rattle.std.proofs.lemmas.Bool.{lt-ltb, le-ltb, cond-true, cond-false}
 use Rattle.std.proofs.lemmas.List.FromFn.{length-range_with_len, get_or-range_with_len}
 use Rattle.doc_bits.specs.Number.{u32_at}
-use Rattle.cfb_streams.specs.SectorChain.{end_of_chain, HasSector, IsSectorChain}
-use Rattle.cfb_streams.specs.Header.{sector_count, fat_sectors, table_place, valid_below}
-use Rattle.cfb_streams.specs.Chain.{Table, Head, fat_table, mini_table, HoldsChain}
-use Rattle.cfb_streams.specs.Reach.{entry_place}
-use Rattle.cfb_streams.proofs.FatLemmas.{fat_sectors-at}
+use Rattle.cfb_sectors.specs.SectorChain.{end_of_chain, HasSector, IsSectorChain}
+use Rattle.cfb_sectors.specs.Header.{sector_count, fat_sectors, table_place, valid_below}
+use Rattle.cfb_sectors.specs.Chain.{Table, Head, fat_table, mini_table, HoldsChain}
+use Rattle.cfb_directory.specs.Reach.{entry_place}
+use Rattle.cfb_sectors.proofs.FatLemmas.{fat_sectors-at}
 use Rattle.cfb_layout.specs.Sectors.{chains_from, start_of}
 use Rattle.cfb_layout.specs.Counts.{mini_counts, sector_counts, fat_count, sectors_needed, Fits, first_sector}
 use Rattle.cfb_layout.proofs.SectorLemmas.{start_room, chains_chain, IsIn}

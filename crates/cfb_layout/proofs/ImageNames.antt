@@ -4,8 +4,8 @@ use Rattle.std.proofs.lemmas.Bool.{cases_order}
 use Rattle.std.proofs.lemmas.Option.{slice_get-get_or}
 use Rattle.doc_bits.specs.Rules.{Nowhere}
 use Rattle.cfb_streams.specs.Contents.{NamedBytes, AreStreams}
-use Rattle.cfb_streams.specs.Directory.{entry_unit, upper_case, IsNameOf, HaveOneName, EntryBefore, ComesBefore}
-use Rattle.cfb_streams.specs.Reach.{BreaksName}
+use Rattle.cfb_directory.specs.Directory.{entry_unit, upper_case, IsNameOf, HaveOneName, EntryBefore, ComesBefore}
+use Rattle.cfb_directory.specs.Reach.{BreaksName}
 use Rattle.cfb_layout.specs.Layout.{no_stream}
 use Rattle.cfb_layout.proofs.Image.{IsImage}
 use Rattle.cfb_layout.proofs.ImageTree.{directory_of, place_in, image_stream, reached_only}

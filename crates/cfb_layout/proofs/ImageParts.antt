@@ -2,11 +2,12 @@
 use Rattle.std.proofs.Common.{◌≡◌, inl, inr, ℕ, ◌+◌, ◌<◌, ◌≤◌, ltb, List, length, slice_index, sum, sym, ap, ◌∙◌, subst, arith}
 use Rattle.std.specs.List.{range_with_len}
 use Rattle.std.proofs.lemmas.Bool.{cases_eq, lt-ltb, le-ltb, cond-true, cond-false}
-use Rattle.cfb_streams.specs.Chain.{fat_table, mini_table, HoldsChain}
+use Rattle.cfb_sectors.specs.Chain.{fat_table, mini_table, HoldsChain}
 use Rattle.cfb_streams.specs.Contents.{NamedBytes}
-use Rattle.cfb_streams.specs.Directory.{entry_size}
-use Rattle.cfb_streams.specs.Reach.{directory_head, IsDirectory}
-use Rattle.cfb_streams.specs.StreamRules.{Parts, IsMiniFat, IsMiniStream, mini_fat_head, stream_head, mini_table_of}
+use Rattle.cfb_directory.specs.Directory.{entry_size}
+use Rattle.cfb_directory.specs.Reach.{directory_head, IsDirectory}
+use Rattle.cfb_streams.specs.StreamRules.{Parts, IsMiniFat, IsMiniStream, mini_fat_head, mini_table_of}
+use Rattle.cfb_directory.specs.StreamEntries.{stream_head}
 use Rattle.cfb_layout.specs.Sectors.{units_for, start_of}
 use Rattle.cfb_layout.specs.Counts.{mini_counts, sector_counts, first_sector}
 use Rattle.cfb_layout.specs.Layout.{lengths_of}

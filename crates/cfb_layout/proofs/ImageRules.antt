@@ -2,14 +2,15 @@
 use Rattle.std.proofs.Common.{inl, inr, ℕ, ◌+◌, ◌-◌, ◌≤◌, List, length, sum, ap, arith}
 use Rattle.doc_bits.specs.Number.{u32_at}
 use Rattle.doc_bits.specs.Rules.{Nowhere}
-use Rattle.cfb_streams.specs.Opening.{BreaksLength}
-use Rattle.cfb_streams.specs.HeaderRules.{BreaksHeader, BreaksFat}
-use Rattle.cfb_streams.specs.Chain.{fat_table}
+use Rattle.cfb_sectors.specs.Opening.{BreaksLength}
+use Rattle.cfb_sectors.specs.HeaderRules.{BreaksHeader, BreaksFat}
+use Rattle.cfb_sectors.specs.Chain.{fat_table}
 use Rattle.cfb_streams.specs.Contents.{NamedBytes}
-use Rattle.cfb_streams.specs.Reach.{BreaksDirectory, directory_head}
-use Rattle.cfb_streams.specs.StreamRules.{BreaksMiniFat, BreaksMiniStream, BreaksStream, mini_fat_head, stream_head, mini_table_of}
-use Rattle.cfb_streams.proofs.JudgeLemmas.{holds_none}
-use Rattle.cfb_streams.proofs.ChainLemmas.{full_unique, chain_full}
+use Rattle.cfb_directory.specs.Reach.{BreaksDirectory, directory_head}
+use Rattle.cfb_streams.specs.StreamRules.{BreaksMiniFat, BreaksMiniStream, BreaksStream, mini_fat_head, mini_table_of}
+use Rattle.cfb_directory.specs.StreamEntries.{stream_head}
+use Rattle.cfb_sectors.proofs.JudgeLemmas.{holds_none}
+use Rattle.cfb_sectors.proofs.ChainLemmas.{full_unique, chain_full}
 use Rattle.cfb_layout.specs.Counts.{mini_counts, sector_counts, Fits}
 use Rattle.cfb_layout.specs.Layout.{lengths_of}
 use Rattle.cfb_layout.specs.Laws.{IsLayout}

@@ -3,12 +3,14 @@ use Rattle.std.proofs.Common.{◌≡◌, inl, inr, ℕ, zero, suc, ◌+◌, ◌-
 use Rattle.std.proofs.lemmas.Bool.{lt-ltb, le-ltb, cond-true, cond-false}
 use Rattle.std.proofs.lemmas.List.{take-append-le, get_or_append_left, get_or_push, take_all}
 use Rattle.doc_bits.specs.Rules.{Nowhere}
-use Rattle.cfb_streams.specs.SectorChain.{HasSector}
-use Rattle.cfb_streams.specs.Chain.{fat_table}
+use Rattle.cfb_sectors.specs.SectorChain.{HasSector}
+use Rattle.cfb_sectors.specs.Chain.{fat_table}
 use Rattle.cfb_streams.specs.Contents.{NamedBytes}
-use Rattle.cfb_streams.specs.StreamRules.{BreaksSharing, IsShared, Owner, of_fat, of_directory, of_mini_fat, of_mini_stream, of_stream, Owns, HasSmallSector, stream_head, mini_table_of}
-use Rattle.cfb_streams.proofs.FatLemmas.{length-fat_sectors, fat_sectors-at}
-use Rattle.cfb_streams.proofs.JudgeLemmas.{holds_unique}
+use Rattle.cfb_streams.specs.StreamRules.{BreaksSharing, IsShared, Owner, of_fat, of_directory, of_mini_fat}
+use Rattle.cfb_streams.specs.StreamRules.{of_mini_stream, of_stream, Owns, HasSmallSector, mini_table_of}
+use Rattle.cfb_directory.specs.StreamEntries.{stream_head}
+use Rattle.cfb_sectors.proofs.FatLemmas.{length-fat_sectors, fat_sectors-at}
+use Rattle.cfb_sectors.proofs.JudgeLemmas.{holds_unique}
 use Rattle.cfb_layout.specs.Counts.{mini_counts, sector_counts, fat_count}
 use Rattle.cfb_layout.specs.Layout.{lengths_of}
 use Rattle.cfb_layout.specs.Laws.{IsLayout}

@@ -5,11 +5,11 @@ use Rattle.std.proofs.lemmas.Bool.{cases_lt, cases_eq, lt-ltb, le-ltb, cond-true
 use Rattle.std.proofs.lemmas.List.{take-take, get_or-take, get_or-drop, nil_from_length}
 use Rattle.std.proofs.lemmas.Option.{get_or_from_slice_get, slice_get_within}
 use Rattle.std.proofs.lemmas.List.FromFn.{length-range_with_len, get_or-range_with_len, length-map-range_with_len, get_or-map-range_with_len}
-use Rattle.cfb_streams.specs.Header.{sector_bytes}
+use Rattle.cfb_sectors.specs.Header.{sector_bytes}
 use Rattle.cfb_streams.specs.Contents.{NamedBytes, AreStreams}
-use Rattle.cfb_streams.specs.Directory.{entry_size}
-use Rattle.cfb_streams.specs.Order.{ListsStreams}
-use Rattle.cfb_streams.specs.StreamRules.{IsStreamEntry}
+use Rattle.cfb_directory.specs.Directory.{entry_size}
+use Rattle.cfb_directory.specs.Order.{ListsStreams}
+use Rattle.cfb_directory.specs.StreamEntries.{IsStreamEntry}
 use Rattle.cfb_streams.specs.Container.{mini_bytes, IsStreamOf, HasContents}
 use Rattle.cfb_layout.specs.Sectors.{units_for, start_of}
 use Rattle.cfb_layout.specs.Tree.{all_entries}

@@ -5,8 +5,9 @@ use Rattle.std.proofs.lemmas.List.FromFn.{length-range_with_len}
 use Rattle.doc_bits.specs.Number.{u32_at}
 use Rattle.doc_bits.specs.Rules.{Nowhere}
 use Rattle.cfb_streams.specs.Contents.{NamedBytes}
-use Rattle.cfb_streams.specs.Directory.{no_entry, entry_left, entry_right, entry_child, entry_type}
-use Rattle.cfb_streams.specs.Reach.{entry_place, IsEntry, IsReached, child, left, right, IsLink, BreaksRoot, BreaksTree, BreaksStorage}
+use Rattle.cfb_directory.specs.Directory.{no_entry, entry_left, entry_right, entry_child, entry_type}
+use Rattle.cfb_directory.specs.Reach.{entry_place, IsEntry, IsReached, child, left, right, IsLink, BreaksRoot}
+use Rattle.cfb_directory.specs.Reach.{BreaksTree, BreaksStorage}
 use Rattle.cfb_layout.specs.declared.tree.Span.{Span}
 use Rattle.cfb_layout.specs.Sectors.{units_for, start_of}
 use Rattle.cfb_layout.specs.Tree.{middle, lower, upper, top, all_entries, part_of, left_of, right_of}

@@ -9,8 +9,8 @@ use Rattle.std.proofs.lemmas.List.Sums.{sum-map, sum_by_more}
 use Rattle.std.proofs.lemmas.List.FromFn.{length-range_with_len}
 use Rattle.doc_bits.specs.Number.{number_bytes}
 use Rattle.cfb_streams.specs.Contents.{NamedBytes}
-use Rattle.cfb_streams.specs.Opening.{signature}
-use Rattle.cfb_streams.specs.SectorChain.{end_of_chain}
+use Rattle.cfb_sectors.specs.Opening.{signature}
+use Rattle.cfb_sectors.specs.SectorChain.{end_of_chain}
 use Rattle.cfb_layout.specs.declared.fields.Field.{Field}
 use Rattle.cfb_layout.specs.declared.fields.Field.TheVariants.{Long, Word}
 use Rattle.cfb_layout.specs.declared.tree.Span.{Span}

@@ -8,7 +8,7 @@ use Rattle.doc_bits.specs.Number.{number_at, number_bytes, u32_at}
 use Rattle.doc_bits.specs.Rules.{Hold}
 use Rattle.doc_bits.proofs.NumberLemmas.{number_at-after, number_at-before}
 use Rattle.cfb_streams.specs.Contents.{NamedBytes, AreStreams}
-use Rattle.cfb_streams.specs.Opening.{signature}
+use Rattle.cfb_sectors.specs.Opening.{signature}
 use Rattle.cfb_streams.specs.Container.{container_rules, HasContents}
 use Rattle.cfb_layout.specs.Sectors.{units_for, padded, chains_from, table_bytes, free_sector, fat_sector_mark}
 use Rattle.cfb_layout.specs.Fields.{fields_bytes}

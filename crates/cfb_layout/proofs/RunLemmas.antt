@@ -2,8 +2,8 @@
 use Rattle.std.proofs.Common.{◌≡◌, ◌≢◌, inl, inr, ◌⊎◌, ℕ, zero, suc, ◌+◌, ◌-◌, ◌<◌, ◌≤◌, List, [], ◌∷◌, ◌++◌, length, slice_index, refl, sym, ap, ◌∙◌, arith, length-append}
 use Rattle.std.proofs.lemmas.Bool.{cases_lt}
 use Rattle.std.proofs.lemmas.List.{get_or_append_left, get_or-append_right}
-use Rattle.cfb_streams.specs.SectorChain.{HasSector}
-use Rattle.cfb_streams.proofs.ChainLemmas.{length_below}
+use Rattle.cfb_sectors.specs.SectorChain.{HasSector}
+use Rattle.cfb_sectors.proofs.ChainLemmas.{length_below}
 use Rattle.cfb_layout.specs.Sectors.{start_of}
 use Rattle.cfb_layout.proofs.SectorLemmas.{start_next}
 

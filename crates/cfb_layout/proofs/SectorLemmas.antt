@@ -5,7 +5,7 @@ use Rattle.std.proofs.lemmas.Bool.{cases_lt, cases_order}
 use Rattle.std.proofs.lemmas.List.{get_or_append_left, get_or-append_right, get_or_push, get_or_past, length_push, take-take, get_or-take}
 use Rattle.std.proofs.lemmas.List.FromFn.{length-range_with_len, get_or-range_with_len}
 use Rattle.std.proofs.lemmas.List.Sums.{sum_by-cons, sum_by_more, sum_by_more_le, sum_by-take-le}
-use Rattle.cfb_streams.specs.SectorChain.{IsSectorChain, end_of_chain, last_of}
+use Rattle.cfb_sectors.specs.SectorChain.{IsSectorChain, end_of_chain, last_of}
 use Rattle.cfb_layout.specs.Sectors.{chain_entries, chains_from, start_of}
 
 pub length-chain_entries : (start count : ℕ) → length (chain_entries start count) ≡ count

@@ -1,15 +1,17 @@
 -- No accepted file has fewer sectors than the canonical container of its streams: its parts have no sector in common.
 use Rattle.std.proofs.Common.{inl, inr, ℕ, ◌+◌, ◌*◌, ◌<◌, ◌≤◌, List, ◌∷◌, ◌++◌, length, slice_index, sum, sym, ap, subst, arith, length-append}
 use Rattle.std.proofs.lemmas.List.{length-map, take_all}
-use Rattle.cfb_streams.specs.Header.{sector_count, fat_sector_count, fat_sectors, valid_below}
-use Rattle.cfb_streams.specs.Chain.{fat_table}
+use Rattle.cfb_sectors.specs.Header.{sector_count, fat_sector_count, fat_sectors, valid_below}
+use Rattle.cfb_sectors.specs.Chain.{fat_table}
 use Rattle.cfb_streams.specs.Contents.{Contents}
-use Rattle.cfb_streams.specs.Directory.{entry_size}
-use Rattle.cfb_streams.specs.Reach.{entry_place, directory_head, IsEntry}
-use Rattle.cfb_streams.specs.StreamRules.{of_fat, of_directory, of_mini_fat, of_mini_stream, of_stream, IsMiniFat, IsMiniStream, mini_table_of, mini_fat_head, stream_head}
+use Rattle.cfb_directory.specs.Directory.{entry_size}
+use Rattle.cfb_directory.specs.Reach.{entry_place, directory_head, IsEntry}
+use Rattle.cfb_streams.specs.StreamRules.{of_fat, of_directory, of_mini_fat, of_mini_stream, of_stream, IsMiniFat}
+use Rattle.cfb_streams.specs.StreamRules.{IsMiniStream, mini_table_of, mini_fat_head}
+use Rattle.cfb_directory.specs.StreamEntries.{stream_head}
 use Rattle.cfb_streams.specs.Container.{HasContents}
-use Rattle.cfb_streams.proofs.FatLemmas.{length-fat_sectors, fat_apart}
-use Rattle.cfb_streams.proofs.ReachLemmas.{reached_there}
+use Rattle.cfb_sectors.proofs.FatLemmas.{length-fat_sectors, fat_apart}
+use Rattle.cfb_directory.proofs.ReachLemmas.{reached_there}
 use Rattle.cfb_layout.specs.Sectors.{units_for}
 use Rattle.cfb_layout.specs.Counts.{mini_counts, large_counts, sector_counts}
 use Rattle.cfb_layout.specs.Laws.{NoFileIsShorter}

@@ -1,7 +1,7 @@
 -- The tree of entries: its top reaches each entry, and one link names each.
 use Rattle.std.proofs.Common.{◌≡◌, inl, inr, ℕ, zero, suc, ◌+◌, ◌*◌, ◌<◌, ◌≤◌, ltb, cond, nat_eq, nat_lt, if◌then◌else◌, refl, sym, ap, ◌∙◌, subst, arith}
 use Rattle.std.proofs.lemmas.Bool.{cases_order, lt-ltb, le-ltb, eq-eqb, ne_eqb, cond-true, cond-false}
-use Rattle.cfb_streams.specs.Directory.{no_entry}
+use Rattle.cfb_directory.specs.Directory.{no_entry}
 use Rattle.cfb_layout.specs.declared.tree.Span.{Span}
 use Rattle.cfb_layout.specs.Tree.{middle, lower, upper, top, part_of}
 

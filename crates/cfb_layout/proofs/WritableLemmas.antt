@@ -7,7 +7,7 @@ use Rattle.std.proofs.lemmas.List.Elements.{All-get_or}
 use Rattle.std.proofs.lemmas.List.Sums.{AllPass-from_list_all}
 use Rattle.std.proofs.lemmas.Option.{slice_get-get_or}
 use Rattle.cfb_streams.specs.Contents.{NamedBytes, AreStreams}
-use Rattle.cfb_streams.specs.SectorChain.{end_of_chain}
+use Rattle.cfb_sectors.specs.SectorChain.{end_of_chain}
 use Rattle.cfb_layout.specs.declared.tree.Span.{Span}
 use Rattle.cfb_layout.specs.Sectors.{units_for, start_of}
 use Rattle.cfb_layout.specs.Tree.{lower, upper, top, all_entries, part_of}

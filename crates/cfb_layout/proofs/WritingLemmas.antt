@@ -11,7 +11,7 @@ use Rattle.doc_bits.specs.Number.{number_bytes}
 use Rattle.cfb_streams.specs.Contents.{NamedBytes}
 use Rattle.cfb_layout.specs.Entries.{unused_entry}
 use Rattle.cfb_layout.specs.Layout.{lengths_of, no_stream, stream_entry, directory_entry}
-use Rattle.cfb_streams.specs.SectorChain.{end_of_chain}
+use Rattle.cfb_sectors.specs.SectorChain.{end_of_chain}
 use Rattle.cfb_layout.specs.Sectors.{chain_entries, chains_from, start_of}
 
 -- one element more of a list that is joined

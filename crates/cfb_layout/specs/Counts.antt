@@ -1,7 +1,7 @@
 -- How many sectors the canonical container takes, as a function of the lengths of its streams alone. Each stream has a
 -- large part, in sectors, and a small part, in mini sectors; one of the two is empty.
 use Rattle.std.specs.Prelude.{◌≤◌, ℕ, ◌+◌, ◌*◌, List, [], ◌∷◌, ◌++◌, length, map, sum, nat_lt, if◌then◌else◌, slice_index}
-use Rattle.cfb_streams.specs.SectorChain.{end_of_chain}
+use Rattle.cfb_sectors.specs.SectorChain.{end_of_chain}
 use Rattle.cfb_layout.specs.Sectors.{units_for, start_of}
 
 abbrev pub large_len : ℕ → ℕ

@@ -2,7 +2,7 @@
 use Rattle.std.specs.Prelude.{ℕ, ◌+◌, ◌*◌, List, [], ◌∷◌, ◌++◌, replicate}
 use Rattle.std.specs.List.{flat_map}
 use Rattle.doc_bits.specs.Number.{number_bytes}
-use Rattle.cfb_streams.specs.Directory.{no_entry}
+use Rattle.cfb_directory.specs.Directory.{no_entry}
 use Rattle.cfb_layout.specs.declared.entries.EntryFields.{EntryFields}
 use Rattle.cfb_layout.specs.declared.fields.Field.{Field}
 use Rattle.cfb_layout.specs.declared.fields.Field.TheVariants.{Long, Word, Byte}

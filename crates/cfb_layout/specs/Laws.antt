@@ -1,7 +1,7 @@
 -- What the canonical container is for a reader.
 use Rattle.std.specs.Prelude.{◌≡◌, ℕ, ◌+◌, ◌*◌, ◌^◌, ◌<◌, ◌≤◌, List, length, map, Some, slice_get, slice_index}
 use Rattle.doc_bits.specs.Rules.{Hold}
-use Rattle.cfb_streams.specs.Header.{sector_count}
+use Rattle.cfb_sectors.specs.Header.{sector_count}
 use Rattle.cfb_streams.specs.Contents.{NamedBytes, Contents, AreStreams}
 use Rattle.cfb_streams.specs.Container.{container_rules, HasContents}
 use Rattle.cfb_layout.specs.Sectors.{units_for}

@@ -5,9 +5,9 @@ use Rattle.std.specs.Prelude.{ℕ, zero, suc, ◌+◌, ◌*◌, List, [], ◌∷
 use Rattle.std.specs.List.{flat_map, range_with_len}
 use Rattle.doc_bits.specs.Number.{number_bytes}
 use Rattle.cfb_streams.specs.Contents.{NamedBytes, Stream, Contents}
-use Rattle.cfb_streams.specs.Directory.{no_entry}
-use Rattle.cfb_streams.specs.SectorChain.{end_of_chain}
-use Rattle.cfb_streams.specs.Opening.{signature}
+use Rattle.cfb_directory.specs.Directory.{no_entry}
+use Rattle.cfb_sectors.specs.SectorChain.{end_of_chain}
+use Rattle.cfb_sectors.specs.Opening.{signature}
 use Rattle.cfb_layout.specs.Sectors.{units_for, filled, padded, chains_from, start_of, table_bytes, free_sector, fat_sector_mark}
 use Rattle.cfb_layout.specs.declared.entries.EntryFields.{EntryFields}
 use Rattle.cfb_layout.specs.declared.fields.Field.{Field}

@@ -2,7 +2,7 @@
 use Rattle.std.specs.Prelude.{ℕ, zero, suc, ◌+◌, ◌-◌, ◌*◌, ◌/◌, List, [], ◌∷◌, ◌++◌, length, take, replicate, sum}
 use Rattle.std.specs.List.{flat_map, range_with_len}
 use Rattle.doc_bits.specs.Number.{number_bytes}
-use Rattle.cfb_streams.specs.SectorChain.{end_of_chain}
+use Rattle.cfb_sectors.specs.SectorChain.{end_of_chain}
 
 -- FREESECT: the entry of a sector that nobody has
 abbrev pub free_sector : ℕ

@@ -1,6 +1,5 @@
 // Chains of sectors that stand in a row, one chain after another.
-ghost use Rattle.std.specs.Prelude.{◌≡◌, ◌^◌, ◌<◌, ◌≤◌, IfOk, length, sum, slice_index, take};
-ghost use Rattle.cfb_layout.specs.Sectors.{start_of};
+ghost use Rattle.std.specs.Prelude.{◌≡◌, ◌^◌, ◌<◌, IfOk, length, sum, slice_index};
 ghost use Rattle.cfb_layout.specs.Counts.{first_sector};
 
 use crate::sectors::END_OF_CHAIN;

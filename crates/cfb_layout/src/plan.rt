@@ -1,5 +1,5 @@
 // Where all parts of the container stand.
-ghost use Rattle.std.specs.Prelude.{◌≡◌, ◌+◌, ◌<◌, ◌≤◌, IfOk, length, sum, slice_index, map, take};
+ghost use Rattle.std.specs.Prelude.{◌≡◌, ◌+◌, ◌<◌, ◌≤◌, IfOk, length, sum};
 ghost use Rattle.cfb_layout.specs.Counts.{mini_counts, sector_counts, fat_count, Fits, stream_start};
 ghost use Rattle.cfb_layout.specs.Layout.{root_fields, stream_fields};
 

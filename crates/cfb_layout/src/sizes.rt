@@ -1,5 +1,5 @@
 // How many sectors streams need, by their lengths alone.
-ghost use Rattle.std.specs.Prelude.{◌≡◌, ◌^◌, ◌<◌, ◌≤◌, length, sum};
+ghost use Rattle.std.specs.Prelude.{◌≡◌, ◌^◌, ◌<◌, ◌≤◌, sum};
 ghost use Rattle.cfb_layout.specs.Sectors.{units_for};
 ghost use Rattle.cfb_layout.specs.Counts.{large_len, small_len, sectors_needed};
 

@@ -1,5 +1,5 @@
 // The tree of the root's entries.
-ghost use Rattle.std.specs.Prelude.{◌≡◌, ◌≢◌, ◌+◌, ◌^◌, ◌<◌};
+ghost use Rattle.std.specs.Prelude.{◌≡◌, ◌+◌, ◌^◌, ◌<◌};
 ghost use Rattle.std.specs.Prelude.{◌≤◌, nat_lt, if◌then◌else◌};
 ghost use Rattle.cfb_layout.specs.Tree.{middle, lower, upper, top, all_entries, part_of};
 

@@ -2,7 +2,7 @@
 ghost use Rattle.std.specs.Prelude.{◌≡◌, ◌++◌, ◌+◌, ◌*◌, ◌<◌, ◌^◌};
 ghost use Rattle.std.specs.Prelude.{◌≤◌, OnOk, IfOk, MatchResult, length, sum};
 ghost use Rattle.std.specs.List.{flat_map};
-ghost use Rattle.cfb_layout.specs.Sectors.{padded, table_bytes, chains_from, units_for};
+ghost use Rattle.cfb_layout.specs.Sectors.{padded, table_bytes, chains_from};
 ghost use Rattle.cfb_layout.specs.Counts.{Fits, mini_counts};
 ghost use Rattle.cfb_layout.specs.Entries.{entry_bytes, unused_fields};
 ghost use Rattle.cfb_layout.specs.Layout.{lengths_of, large_part, small_part, mini_stream, fat};

@@ -6,17 +6,18 @@ use Rattle.std.proofs.lemmas.Bool.{cases_lt}
 use Rattle.std.proofs.lemmas.List.{get_or_append_left}
 use Rattle.std.proofs.Math.Seq.{get_or-append_seam}
 use Rattle.std.proofs.lemmas.Option.{slice_get_within, slice_get-get_or, get_or_from_slice_get}
-use Rattle.cfb_streams.specs.Header.{sector_bytes, valid_below}
-use Rattle.cfb_streams.specs.Opening.{IsWhole}
-use Rattle.cfb_streams.specs.Chain.{Head, fat_table, HoldsChain, AreSectorsOf}
-use Rattle.cfb_streams.specs.Directory.{entry_size}
-use Rattle.cfb_streams.specs.Reach.{entry_place}
+use Rattle.cfb_sectors.specs.Header.{sector_bytes, valid_below}
+use Rattle.cfb_sectors.specs.Opening.{IsWhole}
+use Rattle.cfb_sectors.specs.Chain.{Head, fat_table, HoldsChain, AreSectorsOf}
+use Rattle.cfb_directory.specs.Directory.{entry_size}
+use Rattle.cfb_directory.specs.Reach.{entry_place}
 use Rattle.cfb_streams.specs.StreamRules.{Parts, IsMiniFat, IsMiniStream, mini_table_of}
-use Rattle.cfb_streams.specs.Tables.{TablePlace, mini_place}
+use Rattle.cfb_sectors.specs.Tables.{TablePlace}
+use Rattle.cfb_streams.specs.FoundParts.{mini_place}
 use Rattle.cfb_streams.specs.Contents.{Stream}
 use Rattle.cfb_streams.specs.Container.{AreStreamsOf, IsStreamOf}
-use Rattle.cfb_streams.proofs.ChainLemmas.{path_short}
-use Rattle.cfb_streams.proofs.StreamLemmas.{length_all, length-sector}
+use Rattle.cfb_sectors.proofs.ChainLemmas.{path_short}
+use Rattle.cfb_sectors.proofs.StreamLemmas.{length_all, length-sector}
 
 -- one stream more
 pub streams_push : (file : List ℕ) (parts : Parts) (entries : List ℕ) (count : ℕ) (streams : List Stream)

@@ -5,29 +5,35 @@ use Rattle.std.specs.List.{flat_map}
 use Rattle.doc_bits.specs.Rules.{Nowhere, LeastOrNone, lesser_of, Among}
 use Rattle.doc_bits.proofs.RuleLemmas.{least_either, least_same}
 use Rattle.cfb_streams.specs.declared.gather.Taken.{Taken}
-use Rattle.cfb_streams.specs.Header.{fat_sectors, sector_bytes}
-use Rattle.cfb_streams.specs.Opening.{IsWhole}
-use Rattle.cfb_streams.specs.Marks.{IsMarked}
-use Rattle.cfb_streams.specs.Tables.{TablePlace, table_at, fat_place, mini_place}
-use Rattle.cfb_streams.specs.Chain.{Table, Head, fat_table, HoldsChain, BreaksChain}
-use Rattle.cfb_streams.specs.SectorChain.{HasSector, IsSectorChain}
-use Rattle.cfb_streams.specs.declared.chain.Walked.{Walked}
-use Rattle.cfb_streams.specs.Directory.{entry_size, entry_clsid, IsNameOf}
-use Rattle.cfb_streams.specs.Reach.{entry_place}
-use Rattle.cfb_streams.specs.StreamRules.{Owns, IsShared, IsLargeStream, IsSmallStream, HasLargeSector, HasSmallSector}
-use Rattle.cfb_streams.specs.StreamRules.{IsWrongStream, BreaksStream, BreaksSharing, IsStreamEntry, IsMiniStream}
-use Rattle.cfb_streams.specs.StreamRules.{mini_table_of, stream_head}
+use Rattle.cfb_sectors.specs.Header.{fat_sectors, sector_bytes}
+use Rattle.cfb_sectors.specs.Opening.{IsWhole}
+use Rattle.cfb_sectors.specs.Marks.{IsMarked}
+use Rattle.cfb_sectors.specs.Tables.{TablePlace, table_at, fat_place}
+use Rattle.cfb_streams.specs.FoundParts.{mini_place}
+use Rattle.cfb_sectors.specs.Chain.{Table, Head, fat_table, HoldsChain, BreaksChain}
+use Rattle.cfb_sectors.specs.SectorChain.{HasSector, IsSectorChain}
+use Rattle.cfb_sectors.specs.declared.chain.Walked.{Walked}
+use Rattle.cfb_directory.specs.Directory.{entry_size, entry_clsid, IsNameOf}
+use Rattle.cfb_directory.specs.Reach.{entry_place}
+use Rattle.cfb_streams.specs.StreamRules.{Owns, IsShared, HasLargeSector, HasSmallSector}
+use Rattle.cfb_directory.specs.StreamEntries.{IsLargeStream, IsSmallStream}
+use Rattle.cfb_streams.specs.StreamRules.{IsWrongStream, BreaksStream, BreaksSharing, IsMiniStream}
+use Rattle.cfb_directory.specs.StreamEntries.{IsStreamEntry}
+use Rattle.cfb_streams.specs.StreamRules.{mini_table_of}
+use Rattle.cfb_directory.specs.StreamEntries.{stream_head}
 use Rattle.cfb_streams.specs.StreamRules.{of_fat, of_directory, of_mini_fat, of_mini_stream, of_stream}
-use Rattle.cfb_streams.specs.Order.{ListsStreams}
-use Rattle.cfb_streams.specs.Sharing.{HasFront, Claimed, IsUnshared, Takes, IsClosed, IsSharedPlace, IsDone}
-use Rattle.cfb_streams.specs.Sharing.{TakesWalked}
+use Rattle.cfb_directory.specs.Order.{ListsStreams}
+use Rattle.cfb_sectors.specs.Claims.{HasFront, Claimed, IsUnshared, Takes, IsClosed, IsSharedPlace}
+use Rattle.cfb_streams.specs.Sharing.{IsDone}
+use Rattle.cfb_sectors.specs.Claims.{TakesWalked}
 use Rattle.cfb_streams.specs.Layout.{Places, IsLayout}
 use Rattle.cfb_streams.specs.Contents.{Stream}
 use Rattle.cfb_streams.specs.Container.{mini_bytes, IsStreamOf, AreStreamsOf, HasContents}
 use Rattle.cfb_streams.specs.Gathered.{IsRead, TakesChain, TakesStream, HasMarks, AreUnshared, with_some, IsTakenFront}
-use Rattle.cfb_streams.proofs.JudgeLemmas.{holds_unique}
-use Rattle.cfb_streams.proofs.ClaimLemmas.{takes_closed, closed_none, whole_chain}
-use Rattle.cfb_streams.proofs.SharingLemmas.{takes_same, takes_none, share_none, share_step, share_same, share_all}
+use Rattle.cfb_sectors.proofs.JudgeLemmas.{holds_unique}
+use Rattle.cfb_sectors.proofs.ClaimLemmas.{takes_closed, closed_none, whole_chain}
+use Rattle.cfb_sectors.proofs.ClaimLemmas.{takes_same}
+use Rattle.cfb_streams.proofs.SharingLemmas.{takes_none, share_none, share_step, share_same, share_all}
 use Rattle.cfb_streams.proofs.SharingLemmas.{front_more, front_split, front_fresh, done_more, done_split, AreParts}
 use Rattle.cfb_streams.proofs.SharingLemmas.{parts_done, done_parts, all_done, minis_done, holds_closed}
 use Rattle.cfb_streams.proofs.SharingLemmas.{mini_fat_closed, mini_stream_closed}

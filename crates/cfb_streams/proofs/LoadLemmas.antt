@@ -1,21 +1,22 @@
 -- A fault of the rules that are judged later is one of all rules.
-use Rattle.std.proofs.Common.{◌≡◌, inl, inr, ℕ, ◌%◌, ◌≤◌, min, List, length, refl, sym, ap, subst, arith}
-use Rattle.std.proofs.lemmas.Bool.{cases_lt, cases_eq}
+use Rattle.std.proofs.Common.{◌≡◌, inl, inr, ℕ, List, length, sym, ap, subst, arith}
 use Rattle.doc_bits.specs.Rules.{rule, Nowhere, Hold}
-use Rattle.cfb_streams.specs.declared.faults.CfbFault.{CfbFault}
-use Rattle.cfb_streams.specs.declared.faults.CfbFault.TheVariants.{Rule, Memory}
-use Rattle.cfb_streams.specs.Opening.{opening_rules, BreaksLength, IsWrongLength, IsWhole}
-use Rattle.cfb_streams.specs.Chain.{fat_table}
-use Rattle.cfb_streams.specs.Layout.{EntryLists, AreEntries, Places, places_of, IsLayout}
-use Rattle.cfb_streams.proofs.JudgeLemmas.{holds_none}
-use Rattle.cfb_streams.proofs.ChainLemmas.{full_unique, chain_full, length_below}
-use Rattle.cfb_streams.specs.HeaderRules.{header_rules}
-use Rattle.cfb_streams.specs.Reach.{directory_head, entry_place, entry_count, ListsReached, IsDirectory}
-use Rattle.cfb_streams.specs.Reach.{BreaksDirectory, BreaksRoot, BreaksTree, BreaksName, BreaksStorage}
-use Rattle.cfb_streams.specs.StreamRules.{Parts, mini_fat_head, stream_head, IsMiniFat, IsMiniStream, BreaksMiniFat}
+use Rattle.cfb_sectors.specs.declared.faults.CfbFault.{CfbFault}
+use Rattle.cfb_sectors.specs.declared.faults.CfbFault.TheVariants.{Rule, Memory}
+use Rattle.cfb_sectors.specs.Opening.{opening_rules}
+use Rattle.cfb_sectors.specs.Chain.{fat_table}
+use Rattle.cfb_directory.specs.Entries.{EntryLists, AreEntries, tree_rules}
+use Rattle.cfb_streams.specs.Layout.{Places, places_of, IsLayout}
+use Rattle.cfb_sectors.proofs.JudgeLemmas.{holds_none}
+use Rattle.cfb_sectors.proofs.ChainLemmas.{full_unique, chain_full}
+use Rattle.cfb_sectors.specs.HeaderRules.{header_rules}
+use Rattle.cfb_directory.specs.Reach.{directory_head, entry_place, IsDirectory}
+use Rattle.cfb_directory.specs.Reach.{BreaksDirectory, BreaksRoot, BreaksTree, BreaksName, BreaksStorage}
+use Rattle.cfb_streams.specs.StreamRules.{Parts, mini_fat_head, IsMiniFat, IsMiniStream, BreaksMiniFat}
+use Rattle.cfb_directory.specs.StreamEntries.{stream_head}
 use Rattle.cfb_streams.specs.StreamRules.{BreaksMiniStream, BreaksStream, BreaksSharing}
 use Rattle.cfb_streams.specs.Container.{container_rules, directory_rules, entry_rules, stream_rules, sector_rules}
-use Rattle.cfb_streams.specs.Container.{IsCfbFault}
+use Rattle.cfb_sectors.specs.Judged.{IsCfbFault}
 
 pub stream_fault : (file directory mini_fat mini_stream : List ℕ) (e : CfbFault) →
     Nowhere (BreaksMiniStream file directory) → IsMiniStream file directory mini_stream →
@@ -133,24 +134,6 @@ layout_holds places is holds =
       ),
     )
 
--- a fault of one of the rules 8 to 11 is the first of the directory's entries, where the rules before it hold
-pub tree_fault : (file directory : List ℕ) (e : CfbFault) → Nowhere (BreaksRoot file directory) →
-    IsCfbFault (rule 8 (BreaksTree file directory)) e → IsCfbFault (entry_rules file directory) e
-tree_fault file directory (Rule number place) root first = inr (root, inl first)
-tree_fault file directory Memory root first = tt
-
-pub names_fault : (file directory : List ℕ) (e : CfbFault) → Nowhere (BreaksRoot file directory) →
-    Nowhere (BreaksTree file directory) → IsCfbFault (rule 9 (BreaksName file directory)) e →
-    IsCfbFault (entry_rules file directory) e
-names_fault file directory (Rule number place) root tree first = inr (root, inr (tree, inl first))
-names_fault file directory Memory root tree first = tt
-
-pub storages_fault : (file directory : List ℕ) (e : CfbFault) → Nowhere (BreaksRoot file directory) →
-    Nowhere (BreaksTree file directory) → Nowhere (BreaksName file directory) →
-    IsCfbFault (rule 10 (BreaksStorage file directory)) e → IsCfbFault (entry_rules file directory) e
-storages_fault file directory (Rule number place) root tree names first = inr (root, inr (tree, inr (names, inl first)))
-storages_fault file directory Memory root tree names first = tt
-
 pub mini_fat_fault : (file directory : List ℕ) (e : CfbFault) → Nowhere (BreaksRoot file directory) →
     Nowhere (BreaksTree file directory) → Nowhere (BreaksName file directory) → Nowhere (BreaksStorage file directory) →
     IsCfbFault (rule 11 (BreaksMiniFat file)) e → IsCfbFault (entry_rules file directory) e
@@ -162,6 +145,27 @@ pub mini_stream_fault : (file directory mini_fat : List ℕ) (e : CfbFault) →
     IsCfbFault (rule 12 (BreaksMiniStream file directory)) e → IsCfbFault (stream_rules file directory mini_fat) e
 mini_stream_fault file directory mini_fat (Rule number place) first = inl first
 mini_stream_fault file directory mini_fat Memory first = tt
+
+-- a fault of the entries' own rules is the first of those and of the rules that follow
+pub own_fault : (file directory : List ℕ) (e : CfbFault) → IsCfbFault (tree_rules file directory) e →
+    IsCfbFault (entry_rules file directory) e
+own_fault file directory (Rule number place) first = elim first [
+  | inl root ↦ inl root
+  | inr behind_root ↦ inr (
+    behind_root.0,
+    elim behind_root.1 [
+      | inl tree ↦ inl tree
+      | inr behind_tree ↦ inr (
+        behind_tree.0,
+        elim behind_tree.1 [
+          | inl names ↦ inl names
+          | inr behind_names ↦ inr (behind_names.0, inl behind_names.1)
+        ],
+      )
+    ],
+  )
+]
+own_fault file directory Memory first = tt
 
 -- a fault of the entries is the first of the file
 pub entries_fault : (file directory : List ℕ) (e : CfbFault) → Hold (opening_rules file) → Hold (header_rules file) →
@@ -231,20 +235,3 @@ layout_is file entries mini_fat mini_stream same opening header are is stored = 
   mini_fat = subst (λ f. IsMiniFat f mini_fat) (sym same) is;
   mini_stream = subst (λ f. IsMiniStream f entries.directory mini_stream) (sym same) stored;
 }
-
--- the entries that are reached are at most 1,024
-pub reached_few : (file directory order : List ℕ) → ListsReached file directory order → length directory ≤ 256 →
-    length order ≤ 1024
-reached_few file directory order lists short =
-    let most = length_below order (entry_count directory) (λ i h. (lists.within i h).1) lists.distinct in omega arith
-
--- where rule 1 holds the length is right
-pub whole_length : (file : List ℕ) → Nowhere (BreaksLength file) → IsWhole file
-whole_length file holds =
-    let right : ¬ IsWrongLength (length file) = λ w. holds (min (length file) 7143937)
-    (record { here = refl; wrong = w }) in
-    record {
-      sectors = elim (cases_eq (length file % 512) 0) [ inl e ↦ e | inr ne ↦ absurd (right (inl ne)) ];
-      least = elim (cases_lt (length file) 1536) [ inl lo ↦ absurd (right (inr (inl lo))) | inr hi ↦ hi ];
-      most = elim (cases_lt 7143936 (length file)) [ inl lo ↦ absurd (right (inr (inr lo))) | inr hi ↦ hi ];
-    }

@@ -3,7 +3,7 @@ use Rattle.std.proofs.Common.{◌≡◌, ◌↔◌, ℕ, zero, suc, ◌+◌, ◌
 use Rattle.std.proofs.Common.{slice_index, refl, sym, subst, arith, eq-eqb, eqb-true}
 use Rattle.std.specs.List.{list_all, range_with_len}
 use Rattle.std.proofs.lemmas.Bool.{and_from, and_parts, false_from_ne_true}
-use Rattle.cfb_streams.specs.Directory.{upper_case, AreSameNames}
+use Rattle.cfb_directory.specs.Directory.{upper_case, AreSameNames}
 use Rattle.cfb_streams.specs.Names.{is_same_name}
 
 -- a test that all numbers of a range pass

@@ -2,31 +2,19 @@
 use Rattle.std.proofs.Common.{◌≡◌, ◌⊎◌, inl, inr, ℕ, [], ◌+◌, ◌<◌, Option, None, List, length}
 use Rattle.std.proofs.Common.{slice_index, refl, sym, ap, ◌∙◌, subst, arith}
 use Rattle.std.proofs.lemmas.Bool.{cases_lt}
-use Rattle.doc_bits.specs.Rules.{LeastOrNone, Among}
+use Rattle.doc_bits.specs.Rules.{LeastOrNone}
 use Rattle.doc_bits.proofs.RuleLemmas.{least_same}
 use Rattle.cfb_streams.specs.StreamRules.{Owner, of_fat, of_directory, of_mini_fat, of_mini_stream, of_stream, Owns}
 use Rattle.cfb_streams.specs.StreamRules.{Parts, IsShared, HasSmallSector, IsMiniFat, IsMiniStream}
-use Rattle.cfb_streams.specs.Header.{valid_below}
-use Rattle.cfb_streams.specs.Chain.{Table, Head, fat_table, HoldsChain}
-use Rattle.cfb_streams.specs.SectorChain.{HasSector}
-use Rattle.cfb_streams.specs.Order.{ListsStreams}
-use Rattle.cfb_streams.specs.Marks.{IsMarked}
-use Rattle.cfb_streams.specs.Sharing.{AreDistinctBelow, HasFront, Claimed, IsUnshared, Takes, IsSharedPlace}
+use Rattle.cfb_sectors.specs.Header.{valid_below}
+use Rattle.cfb_sectors.specs.Chain.{Table, Head, fat_table, HoldsChain}
+use Rattle.cfb_sectors.specs.SectorChain.{HasSector}
+use Rattle.cfb_directory.specs.Order.{ListsStreams}
+use Rattle.cfb_sectors.specs.Marks.{IsMarked}
+use Rattle.cfb_sectors.specs.Claims.{AreDistinctBelow, HasFront, Claimed, IsUnshared, Takes, IsSharedPlace}
 use Rattle.cfb_streams.specs.Sharing.{IsShareFront, IsDone}
-use Rattle.cfb_streams.proofs.ClaimLemmas.{chain_closed}
-use Rattle.cfb_streams.proofs.OrderLemmas.{streams_apart}
-
--- what one says of its sectors another word can say too
-pub takes_same : (A B : ℕ → Type 0) (old new : Claimed) → ((s : ℕ) → A s → B s) → ((s : ℕ) → B s → A s) →
-    Takes A old new → Takes B old new
-takes_same A B old new to from t = record {
-  kept = t.kept;
-  added = λ s h. t.added s (from s h);
-  only = λ s h. elim (t.only s h) [ inl was ↦ inl was | inr owned ↦ inr (to s owned) ];
-  kept_shared = t.kept_shared;
-  added_shared = λ s h own. t.added_shared s h (from s own);
-  only_shared = λ s h. elim (t.only_shared s h) [ inl was ↦ inl was | inr both ↦ inr (both.0, to s both.1) ];
-}
+use Rattle.cfb_sectors.proofs.ClaimLemmas.{chain_closed}
+use Rattle.cfb_directory.proofs.OrderLemmas.{streams_apart}
 
 -- an owner without sectors takes none
 pub takes_none : (owns : ℕ → Type 0) (claimed : Claimed) → ((s : ℕ) → ¬ owns s) → Takes owns claimed claimed
@@ -148,17 +136,6 @@ pub none_unshared : (claimed : Claimed) (place_of : ℕ → ℕ) (o : Option ℕ
     LeastOrNone (IsSharedPlace claimed place_of) o → o ≡ None → IsUnshared claimed
 none_unshared claimed place_of o least none = λ s h.
     (rw none at least) (place_of s) (record { sector = s; shared = h; here = refl })
-
--- the place of a shared sector is that of one of the first `count`, which are all
-pub shared_among : (claimed : Claimed) (place_of : ℕ → ℕ) (count : ℕ) (o : Option ℕ) →
-    ((s : ℕ) → IsMarked claimed.shared s → s < count) →
-    LeastOrNone (Among count (λ s place. IsMarked claimed.shared s × (place ≡ place_of s))) o →
-    LeastOrNone (IsSharedPlace claimed place_of) o
-shared_among claimed place_of count o inside =
-    least_same (Among count (λ s place. IsMarked claimed.shared s × (place ≡ place_of s)))
-    (IsSharedPlace claimed place_of) o
-    (λ p w. record { sector = w.entry; shared = w.broken.0; here = w.broken.1 })
-    (λ p w. record { entry = w.sector; below = inside w.sector w.shared; broken = (w.shared, w.here) })
 
 -- the first streams, and one more
 pub front_more : (order : List ℕ) (count entry : ℕ) →

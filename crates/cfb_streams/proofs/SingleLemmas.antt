@@ -1,13 +1,14 @@
 -- Each object of the rules is the only one of its kind, and their numbers ascend.
 use Rattle.std.proofs.Common.{◌≡◌, inl, inr, ℕ, List, sym, ◌∙◌, arith}
 use Rattle.doc_bits.specs.Rules.{IsSingle, Ascends}
-use Rattle.cfb_streams.specs.Chain.{fat_table}
-use Rattle.cfb_streams.specs.Reach.{directory_head, entry_place, IsDirectory}
-use Rattle.cfb_streams.specs.StreamRules.{mini_fat_head, stream_head, IsMiniFat, IsMiniStream}
-use Rattle.cfb_streams.specs.Opening.{opening_rules}
-use Rattle.cfb_streams.specs.HeaderRules.{header_rules}
+use Rattle.cfb_sectors.specs.Chain.{fat_table}
+use Rattle.cfb_directory.specs.Reach.{directory_head, entry_place, IsDirectory}
+use Rattle.cfb_streams.specs.StreamRules.{mini_fat_head, IsMiniFat, IsMiniStream}
+use Rattle.cfb_directory.specs.StreamEntries.{stream_head}
+use Rattle.cfb_sectors.specs.Opening.{opening_rules}
+use Rattle.cfb_sectors.specs.HeaderRules.{header_rules}
 use Rattle.cfb_streams.specs.Container.{container_rules, directory_rules, entry_rules, stream_rules, sector_rules}
-use Rattle.cfb_streams.proofs.JudgeLemmas.{holds_unique}
+use Rattle.cfb_sectors.proofs.JudgeLemmas.{holds_unique}
 
 pub directory_unique : (file x y : List ℕ) → IsDirectory file x → IsDirectory file y → x ≡ y
 directory_unique file x y a b = holds_unique (fat_table file) (directory_head file) x y a.holds b.holds

@@ -7,9 +7,9 @@ use Rattle.std.proofs.lemmas.List.{get_or_past}
 use Rattle.doc_bits.specs.Number.{AreBytes}
 use Rattle.doc_bits.proofs.NumberLemmas.{number_at-bound}
 use Rattle.doc_bits.proofs.ByteListLemmas.{AreBytes-take, AreBytes-range, AreBytes-flat_map, no_bytes}
-use Rattle.cfb_streams.specs.Header.{sector_bytes}
-use Rattle.cfb_streams.specs.Directory.{entry_size, IsNameOf}
-use Rattle.cfb_streams.specs.Reach.{entry_place}
+use Rattle.cfb_sectors.specs.Header.{sector_bytes}
+use Rattle.cfb_directory.specs.Directory.{entry_size, IsNameOf}
+use Rattle.cfb_directory.specs.Reach.{entry_place}
 use Rattle.cfb_streams.specs.StreamRules.{Parts}
 use Rattle.cfb_streams.specs.Contents.{Stream, Contents, IsStored}
 use Rattle.cfb_streams.specs.Container.{mini_bytes, IsStreamOf, HasContents}

@@ -4,16 +4,17 @@ use Rattle.std.proofs.Common.{slice_get, refl, sym, ap, ◌∙◌, subst, arith}
 use Rattle.std.specs.List.{flat_map}
 use Rattle.std.proofs.lemmas.Bool.{cases_lt, cases_eq}
 use Rattle.std.proofs.lemmas.List.{ext_get_or}
-use Rattle.cfb_streams.specs.Header.{sector_bytes}
-use Rattle.cfb_streams.specs.Chain.{fat_table}
-use Rattle.cfb_streams.specs.Directory.{entry_size, entry_clsid, EntryBefore, IsNameOf}
-use Rattle.cfb_streams.specs.Reach.{entry_place}
-use Rattle.cfb_streams.specs.StreamRules.{Parts, IsMiniStream, mini_table_of, stream_head}
-use Rattle.cfb_streams.specs.Order.{ListsStreams}
+use Rattle.cfb_sectors.specs.Header.{sector_bytes}
+use Rattle.cfb_sectors.specs.Chain.{fat_table}
+use Rattle.cfb_directory.specs.Directory.{entry_size, entry_clsid, EntryBefore, IsNameOf}
+use Rattle.cfb_directory.specs.Reach.{entry_place}
+use Rattle.cfb_streams.specs.StreamRules.{Parts, IsMiniStream, mini_table_of}
+use Rattle.cfb_directory.specs.StreamEntries.{stream_head}
+use Rattle.cfb_directory.specs.Order.{ListsStreams}
 use Rattle.cfb_streams.specs.Contents.{Stream, Contents}
 use Rattle.cfb_streams.specs.Container.{mini_bytes, IsStreamOf, HasContents}
-use Rattle.cfb_streams.proofs.JudgeLemmas.{holds_unique}
-use Rattle.cfb_streams.proofs.OrderLemmas.{before_trans, before_irreflexive}
+use Rattle.cfb_sectors.proofs.JudgeLemmas.{holds_unique}
+use Rattle.cfb_directory.proofs.OrderLemmas.{before_trans, before_irreflexive}
 use Rattle.cfb_streams.proofs.SingleLemmas.{directory_unique, mini_fat_unique, mini_stream_unique}
 
 -- two lists of the streams in their order have the same entries, up to a place

@@ -1,21 +1,21 @@
 -- A compound file: its rules as one list, and what is read from a file that breaks none.
 use Rattle.std.specs.Prelude.{◌≡◌, ◌⊎◌, ℕ, List, [], length, take, slice_index, slice_get, Some, None}
 use Rattle.std.specs.List.{flat_map}
-use Rattle.cfb_streams.specs.declared.faults.CfbFault.{CfbFault}
-use Rattle.cfb_streams.specs.declared.faults.CfbFault.TheVariants.{Rule, Memory}
 use Rattle.cfb_streams.specs.Contents.{Stream, Contents}
-use Rattle.cfb_streams.specs.Order.{ListsStreams}
-use Rattle.doc_bits.specs.Rules.{Rules, rule, ◌then◌, given, IsFirst}
-use Rattle.cfb_streams.specs.Opening.{opening_rules}
-use Rattle.cfb_streams.specs.Header.{sector_bytes}
-use Rattle.cfb_streams.specs.HeaderRules.{header_rules}
-use Rattle.cfb_streams.specs.Chain.{fat_table, HoldsChain}
-use Rattle.cfb_streams.specs.Directory.{entry_size, entry_clsid, IsNameOf}
-use Rattle.cfb_streams.specs.Reach.{BreaksDirectory, IsDirectory, BreaksRoot, BreaksTree, BreaksName, BreaksStorage}
-use Rattle.cfb_streams.specs.Reach.{entry_place}
+use Rattle.cfb_directory.specs.Order.{ListsStreams}
+use Rattle.doc_bits.specs.Rules.{Rules, rule, ◌then◌, given}
+use Rattle.cfb_sectors.specs.Opening.{opening_rules}
+use Rattle.cfb_sectors.specs.Header.{sector_bytes}
+use Rattle.cfb_sectors.specs.HeaderRules.{header_rules}
+use Rattle.cfb_sectors.specs.Chain.{fat_table, HoldsChain}
+use Rattle.cfb_directory.specs.Directory.{entry_size, entry_clsid, IsNameOf}
+use Rattle.cfb_directory.specs.Reach.{BreaksDirectory, IsDirectory, BreaksRoot, BreaksTree, BreaksName, BreaksStorage}
+use Rattle.cfb_directory.specs.Reach.{entry_place}
 use Rattle.cfb_streams.specs.StreamRules.{BreaksMiniFat, IsMiniFat, BreaksMiniStream, IsMiniStream, BreaksStream}
-use Rattle.cfb_streams.specs.StreamRules.{BreaksSharing, Parts, IsStreamEntry, IsLargeStream, IsSmallStream}
-use Rattle.cfb_streams.specs.StreamRules.{mini_table_of, stream_head}
+use Rattle.cfb_streams.specs.StreamRules.{BreaksSharing, Parts}
+use Rattle.cfb_directory.specs.StreamEntries.{IsStreamEntry, IsLargeStream, IsSmallStream}
+use Rattle.cfb_streams.specs.StreamRules.{mini_table_of}
+use Rattle.cfb_directory.specs.StreamEntries.{stream_head}
 
 -- the rules of the streams
 abbrev pub sector_rules : List ℕ → List ℕ → List ℕ → List ℕ → Rules ℕ
@@ -103,8 +103,3 @@ pub record HasContents (file : List ℕ) (contents : Contents) : Type 0 where
   pub lists : ListsStreams file parts.directory entries
   pub streams : AreStreamsOf file parts entries (length entries) contents.streams
   pub clsid : contents.clsid ≡ entry_clsid file (entry_place parts.directory 0)
-
--- the first broken rule, or want of memory, which is free
-abbrev pub IsCfbFault : Rules ℕ → CfbFault → Type 0
-IsCfbFault rules (Rule number offset) = IsFirst rules number offset
-IsCfbFault rules Memory = Unit {0}

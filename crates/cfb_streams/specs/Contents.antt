@@ -3,7 +3,7 @@ use Rattle.std.specs.Prelude.{◌≡◌, ℕ, ◌-◌, ◌^◌, ◌<◌, ◌≤�
 use Rattle.std.specs.Prelude.{slice_index}
 use Rattle.std.specs.List.{sum_by}
 use Rattle.doc_bits.specs.Number.{AreBytes}
-use Rattle.cfb_streams.specs.Directory.{AreSameNames, ComesBefore}
+use Rattle.cfb_directory.specs.Directory.{AreSameNames, ComesBefore}
 
 -- a stream: its name, its bytes, and its sectors where it has sectors of its own
 pub record Stream : Type 0 where

@@ -2,11 +2,12 @@
 use Rattle.std.specs.Prelude.{◌≡◌, ℕ, Option, Some, None, List, [], ◌∷◌, ◌++◌, length, take}
 use Rattle.std.specs.List.{flat_map}
 use Rattle.cfb_streams.specs.declared.gather.Taken.{Taken}
-use Rattle.cfb_streams.specs.Header.{sector_bytes}
-use Rattle.cfb_streams.specs.SectorChain.{HasSector}
-use Rattle.cfb_streams.specs.Chain.{Table, Head, fat_table, HoldsChain}
+use Rattle.cfb_sectors.specs.Header.{sector_bytes}
+use Rattle.cfb_sectors.specs.SectorChain.{HasSector}
+use Rattle.cfb_sectors.specs.Chain.{Table, Head, fat_table, HoldsChain}
 use Rattle.cfb_streams.specs.StreamRules.{Owns, HasLargeSector, HasSmallSector, mini_table_of}
-use Rattle.cfb_streams.specs.Sharing.{Claimed, HasFront, IsUnshared, Takes, IsClosed, IsShareFront, IsDone}
+use Rattle.cfb_sectors.specs.Claims.{Claimed, HasFront, IsUnshared, Takes, IsClosed}
+use Rattle.cfb_streams.specs.Sharing.{IsShareFront, IsDone}
 use Rattle.cfb_streams.specs.Layout.{Places}
 use Rattle.cfb_streams.specs.Contents.{Stream}
 

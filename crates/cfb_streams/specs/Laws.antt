@@ -1,7 +1,7 @@
 -- What the list of the rules 1 to 14 says of a file, in one reading alone.
 use Rattle.std.specs.Prelude.{◌≡◌, ◌↔◌, ℕ, ◌≤◌, List}
 use Rattle.doc_bits.specs.Rules.{Hold, IsFirst, Breaks, IsLeastOfAll}
-use Rattle.cfb_streams.specs.Directory.{IsNameOf, EntryBefore, ComesBefore}
+use Rattle.cfb_directory.specs.Directory.{IsNameOf, EntryBefore, ComesBefore}
 use Rattle.cfb_streams.specs.Container.{container_rules, HasContents}
 use Rattle.cfb_streams.specs.Contents.{Contents}
 

@@ -1,7 +1,7 @@
 -- The names of streams, and their comparison as a test.
 use Rattle.std.specs.Prelude.{ℕ, ◌==◌, Bool, ◌&&◌, List, length, slice_index, codes, if◌then◌else◌}
 use Rattle.std.specs.List.{list_all, range_with_len}
-use Rattle.cfb_streams.specs.Directory.{upper_case}
+use Rattle.cfb_directory.specs.Directory.{upper_case}
 
 -- [MS-DOC] the stream that begins with the FIB, and the two of which one is the table stream
 abbrev pub wd_name : List ℕ

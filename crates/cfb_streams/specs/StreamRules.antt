@@ -1,11 +1,12 @@
 -- The mini FAT, the mini stream and the streams: their chains, and the sectors that two of them have.
-use Rattle.std.specs.Prelude.{◌≡◌, ◌≢◌, ◌⊎◌, ℕ, ◌+◌, ◌<◌, ◌≤◌, List, []}
+use Rattle.std.specs.Prelude.{◌≡◌, ◌≢◌, ◌⊎◌, ℕ, List, []}
 use Rattle.doc_bits.specs.Number.{u32_at}
-use Rattle.cfb_streams.specs.Header.{fat_sectors}
-use Rattle.cfb_streams.specs.SectorChain.{HasSector}
-use Rattle.cfb_streams.specs.Chain.{Table, Head, fat_table, mini_table, HoldsChain, BreaksChain}
-use Rattle.cfb_streams.specs.Directory.{entry_type, entry_start, entry_size}
-use Rattle.cfb_streams.specs.Reach.{entry_place, IsReached, AmongReached}
+use Rattle.cfb_sectors.specs.Header.{fat_sectors}
+use Rattle.cfb_sectors.specs.SectorChain.{HasSector}
+use Rattle.cfb_sectors.specs.Chain.{Table, Head, fat_table, mini_table, HoldsChain, BreaksChain}
+use Rattle.cfb_directory.specs.Directory.{entry_size}
+use Rattle.cfb_directory.specs.Reach.{entry_place, AmongReached}
+use Rattle.cfb_directory.specs.StreamEntries.{IsLargeStream, IsSmallStream, stream_head}
 
 abbrev pub mini_fat_head : List ℕ → Head
 mini_fat_head file = record { field = 60; start = u32_at file 60; unit = 512; size = 0 }
@@ -20,11 +21,6 @@ abbrev pub IsMiniFat : List ℕ → List ℕ → Type 0
 IsMiniFat file sectors =
     ((u32_at file 64 ≡ 0) × (sectors ≡ [])) ⊎ ((u32_at file 64 ≢ 0) × HoldsChain (fat_table file) (mini_fat_head file)
     sectors)
-
--- the chain of the stream whose entry stands at an offset, in sectors of so many bytes
-abbrev pub stream_head : List ℕ → ℕ → ℕ → Head
-stream_head file unit at = record
-    { field = at + 116; start = entry_start file at; unit = unit; size = entry_size file at }
 
 -- rule 12; Profile: the chain of an empty mini stream is not looked at
 pub record BreaksMiniStream (file directory : List ℕ) (place : ℕ) : Type 0 where
@@ -41,22 +37,6 @@ IsMiniStream file directory sectors =
 -- the mini FAT by which the file's short streams go
 abbrev pub mini_table_of : List ℕ → List ℕ → List ℕ → Table
 mini_table_of file directory mini_fat = mini_table file mini_fat (entry_size file (entry_place directory 0))
-
--- an entry that is reached and is a stream
-pub record IsStreamEntry (file directory : List ℕ) (entry : ℕ) : Type 0 where
-  pub reached : IsReached file directory entry
-  pub stream : entry_type file (entry_place directory entry) ≡ 2
-
--- a stream of 4,096 bytes or more has sectors of its own
-pub record IsLargeStream (file directory : List ℕ) (entry : ℕ) : Type 0 where
-  pub is_entry : IsStreamEntry file directory entry
-  pub large : 4096 ≤ entry_size file (entry_place directory entry)
-
--- a shorter one that is not empty stands in mini sectors
-pub record IsSmallStream (file directory : List ℕ) (entry : ℕ) : Type 0 where
-  pub is_entry : IsStreamEntry file directory entry
-  pub some : 0 < entry_size file (entry_place directory entry)
-  pub small : entry_size file (entry_place directory entry) < 4096
 
 -- the chain of a stream's entry is broken
 pub record IsWrongLarge (file directory : List ℕ) (entry place : ℕ) : Type 0 where

@@ -2,7 +2,8 @@
 ghost use Rattle.std.specs.Prelude.{◌≡◌, ◌<◌, IfSome, MatchOption, MatchResult, option_map, length, slice_get};
 ghost use Rattle.doc_bits.specs.Rules.{Hold};
 ghost use Rattle.cfb_streams.specs.Contents.{HasNamed, HasNoNamed, HasChainByLength};
-ghost use Rattle.cfb_streams.specs.Container.{container_rules, HasContents, IsCfbFault};
+ghost use Rattle.cfb_streams.specs.Container.{container_rules, HasContents};
+ghost use Rattle.cfb_sectors.specs.Judged.{IsCfbFault};
 
 use crate::CfbFault;
 use crate::layout::Layout;

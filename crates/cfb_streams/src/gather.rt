@@ -2,26 +2,25 @@
 ghost use Rattle.std.specs.Prelude.{◌≡◌, ℕ, ◌+◌, ◌*◌, ◌<◌, ◌≤◌, None, length};
 ghost use Rattle.std.specs.Prelude.{IfOk, OnOk, MatchOption, MatchResult};
 ghost use Rattle.doc_bits.specs.Rules.{Nowhere, LeastOrNone, rule};
-ghost use Rattle.cfb_streams.specs.Chain.{BreaksChain};
-ghost use Rattle.cfb_streams.specs.StreamRules.{IsStreamEntry, IsWrongStream, BreaksStream, BreaksSharing};
-ghost use Rattle.cfb_streams.specs.Sharing.{IsUnshared, IsClosed};
-ghost use Rattle.cfb_streams.specs.Tables.{table_at};
+ghost use Rattle.cfb_sectors.specs.Chain.{BreaksChain};
+ghost use Rattle.cfb_directory.specs.Directory.{IsNameOf};
+ghost use Rattle.cfb_directory.specs.Reach.{entry_place as place_of};
+ghost use Rattle.cfb_directory.specs.StreamEntries.{IsStreamEntry, IsSmallStream, IsLargeStream, stream_head};
+ghost use Rattle.cfb_streams.specs.StreamRules.{IsWrongStream, BreaksStream, BreaksSharing};
+ghost use Rattle.cfb_sectors.specs.Claims.{IsUnshared, IsClosed};
+ghost use Rattle.cfb_sectors.specs.Tables.{table_at};
 ghost use Rattle.cfb_streams.specs.Layout.{IsLayout};
 ghost use Rattle.cfb_streams.specs.Gathered.{IsRead, TakesChain, TakesStream, HasMarks};
 ghost use Rattle.cfb_streams.specs.Gathered.{AreUnshared, with_some, IsTakenFront};
-ghost use Rattle.cfb_streams.specs.Container.{HasContents, IsCfbFault, IsStreamOf, AreStreamsOf};
+ghost use Rattle.cfb_streams.specs.Container.{HasContents, IsStreamOf, AreStreamsOf};
+ghost use Rattle.cfb_sectors.specs.Judged.{IsCfbFault};
 
 use crate::CfbFault;
-use crate::body::Body;
-use crate::chain::Claim;
-use crate::claims::Claims;
 use crate::container::Container;
-use crate::faults::refuse;
 use crate::layout::Layout;
-use crate::opening::SECTOR_LEN;
 use crate::root_stream::RootStream;
-use crate::stream::join;
-use crate::table::Table;
+use cfb_directory::Body;
+use cfb_sectors::{Claim, Claims, SECTOR_LEN, Table, join, refuse};
 use doc_bits::{Memory, lesser};
 use std::alloc::Global;
 
@@ -109,43 +108,81 @@ impl<'a> Layout<'a> {
                 chain: None,
             })),
             Body::Short(claim) => {
-                let read = read_chain(
-                    alloc,
-                    &self.mini,
-                    &mut taken.minis,
-                    &self.stored,
-                    0,
-                    &claim,
-                )?;
-                let Some(read) = read else {
-                    return Ok(None);
-                };
-                Ok(Some(RootStream {
-                    name,
-                    bytes: read.bytes,
-                    chain: None,
-                }))
+                let stream = self.read_short(alloc, taken, entry, name, &claim)?;
+                Ok(stream)
             }
             Body::Long(claim) => {
-                let file = self.entries.file();
-                let read = read_chain(
-                    alloc,
-                    &self.fat,
-                    &mut taken.sectors,
-                    file,
-                    SECTOR_LEN,
-                    &claim,
-                )?;
-                let Some(read) = read else {
-                    return Ok(None);
-                };
-                Ok(Some(RootStream {
-                    name,
-                    bytes: read.bytes,
-                    chain: Some(read.sectors),
-                }))
+                let stream = self.read_long(alloc, taken, entry, name, &claim)?;
+                Ok(stream)
             }
         }
+    }
+
+    /// Takes the mini sectors of the stream of an entry, and reads it where none of them was taken.
+    fn read_short(
+        &self,
+        alloc: Global,
+        taken: &mut Taken,
+        entry: u32,
+        name: Vec<u16>,
+        claim: &Claim,
+    ) -> Result<Option<RootStream>, Memory>
+        requires is_small { IsSmallStream self.now.file self.now.parts.directory entry }
+        requires is_claim { claim.now ≡ stream_head self.now.file 64 (place_of self.now.parts.directory entry) }
+        requires is_name { IsNameOf self.now.file (place_of self.now.parts.directory entry) name.items }
+        requires is_whole { Nowhere
+            (IsWrongStream self.now.file self.now.parts.directory self.now.parts.mini_fat entry) }
+        requires marks { HasMarks self.now taken.old }
+        ensures stream { IfOk result (λ stream. MatchOption stream
+            (¬ AreUnshared taken.new)
+            (IsStreamOf self.now.file self.now.parts entry)) }
+        ensures takes { IfOk result (λ _. TakesStream self.now entry taken.old taken.new) }
+        ensures marks { IfOk result (λ _. HasMarks self.now taken.new) }
+    {
+        let minis = &mut taken.minis;
+        let read = read_chain(alloc, &self.mini, minis, &self.stored, 0, claim)?;
+        let Some(read) = read else {
+            return Ok(None);
+        };
+        Ok(Some(RootStream {
+            name,
+            bytes: read.bytes,
+            chain: None,
+        }))
+    }
+
+    /// Takes the sectors of the stream of an entry, and reads it where none of them was taken.
+    fn read_long(
+        &self,
+        alloc: Global,
+        taken: &mut Taken,
+        entry: u32,
+        name: Vec<u16>,
+        claim: &Claim,
+    ) -> Result<Option<RootStream>, Memory>
+        requires is_large { IsLargeStream self.now.file self.now.parts.directory entry }
+        requires is_claim { claim.now ≡ stream_head self.now.file 512 (place_of self.now.parts.directory entry) }
+        requires is_name { IsNameOf self.now.file (place_of self.now.parts.directory entry) name.items }
+        requires is_whole { Nowhere
+            (IsWrongStream self.now.file self.now.parts.directory self.now.parts.mini_fat entry) }
+        requires marks { HasMarks self.now taken.old }
+        ensures stream { IfOk result (λ stream. MatchOption stream
+            (¬ AreUnshared taken.new)
+            (IsStreamOf self.now.file self.now.parts entry)) }
+        ensures takes { IfOk result (λ _. TakesStream self.now entry taken.old taken.new) }
+        ensures marks { IfOk result (λ _. HasMarks self.now taken.new) }
+    {
+        let file = self.entries.file();
+        let sectors = &mut taken.sectors;
+        let read = read_chain(alloc, &self.fat, sectors, file, SECTOR_LEN, claim)?;
+        let Some(read) = read else {
+            return Ok(None);
+        };
+        Ok(Some(RootStream {
+            name,
+            bytes: read.bytes,
+            chain: Some(read.sectors),
+        }))
     }
 
     /// Takes the sectors of the root's streams, and reads them in the order of their names.

@@ -1,33 +1,18 @@
 // Where the parts of a file stand that breaks none of the rules 1 to 12.
-ghost use Rattle.std.specs.Prelude.{◌≡◌, ◌+◌, ◌<◌, ◌≤◌, MatchResult, IfOk, length, slice_index};
-ghost use Rattle.std.specs.List.{flat_map};
-ghost use Rattle.doc_bits.specs.Rules.{Hold, Nowhere};
-ghost use Rattle.cfb_streams.specs.Header.{sector_bytes};
-ghost use Rattle.cfb_streams.specs.Chain.{AreSectorsOf};
-ghost use Rattle.cfb_streams.specs.Opening.{opening_rules, IsWhole};
-ghost use Rattle.cfb_streams.specs.HeaderRules.{header_rules, BreaksFat};
-ghost use Rattle.cfb_streams.specs.Tables.{fat_place};
+ghost use Rattle.std.specs.Prelude.{◌≡◌, ◌<◌, MatchResult, IfOk, length, slice_index};
+ghost use Rattle.doc_bits.specs.Rules.{Hold};
+ghost use Rattle.cfb_sectors.specs.Tables.{fat_place};
 ghost use Rattle.cfb_streams.specs.Layout.{IsLayout, places_of};
-ghost use Rattle.cfb_streams.specs.Container.{container_rules, IsCfbFault};
+ghost use Rattle.cfb_streams.specs.Container.{container_rules};
+ghost use Rattle.cfb_sectors.specs.Judged.{IsCfbFault};
 
 use crate::CfbFault;
-use crate::entries::Entries;
-use crate::fat::{read_fat_sectors, valid_sectors, wrong_fat};
-use crate::faults::{refuse, whole};
-use crate::header::{wrong_difat, wrong_header};
-use crate::opening::{SECTOR_LEN, opening_fault};
 use crate::parts::{find_directory, find_mini_fat, find_mini_stream, mini_sectors};
-use crate::stream::join;
-use crate::table::Table;
+use cfb_directory::Entries;
+use cfb_sectors::{Table, judge_header, judge_opening, read_fat, read_sectors, whole};
 use doc_bits::Memory;
 use std::alloc::Global;
 use std::marker::Model;
-
-const RULE_HEADER: u8 = 3;
-
-const RULE_DIFAT: u8 = 4;
-
-const RULE_FAT: u8 = 5;
 
 const RULE_DIRECTORY: u8 = 6;
 
@@ -163,49 +148,4 @@ pub fn layout_of<'a>(alloc: Global, file: &'a [u8]) -> Result<Layout<'a>, Memory
         Ok(layout) => Ok(layout),
         Err(_) => Err(Memory),
     }
-}
-
-/// Judges the rules 1 and 2.
-fn judge_opening(file: &[u8]) -> Result<(), CfbFault>
-    ensures { MatchResult result (λ _. Hold (opening_rules file.now)) (IsCfbFault (opening_rules file.now)) }
-{
-    match opening_fault(file) {
-        None => Ok(()),
-        Some(broken) => Err(CfbFault::Rule {
-            rule: broken.rule,
-            offset: broken.offset,
-        }),
-    }
-}
-
-/// Judges the rules 3 to 5.
-fn judge_header(file: &[u8]) -> Result<(), CfbFault>
-    requires { 512 ≤ length file.now }
-    ensures { MatchResult result (λ _. Hold (header_rules file.now)) (IsCfbFault (header_rules file.now)) }
-{
-    refuse(RULE_HEADER, wrong_header(file))?;
-    refuse(RULE_DIFAT, wrong_difat(file))?;
-    refuse(RULE_FAT, wrong_fat(file))?;
-    Ok(())
-}
-
-/// The FAT.
-fn read_fat<'a>(alloc: Global, file: &'a [u8]) -> Result<Table<'a>, Memory>
-    requires is_whole { IsWhole file.now }
-    requires is_fat { Nowhere (BreaksFat file.now) }
-    ensures { IfOk result (λ fat. fat ≡ fat_place file.now) }
-{
-    let sectors = read_fat_sectors(alloc, file)?;
-    let fat = Table::read(alloc, file, sectors, valid_sectors(file))?;
-    Ok(fat)
-}
-
-/// The bytes of these sectors in a row.
-fn read_sectors(alloc: Global, file: &[u8], sectors: &[u32]) -> Result<Vec<u8>, Memory>
-    requires { AreSectorsOf file.now sectors.now }
-    ensures { IfOk result (λ bytes. bytes.items ≡ flat_map (sector_bytes 512 512 file.now) sectors.now) }
-{
-    let size = sectors.len() * SECTOR_LEN;
-    let bytes = join(alloc, file, SECTOR_LEN, SECTOR_LEN, sectors, size)?;
-    Ok(bytes)
 }

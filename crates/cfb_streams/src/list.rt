@@ -1,12 +1,11 @@
 // Streams that are to be put into a container: names and bytes, in the order of the names.
-ghost use Rattle.std.specs.Prelude.{◌≡◌, [], ◌∷◌, ◌++◌, ℕ, ◌<◌, OnOk, OnErr, option_map, length, slice_get};
+ghost use Rattle.std.specs.Prelude.{◌≡◌, [], ◌∷◌, ◌++◌, ◌<◌, OnOk, OnErr, option_map, length, slice_get};
 ghost use Rattle.std.specs.Prelude.{◌↔◌, IsTrue, ◌-◌};
 ghost use Rattle.std.specs.List.{sum_by};
-ghost use Rattle.doc_bits.specs.Number.{AreBytes};
-ghost use Rattle.cfb_streams.specs.Directory.{ComesBefore};
+ghost use Rattle.cfb_directory.specs.Directory.{ComesBefore};
 ghost use Rattle.cfb_streams.specs.Contents.{AreStreams, AreStored, EndsBefore};
 
-use crate::directory::upper;
+use cfb_directory::upper;
 use doc_bits::Memory;
 use std::alloc::Global;
 use std::marker::Model;

@@ -1,17 +1,17 @@
 // Rules 6, 11 and 12: the chains of the directory, of the mini FAT and of the mini stream.
-ghost use Rattle.std.specs.Prelude.{◌≡◌, ℕ, ◌+◌, ◌*◌, ◌^◌, ◌<◌, ◌≤◌, ◌↔◌, IsTrue, IfOk, length};
+ghost use Rattle.std.specs.Prelude.{◌≡◌, ◌+◌, ◌*◌, ◌^◌, ◌<◌, ◌≤◌, ◌↔◌, IsTrue, IfOk, length};
 ghost use Rattle.doc_bits.specs.Number.{u32_at};
-ghost use Rattle.cfb_streams.specs.Chain.{AreSectorsOf};
-ghost use Rattle.cfb_streams.specs.Reach.{IsLongDirectory};
-ghost use Rattle.cfb_streams.specs.StreamRules.{mini_table_of, stream_head};
-ghost use Rattle.cfb_streams.specs.Tables.{fat_place, IsFoundDirectory, IsFoundMiniFat, IsFoundMiniStream};
+ghost use Rattle.cfb_sectors.specs.Chain.{AreSectorsOf};
+ghost use Rattle.cfb_directory.specs.Reach.{IsLongDirectory};
+ghost use Rattle.cfb_streams.specs.StreamRules.{mini_table_of};
+ghost use Rattle.cfb_sectors.specs.Tables.{fat_place};
+ghost use Rattle.cfb_streams.specs.FoundParts.{IsFoundDirectory, IsFoundMiniFat, IsFoundMiniStream};
 
-use crate::chain::{Chain, Claim};
-use crate::directory::{ENTRY_SIZE, ENTRY_START, entry_place};
-use crate::fat::TABLE_LEN;
-use crate::header::{DIRECTORY_START, MINI_FAT_COUNT, MINI_FAT_START};
-use crate::opening::{MINI_SECTOR_LEN, SECTOR_LEN};
-use crate::table::Table;
+use cfb_directory::{ENTRY_SIZE, entry_place, stream_claim};
+use cfb_sectors::{
+    Chain, Claim, DIRECTORY_START, MINI_FAT_COUNT, MINI_FAT_START, MINI_SECTOR_LEN, SECTOR_LEN,
+    TABLE_LEN, Table,
+};
 use doc_bits::{Memory, get32};
 use std::alloc::Global;
 
@@ -29,21 +29,6 @@ fn header_claim(file: &[u8], field: usize) -> Claim
         start: get32(file, field),
         unit: SECTOR_LEN as u32,
         size: 0,
-    }
-}
-
-/// The claim of the stream whose entry stands at an offset, in sectors of so many bytes.
-pub(crate) fn stream_claim(file: &[u8], at: usize, unit: usize) -> Claim
-    requires short { length file.now < 2 ^ 32 }
-    requires inside { at + 128 ≤ length file.now }
-    requires few { unit ≤ 512 }
-    ensures { result ≡ stream_head file.now unit at }
-{
-    Claim {
-        field: (at + ENTRY_START) as u32,
-        start: get32(file, at + ENTRY_START),
-        unit: unit as u32,
-        size: get32(file, at + ENTRY_SIZE),
     }
 }
 

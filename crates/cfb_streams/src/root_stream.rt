@@ -2,7 +2,7 @@
 ghost use Rattle.std.specs.Prelude.{◌≡◌, MatchOption, option_map};
 ghost use Rattle.cfb_streams.specs.Contents.{HasNamed, HasNoNamed, HasChainByLength};
 
-use crate::names::same_name;
+use cfb_directory::same_name;
 use std::marker::Model;
 
 /// A stream of the root: its name, its bytes, and its sectors where it has sectors of its own.

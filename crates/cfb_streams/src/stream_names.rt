@@ -1,9 +1,9 @@
 // The names of the streams of a document, in units.
 ghost use Rattle.std.specs.Prelude.{◌≡◌, ◌↔◌, IsTrue};
-ghost use Rattle.cfb_streams.specs.Directory.{AreSameNames};
+ghost use Rattle.cfb_directory.specs.Directory.{AreSameNames};
 ghost use Rattle.cfb_streams.specs.Names.{wd_name, is_same_name, table_name as name_of_table};
 
-use crate::names::same_name;
+use cfb_directory::same_name;
 
 /// `WordDocument`
 pub const WORD_DOCUMENT: [u16; 12] = [87, 111, 114, 100, 68, 111, 99, 117, 109, 101, 110, 116];

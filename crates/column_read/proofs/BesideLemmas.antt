@@ -1,8 +1,7 @@
 -- What stands beside the CPs of a stretch.
-use Rattle.std.proofs.Common.{◌≡◌, ◌∙◌, refl, sym, ap, subst, inl, inr, ℕ, ◌<◌, ◌≤◌, ◌+◌, ◌-◌, false, List, ◌++◌}
+use Rattle.std.proofs.Common.{◌≡◌, ◌∙◌, refl, sym, ap, subst, ℕ, ◌<◌, ◌≤◌, ◌+◌, ◌-◌, false, List, ◌++◌}
 use Rattle.std.proofs.Common.{length, Some, None, arith, length-append}
 use Rattle.std.specs.Prelude.{slice_get, slice_index, replicate}
-use Rattle.std.proofs.lemmas.Bool.{cases_lt}
 use Rattle.std.proofs.lemmas.List.{length-replicate}
 use Rattle.std.proofs.lemmas.List.Elements.{All-replicate}
 use Rattle.std.proofs.lemmas.Option.{slice_get_within}
@@ -16,9 +15,10 @@ use Rattle.doc_columns.specs.declared.beside.Beside.{Beside}
 use Rattle.doc_columns.specs.Beside.{nothing}
 use Rattle.doc_read.specs.declared.reading.Passed.{Passed}
 use Rattle.doc_read.specs.Items.{IsMarkAt}
-use Rattle.doc_read.specs.Passing.{AddsEach, IsPassed, IsNotAmong}
+use Rattle.doc_read.specs.Passing.{AddsEach}
 use Rattle.doc_read.specs.Reading.{ArePassed, TextView}
 use Rattle.doc_read.proofs.EntryLemmas.{entry_none}
+use Rattle.doc_read.proofs.BareLemmas.{none_at}
 use Rattle.column_read.specs.Beside.{IsBesideAt}
 
 -- so many equal entries more
@@ -43,13 +43,6 @@ adds_times {A = A} P count old new x is right =
           behind in
           subst (P k) same (right k upper (omega (arith, within, long, fresh_long)));
     }
-
--- nothing stands at a CP that is passed with the same number as the next one
-none_at : (cps : List ℕ) (next cp : ℕ) → IsPassed cps next cp → IsPassed cps next (cp + 1) → IsNotAmong cps cp
-none_at cps next cp here later k below = elim (cases_lt k next) [
-  | inl low ↦ λ e. omega (arith, here.before k low, e)
-  | inr high ↦ λ e. omega (arith, later.after k high below, e)
-]
 
 -- nothing stands beside a CP that is passed with the same numbers as the next one, where its unit ends no paragraph
 pub bare_beside : (view : TextView) (modifier : Modifier) (passed : Passed) (cp : ℕ) →

@@ -4,6 +4,12 @@
 #[cfg(test)]
 mod documents;
 #[cfg(test)]
+mod edits;
+#[cfg(test)]
+mod files;
+#[cfg(test)]
 mod runs;
 #[cfg(test)]
 mod scripted;
+#[cfg(test)]
+mod scripted_columns;

@@ -1,6 +1,6 @@
 -- How large the files are that the generator saves in full.
 use Rattle.std.proofs.Common.{◌≡◌, ◌∙◌, sym, ap, subst, ℕ, ◌+◌, ◌≤◌, length, arith}
-use Rattle.cfb_streams.specs.Header.{sector_count}
+use Rattle.cfb_sectors.specs.Header.{sector_count}
 use Rattle.cfb_layout.specs.Layout.{lengths_of}
 use Rattle.cfb_layout.proofs.CountLemmas.{sectors-needed}
 use Rattle.cfb_layout.proofs.FileLemmas.{length-compound_file}

@@ -1,7 +1,7 @@
 -- What has been so far when commands are run.
 use Rattle.std.specs.Prelude.{ℕ, ◌+◌, ◌*◌, Bool, true, false, List, length, Option, Some, None}
 use Rattle.edit_guards.specs.Policies.{Policy, policies_after}
-use Rattle.cfb_streams.specs.Header.{sector_count}
+use Rattle.cfb_sectors.specs.Header.{sector_count}
 use Rattle.plain_doc.specs.declared.document.Document.{Document}
 use Rattle.full_save.specs.WordDocument.{full_fib, table_stream}
 use Rattle.full_save.specs.Layout.{full_save_image}

@@ -3,8 +3,8 @@ use Rattle.std.proofs.Common.{◌≡◌, ◌<◌, ◌∙◌, inl, inr, sym, ap, 
 use Rattle.std.proofs.lemmas.Bool.{cases_lt}
 use Rattle.std.proofs.lemmas.Option.{slice_get_within, get_or_from_slice_get}
 use Rattle.cfb_streams.specs.Contents.{Stream, Contents, HasNamed}
-use Rattle.cfb_streams.specs.Directory.{AreSameNames, IsNameOf, EntryBefore, upper_case, entry_unit}
-use Rattle.cfb_streams.specs.Reach.{entry_place}
+use Rattle.cfb_directory.specs.Directory.{AreSameNames, IsNameOf, EntryBefore, upper_case, entry_unit}
+use Rattle.cfb_directory.specs.Reach.{entry_place}
 use Rattle.cfb_streams.specs.Container.{HasContents}
 
 -- an entry that comes before another has not its name

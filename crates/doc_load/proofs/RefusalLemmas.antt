@@ -5,10 +5,10 @@ use Rattle.doc_bits.specs.declared.places.Where.TheVariants.{File, Wd, Table}
 use Rattle.doc_bits.specs.Rules.{Rules, Hold, ◌then◌, given, rule, Nowhere, IsLeast, IsFirst, IsSingle}
 use Rattle.doc_bits.specs.Places.{Place, rules_in}
 use Rattle.doc_bits.proofs.RuleLemmas.{first_in, hold_in}
-use Rattle.cfb_streams.specs.declared.faults.CfbFault.{CfbFault}
-use Rattle.cfb_streams.specs.declared.faults.CfbFault.TheVariants as cfb
+use Rattle.cfb_sectors.specs.declared.faults.CfbFault.{CfbFault}
+use Rattle.cfb_sectors.specs.declared.faults.CfbFault.TheVariants as cfb
 use Rattle.cfb_streams.specs.Contents.{Contents, HasNamed, HasNoNamed}
-use Rattle.cfb_streams.specs.Container.{IsCfbFault}
+use Rattle.cfb_sectors.specs.Judged.{IsCfbFault}
 use Rattle.piece_table.specs.declared.fault.ClxFault.{ClxFault}
 use Rattle.piece_table.specs.declared.fault.ClxFault.TheVariants as clx
 use Rattle.piece_table.specs.ClxRules.{IsClxFault}

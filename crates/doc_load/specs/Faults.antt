@@ -2,8 +2,8 @@
 use Rattle.doc_bits.specs.declared.places.Where.TheVariants.{File, Wd, Table}
 use Rattle.doc_bits.specs.Rules.{Rules}
 use Rattle.doc_bits.specs.Places.{Place, IsFirstPlace}
-use Rattle.cfb_streams.specs.declared.faults.CfbFault.{CfbFault}
-use Rattle.cfb_streams.specs.declared.faults.CfbFault.TheVariants as cfb
+use Rattle.cfb_sectors.specs.declared.faults.CfbFault.{CfbFault}
+use Rattle.cfb_sectors.specs.declared.faults.CfbFault.TheVariants as cfb
 use Rattle.piece_table.specs.declared.fault.ClxFault.{ClxFault}
 use Rattle.piece_table.specs.declared.fault.ClxFault.TheVariants as clx
 use Rattle.doc_parts.specs.declared.fault.PartFault.{PartFault}

@@ -4,7 +4,7 @@ use Rattle.std.proofs.Common.{Some, length, map, filter, slice_get, refl, sym, a
 use Rattle.std.proofs.lemmas.Bool.{cases_Bool}
 use Rattle.std.proofs.lemmas.Option.{none-some, same_Some}
 use Rattle.cfb_streams.specs.Contents.{Stream, NamedBytes}
-use Rattle.cfb_streams.specs.Directory.{ComesBefore}
+use Rattle.cfb_directory.specs.Directory.{ComesBefore}
 use Rattle.doc_read.specs.CarriedParts.{is_carried, carried_streams}
 
 -- where a carried stream stands in the file

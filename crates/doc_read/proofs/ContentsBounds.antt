@@ -5,21 +5,22 @@ use Rattle.std.proofs.lemmas.Bool.{cases_lt}
 use Rattle.std.proofs.lemmas.List.{length-take}
 use Rattle.std.proofs.lemmas.Option.{slice_get_within}
 use Rattle.doc_bits.specs.Rules.{Nowhere, Hold}
-use Rattle.cfb_streams.specs.Opening.{IsWhole}
-use Rattle.cfb_streams.specs.Header.{valid_below}
-use Rattle.cfb_streams.specs.Chain.{fat_table}
-use Rattle.cfb_streams.specs.Directory.{upper_case, entry_name_length, IsNameOf, EntryBefore, ComesBefore}
-use Rattle.cfb_streams.specs.Reach.{entry_place, IsEntry, BreaksName}
-use Rattle.cfb_streams.specs.StreamRules.{Parts, stream_head}
-use Rattle.cfb_streams.specs.Order.{AreOrdered, ListsStreams}
+use Rattle.cfb_sectors.specs.Opening.{IsWhole}
+use Rattle.cfb_sectors.specs.Header.{valid_below}
+use Rattle.cfb_sectors.specs.Chain.{fat_table}
+use Rattle.cfb_directory.specs.Directory.{upper_case, entry_name_length, IsNameOf, EntryBefore, ComesBefore}
+use Rattle.cfb_directory.specs.Reach.{entry_place, IsEntry, BreaksName}
+use Rattle.cfb_streams.specs.StreamRules.{Parts}
+use Rattle.cfb_directory.specs.StreamEntries.{stream_head}
+use Rattle.cfb_directory.specs.Order.{AreOrdered, ListsStreams}
 use Rattle.cfb_streams.specs.Contents.{Stream, Contents}
 use Rattle.cfb_streams.specs.Container.{container_rules, IsStreamOf, HasContents}
-use Rattle.cfb_streams.proofs.ChainLemmas.{pushed_before, pushed_last, length_pushed, length_below, path_short}
-use Rattle.cfb_streams.proofs.StreamLemmas.{length-cut}
-use Rattle.cfb_streams.proofs.ReachLemmas.{reached_there}
+use Rattle.cfb_sectors.proofs.ChainLemmas.{pushed_before, pushed_last, length_pushed, length_below, path_short}
+use Rattle.cfb_sectors.proofs.StreamLemmas.{length-cut}
+use Rattle.cfb_directory.proofs.ReachLemmas.{reached_there}
 use Rattle.cfb_streams.proofs.ContentLemmas.{chain_inside}
-use Rattle.cfb_streams.proofs.OrderLemmas.{name_length, name_short, name_some}
-use Rattle.cfb_streams.proofs.LoadLemmas.{whole_length}
+use Rattle.cfb_directory.proofs.OrderLemmas.{name_length, name_short, name_some}
+use Rattle.cfb_sectors.proofs.OpeningLemmas.{whole_length}
 use Rattle.cfb_streams.proofs.SingleLemmas.{directory_unique}
 use Rattle.doc_read.specs.CarriedParts.{AreWithinBounds}
 

@@ -8,10 +8,10 @@ use Rattle.doc_bits.proofs.NumberLemmas.{number_at-bound}
 use Rattle.doc_bits.proofs.ListLemmas.{length-range}
 use Rattle.doc_bits.specs.Number.{AreBytes}
 use Rattle.cfb_streams.specs.Contents.{Contents, AreStored}
-use Rattle.cfb_streams.specs.Reach.{directory_head, entry_place}
+use Rattle.cfb_directory.specs.Reach.{directory_head, entry_place}
 use Rattle.cfb_streams.specs.Container.{container_rules, HasContents}
 use Rattle.cfb_streams.proofs.ContentLemmas.{chain_inside}
-use Rattle.cfb_streams.proofs.LoadLemmas.{whole_length}
+use Rattle.cfb_sectors.proofs.OpeningLemmas.{whole_length}
 use Rattle.fib_form.specs.Fib.{fib_flags}
 use Rattle.fib_form.specs.FibFields.{fib_fields}
 use Rattle.fib_form.proofs.FlagLemmas.{kept_flags-kept}

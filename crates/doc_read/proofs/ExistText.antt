@@ -16,7 +16,7 @@ use Rattle.prop_map.specs.declared.modifiers.Modifier.{Modifier}
 use Rattle.prop_map.proofs.ActingLemmas.{IsPropertyMap-after, IsPropertyMap-empty}
 use Rattle.cfb_streams.specs.Contents.{Stream, Contents, HasNamed}
 use Rattle.cfb_streams.specs.Container.{HasContents}
-use Rattle.cfb_streams.specs.Header.{sector_bytes}
+use Rattle.cfb_sectors.specs.Header.{sector_bytes}
 use Rattle.piece_table.specs.declared.pcd.Prm.TheVariants.{Nothing, Sprm, Prc}
 use Rattle.piece_table.specs.Piece.{TextPiece, UnitPlace, unit_places, flat_pieces, place_of_cp}
 use Rattle.piece_table.specs.Clx.{ClxParts, SpellsClx, IsClx, prc_bytes, pcdt_bytes, prm_word, pcd_prm}

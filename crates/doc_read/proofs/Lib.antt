@@ -34,4 +34,4 @@ pub mod KeptPlaces
 pub mod ExistFits
 pub mod ExistCuts
 pub mod ExistCarried
-mod BareLemmas
+pub mod BareLemmas

@@ -1,7 +1,7 @@
 -- What a document carries along unread, as its file has it.
 use Rattle.std.specs.Prelude.{◌≡◌, ℕ, ◌<◌, ◌≤◌, Bool, ◌&&◌, not, List, length, map, filter, slice_get, Some}
 use Rattle.cfb_streams.specs.Contents.{Stream, Contents, NamedBytes}
-use Rattle.cfb_streams.specs.Directory.{ComesBefore}
+use Rattle.cfb_directory.specs.Directory.{ComesBefore}
 use Rattle.cfb_streams.specs.Names.{wd_name, first_table_name, second_table_name, is_same_name}
 use Rattle.fib_form.specs.FibFields.{fib_fields}
 use Rattle.plain_doc.specs.declared.carried.Carried.{Carried}

@@ -13,7 +13,7 @@ use Rattle.doc_bits.specs.Together.{AreTogether}
 use Rattle.doc_bits.proofs.ListLemmas.{get-map}
 use Rattle.prop_map.specs.Settings.{Settings}
 use Rattle.cfb_streams.specs.Names.{wd_name, table_name}
-use Rattle.cfb_streams.specs.Header.{sector_count}
+use Rattle.cfb_sectors.specs.Header.{sector_count}
 use Rattle.fib_form.specs.Fib.{fib_pair, table_part}
 use Rattle.fib_form.specs.FibFields.{fib_fields}
 use Rattle.fkp_pages.specs.declared.kind.PageKind.{PageKind}

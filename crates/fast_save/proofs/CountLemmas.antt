@@ -10,7 +10,7 @@ use Rattle.std.proofs.lemmas.Bool.{cases_lt}
 use Rattle.doc_bits.proofs.ListLemmas.{get-map, All_at, All-from_slice_get}
 use Rattle.std.proofs.Common.{◌≡◌, ◌∙◌, ◌∷◌, ◌+◌, ◌*◌, ◌-◌, ◌/◌, ◌^◌, ◌<◌, ◌≤◌, ◌||◌, [], refl, sym, ap, subst, Bool, true, false, Some, length, map, arith, All}
 use Rattle.std.proofs.lemmas.List.Elements.{All-nil, All-cons, All-head, All-tail}
-use Rattle.cfb_streams.specs.Opening.{IsWhole}
+use Rattle.cfb_sectors.specs.Opening.{IsWhole}
 use Rattle.prop_map.specs.declared.modifiers.Modifier.{Modifier}
 use Rattle.prop_map.specs.Modifiers.{no_modifier, printed_modifier}
 use Rattle.piece_table.specs.Piece.{TextPiece, UnitPlace, flat_pieces, IsTextPiece, ArePieces, total_length}
@@ -30,7 +30,7 @@ use Rattle.edited_text.specs.TextEdits.{IsTextEdit, IsSectionsEdit}
 use Rattle.fast_save.specs.declared.ledgers.Counts.{Counts}
 use Rattle.fast_save.specs.declared.parts.SessionParts.{SessionParts}
 use Rattle.fast_save.specs.Ledgers.{AreCountsOf, AreUnmodified, most_printed, is_formatting, modifier_growth, sections_set, after_edit}
-use Rattle.cfb_streams.specs.Header.{sector_count}
+use Rattle.cfb_sectors.specs.Header.{sector_count}
 use Rattle.fast_save.specs.Session.{IsCounted, bin_length}
 use Rattle.fast_save.specs.Edited.{HasRoom}
 use Rattle.fast_save.proofs.OpenLemmas.{flat_modifiers}

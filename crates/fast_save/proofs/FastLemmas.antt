@@ -1,7 +1,7 @@
 -- The file of a fast save, and the session after it.
 use Rattle.std.specs.Prelude.{ℕ, List, min}
 use Rattle.std.proofs.Common.{◌≡◌, ◌∙◌, ◌+◌, ◌-◌, ◌*◌, ◌/◌, ◌^◌, ◌<◌, ◌≤◌, [], refl, sym, ap, subst, true, length, arith, All}
-use Rattle.cfb_streams.specs.Header.{sector_count}
+use Rattle.cfb_sectors.specs.Header.{sector_count}
 use Rattle.fib_form.specs.FibFields.{FibFields, fib_fields}
 use Rattle.piece_table.specs.Piece.{TextPiece, ArePieces}
 use Rattle.plain_doc.specs.declared.item.Item.{Item}

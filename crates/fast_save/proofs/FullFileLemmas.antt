@@ -9,7 +9,7 @@ use Rattle.std.proofs.lemmas.List.{get_or_past}
 use Rattle.std.proofs.lemmas.List.Elements.{All-get_or}
 use Rattle.std.proofs.lemmas.List.Sums.{AllPass-from_list_all}
 use Rattle.cfb_streams.specs.Contents.{NamedBytes, Contents, AreStreams}
-use Rattle.cfb_streams.specs.Directory.{AreSameNames, ComesBefore}
+use Rattle.cfb_directory.specs.Directory.{AreSameNames, ComesBefore}
 use Rattle.cfb_streams.specs.Names.{wd_name, first_table_name, second_table_name, is_same_name}
 use Rattle.cfb_streams.proofs.SameNameLemmas.{same_name-false}
 use Rattle.cfb_layout.specs.Layout.{contents_of}

@@ -1,6 +1,6 @@
 -- One session begins on a file.
 use Rattle.std.proofs.Common.{◌≡◌, ◌↔◌, ◌∙◌, refl, sym, ap, subst, ℕ, List, Bool, true, false}
-use Rattle.cfb_streams.specs.Header.{sector_count}
+use Rattle.cfb_sectors.specs.Header.{sector_count}
 use Rattle.fib_form.specs.FibFields.{fib_fields}
 use Rattle.piece_table.specs.Piece.{TextPiece}
 use Rattle.doc_read.specs.Holds.{FileParts}

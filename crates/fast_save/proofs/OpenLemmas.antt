@@ -8,8 +8,8 @@ use Rattle.doc_bits.specs.Rules.{Hold, Nowhere, Among}
 use Rattle.cfb_streams.specs.Contents.{Contents, HasNamed}
 use Rattle.cfb_streams.specs.Container.{container_rules, HasContents}
 use Rattle.cfb_streams.specs.Names.{wd_name}
-use Rattle.cfb_streams.specs.Opening.{IsWhole}
-use Rattle.cfb_streams.proofs.LoadLemmas.{whole_length}
+use Rattle.cfb_sectors.specs.Opening.{IsWhole}
+use Rattle.cfb_sectors.proofs.OpeningLemmas.{whole_length}
 use Rattle.cfb_streams.proofs.UniqueLemmas.{contents_unique}
 use Rattle.fib_form.specs.Fib.{fib_pair}
 use Rattle.fib_form.specs.FibFields.{FibFields, fib_fields, pair_at, text_length}

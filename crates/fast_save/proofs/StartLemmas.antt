@@ -27,7 +27,7 @@ use Rattle.edited_text.proofs.StartLemmas.{saved_texts_stand, saved_sections_sta
 use Rattle.fast_save.specs.declared.parts.SessionParts.{SessionParts}
 use Rattle.fast_save.specs.declared.ledgers.Counts.{Counts}
 use Rattle.fast_save.specs.Ledgers.{AreCountsOf}
-use Rattle.cfb_streams.specs.Header.{sector_count}
+use Rattle.cfb_sectors.specs.Header.{sector_count}
 use Rattle.fast_save.specs.Session.{IsSession, saved_stream, text_base, bin_length}
 use Rattle.fast_save.specs.Started.{IsOpenFile, IsStarted, written_places}
 use Rattle.fast_save.proofs.OpenLemmas.{given_fit}

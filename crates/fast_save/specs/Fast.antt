@@ -1,7 +1,7 @@
 -- A fast save: what it is made of, when it is refused, and the session after it.
 use Rattle.std.specs.Prelude.{◌≡◌, ℕ, ◌+◌, ◌*◌, ◌<◌, ◌≤◌, List, length, true}
 use Rattle.doc_bits.specs.Number.{AreBytes}
-use Rattle.cfb_streams.specs.Header.{sector_count}
+use Rattle.cfb_sectors.specs.Header.{sector_count}
 use Rattle.cfb_layout.specs.Counts.{most_sectors}
 use Rattle.fib_form.specs.FibFields.{fib_fields}
 use Rattle.plain_doc.specs.declared.document.Document.{Document}

@@ -1,7 +1,7 @@
 -- A session: a document that is edited beside the pieces of its text, and the file that was given or last saved.
 use Rattle.std.specs.Prelude.{◌≡◌, ℕ, ◌+◌, ◌*◌, ◌≤◌, Bool, false, List, length}
 use Rattle.doc_bits.specs.Number.{AreBytes}
-use Rattle.cfb_streams.specs.Header.{sector_count}
+use Rattle.cfb_sectors.specs.Header.{sector_count}
 use Rattle.cfb_layout.specs.Counts.{most_sectors}
 use Rattle.cfb_layout.specs.Sectors.{units_for}
 use Rattle.fib_form.specs.FibFields.{FibFields, fib_fields, pair_at}

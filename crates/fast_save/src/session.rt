@@ -1,6 +1,6 @@
 // A session: a document that is edited beside the pieces of its text. After want of memory it is what it was.
 ghost use Rattle.std.specs.Prelude.{◌≡◌, ◌<◌, ◌≤◌, length, OnOk, OnErr, IfOk, IfErr, MatchResult};
-ghost use Rattle.cfb_streams.specs.Header.{sector_count};
+ghost use Rattle.cfb_sectors.specs.Header.{sector_count};
 ghost use Rattle.plain_doc.specs.Sound.{IsSound};
 ghost use Rattle.full_save.specs.WordDocument.{table_stream};
 ghost use Rattle.full_save.specs.Layout.{FitsCompoundFile, IsTooLarge};

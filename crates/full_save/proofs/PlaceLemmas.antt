@@ -6,7 +6,7 @@ use Rattle.std.proofs.lemmas.List.{append_assoc, take_more, get_or-drop, drop-dr
 use Rattle.std.proofs.lemmas.Bool.{cases_Bool, cases_lt}
 use Rattle.std.proofs.lemmas.Option.{slice_get_within, slice_get-get_or, same_Some}
 use Rattle.cfb_streams.specs.Contents.{NamedBytes, AreStreams}
-use Rattle.cfb_streams.specs.Directory.{ComesBefore}
+use Rattle.cfb_directory.specs.Directory.{ComesBefore}
 use Rattle.cfb_streams.specs.Names.{wd_name, second_table_name}
 use Rattle.cfb_layout.specs.Layout.{lengths_of}
 use Rattle.full_save.specs.Streams.{is_name_before, saved_streams, IsPlaceFor}

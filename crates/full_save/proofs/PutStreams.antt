@@ -8,7 +8,7 @@ use Rattle.std.proofs.lemmas.List.Elements.{filter-append}
 use Rattle.std.proofs.lemmas.List.Sums.{sum_by-append, sum_by-cons}
 use Rattle.std.proofs.lemmas.Option.{slice_get_within, same_Some, none-some}
 use Rattle.std.proofs.lemmas.Bool.{cases_Bool}
-use Rattle.cfb_streams.specs.Directory.{AreSameNames, ComesBefore}
+use Rattle.cfb_directory.specs.Directory.{AreSameNames, ComesBefore}
 use Rattle.cfb_streams.proofs.AddLemmas.{comes_before-trans}
 use Rattle.cfb_streams.specs.Contents.{NamedBytes, AreStreams}
 use Rattle.doc_bits.proofs.TogetherLemmas.{in_front, in_back}

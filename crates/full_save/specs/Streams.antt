@@ -1,7 +1,7 @@
 -- Streams in the order of their names: [MS-CFB] a shorter name first, then by units in upper case.
 use Rattle.std.specs.Prelude.{◌≡◌, ℕ, ◌<◌, ◌≤◌, ◌==◌, Bool, true, false, List, [], ◌∷◌, length, Some, slice_get, nat_lt, if◌then◌else◌}
 use Rattle.cfb_streams.specs.Contents.{NamedBytes}
-use Rattle.cfb_streams.specs.Directory.{upper_case}
+use Rattle.cfb_directory.specs.Directory.{upper_case}
 use Rattle.cfb_streams.specs.Names.{wd_name, second_table_name}
 
 -- of names of one length the first has the lesser unit where the two first differ

@@ -4,7 +4,7 @@ use Rattle.std.specs.List.{list_all, sum_by}
 use Rattle.doc_bits.specs.Number.{u16_at}
 use Rattle.doc_parts.specs.Levels.{level_count, AreLevelsFrom}
 use Rattle.cfb_streams.specs.Contents.{NamedBytes}
-use Rattle.cfb_streams.specs.Directory.{AreSameNames}
+use Rattle.cfb_directory.specs.Directory.{AreSameNames}
 use Rattle.cfb_streams.specs.Names.{wd_name, first_table_name, second_table_name}
 
 -- each part has fewer than 2^40 bytes

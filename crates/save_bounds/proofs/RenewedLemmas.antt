@@ -7,9 +7,9 @@ use Rattle.std.proofs.lemmas.List.{length-map}
 use Rattle.std.proofs.lemmas.Option.{slice_get_within, slice_get-map, slice_get_past, same_Some}
 use Rattle.cfb_streams.specs.Contents.{Stream, NamedBytes, Contents}
 use Rattle.cfb_streams.specs.Container.{HasContents}
-use Rattle.cfb_streams.specs.Directory.{AreSameNames, IsNameOf, EntryBefore, upper_case, entry_unit}
+use Rattle.cfb_directory.specs.Directory.{AreSameNames, IsNameOf, EntryBefore, upper_case, entry_unit}
 use Rattle.cfb_streams.specs.Names.{wd_name, first_table_name, second_table_name, table_name}
-use Rattle.cfb_streams.specs.Reach.{entry_place}
+use Rattle.cfb_directory.specs.Reach.{entry_place}
 use Rattle.cfb_layout.specs.Layout.{lengths_of}
 use Rattle.save_bounds.specs.SectorCounts.{AreAnew, lengths_in, NamedStreamsAreRenewed}
 

@@ -1,6 +1,6 @@
 -- The bounds of a fast save of a file: it fits where its counts say so, however the file was laid out.
 use Rattle.std.specs.Prelude.{ℕ, ◌≤◌, List}
-use Rattle.cfb_streams.specs.Header.{sector_count}
+use Rattle.cfb_sectors.specs.Header.{sector_count}
 use Rattle.cfb_streams.specs.Contents.{NamedBytes, Contents, AreStreams}
 use Rattle.cfb_layout.specs.Counts.{sectors_needed, most_sectors, Fits}
 use Rattle.cfb_layout.specs.Layout.{lengths_of, compound_file}

@@ -3,7 +3,7 @@ use Rattle.std.specs.Prelude.{◌≡◌, ◌≢◌, ℕ, ◌+◌, ◌≤◌, Lis
 use Rattle.doc_bits.specs.Together.{AreTogether}
 use Rattle.cfb_streams.specs.Contents.{Stream, NamedBytes, Contents, HasNamed}
 use Rattle.cfb_streams.specs.Container.{HasContents}
-use Rattle.cfb_streams.specs.Directory.{AreSameNames}
+use Rattle.cfb_directory.specs.Directory.{AreSameNames}
 use Rattle.cfb_streams.specs.Names.{wd_name, table_name}
 use Rattle.cfb_layout.specs.Sectors.{units_for}
 use Rattle.cfb_layout.specs.Counts.{sectors_needed}

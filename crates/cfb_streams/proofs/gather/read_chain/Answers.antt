@@ -1,7 +1,7 @@
 use Rattle.std.proofs.Common.{◌≡◌, ◌≤◌, ◌<◌, ◌*◌, ◌+◌, ℕ, min, length, take, slice_index, sym, ap, subst, arith}
 use Rattle.std.specs.List.{flat_map}
-use Rattle.cfb_streams.specs.Header.{sector_bytes}
-use Rattle.cfb_streams.specs.Tables.{table_at}
+use Rattle.cfb_sectors.specs.Header.{sector_bytes}
+use Rattle.cfb_sectors.specs.Tables.{table_at}
 use Rattle.cfb_streams.proofs.GatherLemmas.{whole_size, read_holds, walked_holds}
 use Rattle.cfb_streams.proofs.gather.read_chain.Goals as goal
 

@@ -1,5 +1,5 @@
 use Rattle.std.proofs.Common.{◌≡◌, ℕ, ◌<◌, slice_index}
-use Rattle.cfb_streams.specs.Directory.{upper_case}
+use Rattle.cfb_directory.specs.Directory.{upper_case}
 use Rattle.cfb_streams.proofs.list.name_before.Given as goal
 
 abbrev pub invariant-loop-i : goal.invariant-loop-i

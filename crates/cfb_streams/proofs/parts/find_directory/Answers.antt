@@ -1,9 +1,9 @@
 use Rattle.std.proofs.Common.{◌∙◌, subst}
 use Rattle.std.proofs.lemmas.Bool.{iff_false}
-use Rattle.cfb_streams.specs.Reach.{directory_head}
-use Rattle.cfb_streams.specs.Judged.{IsFound}
-use Rattle.cfb_streams.specs.Tables.{table_at}
-use Rattle.cfb_streams.proofs.TableLemmas.{found_directory}
+use Rattle.cfb_directory.specs.Reach.{directory_head}
+use Rattle.cfb_sectors.specs.Judged.{IsFound}
+use Rattle.cfb_sectors.specs.Tables.{table_at}
+use Rattle.cfb_streams.proofs.FoundLemmas.{found_directory}
 use Rattle.cfb_streams.proofs.parts.find_directory.Goals as goal
 
 pub returns-clause-found : goal.returns-clause-found

@@ -1,8 +1,8 @@
 use Rattle.std.proofs.Common.{◌∙◌, subst}
 use Rattle.cfb_streams.specs.StreamRules.{mini_fat_head}
-use Rattle.cfb_streams.specs.Judged.{IsFound}
-use Rattle.cfb_streams.specs.Tables.{table_at}
-use Rattle.cfb_streams.proofs.TableLemmas.{found_mini_fat}
+use Rattle.cfb_sectors.specs.Judged.{IsFound}
+use Rattle.cfb_sectors.specs.Tables.{table_at}
+use Rattle.cfb_streams.proofs.FoundLemmas.{found_mini_fat}
 use Rattle.cfb_streams.proofs.parts.find_mini_fat.Goals as goal
 
 pub returns-clause-found : goal.returns-clause-found

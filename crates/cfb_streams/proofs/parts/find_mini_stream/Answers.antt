@@ -1,9 +1,9 @@
 use Rattle.std.proofs.Common.{ap, ◌∙◌, subst}
-use Rattle.cfb_streams.specs.Reach.{entry_place}
-use Rattle.cfb_streams.specs.StreamRules.{stream_head}
-use Rattle.cfb_streams.specs.Judged.{IsFound}
-use Rattle.cfb_streams.specs.Tables.{table_at}
-use Rattle.cfb_streams.proofs.TableLemmas.{found_mini_stream}
+use Rattle.cfb_directory.specs.Reach.{entry_place}
+use Rattle.cfb_directory.specs.StreamEntries.{stream_head}
+use Rattle.cfb_sectors.specs.Judged.{IsFound}
+use Rattle.cfb_sectors.specs.Tables.{table_at}
+use Rattle.cfb_streams.proofs.FoundLemmas.{found_mini_stream}
 use Rattle.cfb_streams.proofs.parts.find_mini_stream.Goals as goal
 
 pub returns-clause-found : goal.returns-clause-found

@@ -1,9 +1,9 @@
 use Rattle.std.proofs.Common.{length, ap, subst, refl, arith}
 use Rattle.std.proofs.lemmas.Bool.{ltb-true, lt-ltb}
-use Rattle.cfb_streams.specs.SectorChain.{IsFullPath}
-use Rattle.cfb_streams.specs.Chain.{fat_table}
-use Rattle.cfb_streams.specs.Tables.{table_at}
-use Rattle.cfb_streams.proofs.ChainLemmas.{full_unique}
+use Rattle.cfb_sectors.specs.SectorChain.{IsFullPath}
+use Rattle.cfb_sectors.specs.Chain.{fat_table}
+use Rattle.cfb_sectors.specs.Tables.{table_at}
+use Rattle.cfb_sectors.proofs.ChainLemmas.{full_unique}
 use Rattle.cfb_streams.proofs.parts.is_long_directory.Goals as goal
 
 pub returns-clause-long : goal.returns-clause-long

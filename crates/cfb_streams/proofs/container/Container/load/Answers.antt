@@ -2,7 +2,8 @@ use Rattle.std.proofs.Common.{sym, subst}
 use Rattle.std.proofs.lemmas.Result.{err_from_is_err_and}
 use Rattle.doc_bits.specs.Rules.{Nowhere, Hold, rule}
 use Rattle.cfb_streams.specs.StreamRules.{BreaksStream, BreaksSharing}
-use Rattle.cfb_streams.specs.Container.{container_rules, IsCfbFault, HasContents}
+use Rattle.cfb_streams.specs.Container.{container_rules, HasContents}
+use Rattle.cfb_sectors.specs.Judged.{IsCfbFault}
 use Rattle.cfb_streams.proofs.LoadLemmas.{layout_fault, layout_holds, chains_fault, sharing_fault}
 use Rattle.cfb_streams.proofs.container.Container.load.Goals as goal
 

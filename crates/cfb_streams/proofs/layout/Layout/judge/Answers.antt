@@ -1,11 +1,11 @@
 use Rattle.std.proofs.Common.{sym, ap, ◌∙◌, subst}
 use Rattle.std.proofs.lemmas.Result.{err_from_is_err_and}
-use Rattle.cfb_streams.specs.Reach.{IsDirectory}
+use Rattle.cfb_directory.specs.Reach.{IsDirectory}
 use Rattle.cfb_streams.specs.StreamRules.{IsMiniFat, IsMiniStream, BreaksMiniFat, BreaksMiniStream}
 use Rattle.cfb_streams.specs.Layout.{IsLayout}
-use Rattle.cfb_streams.specs.Tables.{IsFoundMiniStream}
-use Rattle.cfb_streams.proofs.TableLemmas.{refused_chain}
-use Rattle.cfb_streams.proofs.LoadLemmas.{entries_fault, minis_fault, stored_fault, layout_is}
+use Rattle.cfb_streams.specs.FoundParts.{IsFoundMiniStream}
+use Rattle.cfb_sectors.proofs.TableLemmas.{refused_chain}
+use Rattle.cfb_streams.proofs.LoadLemmas.{entries_fault, own_fault, minis_fault, stored_fault, layout_is}
 use Rattle.cfb_streams.proofs.layout.Layout.judge.Goals as goal
 
 pub returns-in_err-entries : goal.returns-in_err-entries
@@ -15,7 +15,8 @@ returns-in_err-entries c =
     let p = err_from_is_err_and c.from_residual-in_err-entries.result c.from_residual-in_err-entries.ensures.1 in
     rw (p.1, p.2)
     (entries_fault c.args.file.now c.in_ok-directory.directory.items c.in_err-entries.field-0.0
-    c.in_ok-judge_opening.ensures c.in_ok-judge_header.ensures is c.in_err-entries.ensures)
+    c.in_ok-judge_opening.ensures c.in_ok-judge_header.ensures is
+    (own_fault c.args.file.now c.in_ok-directory.directory.items c.in_err-entries.field-0.0 c.in_err-entries.ensures))
 
 pub returns-in_err-mini_fat : goal.returns-in_err-mini_fat
 returns-in_err-mini_fat c =

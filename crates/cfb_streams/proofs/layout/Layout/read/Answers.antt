@@ -1,11 +1,11 @@
 use Rattle.std.proofs.Common.{length, sym, ap, ◌∙◌, subst, arith}
 use Rattle.std.specs.List.{flat_map}
-use Rattle.cfb_streams.specs.Header.{sector_bytes}
-use Rattle.cfb_streams.specs.Chain.{AreSectorsOf}
-use Rattle.cfb_streams.specs.Tables.{mini_place}
+use Rattle.cfb_sectors.specs.Header.{sector_bytes}
+use Rattle.cfb_sectors.specs.Chain.{AreSectorsOf}
+use Rattle.cfb_streams.specs.FoundParts.{mini_place}
 use Rattle.cfb_streams.specs.Layout.{IsLayout, places_of}
 use Rattle.cfb_streams.proofs.ContentLemmas.{mini_fat_inside, mini_stream_inside, mini_place_is}
-use Rattle.cfb_streams.proofs.LoadLemmas.{whole_length}
+use Rattle.cfb_sectors.proofs.OpeningLemmas.{whole_length}
 use Rattle.cfb_streams.proofs.layout.Layout.read.Goals as goal
 
 pub mini_sectors-valid-requires-clause-few : goal.mini_sectors-valid-requires-clause-few

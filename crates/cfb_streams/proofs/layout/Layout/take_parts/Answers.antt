@@ -1,7 +1,7 @@
 use Rattle.std.proofs.Common.{sym, ap, ◌∙◌, subst}
-use Rattle.cfb_streams.specs.Sharing.{AreDistinctBelow}
-use Rattle.cfb_streams.specs.Header.{valid_below}
-use Rattle.cfb_streams.specs.Chain.{fat_table}
+use Rattle.cfb_sectors.specs.Claims.{AreDistinctBelow}
+use Rattle.cfb_sectors.specs.Header.{valid_below}
+use Rattle.cfb_sectors.specs.Chain.{fat_table}
 use Rattle.cfb_streams.specs.Layout.{places_of}
 use Rattle.cfb_streams.specs.Gathered.{IsTakenFront}
 use Rattle.cfb_streams.proofs.SharingLemmas.{chain_apart, mini_fat_apart, mini_stream_apart}

@@ -1,13 +1,13 @@
 use Rattle.std.proofs.Common.{length, sym, ap, ◌∙◌, subst}
 use Rattle.doc_bits.specs.Rules.{LeastOrNone, lesser_of}
-use Rattle.cfb_streams.specs.Header.{valid_below}
-use Rattle.cfb_streams.specs.SectorChain.{HasSector}
+use Rattle.cfb_sectors.specs.Header.{valid_below}
+use Rattle.cfb_sectors.specs.SectorChain.{HasSector}
 use Rattle.cfb_streams.specs.StreamRules.{BreaksSharing}
-use Rattle.cfb_streams.specs.Sharing.{AreDistinctBelow}
-use Rattle.cfb_streams.specs.Tables.{table_at}
+use Rattle.cfb_sectors.specs.Claims.{AreDistinctBelow}
+use Rattle.cfb_sectors.specs.Tables.{table_at}
 use Rattle.cfb_streams.specs.Layout.{places_of}
 use Rattle.cfb_streams.specs.Gathered.{HasMarks, IsTakenFront}
-use Rattle.cfb_streams.proofs.FatLemmas.{fat_apart}
+use Rattle.cfb_sectors.proofs.FatLemmas.{fat_apart}
 use Rattle.cfb_streams.proofs.SharingLemmas.{none_unshared}
 use Rattle.cfb_streams.proofs.GatherLemmas.{taken_all, takes_unshared, lesser_both}
 use Rattle.cfb_streams.proofs.layout.Layout.wrong_sharing.Goals as goal

@@ -1,9 +1,9 @@
 use Rattle.std.proofs.Common.{subst}
 use Rattle.doc_bits.specs.Rules.{LeastOrNone}
-use Rattle.cfb_streams.specs.Chain.{fat_table, BreaksChain}
+use Rattle.cfb_sectors.specs.Chain.{fat_table, BreaksChain}
 use Rattle.cfb_streams.specs.StreamRules.{IsWrongStream, mini_table_of}
-use Rattle.cfb_streams.specs.Tables.{table_at}
-use Rattle.cfb_streams.proofs.TableLemmas.{short_wrong, long_wrong}
+use Rattle.cfb_sectors.specs.Tables.{table_at}
+use Rattle.cfb_streams.proofs.FoundLemmas.{short_wrong, long_wrong}
 use Rattle.cfb_streams.proofs.layout.Layout.wrong_stream.Goals as goal
 
 pub returns-in_ok-wrong-in-Short-clause-least : goal.returns-in_ok-wrong-in-Short-clause-least

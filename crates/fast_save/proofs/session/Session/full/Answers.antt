@@ -1,5 +1,5 @@
 use Rattle.std.proofs.Common.{◌≡◌, ◌∙◌, sym, ap, subst, List, ℕ, length}
-use Rattle.cfb_streams.specs.Header.{sector_count}
+use Rattle.cfb_sectors.specs.Header.{sector_count}
 use Rattle.fib_form.specs.FibFields.{FibFields}
 use Rattle.piece_table.specs.Piece.{TextPiece, one_piece}
 use Rattle.full_save.specs.Text.{text_items}

@@ -1,0 +1,65 @@
+-- The order of names is that of the entries that have them.
+use Rattle.std.proofs.Common.{◌≡◌, inl, inr, ℕ, ◌<◌, List, length, slice_index, ap, sym, ◌∙◌, arith}
+use Rattle.cfb_directory.specs.Directory.{entry_unit, upper_case, IsNameOf, EntryBefore, ComesBefore}
+
+-- the units of an entry's name, in upper case
+upper_unit : (file : List ℕ) (at : ℕ) (name : List ℕ) → IsNameOf file at name → (i : ℕ) → i < length name →
+    upper_case (entry_unit file at i) ≡ upper_case (slice_index name i)
+upper_unit file at name is i low = ap upper_case (sym (is.units i low))
+
+-- a name that comes before another, and the entry
+pub EntryBefore-names : (file : List ℕ) (at other : ℕ) (name later : List ℕ) → IsNameOf file at name →
+    IsNameOf file other later → ComesBefore name later → EntryBefore file at other
+EntryBefore-names file at other name later a b h =
+    let x = a.long in
+    let y = b.long in
+    elim h [
+      | inl short ↦ inl (omega arith)
+      | inr same ↦
+          let len = same.0 in
+          let place = same.1.0 in
+          let less = same.1.1 in
+          let inside = less.inside in
+          inr (
+            omega arith,
+            (
+              place,
+              record {
+                inside = omega arith;
+                front = λ i low. upper_unit file at name a i (omega arith)
+                    ∙ (less.front i low ∙ sym (upper_unit file other later b i (omega arith)));
+                less = let p = upper_unit file at name a place inside in let q = upper_unit file other later b place
+                    (omega arith) in let lower = less.less in omega arith;
+              },
+            ),
+          )
+    ]
+
+-- an entry that comes before another, and the name
+pub ComesBefore-entries : (file : List ℕ) (at other : ℕ) (name later : List ℕ) → IsNameOf file at name →
+    IsNameOf file other later → EntryBefore file at other → ComesBefore name later
+ComesBefore-entries file at other name later a b h =
+    let x = a.long in
+    let y = b.long in
+    elim h [
+      | inl short ↦ inl (omega arith)
+      | inr same ↦
+          let len = same.0 in
+          let place = same.1.0 in
+          let less = same.1.1 in
+          let inside = less.inside in
+          let within : place < length name = omega arith in
+          inr (
+            omega arith,
+            (
+              place,
+              record {
+                inside = within;
+                front = λ i low. sym (upper_unit file at name a i (omega arith))
+                    ∙ (less.front i low ∙ upper_unit file other later b i (omega arith));
+                less = let p = upper_unit file at name a place within in let q = upper_unit file other later b place
+                    (omega arith) in let lower = less.less in omega arith;
+              },
+            ),
+          )
+    ]

@@ -1,0 +1,8 @@
+use Rattle.std.proofs.Common.{slice_index}
+use Rattle.doc_bits.specs.Rules.{Among, LeastOrNone}
+use Rattle.cfb_directory.specs.Reach.{IsWrongType}
+use Rattle.cfb_directory.proofs.links.wrong_types.Given as goal
+
+abbrev pub invariant-loop-entry : goal.invariant-loop-entry
+invariant-loop-entry l = LeastOrNone (Among l.entry-index (λ i. IsWrongType l.file l.directory (slice_index l.order i)))
+    l.least

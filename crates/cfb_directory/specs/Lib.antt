@@ -1,0 +1,7 @@
+pub mod Directory
+pub mod Reach
+pub mod Links
+pub mod Seen
+pub mod StreamEntries
+pub mod Order
+pub mod Entries

@@ -1,0 +1,26 @@
+-- The entries of the streams, and what each of them claims.
+use Rattle.std.specs.Prelude.{◌≡◌, ℕ, ◌+◌, ◌<◌, ◌≤◌, List}
+use Rattle.cfb_sectors.specs.Chain.{Head}
+use Rattle.cfb_directory.specs.Directory.{entry_type, entry_start, entry_size}
+use Rattle.cfb_directory.specs.Reach.{entry_place, IsReached}
+
+-- the chain of the stream whose entry stands at an offset, in sectors of so many bytes
+abbrev pub stream_head : List ℕ → ℕ → ℕ → Head
+stream_head file unit at = record
+    { field = at + 116; start = entry_start file at; unit = unit; size = entry_size file at }
+
+-- an entry that is reached and is a stream
+pub record IsStreamEntry (file directory : List ℕ) (entry : ℕ) : Type 0 where
+  pub reached : IsReached file directory entry
+  pub stream : entry_type file (entry_place directory entry) ≡ 2
+
+-- a stream of 4,096 bytes or more has sectors of its own
+pub record IsLargeStream (file directory : List ℕ) (entry : ℕ) : Type 0 where
+  pub is_entry : IsStreamEntry file directory entry
+  pub large : 4096 ≤ entry_size file (entry_place directory entry)
+
+-- a shorter one that is not empty stands in mini sectors
+pub record IsSmallStream (file directory : List ℕ) (entry : ℕ) : Type 0 where
+  pub is_entry : IsStreamEntry file directory entry
+  pub some : 0 < entry_size file (entry_place directory entry)
+  pub small : entry_size file (entry_place directory entry) < 4096

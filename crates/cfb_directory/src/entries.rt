@@ -1,0 +1,148 @@
+// The entries of the directory that the root reaches, after the rules 6 to 10.
+ghost use Rattle.std.specs.Prelude.{◌≡◌, ◌+◌, ◌<◌, ◌≤◌, IfOk, MatchResult, length};
+ghost use Rattle.cfb_sectors.specs.Chain.{AreSectorsOf};
+ghost use Rattle.cfb_directory.specs.Directory.{IsNameOf, entry_clsid, entry_name_length};
+ghost use Rattle.cfb_directory.specs.Reach.{IsDirectory, IsWrongNameLength, entry_place as place_of};
+ghost use Rattle.cfb_directory.specs.StreamEntries.{IsStreamEntry};
+ghost use Rattle.cfb_directory.specs.Entries.{AreEntries, IsBody, tree_rules};
+ghost use Rattle.cfb_sectors.specs.Judged.{IsCfbFault};
+
+use crate::body::{Body, body_of};
+use crate::directory::{CLSID, NAME_LEN, entry_place, reached, wrong_root};
+use crate::links::{wrong_storages, wrong_tree};
+use crate::names::wrong_names;
+use crate::order::list_streams;
+use cfb_sectors::{CfbFault, refuse};
+use doc_bits::{Memory, get16};
+use std::alloc::Global;
+use std::marker::Model;
+
+const RULE_ROOT: u8 = 7;
+
+const RULE_TREE: u8 = 8;
+
+const RULE_NAMES: u8 = 9;
+
+const RULE_STORAGES: u8 = 10;
+
+/// The directory's sectors, the entries that the root reaches, and those of the streams in the order of their names.
+#[derive(Drop)]
+pub struct Entries<'a> {
+    file: &'a [u8],
+    directory: Vec<u32>,
+    reached: Vec<u32>,
+    streams: Vec<u32>,
+}
+
+impl<'a> Model for Entries<'a> {
+    ghost use Rattle.cfb_directory.specs.Entries.{EntryLists, lists_of, AreEntries};
+
+    ghost Value = { EntryLists };
+
+    ghost view = { λ e. lists_of e.file.now e.directory.items e.reached.items e.streams.items };
+
+    ghost invariant = { λ e. AreEntries (lists_of e.file.now e.directory.items e.reached.items e.streams.items) };
+}
+
+impl<'a> Entries<'a> {
+    /// Judges the rules 7 to 10 of the directory that has these sectors.
+    pub fn read(alloc: Global, file: &'a [u8], directory: Vec<u32>) -> Result<Entries<'a>, CfbFault>
+        requires inside { AreSectorsOf file.now directory.items }
+        requires directory_is { IsDirectory file.now directory.items }
+        ensures { MatchResult result
+            (λ e. (e.file ≡ file.now) × (e.directory ≡ directory.items) × AreEntries e)
+            (IsCfbFault (tree_rules file.now directory.items)) }
+    {
+        refuse(RULE_ROOT, wrong_root(file, &directory))?;
+        let reached = reached(alloc, file, &directory)?;
+        let tree = wrong_tree(alloc, file, &directory, &reached)?;
+        refuse(RULE_TREE, tree)?;
+        refuse(RULE_NAMES, wrong_names(file, &directory, &reached))?;
+        refuse(RULE_STORAGES, wrong_storages(file, &directory, &reached))?;
+        let streams = list_streams(alloc, file, &directory, &reached)?;
+        Ok(Entries {
+            file,
+            directory,
+            reached,
+            streams,
+        })
+    }
+
+    /// The file.
+    pub fn file(&self) -> &'a [u8]
+        ensures { result.now ≡ self.now.file }
+    {
+        self.file
+    }
+
+    /// The directory's sectors.
+    pub fn directory(&self) -> &[u32]
+        ensures sectors { result.now ≡ self.now.directory }
+        ensures are { AreEntries self.now }
+    {
+        &self.directory
+    }
+
+    /// The entries that the root reaches.
+    pub fn reached(&self) -> &[u32]
+        ensures { result.now ≡ self.now.reached }
+    {
+        &self.reached
+    }
+
+    /// The entries of the streams, in the order of their names.
+    pub fn streams(&self) -> &[u32]
+        ensures { result.now ≡ self.now.streams }
+    {
+        &self.streams
+    }
+
+    /// What the stream of an entry has.
+    pub fn body(&self, entry: u32) -> Body
+        requires { IsStreamEntry self.now.file self.now.directory entry }
+        ensures { IsBody self.now.file self.now.directory entry result }
+    {
+        body_of(self.file, &self.directory, entry)
+    }
+
+    /// The name of the stream of an entry.
+    pub fn name(&self, alloc: Global, entry: u32) -> Result<Vec<u16>, Memory>
+        requires { IsStreamEntry self.now.file self.now.directory entry }
+        ensures { IfOk result (λ name. IsNameOf self.now.file (place_of self.now.directory entry) name.items) }
+    {
+        let at = entry_place(self.file, &self.directory, entry as usize);
+        let name = read_name(alloc, self.file, at)?;
+        Ok(name)
+    }
+
+    /// The CLSID of the root.
+    pub fn clsid(&self) -> [u8; 16]
+        ensures { result ≡ entry_clsid self.now.file (place_of self.now.directory 0) }
+    {
+        read_clsid(self.file, entry_place(self.file, &self.directory, 0))
+    }
+}
+
+/// The name of the entry at an offset.
+fn read_name(alloc: Global, file: &[u8], at: usize) -> Result<Vec<u16>, Memory>
+    requires inside { at + 128 ≤ length file.now }
+    requires len { ¬ IsWrongNameLength (entry_name_length file.now at) }
+    ensures { IfOk result (λ name. IsNameOf file.now at name.items) }
+{
+    let count = (get16(file, at + NAME_LEN) as usize / 2).saturating_sub(1);
+    let mut name = Vec::new(alloc);
+    for i in 0..count {
+        name.push(get16(file, at + 2 * i))?;
+    }
+    Ok(name)
+}
+
+/// The CLSID of the entry at an offset.
+fn read_clsid(file: &[u8], at: usize) -> [u8; 16]
+    requires { at + 128 ≤ length file.now }
+    ensures { result ≡ entry_clsid file.now at }
+{
+    let mut clsid = [0u8; 16];
+    clsid.copy_from_slice(&file[at + CLSID..at + CLSID + 16]);
+    clsid
+}

@@ -1,0 +1,10 @@
+pub mod ChainLemmas
+pub mod StreamLemmas
+pub mod JudgeLemmas
+pub mod FatLemmas
+pub mod MarkLemmas
+pub mod EndLemmas
+pub mod RingLemmas
+pub mod ClaimLemmas
+pub mod TableLemmas
+pub mod OpeningLemmas

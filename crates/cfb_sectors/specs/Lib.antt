@@ -1,0 +1,11 @@
+pub mod Header
+pub mod SectorChain
+pub mod Chain
+pub mod Walk
+pub mod Marks
+pub mod Ends
+pub mod Opening
+pub mod HeaderRules
+pub mod Judged
+pub mod Tables
+pub mod Claims

@@ -1,0 +1,49 @@
+// Why a file is refused, and how a judge's answer becomes that.
+ghost use Rattle.std.specs.Prelude.{◌≡◌, None, MatchResult};
+ghost use Rattle.cfb_sectors.specs.Judged.{IsRefused, broken_place};
+ghost use Rattle.cfb_sectors.specs.declared.chain.Chain.TheVariants.{Found};
+
+use crate::chain::Chain;
+use doc_bits::Memory;
+use thiserror::Error;
+
+/// Why a file is not read as a compound file.
+#[derive(Clone, Copy, Debug, PartialEq, Eq, Error)]
+pub enum CfbFault {
+    /// The first broken rule, and its least place in bytes from the start of the file.
+    #[error("rule {rule} is broken at offset {offset}")]
+    Rule { rule: u8, offset: u32 },
+    #[error("out of memory")]
+    Memory,
+}
+
+impl From<Memory> for CfbFault {
+    ghost use Rattle.std.specs.Prelude.{◌≡◌};
+    ghost use Rattle.cfb_sectors.specs.declared.faults.CfbFault.TheVariants.{Memory};
+
+    ghost from_gives = { λ _ e. e ≡ Memory };
+
+    fn from(_: Memory) -> Self {
+        CfbFault::Memory
+    }
+}
+
+/// Refuses the file where a rule is broken at a place.
+pub fn refuse(rule: u8, wrong: Option<u32>) -> Result<(), CfbFault>
+    ensures { MatchResult result (λ _. wrong ≡ None) (IsRefused rule wrong) }
+{
+    match wrong {
+        None => Ok(()),
+        Some(offset) => Err(CfbFault::Rule { rule, offset }),
+    }
+}
+
+/// The sectors of a chain. Refuses the file where it is broken.
+pub fn whole(rule: u8, chain: Chain) -> Result<Vec<u32>, CfbFault>
+    ensures { MatchResult result (λ sectors. chain ≡ Found sectors) (IsRefused rule (broken_place chain)) }
+{
+    match chain {
+        Chain::Found(sectors) => Ok(sectors),
+        Chain::Breaks(offset) => Err(CfbFault::Rule { rule, offset }),
+    }
+}

@@ -1,0 +1,25 @@
+//! The sectors of compound files of version 3: the header, the FAT, the tables, the chains that go by them, and who has
+//! which sector.
+#![tactic(auto)]
+
+mod chain;
+mod claims;
+mod ends;
+mod fat;
+mod faults;
+mod front;
+mod header;
+mod marks;
+mod opening;
+mod stream;
+mod table;
+
+pub use chain::{Chain, Claim, Walked};
+pub use claims::Claims;
+pub use fat::TABLE_LEN;
+pub use faults::{CfbFault, refuse, whole};
+pub use front::{judge_header, judge_opening, read_fat};
+pub use header::{CUTOFF, DIRECTORY_START, MINI_FAT_COUNT, MINI_FAT_START};
+pub use opening::{MINI_SECTOR_LEN, SECTOR_LEN};
+pub use stream::{join, read_sectors};
+pub use table::Table;

@@ -1,9 +1,0 @@
-use Rattle.std.proofs.Common.{◌≡◌, length}
-use Rattle.cfb_streams.specs.Sharing.{HasFront, Takes}
-use Rattle.cfb_streams.proofs.claims.Claims.claim.Given as goal
-
-abbrev pub invariant-loop-sector : goal.invariant-loop-sector
-invariant-loop-sector l = record {
-  takes : Takes (HasFront l.sectors l.sector-index) l.fn.self l.self;
-  len : length l.self.taken ≡ length l.fn.self.taken;
-}

@@ -1,6 +1,0 @@
-use Rattle.std.proofs.Common.{◌≢◌, ℕ, ◌<◌}
-use Rattle.cfb_streams.specs.Header.{fat_sector}
-use Rattle.cfb_streams.proofs.fat.is_listed_before.Given as goal
-
-abbrev pub invariant-loop-j : goal.invariant-loop-j
-invariant-loop-j l = (i : ℕ) → i < l.j → fat_sector l.file i ≢ l.number

@@ -1,5 +1,0 @@
-use Rattle.cfb_streams.proofs.LinkLemmas.{IsLinkFront}
-use Rattle.cfb_streams.proofs.links.list_links.Given as goal
-
-abbrev pub invariant-loop-entry : goal.invariant-loop-entry
-invariant-loop-entry l = IsLinkFront l.file l.directory l.order l.entry-index l.links.items

@@ -1,5 +1,0 @@
-use Rattle.cfb_streams.specs.Links.{IsFirstNamed}
-use Rattle.cfb_streams.proofs.links.note_first.Given as goal
-
-abbrev pub invariant-loop-link : goal.invariant-loop-link
-invariant-loop-link l = IsFirstNamed l.file l.links l.link-index l.first

@@ -1,5 +1,0 @@
-use Rattle.cfb_streams.proofs.MarkLemmas.{no_mark}
-use Rattle.cfb_streams.proofs.marks.Marks.new.Goals as goal
-
-pub returns-clause-none : goal.returns-clause-none
-returns-clause-none c = no_mark c.in_ok-stamps.stamps.items 1 c.in_ok-stamps.ensures.clear

@@ -1,7 +1,0 @@
-use Rattle.std.proofs.Common.{◌≡◌, ℕ, ◌<◌}
-use Rattle.cfb_streams.specs.Directory.{upper_case, entry_unit}
-use Rattle.cfb_streams.proofs.names.have_one_name.Given as goal
-
-abbrev pub invariant-loop-i : goal.invariant-loop-i
-invariant-loop-i l = (k : ℕ) → k < l.i → upper_case (entry_unit l.file l.at k) ≡ upper_case
-    (entry_unit l.file l.other k)

@@ -1,8 +1,0 @@
-use Rattle.std.proofs.Common.{ℕ, ◌<◌, slice_index}
-use Rattle.cfb_streams.specs.Directory.{EntryBefore}
-use Rattle.cfb_streams.specs.Reach.{entry_place}
-use Rattle.cfb_streams.proofs.order.place_for.Given as goal
-
-abbrev pub invariant-loop-i : goal.invariant-loop-i
-invariant-loop-i l = (k : ℕ) → k < l.i → ¬ EntryBefore l.file (entry_place l.directory l.entry)
-    (entry_place l.directory (slice_index l.entries k))

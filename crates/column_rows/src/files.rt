@@ -1,0 +1,52 @@
+// Files read into columns.
+ghost use Rattle.plain_doc.specs.Sound.{IsSound};
+
+use crate::edits::EACH;
+use crate::scripted_columns::{is_same, scripted};
+use column_read::open_columns;
+use column_show::{accepted_line, main_text};
+use doc_bits::Memory;
+use doc_columns::ColumnDocument;
+use full_save::{SaveFault, full};
+use plain_doc::{Document, check};
+use std::alloc::Global;
+use std::test::Fail;
+
+/// Whether the full save of a document is read into the same one by columns, with the same main text and line.
+fn comes_back(alloc: Global, document: &Document) -> Result<bool, SaveFault> {
+    match check(document) {
+        Ok(()) => comes_back_sound(alloc, document),
+        Err(_) => Ok(false),
+    }
+}
+
+fn comes_back_sound(alloc: Global, document: &Document) -> Result<bool, SaveFault>
+    requires { IsSound document.now }
+{
+    let file = full(alloc, document)?;
+    match open_columns(alloc, file.as_slice()) {
+        Ok(Some(opened)) => Ok(is_shown_as(alloc, opened.document(), document)?),
+        _ => Ok(false),
+    }
+}
+
+fn is_shown_as(alloc: Global, columns: &ColumnDocument, plain: &Document) -> Result<bool, Memory> {
+    let text = main_text(alloc, columns)?;
+    let line = accepted_line(alloc, columns)?;
+    let same_text = text.as_str() == doc_show::main_text(alloc, plain)?.as_str();
+    let same_line = line.as_str() == doc_show::accepted_line(alloc, plain)?.as_str();
+    Ok(same_text && same_line && is_same(alloc, plain, columns)?)
+}
+
+#[test]
+fn a_file_is_read_into_columns(rt: HostRuntime) -> Result<(), Fail> {
+    let both = scripted(rt.alloc(), EACH)?;
+    assert!(rt; comes_back(rt.alloc(), &both.plain) == Ok(true));
+    Ok(())
+}
+
+#[test]
+fn bytes_that_are_no_file_are_refused(rt: HostRuntime) -> Result<(), Fail> {
+    assert!(rt; open_columns(rt.alloc(), b"no file").is_err());
+    Ok(())
+}
