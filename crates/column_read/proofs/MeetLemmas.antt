@@ -1,6 +1,6 @@
 -- The settings of the units and what stands beside them meet in the items.
-use Rattle.std.proofs.Common.{◌≡◌, ◌∙◌, sym, ap, subst, ℕ, zero, suc, ◌<◌, ◌≤◌, ◌+◌, ◌-◌, List, [], ◌∷◌, ◌++◌, length}
-use Rattle.std.proofs.Common.{get_or, Some, is_some, arith, length-append}
+use Rattle.std.proofs.Common.{◌≡◌, ◌∙◌, sym, ap, subst, ℕ, zero, suc, ◌<◌, ◌≤◌, ◌+◌, ◌-◌, List, [], ◌∷◌, ◌++◌}
+use Rattle.std.proofs.Common.{length, take, drop, get_or, Some, is_some, arith, length-append}
 use Rattle.std.specs.Prelude.{slice_get, slice_index, slice_range}
 use Rattle.std.specs.List.{All}
 use Rattle.std.proofs.lemmas.Option.{slice_get_within, slice_get-get_or, get_or_from_slice_get}
@@ -140,3 +140,8 @@ pub placed_maps : (view : TextView) (pieces : List TextPiece) (items : List Item
     All HasPropertyMaps items
 placed_maps view pieces items placed =
     λ k d below. (placed k (get_or items k d) (slice_get-get_or items k d below)).read.maps
+
+-- the first places of a part are those of a piece that begins where the part does
+pub piece_places : (all part : List ℕ) (begin from to : ℕ) → begin ≡ from → part ≡ drop begin all →
+    take (to - from) part ≡ slice_range all from to
+piece_places all part begin from to same is = ap (take (to - from)) (is ∙ ap (λ (n : ℕ). drop n all) same)

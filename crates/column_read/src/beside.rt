@@ -2,12 +2,12 @@
 ghost use Rattle.std.specs.Prelude.{◌≡◌, ◌+◌, ◌-◌, ◌<◌, ◌≤◌, ℕ, false, length, slice_index, IfOk, OnOk};
 ghost use Rattle.text_codes.specs.Paragraph.{is_paragraph_end};
 ghost use Rattle.doc_read.specs.Passing.{AddsEach};
-ghost use Rattle.doc_read.specs.Reading.{IsReadable, ArePassed, IsPieceReader, mark_lists, text_view};
+ghost use Rattle.doc_read.specs.Reading.{IsReadable, ArePassed, IsPieceReader, IsTextPart, mark_lists, text_view};
 ghost use Rattle.column_read.specs.Beside.{IsBesideAt};
 
 use doc_bits::Memory;
 use doc_columns::Beside;
-use doc_read::{Passed, PieceReader, TextSource, mark_at, next_marked};
+use doc_read::{Passed, PieceReader, TextPart, mark_at, next_marked};
 use run_lists::Runs;
 use std::alloc::Global;
 use text_codes::{PARAGRAPH_MARK, ends_paragraph};
@@ -22,27 +22,29 @@ pub(crate) struct Left {
 /// Appends what stands beside the units of a piece.
 pub(crate) fn push_besides(
     alloc: Global,
-    text: &TextSource<'_>,
+    part: &TextPart<'_>,
     piece: Left,
     reader: &mut PieceReader<'_>,
     besides: &mut Runs<Beside>,
     passed: &mut Passed,
 ) -> Result<(), Memory>
-    requires readable { IsReadable (text_view text.now) }
-    requires reader { IsPieceReader (text_view text.now) reader.old }
+    requires readable { IsReadable (text_view part.now.text.now) }
+    requires part { IsTextPart part.now }
+    requires from { part.now.from ≤ piece.cp }
+    requires reader { IsPieceReader (text_view part.now.text.now) reader.old }
     requires ordered { piece.cp ≤ piece.end }
-    requires within { piece.end ≤ length text.now.units.now }
+    requires within { piece.end ≤ length part.now.text.now.units.now }
     requires here { length besides.old ≡ piece.cp }
-    requires passed { ArePassed (mark_lists text.now.marks.now) passed.old piece.cp }
+    requires passed { ArePassed (mark_lists part.now.text.now.marks.now) passed.old piece.cp }
     ensures same { reader.new ≡ reader.old }
-    ensures passed { OnOk result (ArePassed (mark_lists text.now.marks.now) passed.new piece.end) }
-    ensures besides { OnOk result (AddsEach (IsBesideAt (text_view text.now) reader.old.characters.modifier)
+    ensures passed { OnOk result (ArePassed (mark_lists part.now.text.now.marks.now) passed.new piece.end) }
+    ensures besides { OnOk result (AddsEach (IsBesideAt (text_view part.now.text.now) reader.old.characters.modifier)
         (piece.end - piece.cp) besides.old besides.new) }
 {
     let mut cp = piece.cp;
     while cp < piece.end {
         let left = Left { cp, end: piece.end };
-        cp = push_stretch(alloc, text, left, reader, besides, passed)?;
+        cp = push_stretch(alloc, part, left, reader, besides, passed)?;
     }
     Ok(())
 }
@@ -50,32 +52,35 @@ pub(crate) fn push_besides(
 /// Appends what stands beside the units up to where something stands, or what stands there. It answers the next CP.
 fn push_stretch(
     alloc: Global,
-    text: &TextSource<'_>,
+    part: &TextPart<'_>,
     left: Left,
     reader: &mut PieceReader<'_>,
     besides: &mut Runs<Beside>,
     passed: &mut Passed,
 ) -> Result<usize, Memory>
-    requires readable { IsReadable (text_view text.now) }
-    requires reader { IsPieceReader (text_view text.now) reader.old }
+    requires readable { IsReadable (text_view part.now.text.now) }
+    requires part { IsTextPart part.now }
+    requires from { part.now.from ≤ left.cp }
+    requires reader { IsPieceReader (text_view part.now.text.now) reader.old }
     requires some { left.cp < left.end }
-    requires within { left.end ≤ length text.now.units.now }
+    requires within { left.end ≤ length part.now.text.now.units.now }
     requires here { length besides.old ≡ left.cp }
-    requires passed { ArePassed (mark_lists text.now.marks.now) passed.old left.cp }
+    requires passed { ArePassed (mark_lists part.now.text.now.marks.now) passed.old left.cp }
     ensures same { reader.new ≡ reader.old }
     ensures on { IfOk result (λ next. left.cp < next) }
     ensures inside { IfOk result (λ next. next ≤ left.end) }
-    ensures passed { IfOk result (ArePassed (mark_lists text.now.marks.now) passed.new) }
-    ensures besides { IfOk result (λ next. AddsEach (IsBesideAt (text_view text.now) reader.old.characters.modifier)
+    ensures passed { IfOk result (ArePassed (mark_lists part.now.text.now.marks.now) passed.new) }
+    ensures besides { IfOk result (λ next.
+        AddsEach (IsBesideAt (text_view part.now.text.now) reader.old.characters.modifier)
         (next - left.cp) besides.old besides.new) }
 {
-    let marked = (next_marked(text, passed) as usize).min(left.end);
-    let until = bare_until(text.units, left.cp, marked);
+    let marked = (next_marked(part.text, passed) as usize).min(left.end);
+    let until = bare_until(part.text.units, left.cp, marked);
     if left.cp < until {
         besides.add((until - left.cp) as u32, Beside::none())?;
         return Ok(until);
     }
-    let beside = beside_at(alloc, text, left.cp as u32, reader, passed)?;
+    let beside = beside_at(alloc, part, left.cp as u32, reader, passed)?;
     besides.add(1, beside)?;
     Ok(left.cp + 1)
 }
@@ -108,26 +113,29 @@ fn ends_alone(unit: u16) -> bool
 /// Reads what stands beside the unit of a CP, which stands in a piece of the reader.
 fn beside_at(
     alloc: Global,
-    text: &TextSource<'_>,
+    part: &TextPart<'_>,
     cp: u32,
     reader: &mut PieceReader<'_>,
     passed: &mut Passed,
 ) -> Result<Beside, Memory>
-    requires readable { IsReadable (text_view text.now) }
-    requires within { cp < length text.now.units.now }
-    requires reader { IsPieceReader (text_view text.now) reader.old }
-    requires passed { ArePassed (mark_lists text.now.marks.now) passed.old cp }
+    requires readable { IsReadable (text_view part.now.text.now) }
+    requires within { cp < length part.now.text.now.units.now }
+    requires part { IsTextPart part.now }
+    requires from { part.now.from ≤ cp }
+    requires reader { IsPieceReader (text_view part.now.text.now) reader.old }
+    requires passed { ArePassed (mark_lists part.now.text.now.marks.now) passed.old cp }
     ensures same { reader.new ≡ reader.old }
-    ensures passed { OnOk result (ArePassed (mark_lists text.now.marks.now) passed.new (cp + 1)) }
-    ensures beside { IfOk result (IsBesideAt (text_view text.now) reader.old.characters.modifier cp) }
+    ensures passed { OnOk result (ArePassed (mark_lists part.now.text.now.marks.now) passed.new (cp + 1)) }
+    ensures beside { IfOk result (IsBesideAt (text_view part.now.text.now) reader.old.characters.modifier cp) }
 {
-    let unit = text.units[cp as usize];
-    let place = text.places[cp as usize];
-    let fld = text.marks.byte_at(&mut passed.field, cp);
-    let note = text.marks.kind_at(&mut passed.note, cp);
-    let sect = text
+    let unit = part.text.units[cp as usize];
+    let place = part.places.get(cp as usize - part.from);
+    let fld = part.text.marks.byte_at(&mut passed.field, cp);
+    let note = part.text.marks.kind_at(&mut passed.note, cp);
+    let sect = part
+        .text
         .marks
-        .section_at(alloc, text.maps, &mut passed.section, cp)?;
+        .section_at(alloc, part.text.maps, &mut passed.section, cp)?;
     let ends = ends_paragraph(unit, sect.is_some());
     let mark = mark_at(alloc, place, ends, &mut reader.marks)?;
     Ok(Beside {

@@ -9,15 +9,17 @@ ghost use Rattle.doc_columns.specs.Columns.{items_of};
 ghost use Rattle.doc_read.specs.Sections.{AreSectionMaps};
 ghost use Rattle.doc_read.specs.Items.{HoldsItems};
 ghost use Rattle.doc_read.specs.Passing.{AddsEach};
-ghost use Rattle.doc_read.specs.Reading.{ArePassed, ArePlacedItems, IsReadable, IsReadCharacter, IsPieceReader};
-ghost use Rattle.doc_read.specs.Reading.{mark_lists, text_view};
+ghost use Rattle.doc_read.specs.Reading.{ArePassed, ArePlacedItems, IsReadable, IsReadCharacter};
+ghost use Rattle.doc_read.specs.Reading.{IsPieceReader, IsTextPart, mark_lists, text_view};
 ghost use Rattle.column_read.specs.Beside.{IsBesideAt};
 
 use crate::beside::{Left, push_besides};
 use doc_bits::Memory;
 use doc_columns::{Beside, Columns};
 use doc_load::{DocParts, LoadedText};
-use doc_read::{Passed, PieceReader, SectionMaps, TextSource, has_units, read_marks, reader_for};
+use doc_read::{
+    Passed, PieceReader, SectionMaps, TextPart, TextSource, has_units, read_marks, reader_for,
+};
 use fib_form::TablePart;
 use piece_table::PieceList;
 use prop_map::PropMap;
@@ -87,19 +89,26 @@ fn columns_of_pieces(
         until: 0,
     };
     let mut readers = Vec::new(alloc);
+    let mut rest = text.places.skip(0);
     let mut cp = 0;
     for i in 0..pieces.len() {
         // A piece may have one unit more than the stories.
         let end = cp + (pieces.piece(i).len as usize).min(count - cp);
         let number = reader_for(alloc, text, pieces.modifier(i), &mut readers)?;
+        let part = TextPart {
+            text: &*text,
+            from: cp,
+            places: rest.skip(0),
+        };
         push_piece(
             alloc,
-            text,
+            &part,
             Left { cp, end },
             &mut readers[number],
             &mut read,
             &mut passed,
         )?;
+        rest = rest.skip(end - cp);
         cp = end;
     }
     Ok(read)
@@ -108,30 +117,32 @@ fn columns_of_pieces(
 /// Appends the settings of the units of a piece, and what stands beside them.
 fn push_piece(
     alloc: Global,
-    text: &TextSource<'_>,
+    part: &TextPart<'_>,
     piece: Left,
     reader: &mut PieceReader<'_>,
     read: &mut ReadColumns,
     passed: &mut Passed,
 ) -> Result<(), Memory>
-    requires readable { IsReadable (text_view text.now) }
-    requires reader { IsPieceReader (text_view text.now) reader.old }
+    requires readable { IsReadable (text_view part.now.text.now) }
+    requires part { IsTextPart part.now }
+    requires from { part.now.from ≡ piece.cp }
+    requires reader { IsPieceReader (text_view part.now.text.now) reader.old }
     requires ordered { piece.cp ≤ piece.end }
-    requires within { piece.end ≤ length text.now.units.now }
+    requires within { piece.end ≤ length part.now.text.now.units.now }
     requires chps { length read.old.chps ≡ piece.cp }
     requires besides { length read.old.besides ≡ piece.cp }
-    requires passed { ArePassed (mark_lists text.now.marks.now) passed.old piece.cp }
+    requires passed { ArePassed (mark_lists part.now.text.now.marks.now) passed.old piece.cp }
     ensures same { reader.new ≡ reader.old }
-    ensures passed { OnOk result (ArePassed (mark_lists text.now.marks.now) passed.new piece.end) }
-    ensures chps { OnOk result (AddsEach (IsReadCharacter (text_view text.now) reader.old.characters.modifier)
+    ensures passed { OnOk result (ArePassed (mark_lists part.now.text.now.marks.now) passed.new piece.end) }
+    ensures chps { OnOk result (AddsEach (IsReadCharacter (text_view part.now.text.now) reader.old.characters.modifier)
         (piece.end - piece.cp) read.old.chps read.new.chps) }
-    ensures besides { OnOk result (AddsEach (IsBesideAt (text_view text.now) reader.old.characters.modifier)
+    ensures besides { OnOk result (AddsEach (IsBesideAt (text_view part.now.text.now) reader.old.characters.modifier)
         (piece.end - piece.cp) read.old.besides read.new.besides) }
 {
-    let places = &text.places[piece.cp..piece.end];
+    let places = part.places.front(piece.end - piece.cp);
     reader
         .characters
-        .push_character_runs(alloc, places, &mut read.chps)?;
-    push_besides(alloc, text, piece, reader, &mut read.besides, passed)?;
+        .push_character_runs(alloc, &places, &mut read.chps)?;
+    push_besides(alloc, part, piece, reader, &mut read.besides, passed)?;
     Ok(())
 }

@@ -1,5 +1,5 @@
 // Edits of each kind on a document by columns and on the plain one. docs/COMMANDS.md tells what each does.
-use crate::scripted_columns::scripted;
+use crate::scripted_columns::of_script;
 use std::test::Fail;
 
 /// An edit of each kind, on texts, notes, header texts and styles.
@@ -26,7 +26,7 @@ pub const EACH: &str = "[\
 
 #[test]
 fn an_edit_of_each_kind_is_made_by_columns(rt: HostRuntime) -> Result<(), Fail> {
-    let both = scripted(rt.alloc(), EACH)?;
+    let both = of_script(rt.alloc(), EACH)?;
     assert!(rt; both.agree);
     Ok(())
 }
@@ -46,7 +46,7 @@ const REFUSED: &str = "[\
 // The field and the save are made.
 #[test]
 fn what_is_refused_leaves_columns_as_they_were(rt: HostRuntime) -> Result<(), Fail> {
-    let both = scripted(rt.alloc(), REFUSED)?;
+    let both = of_script(rt.alloc(), REFUSED)?;
     assert!(rt; both.agree);
     assert!(rt; both.made == 2);
     Ok(())

@@ -2,7 +2,7 @@
 ghost use Rattle.plain_doc.specs.Sound.{IsSound};
 
 use crate::edits::EACH;
-use crate::scripted_columns::{is_same, scripted};
+use crate::scripted_columns::{is_same, of_script};
 use column_read::open_columns;
 use column_show::{accepted_line, main_text};
 use doc_bits::Memory;
@@ -40,7 +40,7 @@ fn is_shown_as(alloc: Global, columns: &ColumnDocument, plain: &Document) -> Res
 
 #[test]
 fn a_file_is_read_into_columns(rt: HostRuntime) -> Result<(), Fail> {
-    let both = scripted(rt.alloc(), EACH)?;
+    let both = of_script(rt.alloc(), EACH)?;
     assert!(rt; comes_back(rt.alloc(), &both.plain) == Ok(true));
     Ok(())
 }

@@ -22,7 +22,7 @@ pub struct Scripted {
 }
 
 /// Runs the commands of a script over the blank document. Those that are refused change nothing.
-pub fn scripted(alloc: Global, json: &str) -> Result<Scripted, Memory> {
+pub fn of_script(alloc: Global, json: &str) -> Result<Scripted, Memory> {
     let mut both = of_blank(alloc)?;
     play(alloc, &mut both, json)?;
     Ok(both)

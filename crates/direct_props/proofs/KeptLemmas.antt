@@ -13,17 +13,15 @@ use Rattle.prop_map.specs.Formed.{IsPropertyMap, paragraph_groups}
 use Rattle.prop_map.specs.Modifiers.{IsFormedModifier}
 use Rattle.fkp_pages.specs.declared.kind.PageKind.{PageKind}
 use Rattle.fkp_pages.specs.declared.kind.PageKind.TheVariants.{Chpx, Papx}
-use Rattle.fkp_pages.specs.declared.kind.RunAnswer.{RunAnswer}
 use Rattle.fkp_pages.specs.declared.kind.RunAnswer.TheVariants.{Found}
 use Rattle.fkp_pages.specs.Fkp.{least_list}
 use Rattle.fkp_pages.specs.Bin.{page_at}
 use Rattle.fkp_pages.specs.Runs.{run_groups}
-use Rattle.fkp_pages.specs.Properties.{IsListAnswered}
 use Rattle.direct_props.specs.declared.kept.Made.{Made}
 use Rattle.direct_props.specs.declared.kept.MadeStretch.{MadeStretch}
 use Rattle.direct_props.specs.declared.pages.PageStretch.{PageStretch}
-use Rattle.direct_props.specs.Direct.{IsDirectCharacter, IsDirectMark}
-use Rattle.direct_props.specs.Stretches.{IsRightList, HasRightList, HasSettingsAround}
+use Rattle.direct_props.specs.Direct.{IsDirectMark}
+use Rattle.direct_props.specs.Stretches.{IsRightList, HasSettingsAround}
 use Rattle.direct_props.specs.Pages.{HasPageAround}
 use Rattle.direct_props.specs.Kept.{HasNoFault, HaveNoFault, IsMadeOf, IsMadeIn, AreMade, PlaceSource, IsMadeAt, HasMadeAround, IsMadeByAnswer}
 use Rattle.direct_props.proofs.StretchLemmas.{in_page}

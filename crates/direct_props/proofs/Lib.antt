@@ -5,5 +5,6 @@ pub mod CharacterLemmas
 pub mod LawLemmas
 pub mod RightLemmas
 pub mod FirstOf
+pub mod RowLemmas
 pub mod ExistLists
 pub mod ExistDirect

@@ -2,7 +2,6 @@
 use Rattle.std.proofs.Common.{◌≡◌, ◌<◌, ◌≤◌, ◌+◌, ◌-◌, ◌*◌, ◌^◌, ◌∙◌, inl, inr, ap, refl, sym, subst, ℕ, List, length, take, drop, min, max, None, arith, length-drop}
 use Rattle.std.specs.Prelude.{slice_range}
 use Rattle.std.proofs.lemmas.List.{drop-drop, drop-take, take-take, take_all}
-use Rattle.sprm_table.specs.Sprm.{IsAcceptedList}
 use Rattle.fkp_pages.specs.declared.kind.PageKind.{PageKind}
 use Rattle.fkp_pages.specs.declared.kind.RunAnswer.{RunAnswer}
 use Rattle.fkp_pages.specs.declared.kind.RunAnswer.TheVariants.{Found, Empty, NoRun, BadCount, Leaves}
@@ -11,11 +10,9 @@ use Rattle.fkp_pages.specs.declared.reading.Met.{Met}
 use Rattle.fkp_pages.specs.Fkp.{HasRunAnswer, least_list}
 use Rattle.fkp_pages.specs.Stretch.{HasStretch, IsRunCursor}
 use Rattle.fkp_pages.proofs.PropertyLemmas.{run_answer_one}
-use Rattle.fkp_pages.specs.Runs.{run_groups}
 use Rattle.fkp_pages.specs.Bin.{IsBinTable, IsBinPage, HasBinRange, page_at}
 use Rattle.fkp_pages.specs.Laws.{RunAnswerIsOne}
 use Rattle.direct_props.specs.declared.rules.PageRule.TheVariants as breaks
-use Rattle.fkp_pages.specs.Properties.{IsListAnswered}
 use Rattle.direct_props.specs.declared.pages.PageCursor.{PageCursor}
 use Rattle.direct_props.specs.declared.pages.PageStretch.{PageStretch}
 use Rattle.direct_props.specs.PageRules.{HasPageAnswer, IsRightPlace, IsRightBetween}

@@ -4,5 +4,6 @@ pub mod Stretches
 pub mod Pages
 pub mod Kept
 pub mod Codes
+pub mod Rows
 pub mod RightLists
 pub mod Laws

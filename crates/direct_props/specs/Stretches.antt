@@ -1,8 +1,8 @@
 -- How far around a place its list is the same.
-use Rattle.std.specs.Prelude.{◌≡◌, ℕ, ◌+◌, ◌≤◌, List, length, drop, slice_range, slice_get, slice_index, Some, ◌++◌, ⊤}
+use Rattle.std.specs.Prelude.{◌≡◌, ℕ, ◌+◌, ◌≤◌, List, length, slice_range, slice_get, slice_index, Some, ◌++◌, ⊤}
 use Rattle.std.specs.List.{All}
 use Rattle.doc_bits.specs.Rules.{Nowhere}
-use Rattle.sprm_table.specs.Sprm.{HasSprmFaultAt, IsAcceptedList}
+use Rattle.sprm_table.specs.Sprm.{HasSprmFaultAt}
 use Rattle.fkp_pages.specs.declared.kind.PageKind.{PageKind}
 use Rattle.fkp_pages.specs.declared.kind.RunAnswer.{RunAnswer}
 use Rattle.fkp_pages.specs.declared.kind.RunAnswer.TheVariants.{Found, Empty, NoRun, BadCount, Leaves}
@@ -12,9 +12,7 @@ use Rattle.prop_map.specs.Settings.{Settings}
 use Rattle.prop_map.specs.declared.modifiers.Modifier.{Modifier}
 use Rattle.prop_map.specs.Formed.{IsPropertyMap, character_groups}
 use Rattle.prop_map.specs.Modifiers.{IsFormedModifier}
-use Rattle.fkp_pages.specs.Properties.{HasListAt}
 use Rattle.direct_props.specs.Direct.{IsDirectCharacter}
-use Rattle.direct_props.specs.PageRules.{IsRightBetween}
 
 -- a list with room for itself before the last byte of a page, whose sprms have no fault
 pub record IsRightList (kind : PageKind) (page : List ℕ) (from to : ℕ) : Type 0 where

@@ -8,6 +8,7 @@ mod laws;
 mod lists;
 mod marks;
 mod pages;
+mod places;
 mod reader;
 mod rules;
 
@@ -17,5 +18,6 @@ pub use laws::{
     right_places_have_lists, right_places_have_settings, right_places_hold,
 };
 pub use marks::{DirectMark, read_mark};
+pub use places::{PlaceRow, Places};
 pub use reader::PlaceReader;
-pub use rules::{PageFault, judge_each, judge_places};
+pub use rules::{PageFault, judge_each, judge_places, judge_rows};

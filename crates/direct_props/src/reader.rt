@@ -1,5 +1,5 @@
 // Readers of the settings of places, which keep what each list makes.
-ghost use Rattle.std.specs.Prelude.{◌≡◌, ◌+◌, ◌<◌, ◌≤◌, ◌^◌, ℕ, length, slice_index, IsTrue, IfOk, OnOk, OnErr};
+ghost use Rattle.std.specs.Prelude.{◌≡◌, ◌+◌, ◌<◌, ◌≤◌, ◌^◌, ℕ, length, IsTrue, IfOk, OnOk, OnErr};
 ghost use Rattle.prop_map.specs.Formed.{IsPropertyMap, paragraph_groups};
 ghost use Rattle.prop_map.specs.Modifiers.{IsFormedModifier};
 ghost use Rattle.fkp_pages.specs.declared.kind.PageKind.TheVariants.{Chpx, Papx};
@@ -11,7 +11,7 @@ ghost use Rattle.direct_props.specs.Kept.{HasMadeAround, PlaceSource};
 
 use crate::kept::{KeptLists, ListSource, Made, MadeStretch};
 use crate::pages::{PageCursor, page_around};
-use crate::{CharacterSettings, DirectMark};
+use crate::{CharacterSettings, DirectMark, Places};
 use doc_bits::Memory;
 use fkp_pages::PageKind;
 use prop_map::{Modifier, PropMap};
@@ -131,7 +131,7 @@ impl<'a> PlaceReader<'a> {
     pub fn push_character_runs(
         &mut self,
         alloc: Global,
-        places: &[u32],
+        places: &Places<'_>,
         runs: &mut Runs<PropMap>,
     ) -> Result<(), Memory>
         requires kind { self.old.kind ≡ Chpx }
@@ -142,13 +142,17 @@ impl<'a> PlaceReader<'a> {
             (AddsCharacters self.old.wd self.old.bin places.now self.old.modifier runs.old runs.new) }
         ensures err { OnErr result (BeginsWith runs.old runs.new) }
     {
-        let mut done = 0;
-        while done < places.len() {
-            let stretch = self.stretch_around(alloc, places[done])?;
-            let CharacterStretch { first, last, map } = stretch;
-            let count = count_within(places, done, first, last);
+        let mut left = places.skip(0);
+        while left.len() > 0 {
+            let stretch = self.stretch_around(alloc, left.first())?;
+            let CharacterStretch {
+                first: _,
+                last,
+                map,
+            } = stretch;
+            let count = left.count_up_to(last);
             runs.add(count as u32, map)?;
-            done += count;
+            left = left.skip(count);
         }
         Ok(())
     }
@@ -239,20 +243,4 @@ struct CharacterStretch {
     first: u32,
     last: u32,
     map: PropMap,
-}
-
-/// How many places in a row, from the one of number `done` on, are from `first` to `last`, as that one is.
-fn count_within(places: &[u32], done: usize, first: u32, last: u32) -> usize
-    requires there { done < length places.now }
-    ensures some { 0 < result }
-    ensures inside { done + result ≤ length places.now }
-    ensures above { (k : ℕ) → done < k → k < done + result → first ≤ slice_index places.now k }
-    ensures below { (k : ℕ) → done < k → k < done + result → slice_index places.now k ≤ last }
-{
-    for k in done + 1..places.len() {
-        if places[k] < first || places[k] > last {
-            return k - done;
-        }
-    }
-    places.len() - done
 }

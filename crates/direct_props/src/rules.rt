@@ -17,6 +17,7 @@ ghost use Rattle.direct_props.specs.Stretches.{HasRightList};
 ghost use Rattle.direct_props.specs.Pages.{IsPageIn, IsRightStretch};
 ghost use Rattle.direct_props.specs.Kept.{HaveNoFault};
 
+use crate::Places;
 use crate::lists::list_in;
 use crate::pages::{PageCursor, page_around};
 use doc_bits::{Memory, lesser};
@@ -110,6 +111,63 @@ fn are_right(
     Ok(true)
 }
 
+/// The same as `judge_places`, of places that are kept as rows.
+pub fn judge_rows(
+    alloc: Global,
+    kind: PageKind,
+    wd: &[u8],
+    bin: &[u8],
+    places: &Places<'_>,
+) -> Result<Option<PageFault>, Memory>
+    requires table { IsBinTable bin.now }
+    requires small { length wd.now < 2 ^ 32 }
+    ensures judged { IfOk result (λ fault. MatchOption fault
+        (Hold (page_rules kind wd.now bin.now places.now))
+        (λ fault. IsFirst (page_rules kind wd.now bin.now places.now) fault.rule fault.offset)) }
+
+    // The same of each place, as readers of settings ask for it.
+    ensures right { IfOk result (λ fault. MatchOption fault (AreRightPlaces kind wd.now bin.now places.now) (λ _. ⊤)) }
+{
+    // Only where a place is wrong the places are listed.
+    if are_right_rows(alloc, kind, wd, bin, places)? {
+        return Ok(None);
+    }
+    let list = places.to_list(alloc)?;
+    match judge_each(kind, wd, bin, &list) {
+        Ok(()) => Ok(None),
+        Err(fault) => Ok(Some(fault)),
+    }
+}
+
+/// Whether no place of rows breaks a rule. Places of a row in one stretch are passed at once.
+fn are_right_rows(
+    alloc: Global,
+    kind: PageKind,
+    wd: &[u8],
+    bin: &[u8],
+    places: &Places<'_>,
+) -> Result<bool, Memory>
+    requires table { IsBinTable bin.now }
+    requires small { length wd.now < 2 ^ 32 }
+    ensures { IfOk result (λ right. IsTrue right → AreRightPlaces kind wd.now bin.now places.now) }
+{
+    let mut known = ListPlaces::new(alloc);
+    let mut stretch = RightStretch {
+        first: 1,
+        last: 0,
+        next: PageCursor::start(),
+    };
+    let mut left = places.skip(0);
+    while left.len() > 0 {
+        match right_around(kind, wd, bin, left.first(), stretch, &mut known)? {
+            None => return Ok(false),
+            Some(around) => stretch = around,
+        }
+        left = left.skip(left.count_up_to(stretch.last));
+    }
+    Ok(true)
+}
+
 /// The places from `first` to `last`, where no rule is broken, and where they were found.
 #[derive(Clone, Copy)]
 pub(crate) struct RightStretch {
@@ -133,6 +191,7 @@ fn right_around(
     ensures known { OnOk result (HaveNoFault kind wd.now known.new) }
     ensures right { IfOk result (λ around. IfSome around (λ s. IsRightPlace kind wd.now bin.now fc
         × IsRightStretch kind wd.now bin.now s)) }
+    ensures around { IfOk result (λ around. IfSome around (λ s. (s.first ≤ fc) × (fc ≤ s.last))) }
 {
     if stretch.first <= fc && fc <= stretch.last {
         return Ok(Some(stretch));

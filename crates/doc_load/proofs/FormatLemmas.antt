@@ -1,7 +1,8 @@
 -- The ends of paragraphs and sections, one more in each turn.
-use Rattle.std.proofs.Common.{◌≡◌, ◌∙◌, refl, sym, ap, ℕ, ◌+◌, ◌≤◌, ◌==◌, Bool, true, false, ◌||◌, List, [], ◌∷◌, ◌++◌, length, map, take, drop, filter, slice_get, Some, arith}
+use Rattle.std.proofs.Common.{◌≡◌, ◌∙◌, refl, sym, ap, ℕ, ◌+◌, ◌-◌, ◌≤◌, ◌==◌, Bool, true, false, ◌||◌, List, [], ◌∷◌, ◌++◌, length, map, take, drop, filter, slice_get, Some, arith}
 use Rattle.std.specs.List.{range_with_len}
-use Rattle.std.proofs.lemmas.List.{append-nil, map-id, map-append, map_more, drop-append-le, length-map, length-take}
+use Rattle.std.specs.Prelude.{slice_index}
+use Rattle.std.proofs.lemmas.List.{append-nil, map-id, map-append, map_more, drop-append-le, drop-drop, get_or-drop, length-map, length-take}
 use Rattle.std.proofs.lemmas.List.Elements.{filter-append}
 use Rattle.std.proofs.lemmas.List.Folds.{list_any-append}
 use Rattle.std.proofs.lemmas.List.FromFn.{map-range_with_len_more}
@@ -51,3 +52,12 @@ later-more sections k sed some here =
     let len_taken = length-take k sections in
     let enough : 1 ≤ length (map start (take k sections)) = omega arith in
     ap (drop 1) (map_more start sections k sed below) ∙ (drop-append-le 1 (map start (take k sections)) _ enough ∙ ap (λ s. drop 1 (map start (take k sections)) ++ s ∷ []) (ap start (get_or_from_slice_get sections k sed sed here)))
+
+-- the places from a later CP on, and the place of it
+pub walk_on : (all rest : List ℕ) (passed cp : ℕ) → passed ≤ cp → rest ≡ drop passed all →
+    (drop (cp - passed) rest ≡ drop cp all) × (slice_index rest (cp - passed) ≡ slice_index all cp)
+walk_on all rest passed cp behind is =
+    let there : passed + (cp - passed) ≡ cp = omega (arith, behind) in (
+      ap (drop (cp - passed)) is ∙ (drop-drop (cp - passed) passed all ∙ ap (λ n. drop n all) there),
+      ap (λ l. slice_index l (cp - passed)) is ∙ (get_or-drop passed all (cp - passed) 0 ∙ ap (λ n. slice_index all n) there),
+    )

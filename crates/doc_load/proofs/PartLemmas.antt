@@ -1,5 +1,5 @@
 -- The parts of the table stream, which rule 26 puts within it.
-use Rattle.std.proofs.Common.{◌≡◌, ◌≢◌, ℕ, ◌+◌, ◌-◌, ◌<◌, ◌≤◌, min, List, [], ◌∷◌, inl, inr, refl, sym, ap, ◌∙◌, lit<, length, drop, slice_index, slice_range, arith}
+use Rattle.std.proofs.Common.{◌≡◌, ◌≢◌, ℕ, ◌+◌, ◌-◌, ◌<◌, ◌≤◌, min, List, [], ◌∷◌, inl, inr, refl, sym, ap, ◌∙◌, lit<, length, drop, take, slice_index, slice_range, arith}
 use Rattle.std.proofs.lemmas.Bool.{cases_lt}
 use Rattle.std.proofs.lemmas.List.{length-take, length-drop, take_all, drop_all}
 use Rattle.doc_bits.specs.Rules.{Nowhere}
@@ -107,3 +107,9 @@ length-part-most wd table n =
     let lcb = (fib_pair wd n).1 in
     let rest = length-drop fc table in
     let len = length-take (fc + lcb - fc) (drop fc table) in omega arith
+
+-- the front of what lies behind so many
+pub range-front : (xs : List ℕ) (from count : ℕ) → take count (drop from xs) ≡ slice_range xs from (from + count)
+range-front xs from count =
+    let same : count ≡ from + count - from = omega arith in
+    ap (λ n. take n (drop from xs)) same

@@ -15,7 +15,7 @@ use Rattle.direct_props.proofs.RightLemmas.{right_where_hold}
 use Rattle.fib_form.specs.declared.table_parts.TablePart.TheVariants.{PlcfBteChpx, PlcfBtePapx}
 use Rattle.doc_load.specs.Source.{DocSource, part_bytes, part_place}
 use Rattle.doc_load.specs.SectionRules.{HasSections}
-use Rattle.doc_load.specs.BinRules.{IsPlcBte, BreaksBinTable, IsNoAscent, rules_of_bins}
+use Rattle.doc_load.specs.BinRules.{IsPlcBte, BreaksBinTable, rules_of_bins}
 use Rattle.doc_load.specs.FormatRules.{judged_places, paragraph_places, format_rules, rules_of_formats}
 use Rattle.doc_load.proofs.OneLemmas.{sections_one}
 

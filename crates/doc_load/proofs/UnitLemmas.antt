@@ -1,16 +1,19 @@
 -- The units of pieces, one after the other.
-use Rattle.std.proofs.Common.{◌≡◌, ◌<◌, ◌≤◌, slice_set, arith, length, ℕ, ◌+◌, ◌*◌, List, [], ◌∷◌, ◌++◌, map, take, flat_map, slice_get, slice_index, Option, Some, None, Bool, true, false, if◌then◌else◌, refl, sym, ap, ◌∙◌, append_assoc, zero-add, add-zero, add-one, zero, suc}
+use Rattle.std.proofs.Common.{◌≡◌, ◌<◌, ◌≤◌, ◌^◌, slice_set, arith, length, ℕ, ◌+◌, ◌*◌, List, [], ◌∷◌, ◌++◌, map, take, flat_map, slice_get, slice_index, Option, Some, None, Bool, true, false, if◌then◌else◌, refl, sym, ap, ◌∙◌, append_assoc, zero-add, add-zero, add-one, zero, suc}
 use Rattle.std.specs.List.{range_with_len}
 use Rattle.std.proofs.lemmas.List.{map-append, append-nil, take_more, length-map}
 use Rattle.piece_table.proofs.PieceLemmas.{length-flat_pieces}
 use Rattle.std.proofs.lemmas.List.FromFn.{map-range_with_len_more}
 use Rattle.std.proofs.lemmas.Option.{slice_get_within, get_or_from_slice_get}
 use Rattle.std.proofs.lemmas.Grind.{flat_map-append, take-set_at}
-use Rattle.std.proofs.lemmas.List.Sums.{sum_by_more, sum_by_more_le}
+use Rattle.std.proofs.lemmas.List.Sums.{sum_by-take-le, sum_by_more, sum_by_more_le}
 use Rattle.doc_bits.specs.Number.{u16_at}
 use Rattle.text_codes.specs.Compressed.{unit_of}
 use Rattle.piece_table.specs.Piece.{TextPiece, UnitPlace, bare_piece, unit_bytes, unit_places, flat_pieces, total_length}
-use Rattle.doc_load.specs.Units.{unit_at, wide_unit, narrow_unit, text_of, text_piece}
+use Rattle.doc_load.specs.Units.{unit_at, wide_unit, narrow_unit, text_of, text_piece, unit_places_in}
+use Rattle.direct_props.specs.declared.places.PlaceRow.{PlaceRow}
+use Rattle.direct_props.specs.Rows.{places_of, row_places}
+use Rattle.direct_props.proofs.RowLemmas.{places_of_push}
 use Rattle.piece_table.specs.declared.pieces.Piece.{Piece}
 use Rattle.std.specs.Option.{option_map}
 
@@ -66,6 +69,20 @@ map-flat_pieces-more f pieces i piece h =
 -- the places of a piece's units
 pub places-step : (piece : TextPiece) → map (λ place. place.at) (unit_places piece) ≡ map (λ j. piece.at + j * unit_bytes piece.wide) (range_with_len 0 piece.len)
 places-step piece = map-map {A = ℕ} {B = UnitPlace} (λ place. place.at) _ (range_with_len 0 piece.len)
+
+-- one row more stands for the places of one piece more
+pub rows_more : (rows : List PlaceRow) (row : PlaceRow) (pieces : List TextPiece) (i : ℕ) (piece : TextPiece) → slice_get pieces i ≡ Some piece →
+    places_of rows ≡ unit_places_in (take i pieces) → row_places row ≡ map (λ place. place.at) (unit_places piece) →
+    places_of (rows ++ row ∷ []) ≡ unit_places_in (take (i + 1) pieces)
+rows_more rows row pieces i piece here so_far same =
+    places_of_push rows row ∙ (ap (λ l. l ++ row_places row) so_far ∙ (ap (λ l. unit_places_in (take i pieces) ++ l) same
+    ∙ sym (map-flat_pieces-more (λ place. place.at) pieces i piece here)))
+
+-- the places of the first pieces are so many at most
+pub few_places : (pieces : List TextPiece) (i : ℕ) (places : List ℕ) → places ≡ unit_places_in (take i pieces) → total_length pieces ≤ 500001 → length places < 2 ^ 32
+few_places pieces i places same bound =
+    let flat = flat_pieces (take i pieces) in
+    omega (arith, ap length same, length-map flat (λ place. place.at), length-flat_pieces (take i pieces), sum_by-take-le (λ p. p.len) pieces i, bound)
 
 -- unit j of a piece whose units have this width
 either_unit : List ℕ → ℕ → Bool → ℕ → ℕ

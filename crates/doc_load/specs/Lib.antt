@@ -1,5 +1,6 @@
 pub mod PairRules
 pub mod Units
+pub mod TextRows
 pub mod Source
 pub mod Faults
 pub mod Rows

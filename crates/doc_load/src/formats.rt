@@ -1,6 +1,6 @@
 // The rules on the pages: the units of the text, and those that end a paragraph.
 ghost use Rattle.std.specs.Prelude.{◌≡◌, ◌+◌, ◌<◌, ◌≤◌, ◌==◌};
-ghost use Rattle.std.specs.Prelude.{◌||◌, ℕ, false, length, slice_index_or, IfOk};
+ghost use Rattle.std.specs.Prelude.{◌||◌, ◌-◌, ℕ, drop, false, length, slice_index, slice_index_or, IfOk};
 ghost use Rattle.std.specs.Prelude.{MatchResult};
 ghost use Rattle.doc_bits.specs.Rules.{Hold};
 ghost use Rattle.doc_load.specs.Faults.{IsReadFault};
@@ -11,7 +11,7 @@ ghost use Rattle.doc_load.specs.FormatRules.{rules_of_formats, section_ends};
 
 use crate::fault::refused_page;
 use crate::{ReadFault, Source};
-use direct_props::judge_places;
+use direct_props::{Places, judge_places, judge_rows};
 use doc_bits::Memory;
 use doc_parts::Seds;
 use fib_form::{StoryKind, TablePart};
@@ -41,13 +41,8 @@ fn judge_runs(alloc: Global, source: &Source<'_>, sections: &Seds) -> Result<(),
         (IsReadFault (format_rules source.now sections.now)) }
 {
     let characters = source.part(TablePart::PlcfBteChpx);
-    let wrong = judge_places(
-        alloc,
-        PageKind::Chpx,
-        source.wd(),
-        characters,
-        source.judged_places(),
-    )?;
+    let all = source.judged_places();
+    let wrong = judge_rows(alloc, PageKind::Chpx, source.wd(), characters, &all)?;
     if let Some(fault) = wrong {
         return Err(refused_page(fault));
     }
@@ -67,15 +62,38 @@ fn paragraph_places(alloc: Global, source: &Source<'_>, sections: &Seds) -> Resu
     let main_len = source.story_len(StoryKind::Main);
     let marks = section_marks(alloc, sections, main_len)?;
     let units = source.judged_units();
-    let all = source.judged_places();
+    let mut walk = PlaceWalk {
+        rest: source.judged_places(),
+        passed: 0,
+    };
     let mut places = Vec::new(alloc);
     for cp in 0..units.len() {
         let ends = cp < main_len as usize && marks[cp + 1];
         if ends_paragraph(units[cp], ends) {
-            places.push(all[cp])?;
+            places.push(place_of(&mut walk, cp))?;
         }
     }
     Ok(places)
+}
+
+/// The places from a CP on, before which `passed` ones are.
+#[derive(Drop)]
+struct PlaceWalk<'a> {
+    rest: Places<'a>,
+    passed: usize,
+}
+
+/// Goes on to the place of a CP.
+fn place_of(walk: &mut PlaceWalk<'_>, cp: usize) -> u32
+    requires behind { walk.old.passed ≤ cp }
+    requires there { cp < walk.old.passed + length walk.old.rest }
+    ensures passed { walk.new.passed ≡ cp }
+    ensures rest { walk.new.rest ≡ drop (cp - walk.old.passed) walk.old.rest }
+    ensures place { result ≡ slice_index walk.old.rest (cp - walk.old.passed) }
+{
+    walk.rest = walk.rest.skip(cp - walk.passed);
+    walk.passed = cp;
+    walk.rest.first()
 }
 
 /// For each CP up to the end of the main text whether a section ends before it.

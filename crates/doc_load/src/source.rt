@@ -6,6 +6,7 @@ ghost use Rattle.doc_load.specs.Source.{part_place, part_bytes, story_length, st
 ghost use Rattle.doc_load.specs.FormatRules.{judged_places, judged_units, text_count};
 
 use crate::TextUnits;
+use direct_props::Places;
 use fib_form::{Fib, StoryKind, TablePart};
 use std::marker::Model;
 
@@ -115,13 +116,14 @@ impl<'a> Source<'a> {
     }
 
     /// The places of these units in `WordDocument`.
-    pub fn places(&self, story: StoryKind) -> &'a [u32]
-        ensures places { result.now ≡ story_places self.now story }
-        ensures few { length result.now ≤ 500000 }
-        ensures count { length result.now ≡ story_length self.now story }
+    pub fn places(&self, story: StoryKind) -> Places<'a>
+        ensures places { result ≡ story_places self.now story }
+        ensures few { length result ≤ 500000 }
+        ensures count { length result ≡ story_length self.now story }
     {
-        let from = self.story_begin(story) as usize;
-        &self.text.places()[from..from + self.story_len(story) as usize]
+        let all = self.text.places();
+        let from = all.skip(self.story_begin(story) as usize);
+        from.front(self.story_len(story) as usize)
     }
 
     /// The units of the three stories, by CP.
@@ -134,11 +136,12 @@ impl<'a> Source<'a> {
     }
 
     /// The places of these units in `WordDocument`.
-    pub fn judged_places(&self) -> &'a [u32]
-        ensures places { result.now ≡ judged_places self.now }
-        ensures count { length result.now ≡ length (judged_units self.now) }
+    pub fn judged_places(&self) -> Places<'a>
+        ensures places { result ≡ judged_places self.now }
+        ensures count { length result ≡ length (judged_units self.now) }
     {
-        &self.text.places()[..self.judged_count()]
+        let all = self.text.places();
+        all.front(self.judged_count())
     }
 
     /// The number of CPs of the three stories.

@@ -40,7 +40,8 @@ fn loose_place(source: &Source<'_>, story: StoryKind, cuts: &Cuts) -> Option<u32
     ensures { LeastOrNone (BreaksEnd source.now story cuts.now) result }
 {
     let cp = loose_unit(source.units(story), last_end(cuts) as usize)?;
-    Some(source.places(story)[cp])
+    let places = source.places(story);
+    Some(places.get(cp))
 }
 
 /// The CP where the last text ends; where there are no texts, the story's begin.

@@ -1,36 +1,43 @@
-// The text by CP. Whoever judges a unit or its place reads a plain slice.
-ghost use Rattle.std.specs.Prelude.{◌≡◌, ◌+◌, ◌*◌, ◌≤◌, ◌++◌, length, map, take, All, IfOk};
+// The text by CP. Whoever judges a unit reads a plain slice, and goes over the places row by row.
+ghost use Rattle.std.specs.Prelude.{◌≡◌, ◌+◌, ◌*◌, ◌^◌, ◌<◌, ◌≤◌, ◌++◌, length, map, take, All, IfOk};
 ghost use Rattle.std.specs.List.{range_with_len};
-ghost use Rattle.piece_table.specs.Piece.{bare_piece, piece_end, total_length, unit_places};
+ghost use Rattle.piece_table.specs.Piece.{IsPiece, bare_piece, piece_end, total_length, unit_bytes, unit_places};
+ghost use Rattle.direct_props.specs.Rows.{places_of, row_places};
+ghost use Rattle.doc_load.specs.TextRows.{AreTextRows};
 ghost use Rattle.doc_load.specs.Units.{unit_at, text_of, text_piece, text_units, unit_places_in, wide_unit};
 
 use crate::narrow::put_narrow;
+use direct_props::{PlaceRow, Places};
 use doc_bits::{Memory, get16};
 use piece_table::{Piece, PieceList};
 use std::alloc::Global;
 use std::marker::Model;
 
-/// The unit of each CP, and the place of its first byte in `WordDocument`.
+/// The unit of each CP, and the place of its first byte in `WordDocument`. The places of a piece are one row.
 #[derive(Drop)]
 pub struct TextUnits {
-    places: Vec<u32>,
+    rows: Vec<PlaceRow>,
     units: Vec<u16>,
 }
 
 impl Model for TextUnits {
+    ghost use Rattle.direct_props.specs.Rows.{places_of};
+    ghost use Rattle.doc_load.specs.TextRows.{AreTextRows};
     ghost use Rattle.doc_load.specs.Units.{UnitText};
 
     ghost Value = { UnitText };
 
-    ghost view = { λ t. record { places = t.places.items; units = t.units.items } };
+    ghost view = { λ t. record { places = places_of t.rows.items; units = t.units.items } };
+
+    ghost invariant = { λ t. AreTextRows t.rows.items };
 }
 
 impl TextUnits {
     /// The place of the first byte of each unit, by CP.
-    pub fn places(&self) -> &[u32]
-        ensures { result.now ≡ self.now.places }
+    pub fn places(&self) -> Places<'_>
+        ensures { result ≡ self.now.places }
     {
-        &self.places
+        Places::of(&self.rows)
     }
 
     /// The units, by CP.
@@ -46,55 +53,55 @@ pub fn read_units(alloc: Global, wd: &[u8], pieces: &PieceList) -> Result<TextUn
     requires { All (λ piece. piece_end (bare_piece piece) ≤ length wd.now) pieces.now.pieces }
     ensures { IfOk result (λ text. text ≡ text_of wd.now pieces.now.pieces) }
 {
-    let total = pieces.total() as usize;
-    let mut places = vec![in alloc; 0; total]?;
-    let mut units = vec![in alloc; 0; total]?;
-    put_all(&mut places, &mut units, wd, pieces);
-    Ok(TextUnits { places, units })
+    let rows = place_rows(alloc, pieces)?;
+    let mut units = vec![in alloc; 0; pieces.total() as usize]?;
+    put_all(&mut units, wd, pieces);
+    Ok(TextUnits { rows, units })
 }
 
-/// Puts the places and the units of all pieces.
-fn put_all(places: &mut [u32], units: &mut [u16], wd: &[u8], pieces: &PieceList)
+/// The places of the units of all pieces, a row a piece.
+fn place_rows(alloc: Global, pieces: &PieceList) -> Result<Vec<PlaceRow>, Memory>
+    ensures places { IfOk result (λ rows. places_of rows.items ≡ unit_places_in pieces.now.pieces) }
+    ensures rows { IfOk result (λ rows. AreTextRows rows.items) }
+{
+    let mut rows = Vec::with_capacity(alloc, pieces.len())?;
+    for i in 0..pieces.len() {
+        rows.push(row_of(pieces.piece(i)))?;
+    }
+    Ok(rows)
+}
+
+/// The row of the places of a piece's units.
+fn row_of(piece: Piece) -> PlaceRow
+    requires { IsPiece piece }
+    ensures places { row_places result ≡ map (λ place. place.at) (unit_places (text_piece piece)) }
+    ensures row { result.at + result.len * result.step < 2 ^ 32 }
+{
+    PlaceRow {
+        at: piece.at,
+        step: unit_len(piece.wide),
+        len: piece.len,
+    }
+}
+
+/// The number of bytes of a unit.
+fn unit_len(wide: bool) -> u32
+    ensures { result ≡ unit_bytes wide }
+{
+    if wide { 2 } else { 1 }
+}
+
+/// Puts the units of all pieces.
+fn put_all(units: &mut [u16], wd: &[u8], pieces: &PieceList)
     requires within { All (λ piece. piece_end (bare_piece piece) ≤ length wd.now) pieces.now.pieces }
-    requires places { length places.old ≡ total_length pieces.now.pieces }
     requires units { length units.old ≡ total_length pieces.now.pieces }
-    ensures places { places.new ≡ unit_places_in pieces.now.pieces }
-    ensures units { units.new ≡ text_units wd.now pieces.now.pieces }
+    ensures { units.new ≡ text_units wd.now pieces.now.pieces }
 {
     let mut cp = 0;
     for i in 0..pieces.len() {
         let piece = pieces.piece(i);
-        put_places(places, cp, piece);
         put_units(units, cp, wd, piece);
         cp += piece.len as usize;
-    }
-}
-
-/// Puts the places of a piece's units at a CP.
-fn put_places(places: &mut [u32], cp: usize, piece: Piece)
-    requires end { piece_end piece ≤ u32.MAX }
-    requires room { cp + piece.len ≤ length places.old }
-    ensures len { length places.new ≡ length places.old }
-    ensures put { take (cp + piece.len) places.new
-        ≡ take cp places.old ++ map (λ place. place.at) (unit_places (text_piece piece)) }
-{
-    if piece.wide {
-        put_steps(places, cp, piece.at, 2, piece.len)
-    } else {
-        put_steps(places, cp, piece.at, 1, piece.len)
-    }
-}
-
-/// Puts `len` places from `at` on, each `step` bytes after the one before it.
-fn put_steps(places: &mut [u32], cp: usize, at: u32, step: u32, len: u32)
-    requires end { at + len * step ≤ u32.MAX }
-    requires room { cp + len ≤ length places.old }
-    ensures len { length places.new ≡ length places.old }
-    ensures put { take (cp + len) places.new
-        ≡ take cp places.old ++ map (λ j. at + j * step) (range_with_len 0 len) }
-{
-    for j in 0..len {
-        places[cp + j as usize] = at + j * step;
     }
 }
 

@@ -1,6 +1,6 @@
 -- What the items of a text are read from, as lists by CP, and what is read at each CP.
 use Rattle.std.specs.Prelude.{◌≡◌, ℕ, ◌+◌, ◌<◌, ◌≤◌, ◌^◌, Bool, List, length, map, zip, All, is_some, slice_get}
-use Rattle.std.specs.Prelude.{slice_index, Option, Some, IsTrue}
+use Rattle.std.specs.Prelude.{slice_index, Option, Some, IsTrue, drop}
 use Rattle.prop_map.specs.Settings.{Settings}
 use Rattle.prop_map.specs.declared.modifiers.Modifier.{Modifier}
 use Rattle.prop_map.specs.Formed.{IsPropertyMap, character_groups, section_groups}
@@ -19,6 +19,7 @@ use Rattle.text_codes.specs.Paragraph.{is_paragraph_end}
 use Rattle.doc_load.specs.PartRules.{PartLists}
 use Rattle.doc_read.specs.declared.marked.TextMarks.{TextMarks}
 use Rattle.doc_read.specs.declared.reading.TextSource.{TextSource}
+use Rattle.doc_read.specs.declared.reading.TextPart.{TextPart}
 use Rattle.doc_read.specs.declared.reading.PieceReader.{PieceReader}
 use Rattle.doc_read.specs.declared.reading.Passed.{Passed}
 use Rattle.plain_doc.specs.Entries.{entry_at}
@@ -68,10 +69,14 @@ text_view text = record {
   characters = text.characters.now;
   paragraphs = text.paragraphs.now;
   units = text.units.now;
-  places = text.places.now;
+  places = text.places;
   marks = mark_lists text.marks.now;
   maps = text.maps.now;
 }
+
+-- the places of a part are those of its text from a CP on
+abbrev pub IsTextPart : TextPart → Type 0
+IsTextPart part = part.places ≡ drop part.from part.text.now.places
 
 -- what stands at a CP
 abbrev pub field_at : MarkLists → ℕ → Option ℕ

@@ -13,11 +13,11 @@ ghost use Rattle.doc_read.specs.Items.{HoldsItems};
 ghost use Rattle.doc_read.specs.Passing.{AddsEach};
 ghost use Rattle.doc_read.specs.Reading.{AreCharactersFrom, ArePassed, ArePlacedItems, IsReadable, IsReadAt};
 ghost use Rattle.doc_read.specs.Reading.{AreBareUntil, mark_lists, text_view, IsReadCharacter};
-ghost use Rattle.doc_read.specs.Reading.{ArePieceReaders, HasReaderFor, IsPieceReader};
+ghost use Rattle.doc_read.specs.Reading.{ArePieceReaders, HasReaderFor, IsPieceReader, IsTextPart};
 
 use crate::SectionMaps;
 use crate::marked::read_marks;
-use crate::reading::{Passed, PieceReader, TextSource, item_at, next_marked};
+use crate::reading::{Passed, PieceReader, TextPart, TextSource, item_at, next_marked};
 use direct_props::CharacterSettings;
 use doc_bits::Memory;
 use doc_load::{DocParts, LoadedText, Source};
@@ -91,18 +91,25 @@ fn items_of_pieces(
         until: 0,
     };
     let mut readers = Vec::new(alloc);
+    let mut rest = text.places.skip(0);
     for i in 0..pieces.len() {
         // A piece may have one unit more than the stories.
         let len = (pieces.piece(i).len as usize).min(count - items.len());
         let number = reader_for(alloc, text, pieces.modifier(i), &mut readers)?;
+        let part = TextPart {
+            text: &*text,
+            from: items.len(),
+            places: rest.skip(0),
+        };
         push_piece(
             alloc,
-            text,
+            &part,
             len,
             &mut readers[number],
             &mut items,
             &mut passed,
         )?;
+        rest = rest.skip(len);
     }
     Ok(items)
 }
@@ -133,25 +140,28 @@ pub fn reader_for<'a>(
 /// Appends the items of so many units of a piece.
 fn push_piece(
     alloc: Global,
-    text: &TextSource<'_>,
+    part: &TextPart<'_>,
     len: usize,
     reader: &mut PieceReader<'_>,
     items: &mut Vec<Item>,
     passed: &mut Passed,
 ) -> Result<(), Memory>
-    requires readable { IsReadable (text_view text.now) }
-    requires reader { IsPieceReader (text_view text.now) reader.old }
-    requires within { length items.old.items + len ≤ length text.now.units.now }
-    requires passed { ArePassed (mark_lists text.now.marks.now) passed.old (length items.old.items) }
+    requires readable { IsReadable (text_view part.now.text.now) }
+    requires part { IsTextPart part.now }
+    requires from { part.now.from ≤ length items.old.items }
+    requires reader { IsPieceReader (text_view part.now.text.now) reader.old }
+    requires within { length items.old.items + len ≤ length part.now.text.now.units.now }
+    requires passed { ArePassed (mark_lists part.now.text.now.marks.now) passed.old (length items.old.items) }
     ensures same { reader.new ≡ reader.old }
-    ensures passed { OnOk result (ArePassed (mark_lists text.now.marks.now) passed.new (length items.new.items)) }
-    ensures items { OnOk result (AddsEach (IsReadAt (text_view text.now) reader.old.characters.modifier) len
+    ensures passed { OnOk result
+        (ArePassed (mark_lists part.now.text.now.marks.now) passed.new (length items.new.items)) }
+    ensures items { OnOk result (AddsEach (IsReadAt (text_view part.now.text.now) reader.old.characters.modifier) len
         items.old.items items.new.items) }
 {
     let mut done = 0;
     while done < len {
         let some = (len - done).min(UNITS_AT_ONCE);
-        push_chunk(alloc, text, some, reader, items, passed)?;
+        push_chunk(alloc, part, some, reader, items, passed)?;
         done += some;
     }
     Ok(())
@@ -161,27 +171,32 @@ fn push_piece(
 #[inline(never)]
 fn push_chunk(
     alloc: Global,
-    text: &TextSource<'_>,
+    part: &TextPart<'_>,
     len: usize,
     reader: &mut PieceReader<'_>,
     items: &mut Vec<Item>,
     passed: &mut Passed,
 ) -> Result<(), Memory>
-    requires readable { IsReadable (text_view text.now) }
-    requires reader { IsPieceReader (text_view text.now) reader.old }
-    requires within { length items.old.items + len ≤ length text.now.units.now }
-    requires passed { ArePassed (mark_lists text.now.marks.now) passed.old (length items.old.items) }
+    requires readable { IsReadable (text_view part.now.text.now) }
+    requires part { IsTextPart part.now }
+    requires from { part.now.from ≤ length items.old.items }
+    requires reader { IsPieceReader (text_view part.now.text.now) reader.old }
+    requires within { length items.old.items + len ≤ length part.now.text.now.units.now }
+    requires passed { ArePassed (mark_lists part.now.text.now.marks.now) passed.old (length items.old.items) }
     ensures same { reader.new ≡ reader.old }
-    ensures passed { OnOk result (ArePassed (mark_lists text.now.marks.now) passed.new (length items.new.items)) }
-    ensures items { OnOk result (AddsEach (IsReadAt (text_view text.now) reader.old.characters.modifier) len
+    ensures passed { OnOk result
+        (ArePassed (mark_lists part.now.text.now.marks.now) passed.new (length items.new.items)) }
+    ensures items { OnOk result (AddsEach (IsReadAt (text_view part.now.text.now) reader.old.characters.modifier) len
         items.old.items items.new.items) }
 {
     let from = items.len();
+    let rest = part.places.skip(from - part.from);
+    let places = rest.front(len).to_list(alloc)?;
     let mut settings = CharacterSettings::new(alloc);
     reader
         .characters
-        .push_characters(alloc, &text.places[from..from + len], &mut settings)?;
-    push_items(alloc, text, settings.into_vec(), reader, items, passed)?;
+        .push_characters(alloc, &places, &mut settings)?;
+    push_items(alloc, part, settings.into_vec(), reader, items, passed)?;
     Ok(())
 }
 
@@ -189,26 +204,29 @@ fn push_chunk(
 #[inline(never)]
 fn push_items(
     alloc: Global,
-    text: &TextSource<'_>,
+    part: &TextPart<'_>,
     chps: Vec<PropMap>,
     reader: &mut PieceReader<'_>,
     items: &mut Vec<Item>,
     passed: &mut Passed,
 ) -> Result<(), Memory>
-    requires readable { IsReadable (text_view text.now) }
-    requires reader { IsPieceReader (text_view text.now) reader.old }
-    requires within { length items.old.items + length chps.items ≤ length text.now.units.now }
-    requires characters { AreCharactersFrom (text_view text.now) reader.old.characters.modifier
+    requires readable { IsReadable (text_view part.now.text.now) }
+    requires part { IsTextPart part.now }
+    requires from { part.now.from ≤ length items.old.items }
+    requires reader { IsPieceReader (text_view part.now.text.now) reader.old }
+    requires within { length items.old.items + length chps.items ≤ length part.now.text.now.units.now }
+    requires characters { AreCharactersFrom (text_view part.now.text.now) reader.old.characters.modifier
         (length items.old.items) chps.items }
-    requires passed { ArePassed (mark_lists text.now.marks.now) passed.old (length items.old.items) }
+    requires passed { ArePassed (mark_lists part.now.text.now.marks.now) passed.old (length items.old.items) }
     ensures same { reader.new ≡ reader.old }
-    ensures passed { OnOk result (ArePassed (mark_lists text.now.marks.now) passed.new (length items.new.items)) }
-    ensures items { OnOk result (AddsEach (IsReadAt (text_view text.now) reader.old.characters.modifier)
+    ensures passed { OnOk result
+        (ArePassed (mark_lists part.now.text.now.marks.now) passed.new (length items.new.items)) }
+    ensures items { OnOk result (AddsEach (IsReadAt (text_view part.now.text.now) reader.old.characters.modifier)
         (length chps.items) items.old.items items.new.items) }
 {
-    passed.until = next_marked(text, passed);
+    passed.until = next_marked(part.text, passed);
     for chp in chps {
-        push_item(alloc, text, chp, reader, items, passed)?;
+        push_item(alloc, part, chp, reader, items, passed)?;
     }
     Ok(())
 }
@@ -217,30 +235,35 @@ fn push_items(
 #[inline(always)]
 fn push_item(
     alloc: Global,
-    text: &TextSource<'_>,
+    part: &TextPart<'_>,
     chp: PropMap,
     reader: &mut PieceReader<'_>,
     items: &mut Vec<Item>,
     passed: &mut Passed,
 ) -> Result<(), Memory>
-    requires readable { IsReadable (text_view text.now) }
-    requires reader { IsPieceReader (text_view text.now) reader.old }
-    requires within { length items.old.items < length text.now.units.now }
-    requires characters { IsReadCharacter (text_view text.now) reader.old.characters.modifier
+    requires readable { IsReadable (text_view part.now.text.now) }
+    requires part { IsTextPart part.now }
+    requires from { part.now.from ≤ length items.old.items }
+    requires reader { IsPieceReader (text_view part.now.text.now) reader.old }
+    requires within { length items.old.items < length part.now.text.now.units.now }
+    requires characters { IsReadCharacter (text_view part.now.text.now) reader.old.characters.modifier
         (length items.old.items) chp }
-    requires passed { ArePassed (mark_lists text.now.marks.now) passed.old (length items.old.items) }
-    requires bare { AreBareUntil (mark_lists text.now.marks.now) passed.old (length items.old.items) }
+    requires passed { ArePassed (mark_lists part.now.text.now.marks.now) passed.old (length items.old.items) }
+    requires bare { AreBareUntil (mark_lists part.now.text.now.marks.now) passed.old (length items.old.items) }
     ensures same { reader.new ≡ reader.old }
     ensures pushed { OnOk result ((item : ItemType)
-        × (IsReadAt (text_view text.now) reader.old.characters.modifier (length items.old.items) item
+        × (IsReadAt (text_view part.now.text.now) reader.old.characters.modifier (length items.old.items) item
         × (items.new.items ≡ items.old.items ++ item ∷ []))) }
-    ensures passed { OnOk result (ArePassed (mark_lists text.now.marks.now) passed.new (length items.new.items)) }
-    ensures bare { OnOk result (AreBareUntil (mark_lists text.now.marks.now) passed.new (length items.new.items)) }
+    ensures passed { OnOk result
+        (ArePassed (mark_lists part.now.text.now.marks.now) passed.new (length items.new.items)) }
+    ensures bare { OnOk result
+        (AreBareUntil (mark_lists part.now.text.now.marks.now) passed.new (length items.new.items)) }
 {
     let cp = items.len();
+    let text = part.text;
     let unit = text.units[cp];
     if cp as u32 >= passed.until || ends_paragraph(unit, false) {
-        let item = item_at(alloc, text, cp as u32, chp, reader, passed)?;
+        let item = item_at(alloc, part, cp as u32, chp, reader, passed)?;
         items.push(item)?;
         passed.until = next_marked(text, passed);
         return Ok(());

@@ -18,5 +18,5 @@ pub use items::{has_units, reader_for};
 pub use laws::{document_is_one, files_hold_documents, first_fault_is_least};
 pub use marked::{TextMarks, read_marks};
 pub use opened::{Opened, load, read};
-pub use reading::{Passed, PieceReader, TextSource, mark_at, next_marked};
+pub use reading::{Passed, PieceReader, TextPart, TextSource, mark_at, next_marked};
 pub use sections::{SectionMaps, read_section_maps};

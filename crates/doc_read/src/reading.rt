@@ -7,12 +7,12 @@ ghost use Rattle.fkp_pages.specs.declared.kind.PageKind.TheVariants.{Papx};
 ghost use Rattle.direct_props.specs.PageRules.{IsRightPlace};
 ghost use Rattle.doc_read.specs.Items.{IsMarkAt};
 ghost use Rattle.doc_read.specs.Reading.{IsReadable, IsReadAt, IsReadCharacter, ArePassed, mark_lists, text_view};
-ghost use Rattle.doc_read.specs.Reading.{IsPieceReader};
+ghost use Rattle.doc_read.specs.Reading.{IsPieceReader, IsTextPart};
 
 use crate::SectionMaps;
 use crate::entries::next_cp;
 use crate::marked::TextMarks;
-use direct_props::PlaceReader;
+use direct_props::{PlaceReader, Places};
 use doc_bits::Memory;
 use fkp_pages::PageKind;
 use plain_doc::{Item, Mark};
@@ -28,9 +28,17 @@ pub struct TextSource<'a> {
     pub characters: &'a [u8],
     pub paragraphs: &'a [u8],
     pub units: &'a [u16],
-    pub places: &'a [u32],
+    pub places: Places<'a>,
     pub marks: &'a TextMarks,
     pub maps: &'a SectionMaps,
+}
+
+/// A text, and the places of its units from a CP on.
+#[derive(Drop)]
+pub struct TextPart<'a> {
+    pub text: &'a TextSource<'a>,
+    pub from: usize,
+    pub places: Places<'a>,
 }
 
 /// Reads the settings of the pieces with one modifier: those of characters, and those of paragraph marks.
@@ -73,26 +81,29 @@ pub struct Passed {
     pub until: u32,
 }
 
-/// Reads the item of a CP, which has these settings of characters and stands in a piece of the reader.
+/// Reads the item of a CP of the part, which has these settings of characters and stands in a piece of the reader.
 pub(crate) fn item_at(
     alloc: Global,
-    text: &TextSource<'_>,
+    part: &TextPart<'_>,
     cp: u32,
     chp: PropMap,
     reader: &mut PieceReader<'_>,
     passed: &mut Passed,
 ) -> Result<Item, Memory>
-    requires readable { IsReadable (text_view text.now) }
-    requires within { cp < length text.now.units.now }
-    requires reader { IsPieceReader (text_view text.now) reader.old }
-    requires characters { IsReadCharacter (text_view text.now) reader.old.characters.modifier cp chp }
-    requires passed { ArePassed (mark_lists text.now.marks.now) passed.old cp }
+    requires readable { IsReadable (text_view part.now.text.now) }
+    requires part { IsTextPart part.now }
+    requires from { part.now.from ≤ cp }
+    requires within { cp < length part.now.text.now.units.now }
+    requires reader { IsPieceReader (text_view part.now.text.now) reader.old }
+    requires characters { IsReadCharacter (text_view part.now.text.now) reader.old.characters.modifier cp chp }
+    requires passed { ArePassed (mark_lists part.now.text.now.marks.now) passed.old cp }
     ensures same { reader.new ≡ reader.old }
-    ensures passed { OnOk result (ArePassed (mark_lists text.now.marks.now) passed.new (cp + 1)) }
-    ensures item { IfOk result (IsReadAt (text_view text.now) reader.old.characters.modifier cp) }
+    ensures passed { OnOk result (ArePassed (mark_lists part.now.text.now.marks.now) passed.new (cp + 1)) }
+    ensures item { IfOk result (IsReadAt (text_view part.now.text.now) reader.old.characters.modifier cp) }
 {
+    let text = part.text;
     let unit = text.units[cp as usize];
-    let place = text.places[cp as usize];
+    let place = part.places.get(cp as usize - part.from);
     let fld = text.marks.byte_at(&mut passed.field, cp);
     let note = text.marks.kind_at(&mut passed.note, cp);
     let sect = text

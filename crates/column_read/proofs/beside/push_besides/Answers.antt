@@ -9,7 +9,7 @@ use Rattle.column_read.proofs.beside.push_besides.Goals as goal
 
 pub loop-cp-init : goal.loop-cp-init
 loop-cp-init c =
-    let is = IsBesideAt (text_view c.args.text.now) c.args.reader.now.characters.modifier in
+    let is = IsBesideAt (text_view c.args.part.now.text.now) c.args.reader.now.characters.modifier in
     let none : 0 ≡ c.args.piece.cp - c.args.piece.cp = omega arith in
     record {
       begun = omega arith;
@@ -21,7 +21,7 @@ loop-cp-init c =
 
 pub push_stretch-requires-clause-reader : goal.push_stretch-requires-clause-reader
 push_stretch-requires-clause-reader c =
-    subst (IsPieceReader (text_view c.args.text.now)) (sym c.loop-cp.invariant.same) c.requires.reader
+    subst (IsPieceReader (text_view c.args.part.now.text.now)) (sym c.loop-cp.invariant.same) c.requires.reader
 
 pub push_stretch-requires-clause-here : goal.push_stretch-requires-clause-here
 push_stretch-requires-clause-here c =
@@ -29,7 +29,7 @@ push_stretch-requires-clause-here c =
 
 pub loop-cp-preserved : goal.loop-cp-preserved
 loop-cp-preserved c =
-    let view = text_view c.args.text.now in
+    let view = text_view c.args.part.now.text.now in
     let cp = c.loop-cp.cp in
     let next = c.in_ok-cp.cp in
     let more = subst

@@ -10,9 +10,9 @@ invariant-loop-cp l = record {
   begun : l.piece.cp ≤ l.cp;
   within : l.cp ≤ l.piece.end;
   same : l.reader ≡ l.fn.reader;
-  added : AddsEach (IsBesideAt (text_view l.text) l.fn.reader.characters.modifier) (l.cp - l.piece.cp) l.fn.besides
-      l.besides;
-  passed : ArePassed (mark_lists l.text.marks.now) l.passed l.cp;
+  added : AddsEach (IsBesideAt (text_view l.part.text.now) l.fn.reader.characters.modifier) (l.cp - l.piece.cp)
+      l.fn.besides l.besides;
+  passed : ArePassed (mark_lists l.part.text.now.marks.now) l.passed l.cp;
 }
 
 abbrev pub decreases-loop-cp : goal.decreases-loop-cp

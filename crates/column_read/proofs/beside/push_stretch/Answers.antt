@@ -17,13 +17,13 @@ returns-then-left-until-clause-besides c =
     let old = c.args.besides.now in
     let is = subst (λ (b : Beside). c.add.new.self ≡ old ++ replicate (until - cp) b) c.none.ensures
     c.in_ok-add.ensures.ok in
-    bare_stretch (text_view c.args.text.now) c.args.reader.now.characters.modifier c.args.passed.now cp until old
-    c.add.new.self
+    bare_stretch (text_view c.args.part.now.text.now) c.args.reader.now.characters.modifier c.args.passed.now cp until
+    old c.add.new.self
     c.requires.here (omega arith) is c.bare_until-until.ensures.bare
     (λ at upper lower. c.next_marked.ensures cp at c.requires.passed upper (omega (arith, lower)))
 
 pub returns-clause-besides : goal.returns-clause-besides
 returns-clause-besides c =
-    one_beside (text_view c.args.text.now) c.args.reader.now.characters.modifier c.args.left.cp c.args.besides.now
-    c.add-2.new.self
+    one_beside (text_view c.args.part.now.text.now) c.args.reader.now.characters.modifier c.args.left.cp
+    c.args.besides.now c.add-2.new.self
     c.in_ok-beside.beside c.requires.here c.in_ok-add-2.ensures.ok c.in_ok-beside.ensures.beside

@@ -1,5 +1,7 @@
 -- A piece more.
-use Rattle.std.proofs.Common.{rules, ◌≡◌, ◌∙◌, sym, ap, subst, ◌+◌, ◌-◌, ◌≤◌, length, take, min, slice_get, Some, arith}
+use Rattle.std.proofs.Common.{rules, ◌≡◌, ◌∙◌, sym, ap, subst, ◌+◌, ◌-◌, ◌≤◌}
+use Rattle.std.proofs.Common.{drop, length, take, min, slice_get, Some, arith}
+use Rattle.std.proofs.lemmas.List.{drop-drop, length-drop}
 use Rattle.std.proofs.lemmas.Option.{slice_get_within}
 use Rattle.std.specs.Option.{option_map}
 use Rattle.piece_table.specs.declared.pieces.Piece.{Piece}
@@ -26,6 +28,7 @@ loop-i-init c =
       chps = ap length c.new.ensures;
       besides = ap length c.new-2.ensures;
       placed = none_placed view c.args.pieces.now.pieces (items_of view.units chps besides) none;
+      rest = c.skip-rest.ensures;
       readers = search rules;
       passed = search rules;
     }
@@ -36,6 +39,14 @@ index_mut-requires c =
     let has = c.in_ok-number.ensures.serves in
     let within = slice_get_within readers.items c.in_ok-number.number has.reader has.here in
     omega (arith, within, readers.ok.0)
+
+pub push_piece-requires-clause-part : goal.push_piece-requires-clause-part
+push_piece-requires-clause-part c = c.skip.ensures ∙ c.loop-i.invariant.rest
+
+pub skip-rest-requires-in-loop-i : goal.skip-rest-requires-in-loop-i
+skip-rest-requires-in-loop-i c =
+    let left = ap length c.loop-i.invariant.rest ∙ length-drop c.loop-i.cp c.args.text.now.places in
+    omega (arith, left, c.min.ensures, c.loop-i.invariant.len, c.requires.readable.same)
 
 pub push_piece-requires-clause-reader : goal.push_piece-requires-clause-reader
 push_piece-requires-clause-reader c =
@@ -80,6 +91,7 @@ loop-i-preserved c =
     c.index_mut.ensures.value in
     let same = at.1 ∙ sym modifier_is in
     let long : cp + added - cp ≡ added = omega arith in
+    let behind : cp + (cp + added - cp) ≡ cp + added = omega arith in
     let chps = subst (λ m. AddsEach (IsReadCharacter view m) added old.chps new.chps) same
     (subst (λ n. AddsEach (IsReadCharacter view reader.characters.modifier) n old.chps new.chps) long
     c.in_ok-push_piece.ensures.chps) in
@@ -95,6 +107,8 @@ loop-i-preserved c =
       besides = omega (arith, besides.len, c.loop-i.invariant.besides);
       placed = placed_more view pieces i added count piece old_items new_items here front added_is
           c.loop-i.invariant.placed adds;
+      rest = c.skip-rest-in-loop-i.ensures ∙ ap (drop (cp + added - cp)) c.loop-i.invariant.rest
+          ∙ drop-drop (cp + added - cp) cp text.places ∙ ap (λ n. drop n text.places) behind;
       readers = readers_same view readers number reader c.push_piece.new.reader c.in_ok-number.ensures.readers at.0
           c.in_ok-push_piece.ensures.same;
       passed = c.in_ok-push_piece.ensures.passed;

@@ -1,4 +1,4 @@
-use Rattle.std.proofs.Common.{◌≡◌, length, take, min}
+use Rattle.std.proofs.Common.{◌≡◌, drop, length, take, min}
 use Rattle.piece_table.specs.Piece.{total_length}
 use Rattle.doc_columns.specs.Columns.{items_of}
 use Rattle.doc_read.specs.Reading.{ArePassed, ArePieceReaders, ArePlacedItems, mark_lists, text_view}
@@ -11,6 +11,7 @@ invariant-loop-i l = record {
   chps : length l.read.chps ≡ l.cp;
   besides : length l.read.besides ≡ l.cp;
   placed : ArePlacedItems (text_view l.text) l.pieces.pieces (items_of l.text.units.now l.read.chps l.read.besides);
+  rest : l.rest ≡ drop l.cp l.text.places;
   readers : ArePieceReaders (text_view l.text) l.readers.items;
   passed : ArePassed (mark_lists l.text.marks.now) l.passed l.cp;
 }

@@ -1,4 +1,4 @@
-use Rattle.std.proofs.Common.{◌<◌, ◌≤◌, IfSome, below_more, arith, ℕ, length, slice_index_or, sym, subst}
+use Rattle.std.proofs.Common.{IfSome, below_more, arith, slice_index_or, sym, subst}
 use Rattle.direct_props.specs.declared.rules.RightStretch.{RightStretch}
 use Rattle.direct_props.specs.PageRules.{IsRightPlace}
 use Rattle.direct_props.specs.Pages.{IsRightStretch}

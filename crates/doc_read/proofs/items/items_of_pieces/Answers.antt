@@ -1,6 +1,7 @@
-use Rattle.std.proofs.Common.{◌≡◌, ◌∙◌, sym, ap, subst, ◌-◌, length, min, slice_get, Some, arith}
+use Rattle.std.proofs.Common.{◌≡◌, ◌∙◌, sym, ap, subst, ◌+◌, ◌-◌, drop, length, min, slice_get, Some, arith}
 use Rattle.std.proofs.lemmas.Option.{slice_get_within}
 use Rattle.std.specs.Option.{option_map}
+use Rattle.std.proofs.lemmas.List.{drop-drop, length-drop}
 use Rattle.piece_table.specs.declared.pieces.Piece.{Piece}
 use Rattle.piece_table.specs.Piece.{TextPiece}
 use Rattle.doc_load.proofs.UnitLemmas.{piece_read}
@@ -23,6 +24,18 @@ push_piece-requires-clause-reader c =
     let number = c.in_ok-number.number in
     let reader = c.index_mut.result.now in
     reader_right (text_view c.args.text.now) readers number reader c.in_ok-number.ensures.readers (reader_at readers number reader c.modifier.result.now c.in_ok-number.ensures.serves c.index_mut.ensures.value).0
+
+pub push_piece-requires-clause-part : goal.push_piece-requires-clause-part
+push_piece-requires-clause-part c =
+    let places = c.args.text.now.places in
+    let from_is : length c.loop-i.items.items ≡ c.len-in-loop-i.result = omega (arith, c.len-in-loop-i.ensures, c.loop-i.items.ok.0) in
+    c.skip.ensures ∙ (c.loop-i.invariant.rest ∙ ap (λ n. drop n places) from_is)
+
+pub skip-rest-requires-in-loop-i : goal.skip-rest-requires-in-loop-i
+skip-rest-requires-in-loop-i c =
+    let places = c.args.text.now.places in
+    let left = ap length c.loop-i.invariant.rest ∙ length-drop (length c.loop-i.items.items) places in
+    omega (arith, left, c.min-len.ensures, c.len.ensures, c.loop-i.items.ok.0, c.requires.readable.same)
 
 pub loop-i-preserved : goal.loop-i-preserved
 loop-i-preserved c =
@@ -52,5 +65,8 @@ loop-i-preserved c =
       len = length-more pieces i added count piece (length old) (length new) here c.loop-i.invariant.len added_is adds.len;
       placed = placed_more view pieces i added count piece old new here c.loop-i.invariant.len added_is c.loop-i.invariant.placed adds;
       readers = readers_same view readers number reader c.push_piece.new.reader c.in_ok-number.ensures.readers at.0 c.in_ok-push_piece.ensures.same;
+      rest =
+          let len : length old + added ≡ length new = omega (arith, adds.len) in
+          c.skip-rest-in-loop-i.ensures ∙ (ap (drop added) c.loop-i.invariant.rest ∙ (drop-drop added (length old) text.places ∙ ap (λ n. drop n text.places) len));
       passed = c.in_ok-push_piece.ensures.passed;
     }

@@ -1,4 +1,4 @@
-use Rattle.std.proofs.Common.{◌≡◌, ◌∙◌, [], sym, ap, subst, ◌+◌, ◌-◌, ◌<◌, ◌≤◌, ◌++◌, length, slice_get, Some, arith}
+use Rattle.std.proofs.Common.{◌≡◌, ◌∙◌, [], sym, ap, subst, ◌+◌, ◌-◌, ◌<◌, ◌≤◌, ◌++◌, length, slice_get, take, Some, arith}
 use Rattle.std.specs.Prelude.{slice_index, slice_range}
 use Rattle.std.proofs.lemmas.Option.{slice_get_within}
 use Rattle.prop_map.specs.Formed.{IsPropertyMap, character_groups}
@@ -11,7 +11,7 @@ use Rattle.doc_bits.proofs.ListLemmas.{All_at, length-range}
 use Rattle.doc_read.specs.declared.reading.PieceReader.{PieceReader}
 use Rattle.doc_read.specs.Passing.{AddsEach}
 use Rattle.doc_read.specs.Reading.{IsPieceReader, IsReadAt, IsReadCharacter, text_view}
-use Rattle.doc_read.proofs.PlaceLemmas.{range_at}
+use Rattle.doc_read.proofs.PlaceLemmas.{part_range, range_at}
 use Rattle.doc_read.proofs.ReaderLemmas.{right_range}
 use Rattle.doc_read.proofs.items.push_chunk.Goals as goal
 
@@ -20,34 +20,41 @@ push_characters-requires-clause-kind c = ap (λ (s : PlaceSource). s.kind) c.req
 
 pub push_characters-requires-clause-right : goal.push_characters-requires-clause-right
 push_characters-requires-clause-right c =
-    let text = c.args.text.now in
-    let places = text.places.now in
+    let text = c.args.part.now.text.now in
+    let places = text.places in
     let from = c.len-from.result in
     let to = from + c.args.len in
     let from_is : from ≡ length c.args.items.now.items = omega (arith, c.len-from.ensures, c.args.items.now.ok.0) in
     let within : to ≤ length places = omega (arith, from_is, c.requires.within, c.requires.readable.same) in
-    subst (λ (s : PlaceSource). AreRightPlaces Chpx s.wd s.bin (slice_range places from to)) (sym c.requires.reader.characters)
-    (right_range text.wd.now text.characters.now places from to within c.requires.readable.right_characters)
+    let handed : c.deref.result.now ≡ slice_range places from to =
+    c.deref.ensures.value ∙ (c.in_ok-places.ensures ∙ (c.front.ensures ∙ (ap (take c.args.len) c.skip-rest.ensures
+    ∙ part_range places c.args.part.now.places c.args.part.now.from from c.args.len (omega (arith, from_is, c.requires.from)) c.requires.part))) in
+    subst (λ (s : PlaceSource). AreRightPlaces Chpx s.wd s.bin c.deref.result.now) (sym c.requires.reader.characters)
+    (subst (AreRightPlaces Chpx text.wd.now text.characters.now) (sym handed) (right_range text.wd.now text.characters.now places from to within c.requires.readable.right_characters))
 
 pub push_items-requires-clause-reader : goal.push_items-requires-clause-reader
 push_items-requires-clause-reader c =
     let reader = c.args.reader.now in
     let same : record { characters = c.push_characters.new.self; marks = reader.marks } ≡ reader = λ i. record { characters = c.push_characters.ensures.same i; marks = reader.marks } in
-    subst (IsPieceReader (text_view c.args.text.now)) (sym same) c.requires.reader
+    subst (IsPieceReader (text_view c.args.part.now.text.now)) (sym same) c.requires.reader
 
 pub push_items-requires-clause-characters : goal.push_items-requires-clause-characters
 push_items-requires-clause-characters c = λ j chp there.
-    let text = c.args.text.now in
-    let places = text.places.now in
+    let text = c.args.part.now.text.now in
+    let places = text.places in
     let from = c.len-from.result in
     let to = from + c.args.len in
     let reader = c.args.reader.now in
-    let adds = subst (λ (s : PlaceSource). AddsCharacters s.wd s.bin (slice_range places from to) s.modifier c.new-settings.result c.push_characters.new.list) c.requires.reader.characters c.in_ok-push_characters.ensures.ok in
+    let from_is : from ≡ length c.args.items.now.items = omega (arith, c.len-from.ensures, c.args.items.now.ok.0) in
+    let handed : c.deref.result.now ≡ slice_range places from to =
+    c.deref.ensures.value ∙ (c.in_ok-places.ensures ∙ (c.front.ensures ∙ (ap (take c.args.len) c.skip-rest.ensures
+    ∙ part_range places c.args.part.now.places c.args.part.now.from from c.args.len (omega (arith, from_is, c.requires.from)) c.requires.part))) in
+    let adds = subst (λ l. AddsCharacters text.wd.now text.characters.now l c.args.reader.now.characters.modifier c.new-settings.result c.push_characters.new.list) handed
+    (subst (λ (s : PlaceSource). AddsCharacters s.wd s.bin c.deref.result.now s.modifier c.new-settings.result c.push_characters.new.list) c.requires.reader.characters c.in_ok-push_characters.ensures.ok) in
     let all : c.into_vec.result.items ≡ adds.added =
     c.into_vec.ensures ∙ (adds.joined ∙ ap (λ l. l ++ adds.added) c.new-settings.ensures) in
     let here : slice_get adds.added j ≡ Some chp = ap (λ l. slice_get l j) (sym all) ∙ there in
     let below = slice_get_within adds.added j chp here in
-    let from_is : from ≡ length c.args.items.now.items = omega (arith, c.len-from.ensures, c.args.items.now.ok.0) in
     let within : to ≤ length places = omega (arith, from_is, c.requires.within, c.requires.readable.same) in
     let len = length-range places from to within in
     let inside : j < to - from = omega (arith, below, adds.len, len) in
@@ -61,16 +68,20 @@ push_items-requires-clause-characters c = λ j chp there.
 
 pub returns-clause-items : goal.returns-clause-items
 returns-clause-items c =
-    let text = c.args.text.now in
-    let places = text.places.now in
+    let text = c.args.part.now.text.now in
+    let places = text.places in
     let from = c.len-from.result in
     let to = from + c.args.len in
     let old = c.args.items.now.items in
     let new = c.push_items.new.items.items in
-    let adds = subst (λ (s : PlaceSource). AddsCharacters s.wd s.bin (slice_range places from to) s.modifier c.new-settings.result c.push_characters.new.list) c.requires.reader.characters c.in_ok-push_characters.ensures.ok in
+    let from_is : from ≡ length c.args.items.now.items = omega (arith, c.len-from.ensures, c.args.items.now.ok.0) in
+    let handed : c.deref.result.now ≡ slice_range places from to =
+    c.deref.ensures.value ∙ (c.in_ok-places.ensures ∙ (c.front.ensures ∙ (ap (take c.args.len) c.skip-rest.ensures
+    ∙ part_range places c.args.part.now.places c.args.part.now.from from c.args.len (omega (arith, from_is, c.requires.from)) c.requires.part))) in
+    let adds = subst (λ l. AddsCharacters text.wd.now text.characters.now l c.args.reader.now.characters.modifier c.new-settings.result c.push_characters.new.list) handed
+    (subst (λ (s : PlaceSource). AddsCharacters s.wd s.bin c.deref.result.now s.modifier c.new-settings.result c.push_characters.new.list) c.requires.reader.characters c.in_ok-push_characters.ensures.ok) in
     let all : c.into_vec.result.items ≡ adds.added =
     c.into_vec.ensures ∙ (adds.joined ∙ ap (λ l. l ++ adds.added) c.new-settings.ensures) in
-    let from_is : from ≡ length old = omega (arith, c.len-from.ensures, c.args.items.now.ok.0) in
     let within : to ≤ length places = omega (arith, from_is, c.requires.within, c.requires.readable.same) in
     let count : length c.into_vec.result.items ≡ c.args.len = omega (arith, ap length all, adds.len, length-range places from to within) in
     subst (λ n. AddsEach (IsReadAt (text_view text) c.args.reader.now.characters.modifier) n old new) count

@@ -10,11 +10,11 @@ returns-then-cp-passed-clause-pushed c =
     let item = c.in_ok-item.item in
     let cp_is : c.len-cp.result ≡ length c.args.items.now.items =
     omega (arith, c.len-cp.ensures, c.args.items.now.ok.0) in
-    (item, (subst (λ n. IsReadAt (text_view c.args.text.now) c.args.reader.now.characters.modifier n item) cp_is c.in_ok-item.ensures.item, c.in_ok-push.ensures.items))
+    (item, (subst (λ n. IsReadAt (text_view c.args.part.now.text.now) c.args.reader.now.characters.modifier n item) cp_is c.in_ok-item.ensures.item, c.in_ok-push.ensures.items))
 
 pub returns-then-cp-passed-clause-bare : goal.returns-then-cp-passed-clause-bare
 returns-then-cp-passed-clause-bare c = λ at upper lower.
-    let marks = mark_lists c.args.text.now.marks.now in
+    let marks = mark_lists c.args.part.now.text.now.marks.now in
     let old = c.args.items.now.items in
     let cp_is : c.len-cp.result ≡ length old = omega (arith, c.len-cp.ensures, c.args.items.now.ok.0) in
     let len_is : length c.push.new.self.items ≡ length old + 1 =
@@ -23,7 +23,7 @@ returns-then-cp-passed-clause-bare c = λ at upper lower.
 
 pub returns-clause-pushed : goal.returns-clause-pushed
 returns-clause-pushed c =
-    let text = c.args.text.now in
+    let text = c.args.part.now.text.now in
     let cp = length c.args.items.now.items in
     let unit = slice_index text.units.now c.len-cp.result in
     let cp_is : c.len-cp.result ≡ cp = omega (arith, c.len-cp.ensures, c.args.items.now.ok.0) in
@@ -38,11 +38,11 @@ returns-clause-passed c =
     let old = c.args.items.now.items in
     let cp_is : c.len-cp.result ≡ length old = omega (arith, c.len-cp.ensures, c.args.items.now.ok.0) in
     let below : c.len-cp.result < c.args.passed.now.until = omega (arith, c.if-cp-passed.false) in
-    let len_is : length c.push-2.new.self.items ≡ length old + 1 = omega (arith, ap length c.in_ok-push-2.ensures.items, length-append old (bare_item (slice_index c.args.text.now.units.now c.len-cp.result) c.args.chp ∷ [])) in
+    let len_is : length c.push-2.new.self.items ≡ length old + 1 = omega (arith, ap length c.in_ok-push-2.ensures.items, length-append old (bare_item (slice_index c.args.part.now.text.now.units.now c.len-cp.result) c.args.chp ∷ [])) in
     c.requires.bare (length c.push-2.new.self.items) (omega (arith, len_is)) (omega (arith, len_is, below, cp_is))
 
 pub returns-clause-bare : goal.returns-clause-bare
 returns-clause-bare c = λ at upper lower.
     let old = c.args.items.now.items in
-    let len_is : length c.push-2.new.self.items ≡ length old + 1 = omega (arith, ap length c.in_ok-push-2.ensures.items, length-append old (bare_item (slice_index c.args.text.now.units.now c.len-cp.result) c.args.chp ∷ [])) in
+    let len_is : length c.push-2.new.self.items ≡ length old + 1 = omega (arith, ap length c.in_ok-push-2.ensures.items, length-append old (bare_item (slice_index c.args.part.now.text.now.units.now c.len-cp.result) c.args.chp ∷ [])) in
     c.requires.bare at (omega (arith, upper, len_is)) lower

@@ -11,10 +11,10 @@ loop-chp-init c = record {
   whole = search rules;
   left = search rules;
   same = refl;
-  added = adds_none (IsReadAt (text_view c.args.text.now) c.args.reader.now.characters.modifier) c.args.items.now.items;
-  passed = same_passed (mark_lists c.args.text.now.marks.now) c.args.passed.now _ (length c.args.items.now.items) refl refl refl c.requires.passed;
+  added = adds_none (IsReadAt (text_view c.args.part.now.text.now) c.args.reader.now.characters.modifier) c.args.items.now.items;
+  passed = same_passed (mark_lists c.args.part.now.text.now.marks.now) c.args.passed.now _ (length c.args.items.now.items) refl refl refl c.requires.passed;
   bare = λ at upper lower.
-      same_passed (mark_lists c.args.text.now.marks.now) c.args.passed.now _ at refl refl refl
+      same_passed (mark_lists c.args.part.now.text.now.marks.now) c.args.passed.now _ at refl refl refl
       (c.next_marked-passed.ensures (length c.args.items.now.items) at c.requires.passed upper lower);
 }
 
@@ -24,15 +24,15 @@ push_item-requires-clause-characters c =
     let steps : into_iter_items at.chp-iterator ≡ c.in-Some.chp ∷ into_iter_items c.next.new.self =
     c.in-Some.ensures.steps.0 in
     let there = slice_get_middle at.yielded c.in-Some.chp (into_iter_items c.next.new.self) (c.args.chps.items) (rw (← steps) (at.invariant.whole ∙ c.into_iter-chp-iterator.ensures.into_iter_gives.0)) in
-    subst (λ (r : PieceReader). IsReadCharacter (text_view c.args.text.now) r.characters.modifier (length at.items.items) c.in-Some.chp) (sym at.invariant.same)
+    subst (λ (r : PieceReader). IsReadCharacter (text_view c.args.part.now.text.now) r.characters.modifier (length at.items.items) c.in-Some.chp) (sym at.invariant.same)
     (rw (at.invariant.added.len) (c.requires.characters (length at.yielded) c.in-Some.chp there))
 
 pub push_item-requires-clause-reader : goal.push_item-requires-clause-reader
-push_item-requires-clause-reader c = subst (IsPieceReader (text_view c.args.text.now)) (sym c.loop-chp.invariant.same) c.requires.reader
+push_item-requires-clause-reader c = subst (IsPieceReader (text_view c.args.part.now.text.now)) (sym c.loop-chp.invariant.same) c.requires.reader
 
 pub loop-chp-preserved : goal.loop-chp-preserved
 loop-chp-preserved c =
-    let text = c.args.text.now in
+    let text = c.args.part.now.text.now in
     let at = c.loop-chp in
     let chp = c.in-Some.chp in
     let steps : into_iter_items at.chp-iterator ≡ chp ∷ into_iter_items c.next.new.self = c.in-Some.ensures.steps.0 in

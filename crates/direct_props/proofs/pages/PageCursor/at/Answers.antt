@@ -1,4 +1,3 @@
-use Rattle.std.proofs.Common.{arith}
 use Rattle.fkp_pages.specs.Bin.{page_at}
 use Rattle.direct_props.proofs.StretchLemmas.{range_at, small_page}
 use Rattle.direct_props.proofs.pages.PageCursor.at.Goals as goal

@@ -1,14 +1,16 @@
-use Rattle.std.proofs.Common.{◌≡◌, ℕ, ◌+◌, ◌-◌, ◌≤◌, length, take}
+use Rattle.std.proofs.Common.{◌≡◌, ◌-◌, length, take}
 use Rattle.direct_props.specs.Stretches.{AddsCharacters}
+use Rattle.direct_props.proofs.RowLemmas.{IsRest}
 use Rattle.direct_props.proofs.reader.PlaceReader.push_character_runs.Given as goal
 
--- the settings of the places so far are added
-abbrev pub invariant-loop-done : goal.invariant-loop-done
-invariant-loop-done l = record {
-  inside : l.done ≤ length l.places;
+-- the settings of the places that are passed are added
+abbrev pub invariant-loop-left : goal.invariant-loop-left
+invariant-loop-left l = record {
+  rest : IsRest l.places l.left;
   same : l.self ≡ l.fn.self;
-  added : AddsCharacters l.fn.self.wd l.fn.self.bin (take l.done l.places) l.fn.self.modifier l.fn.runs l.runs;
+  added : AddsCharacters l.fn.self.wd l.fn.self.bin (take (length l.places - length l.left) l.places)
+      l.fn.self.modifier l.fn.runs l.runs;
 }
 
-abbrev pub decreases-loop-done : goal.decreases-loop-done
-decreases-loop-done l = length l.places - l.done
+abbrev pub decreases-loop-left : goal.decreases-loop-left
+decreases-loop-left l = length l.left
