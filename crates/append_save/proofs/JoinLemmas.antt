@@ -92,7 +92,8 @@ covers_later first runs fc run is = record {
 abbrev pub goes_on : Run → Run → List Run → Bool → List Run
 goes_on run next runs b = cond b (joined_from (spanned run next) runs) (run ∷ joined_from next runs)
 
-pub joined-more : (run next : Run) (runs : List Run) → joined_from run (next ∷ runs) ≡ goes_on run next runs (is_same_run run next)
+pub joined-more : (run next : Run) (runs : List Run) → joined_from run (next ∷ runs) ≡ goes_on run next runs
+    (is_same_run run next)
 unfolding joined_from
 joined-more run next runs = refl
 

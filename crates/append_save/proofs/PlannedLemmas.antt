@@ -68,7 +68,8 @@ planned_skip main places base old cp number d so h none are =
     let len = ap length same in
     record {
       bytes =
-          ap (λ (rest : List (ℕ × Settings)). so.out ++ planned_sepxes (drop number places) rest) (sym same) ∙ are.bytes;
+          ap (λ (rest : List (ℕ × Settings)). so.out ++ planned_sepxes (drop number places) rest) (sym same) ∙
+          are.bytes;
       seds =
           ap (λ (rest : List (ℕ × Settings)).
           so.seds ++ planned_seds so.start (base + length so.out) (drop number places) rest) (sym same)
@@ -244,13 +245,15 @@ planned_at old wd before after start at [] sections has fit there here low small
     absurd (none-some sed mine)
 planned_at old wd before after start at (place ∷ places) [] has fit there here low small k sed section mine its =
     absurd (none-some section its)
-planned_at old wd before after start at (place ∷ places) (first ∷ sections) has fit there here low small zero sed section
+planned_at old wd before after start at (place ∷ places) (first ∷ sections) has fit there here low small zero sed
+    section
     mine its =
     let same = same_Some first section its in
     let own : Sed = record { start = start; sepx = planned_fc at place first.1 } in
     let sed_is = same_Some own sed mine in
     let cut : wd ≡ before ++ (new_sepx place first.1 ++ (planned_sepxes places sections ++ after)) =
-    there ∙ ap (λ (b : List ℕ). before ++ b) (append_assoc (new_sepx place first.1) (planned_sepxes places sections) after) in
+    there ∙ ap (λ (b : List ℕ). before ++ b) (append_assoc (new_sepx place first.1) (planned_sepxes places sections)
+    after) in
     let is = by_place old wd before (planned_sepxes places sections ++ after) place first (has 0 place first refl refl)
     (fit 0 first refl) cut low small in
     let moved : StandsInOne old wd own first =

@@ -52,7 +52,8 @@ use Rattle.save_laws.proofs.FullSavedLemmas.{no_levels}
 -- ---- the pieces can be printed
 
 -- a place is below the end of what is added
-place_small : (r : Ready) (at : ℕ) (wide : Bool) → StandsInEither (old_stream r.save) (plan_of r.save) at wide → at < 2 ^ 29
+place_small : (r : Ready) (at : ℕ) (wide : Bool) → StandsInEither (old_stream r.save) (plan_of r.save) at wide →
+    at < 2 ^ 29
 place_small r at wide (inl stands) =
     let inside = stands.inside in
     let base = base_is r in
@@ -79,7 +80,8 @@ stands_by r at wide given (inr planned) = inr (record {
 })
 
 stands_placed : (r : Ready) (place : UnitPlace) (slot : Slot) →
-    IsPlaced (StandsInEither (old_stream r.save) (plan_of r.save)) (IsGivenBy (old_stream r.save) (plan_of r.save)) place
+    IsPlaced (StandsInEither (old_stream r.save) (plan_of r.save)) (IsGivenBy (old_stream r.save) (plan_of r.save))
+    place
     slot → StandsInEither (old_stream r.save) (plan_of r.save) place.at place.wide
 stands_placed r place (shown item) placed = stands_by r place.at place.wide placed.before placed.gives
 stands_placed r place loose placed = stands_by r place.at place.wide placed.given placed.gives
@@ -112,7 +114,8 @@ piece_fits r k piece here =
 pub printable : (r : Ready) → IsPrintable r.save.pieces
 printable r = record {
   few = r.can.few;
-  places = All-from_slice_get (λ (p : TextPiece). p.at < 2 ^ 29) r.save.pieces (λ k piece here. (piece_fits r k piece here).0);
+  places = All-from_slice_get (λ (p : TextPiece). p.at < 2 ^ 29) r.save.pieces (λ k piece here. (piece_fits r k piece
+      here).0);
   fit = All-from_slice_get (λ (p : TextPiece). FitsPages p.modifier) r.save.pieces
       (λ k piece here. (piece_fits r k piece here).1);
 }
@@ -221,7 +224,8 @@ sections_there m =
 bounds : (r : Ready) → AreWithinBounds r.save.contents
 bounds r =
     subst AreWithinBounds (sym r.can.contents)
-    (contents-bounded r.can.file r.can.held.parts.contents (hold_out File (container_rules r.can.file) r.can.held.rules.0)
+    (contents-bounded r.can.file r.can.held.parts.contents (hold_out File (container_rules r.can.file)
+    r.can.held.rules.0)
     r.can.held.has_parts.has_contents)
 
 has_contents : (r : Ready) → HasContents r.can.file r.save.contents
@@ -239,7 +243,8 @@ old_has_wd r =
 old_has_table : (r : Ready) → HasNamed r.save.contents.streams (table_name_of r.save) (the_text r).table
 old_has_table r =
     subst (λ (c : Contents). HasNamed c.streams (table_name_of r.save) (the_text r).table) (sym r.can.contents)
-    (subst (λ (fib : FibFields). HasNamed r.can.held.parts.contents.streams (table_name fib.which_table) (the_text r).table)
+    (subst (λ (fib : FibFields). HasNamed r.can.held.parts.contents.streams (table_name fib.which_table)
+    (the_text r).table)
     (sym r.can.fib) r.can.held.has_parts.has_text.has_table)
 
 pub streams_are : (m : Made) → AreStreams (fast_streams (the_save m) m.clx)
@@ -311,15 +316,18 @@ fast_saved m =
       kept = keeps_fields m;
       parts = part_there m;
       wd_small = omega (arith, small);
-      has_wd = renewed_wd name (new_wd m) table save.contents.streams save.contents.clsid (the_text r).wd (old_has_wd r);
+      has_wd = renewed_wd name (new_wd m) table save.contents.streams save.contents.clsid (the_text r).wd
+          (old_has_wd r);
       has_table =
-          subst (λ (which : ℕ). HasNamed (fast_contents save m.clx).streams (table_name which) table) (sym (new_which m))
+          subst (λ (which : ℕ). HasNamed (fast_contents save m.clx).streams (table_name which) table)
+          (sym (new_which m))
           (renewed_table name (new_wd m) table save.contents.streams save.contents.clsid (the_text r).table
           (name_six save.fib.which_table) (old_has_table r));
       clsid = clsid_is r ∙ sym (contents_clsid (fast_streams save m.clx) save.contents.clsid);
       streams =
           carried_are r
-          ∙ sym (renewed_carried (eqb save.fib.which_table 1) (new_wd m) table save.contents.streams save.contents.clsid);
+          ∙ sym (renewed_carried (eqb save.fib.which_table 1) (new_wd m) table save.contents.streams
+          save.contents.clsid);
     }
 
 names_small : (m : Made) (i : ℕ) (stream : NamedBytes) →

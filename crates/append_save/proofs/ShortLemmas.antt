@@ -67,7 +67,8 @@ counted_saves_fit counts save sectors is within needs =
 
 -- ---- the file
 
-abbrev made_of : (counts : SaveCounts) (save : FastSave) (file : List ℕ) → IsCounted counts save → IsAppended save file → Made
+abbrev made_of : (counts : SaveCounts) (save : FastSave) (file : List ℕ) → IsCounted counts save → IsAppended save
+    file → Made
 made_of counts save file is made = record {
   ready = ready_of counts save is;
   clx = made.clx;

@@ -99,7 +99,8 @@ renewed_next name wd table streams i s here are =
     let len = length-map streams f in
     let zero : i - 0 ≡ i = omega arith in
     let full : length all - 0 ≡ length all = omega arith in
-    let whole : take (length all - 0) all ≡ all = ap (λ (n : ℕ). take n all) full ∙ take_all (length all) all (omega arith) in
+    let whole : take (length all - 0) all ≡ all = ap (λ (n : ℕ). take n all) full ∙ take_all (length all) all
+    (omega arith) in
     let next = add_next [] all 0 i (length all) (f s) (omega arith) (omega (arith, below, len)) (omega arith)
     (subst AreStreams (sym whole) are) in
     let at : get_or all i (f s) ≡ f s = get_or_from_slice_get all i (f s) (f s) (get-map f streams i s here) in

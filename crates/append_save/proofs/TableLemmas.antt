@@ -132,9 +132,11 @@ last_mark r =
     let d = r.save.document in
     let last = main_ends d (is_right r) in
     let slot = main_slot d r.save.ends (length d.main - 1) last.item last.here in
-    let P = IsPlaced (StandsInEither (old_stream r.save) (plan_of r.save)) (IsGivenBy (old_stream r.save) (plan_of r.save)) in
+    let P = IsPlaced (StandsInEither (old_stream r.save) (plan_of r.save)) (IsGivenBy (old_stream r.save)
+    (plan_of r.save)) in
     let found =
-    beside P (flat_pieces r.save.pieces) (whole_text d r.save.ends) (length d.main - 1) (shown last.item) (text_stands r)
+    beside P (flat_pieces r.save.pieces) (whole_text d r.save.ends) (length d.main - 1) (shown last.item) (text_stands
+    r)
     slot in
     marked_by r found.other last.item last.item.mark refl (last_marked d (is_right r)) found.is
 

@@ -1,9 +1,11 @@
 -- WordDocument of a save behind an old stream: what stands where.
 use Rattle.std.specs.Prelude.{slice_get, slice_index, replicate}
 use Rattle.std.proofs.Common.{◌≡◌, ◌∙◌, refl, sym, ap, subst, inl, inr, ℕ, ◌+◌, ◌-◌, ◌*◌, ◌/◌, ◌<◌, ◌≤◌, ◌^◌}
-use Rattle.std.proofs.Common.{List, [], ◌∷◌, ◌++◌, length, map, drop, Some, None, Option, arith, append_assoc, length-append}
+use Rattle.std.proofs.Common.{List, [], ◌∷◌, ◌++◌, length, map, drop, Some, None, Option, arith, append_assoc}
+use Rattle.std.proofs.Common.{length-append}
 use Rattle.std.proofs.lemmas.Bool.{cases_lt}
-use Rattle.std.proofs.lemmas.List.{append-nil, length-map, length-drop, get_or_append_left, get_or-append-add, get_or-drop}
+use Rattle.std.proofs.lemmas.List.{append-nil, length-map, length-drop, get_or_append_left, get_or-append-add}
+use Rattle.std.proofs.lemmas.List.{get_or-drop}
 use Rattle.std.proofs.lemmas.Option.{slice_get_within, get_or_from_slice_get}
 use Rattle.doc_bits.proofs.ListLemmas.{All_at, get-map, from_map}
 use Rattle.doc_bits.proofs.NumberLemmas.{number_at-after, number_at-before}
@@ -162,7 +164,8 @@ pairs_count m = (entries_are_pairs (fast_entries (the_save m) m.clx) (allowed m)
 -- ---- how long the parts are
 
 pub record Sizes (m : Made) : Type 0 where
-  pub old : length (written_fib (new_fib m) ++ drop early_form.size (old_wd (the_save m))) ≡ length (old_wd (the_save m))
+  pub old : length (written_fib (new_fib m) ++ drop early_form.size (old_wd (the_save m))) ≡ length
+      (old_wd (the_save m))
   pub front : length (parts_of m).front ≡ (the_save m).base
   pub text : length (parts_of m).text ≡ 512 * ((2 * length (the_save m).added + 511) / 512)
   pub units : length (units_bytes (added_units m)) ≡ 2 * length (the_save m).added
@@ -243,7 +246,8 @@ short_sepxes : (m : Made) → length (parts_of m).sepx ≤ 503 * 500000
 short_sepxes m =
     let d = (the_save m).document in
     let planned =
-    length-planned (the_save m).places (sections_of d.main) (λ k section here. (sections_fit m.ready k section here).short) in
+    length-planned (the_save m).places (sections_of d.main) (λ k section here. (sections_fit m.ready k section
+    here).short) in
     let few = length-collected (λ (item : Item). item.sect) 0 d.main in
     let right = is_right m.ready in
     let most = right.few in

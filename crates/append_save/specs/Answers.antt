@@ -9,13 +9,15 @@ use Rattle.save_laws.specs.Saves.{IsFileOf}
 use Rattle.append_save.specs.declared.fault.AppendFault.{AppendFault}
 use Rattle.append_save.specs.declared.fault.AppendFault.TheVariants.{Sixteenth, TooLarge, Memory}
 use Rattle.append_save.specs.Saves.{FastSave, plan_of}
-use Rattle.append_save.specs.Appended.{old_stream, fast_streams, fast_contents, fast_saved_text, fast_table, fast_wd, fast_fib}
+use Rattle.append_save.specs.Appended.{old_stream, fast_streams, fast_contents, fast_saved_text, fast_table, fast_wd}
+use Rattle.append_save.specs.Appended.{fast_fib}
 
 -- the sectors that the file needs
 abbrev pub sectors_of : FastSave → List ℕ → ℕ
 sectors_of save clx = sectors_needed (lengths_of (fast_streams save clx))
 
--- the file is the container of the streams, with one Prc for each modifier in use; it fits; the document is saved behind
+-- the file is the container of the streams, with one Prc for each modifier in use; it fits; the document is saved
+-- behind
 -- the old stream; and the FIB has one more quick save
 pub record IsAppended (save : FastSave) (file : List ℕ) : Type 0 where
   pub clx : List ℕ

@@ -21,7 +21,8 @@ use Rattle.save_laws.specs.FastSaves.{StandsInSession}
 use Rattle.append_save.specs.Saves.{FastSave, plan_of}
 use Rattle.append_save.specs.Appended.{added_runs, fast_table}
 
--- the old file holds a document, which has what this one carries along; each unit of the text stands in its WordDocument
+-- the old file holds a document, which has what this one carries along; each unit of the text stands in its
+-- WordDocument
 -- or in the added text, which begins at the next page; the settings of each section stand there or are to be written;
 -- and nothing is too large for the places in a file
 pub record CanBeAppended (save : FastSave) : Type 0 where

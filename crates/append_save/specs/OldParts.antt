@@ -13,4 +13,5 @@ StaysWithin fib table part = (named_pair fib part).0 + (named_pair fib part).1 �
 
 -- its bytes
 abbrev pub named_part : FibFields → List ℕ → TablePart → List ℕ
-named_part fib table part = slice_range table (named_pair fib part).0 ((named_pair fib part).0 + (named_pair fib part).1)
+named_part fib table part = slice_range table (named_pair fib part).0 ((named_pair fib part).0 + (named_pair fib
+    part).1)

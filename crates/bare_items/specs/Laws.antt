@@ -8,4 +8,5 @@ use Rattle.bare_items.specs.Specials.{AreSpecialsOf}
 -- a document whose bare items are right, and which has not too many, is sound where that of its special items is
 abbrev pub SpecialItemsDecide : Type 0
 SpecialItemsDecide =
-    (document kept : Document) → AreSpecialsOf document kept → item_count document ≤ most_items → IsSound kept → IsSound document
+    (document kept : Document) → AreSpecialsOf document kept → item_count document ≤ most_items → IsSound kept →
+    IsSound document

@@ -1,5 +1,6 @@
 -- What the streams of an accepted file hold: sectors and mini sectors, none of them in two streams.
-use Rattle.std.proofs.Common.{◌≡◌, ◌≢◌, inl, inr, ℕ, ◌+◌, ◌*◌, ◌%◌, ◌<◌, min, List, [], ◌∷◌, None, length, map, get_or, slice_index, sum, refl, sym, ap, ◌∙◌, subst, arith, length-take}
+use Rattle.std.proofs.Common.{◌≡◌, ◌≢◌, inl, inr, ℕ, ◌+◌, ◌*◌, ◌%◌, ◌<◌, min, List, [], ◌∷◌, None, length, map}
+use Rattle.std.proofs.Common.{get_or, slice_index, sum, refl, sym, ap, ◌∙◌, subst, arith, length-take}
 use Rattle.std.specs.List.{flat_map}
 use Rattle.std.proofs.lemmas.Bool.{cases_lt, cases_eq}
 use Rattle.std.proofs.lemmas.List.{get_or-map, length-map}
@@ -34,12 +35,25 @@ pub record IsAccepted (file : List ℕ) (parts : Parts) : Type 0 where
 
 whole_is : (file : List ℕ) → Nowhere (BreaksLength file) → IsWhole file
 whole_is file holds = record {
-  sectors = elim (cases_eq (length file % 512) 0) [ inl e ↦ e | inr odd ↦ absurd (holds (min (length file) 7143937) (record { here = refl; wrong = inl odd })) ];
-  least = elim (cases_lt (length file) 1536) [ inl low ↦ absurd (holds (min (length file) 7143937) (record { here = refl; wrong = inr (inl low) })) | inr h ↦ h ];
-  most = elim (cases_lt 7143936 (length file)) [ inl high ↦ absurd (holds (min (length file) 7143937) (record { here = refl; wrong = inr (inr high) })) | inr h ↦ h ];
+  sectors = elim (cases_eq (length file % 512) 0) [
+    | inl e ↦ e
+    | inr odd ↦ absurd (holds (min (length file) 7143937)
+        (record { here = refl; wrong = inl odd }))
+  ];
+  least = elim (cases_lt (length file) 1536) [
+    | inl low ↦ absurd (holds (min (length file) 7143937)
+        (record { here = refl; wrong = inr (inl low) }))
+    | inr h ↦ h
+  ];
+  most = elim (cases_lt 7143936 (length file)) [
+    | inl high ↦ absurd (holds (min (length file) 7143937)
+        (record { here = refl; wrong = inr (inr high) }))
+    | inr h ↦ h
+  ];
 }
 
-pub accepted : (file : List ℕ) (contents : Contents) → Hold (container_rules file) → (has : HasContents file contents) → IsAccepted file has.parts
+pub accepted : (file : List ℕ) (contents : Contents) → Hold (container_rules file) →
+    (has : HasContents file contents) → IsAccepted file has.parts
 accepted file contents hold has =
     let d = hold.1.1.1.0 in
     let tail = hold.1.1.1.1 in
@@ -50,39 +64,71 @@ accepted file contents hold has =
     let stored = minis.1.1.1 in
     let ms = stored.0 in
     let is_mini_stream = stored.1.0 in
-    let sharing : Nowhere (BreaksSharing file (record { directory = d; mini_fat = mf; mini_stream = ms })) = stored.1.1.1 in
+    let sharing : Nowhere (BreaksSharing file (record { directory = d; mini_fat = mf; mini_stream = ms })) =
+    stored.1.1.1 in
     let de = directory_unique file d has.parts.directory is_directory has.directory in
     let fe = mini_fat_unique file mf has.parts.mini_fat is_mini_fat has.mini_fat in
-    let se = mini_stream_unique file has.parts.directory ms has.parts.mini_stream (subst (λ x. IsMiniStream file x ms) de is_mini_stream) has.mini_stream in
-    let first = subst (λ x. Nowhere (BreaksSharing file (record { directory = x; mini_fat = mf; mini_stream = ms }))) de sharing in
-    let second = subst (λ x. Nowhere (BreaksSharing file (record { directory = has.parts.directory; mini_fat = x; mini_stream = ms }))) fe first in
-    let third = subst (λ x. Nowhere (BreaksSharing file (record { directory = has.parts.directory; mini_fat = has.parts.mini_fat; mini_stream = x }))) se second in
+    let se = mini_stream_unique file has.parts.directory ms has.parts.mini_stream (subst (λ x. IsMiniStream file x ms)
+    de is_mini_stream) has.mini_stream in
+    let first = subst (λ x. Nowhere (BreaksSharing file (record { directory = x; mini_fat = mf; mini_stream = ms })))
+    de sharing in
+    let second = subst (λ x. Nowhere (BreaksSharing file (record {
+      directory = has.parts.directory;
+      mini_fat = x;
+      mini_stream = ms;
+    }))) fe first in
+    let third = subst (λ x. Nowhere (BreaksSharing file (record {
+      directory = has.parts.directory;
+      mini_fat = has.parts.mini_fat;
+      mini_stream = x;
+    }))) se second in
     record { whole = whole_is file hold.0.0; fat = hold.1.0.1.1; sharing = third }
 
 -- two owners have no sector in common
-pub owners_apart : (file : List ℕ) (parts : Parts) (x y : Owner) (s : ℕ) → IsAccepted file parts → x ≢ y → Owns file parts x s → ¬ Owns file parts y s
+pub owners_apart : (file : List ℕ) (parts : Parts) (x y : Owner) (s : ℕ) → IsAccepted file parts → x ≢ y →
+    Owns file parts x s → ¬ Owns file parts y s
 owners_apart file parts x y s ok apart a b =
-    ok.sharing ((fat_table file).place s) (inl (record { one = x; other = y; apart = apart; sector = s; first = a; second = b; here = refl }))
+    ok.sharing ((fat_table file).place s) (inl (record {
+      one = x;
+      other = y;
+      apart = apart;
+      sector = s;
+      first = a;
+      second = b;
+      here = refl;
+    }))
 
-small_apart : (file : List ℕ) (parts : Parts) (x y s : ℕ) → IsAccepted file parts → x ≢ y → HasSmallSector file parts.directory parts.mini_fat x s → ¬ HasSmallSector file parts.directory parts.mini_fat y s
+small_apart : (file : List ℕ) (parts : Parts) (x y s : ℕ) → IsAccepted file parts → x ≢ y → HasSmallSector file
+    parts.directory parts.mini_fat x s → ¬ HasSmallSector file parts.directory parts.mini_fat y s
 small_apart file parts x y s ok apart a b =
-    ok.sharing ((mini_table_of file parts.directory parts.mini_fat).place s) (inr (record { one = x; other = y; apart = apart; sector = s; first = a; second = b; here = refl }))
+    ok.sharing ((mini_table_of file parts.directory parts.mini_fat).place s) (inr (record {
+      one = x;
+      other = y;
+      apart = apart;
+      sector = s;
+      first = a;
+      second = b;
+      here = refl;
+    }))
 
 -- the sectors of a chain
 pub chain_run : (table : Table) (head : Head) (xs : List ℕ) → HoldsChain table head xs → IsRun table.valid xs
 chain_run table head xs h = record { within = h.chain.path.within; distinct = h.chain.path.distinct }
 
 -- no entry is in the list twice
-pub entries_apart : (file : List ℕ) (contents : Contents) (has : HasContents file contents) (i j : ℕ) → i < j → j < length has.entries → slice_index has.entries i ≢ slice_index has.entries j
+pub entries_apart : (file : List ℕ) (contents : Contents) (has : HasContents file contents) (i j : ℕ) → i < j →
+    j < length has.entries → slice_index has.entries i ≢ slice_index has.entries j
 entries_apart file contents has i j less h e =
     let before = has.lists.order i j less h in
-    let again = subst (λ x. EntryBefore file (entry_place has.parts.directory x) (entry_place has.parts.directory (slice_index has.entries j))) e before in
+    let again = subst (λ x. EntryBefore file (entry_place has.parts.directory x) (entry_place has.parts.directory
+    (slice_index has.entries j))) e before in
     elim again [
       | inl short ↦ omega arith
       | inr same ↦ let least = same.1.1 in let lower = least.less in omega arith
     ]
 
-entries_same : (file : List ℕ) (contents : Contents) (has : HasContents file contents) (i j : ℕ) → i < length has.entries → j < length has.entries → slice_index has.entries i ≡ slice_index has.entries j → i ≡ j
+entries_same : (file : List ℕ) (contents : Contents) (has : HasContents file contents) (i j : ℕ) →
+    i < length has.entries → j < length has.entries → slice_index has.entries i ≡ slice_index has.entries j → i ≡ j
 entries_same file contents has i j low below e = elim (cases_lt i j) [
   | inl less ↦ absurd (entries_apart file contents has i j less below e)
   | inr more ↦ elim (cases_eq i j) [
@@ -93,12 +139,16 @@ entries_same file contents has i j low below e = elim (cases_lt i j) [
 
 -- the sectors, or the mini sectors, of the i-th stream
 abbrev HasLargeOf : (file : List ℕ) (contents : Contents) → HasContents file contents → ℕ → ℕ → Type 0
-HasLargeOf file contents has i s = (i < length has.entries) × HasLargeSector file has.parts.directory (slice_index has.entries i) s
+HasLargeOf file contents has i s = (i < length has.entries) × HasLargeSector file has.parts.directory (slice_index
+    has.entries i) s
 
 abbrev HasSmallOf : (file : List ℕ) (contents : Contents) → HasContents file contents → ℕ → ℕ → Type 0
-HasSmallOf file contents has i s = (i < length has.entries) × HasSmallSector file has.parts.directory has.parts.mini_fat (slice_index has.entries i) s
+HasSmallOf file contents has i s = (i < length has.entries) × HasSmallSector file has.parts.directory
+    has.parts.mini_fat (slice_index has.entries i) s
 
-held_large : (file : List ℕ) (contents : Contents) (has : HasContents file contents) (i : ℕ) (stream : Stream) → i < length has.entries → IsStreamOf file has.parts (slice_index has.entries i) stream → IsHeld (fat_table file).valid (HasLargeOf file contents has i) (units_for 512 (large_len (length stream.bytes)))
+held_large : (file : List ℕ) (contents : Contents) (has : HasContents file contents) (i : ℕ) (stream : Stream) →
+    i < length has.entries → IsStreamOf file has.parts (slice_index has.entries i) stream →
+    IsHeld (fat_table file).valid (HasLargeOf file contents has i) (units_for 512 (large_len (length stream.bytes)))
 held_large file contents has i stream low is =
     let directory = has.parts.directory in
     let size = entry_size file (entry_place directory (slice_index has.entries i)) in
@@ -106,7 +156,8 @@ held_large file contents has i stream low is =
       | inl empty ↦
           let len = ap length empty.bytes in
           let none = large_none (length stream.bytes) (omega arith) in
-          no_sectors (fat_table file).valid (HasLargeOf file contents has i) (units_for 512 (large_len (length stream.bytes))) (omega arith)
+          no_sectors (fat_table file).valid (HasLargeOf file contents has i) (units_for 512
+          (large_len (length stream.bytes))) (omega arith)
       | inr rest ↦ elim rest [
         | inl short ↦
             let joined = flat_map (sector_bytes 0 64 (mini_bytes file has.parts)) short.body.sectors in
@@ -114,7 +165,8 @@ held_large file contents has i stream low is =
             let cut = length-take size joined in
             let small = short.body.is_small.small in
             let none = large_none (length stream.bytes) (omega arith) in
-            no_sectors (fat_table file).valid (HasLargeOf file contents has i) (units_for 512 (large_len (length stream.bytes))) (omega arith)
+            no_sectors (fat_table file).valid (HasLargeOf file contents has i) (units_for 512
+            (large_len (length stream.bytes))) (omega arith)
         | inr long ↦
             let joined = flat_map (sector_bytes 512 512 file) long.sectors in
             let len = ap length long.body.joined in
@@ -122,17 +174,29 @@ held_large file contents has i stream low is =
             let enough = long.body.holds.enough in
             record {
               sectors = long.sectors;
-              run = chain_run (fat_table file) (stream_head file 512 (entry_place directory (slice_index has.entries i))) long.sectors long.body.holds;
+              run = chain_run (fat_table file) (stream_head file 512 (entry_place directory (slice_index has.entries
+                  i))) long.sectors long.body.holds;
               enough = elim (cases_lt (length stream.bytes) 4096) [
                 | inl few ↦ let none = large_none (length stream.bytes) few in omega arith
                 | inr many ↦ let same = large_is (length stream.bytes) many in omega arith
               ];
-              owned = λ s h. (low, record { is_large = long.body.is_large; sectors = long.sectors; holds = long.body.holds; has = h });
+              owned = λ s h. (
+                low,
+                record {
+                  is_large = long.body.is_large;
+                  sectors = long.sectors;
+                  holds = long.body.holds;
+                  has = h;
+                },
+              );
             }
       ]
     ]
 
-held_small : (file : List ℕ) (contents : Contents) (has : HasContents file contents) (i : ℕ) (stream : Stream) → IsAccepted file has.parts → i < length has.entries → IsStreamOf file has.parts (slice_index has.entries i) stream → IsHeld (mini_table_of file has.parts.directory has.parts.mini_fat).valid (HasSmallOf file contents has i) (units_for 64 (small_len (length stream.bytes)))
+held_small : (file : List ℕ) (contents : Contents) (has : HasContents file contents) (i : ℕ) (stream : Stream) →
+    IsAccepted file has.parts → i < length has.entries → IsStreamOf file has.parts (slice_index has.entries i)
+    stream → IsHeld (mini_table_of file has.parts.directory has.parts.mini_fat).valid (HasSmallOf file contents has i)
+    (units_for 64 (small_len (length stream.bytes)))
 held_small file contents has i stream ok low is =
     let directory = has.parts.directory in
     let table = mini_table_of file directory has.parts.mini_fat in
@@ -142,7 +206,8 @@ held_small file contents has i stream ok low is =
       | inl empty ↦
           let len = ap length empty.bytes in
           let none = small_is (length stream.bytes) (omega arith) in
-          no_sectors table.valid (HasSmallOf file contents has i) (units_for 64 (small_len (length stream.bytes))) (omega arith)
+          no_sectors table.valid (HasSmallOf file contents has i) (units_for 64 (small_len (length stream.bytes)))
+          (omega arith)
       | inr rest ↦ elim rest [
         | inl short ↦
             let joined = flat_map (sector_bytes 0 64 (mini_bytes file has.parts)) short.body.sectors in
@@ -155,15 +220,25 @@ held_small file contents has i stream ok low is =
               sectors = short.body.sectors;
               run = chain_run table (stream_head file 64 at) short.body.sectors short.body.holds;
               enough = omega arith;
-              owned = λ s h. (low, record { is_small = short.body.is_small; sectors = short.body.sectors; holds = short.body.holds; has = h });
+              owned = λ s h. (
+                low,
+                record {
+                  is_small = short.body.is_small;
+                  sectors = short.body.sectors;
+                  holds = short.body.holds;
+                  has = h;
+                },
+              );
             }
         | inr long ↦
             let inside = chain_inside file (stream_head file 512 at) long.sectors ok.whole long.body.holds in
-            let len = length-cut 512 512 file long.sectors stream.bytes size (λ k h. let room = inside.inside k h in omega arith) long.body.joined in
+            let len = length-cut 512 512 file long.sectors stream.bytes size (λ k h. let room = inside.inside k h in
+            omega arith) long.body.joined in
             let enough = long.body.holds.enough in
             let large = long.body.is_large.large in
             let none = small_none (length stream.bytes) (omega arith) in
-            no_sectors table.valid (HasSmallOf file contents has i) (units_for 64 (small_len (length stream.bytes))) (omega arith)
+            no_sectors table.valid (HasSmallOf file contents has i) (units_for 64 (small_len (length stream.bytes)))
+            (omega arith)
       ]
     ]
 
@@ -174,10 +249,12 @@ lengths_in contents = map (λ stream. length stream.bytes) contents.streams
 abbrev nothing : Stream
 nothing = record { name = []; bytes = []; chain = None }
 
-length_in : (contents : Contents) (i : ℕ) → i < length contents.streams → slice_index (lengths_in contents) i ≡ length (get_or contents.streams i nothing).bytes
+length_in : (contents : Contents) (i : ℕ) → i < length contents.streams → slice_index (lengths_in contents) i ≡ length
+    (get_or contents.streams i nothing).bytes
 length_in contents i h = get_or-map (λ stream. length stream.bytes) contents.streams i nothing 0 h
 
-large_at : (lengths : List ℕ) (i : ℕ) → i < length lengths → slice_index (large_counts lengths) i ≡ units_for 512 (large_len (slice_index lengths i))
+large_at : (lengths : List ℕ) (i : ℕ) → i < length lengths → slice_index (large_counts lengths) i ≡ units_for 512
+    (large_len (slice_index lengths i))
 unfolding large_counts
 large_at lengths i h = get_or-map (λ len. units_for 512 (large_len len)) lengths i 0 0 h
 
@@ -186,14 +263,18 @@ unfolding large_counts
 length-large_counts lengths = length-map lengths (λ len. units_for 512 (large_len len))
 
 -- all sectors, part by part
-pub sum_counts : (lengths : List ℕ) → sum (sector_counts lengths) ≡ sum (large_counts lengths) + units_for 512 (64 * sum (mini_counts lengths)) + units_for 128 (sum (mini_counts lengths)) + units_for 4 (length lengths + 1)
+pub sum_counts : (lengths : List ℕ) → sum (sector_counts lengths) ≡ sum (large_counts lengths) + units_for 512
+    (64 * sum (mini_counts lengths)) + units_for 128 (sum (mini_counts lengths)) + units_for 4 (length lengths + 1)
 unfolding sector_counts
 sum_counts lengths =
-    let all = sum_by-append (λ (x : ℕ). x) (large_counts lengths) (units_for 512 (64 * sum (mini_counts lengths)) ∷ (units_for 128 (sum (mini_counts lengths)) ∷ (units_for 4 (length lengths + 1) ∷ []))) in
+    let all = sum_by-append (λ (x : ℕ). x) (large_counts lengths) (units_for 512 (64 * sum (mini_counts lengths)) ∷
+    (units_for 128 (sum (mini_counts lengths)) ∷ (units_for 4 (length lengths + 1) ∷ []))) in
     omega arith
 
 -- the sectors of all streams
-pub gathered_large : (file : List ℕ) (contents : Contents) (has : HasContents file contents) → IsAccepted file has.parts → IsGathered (fat_table file).valid (HasLargeOf file contents has) (large_counts (lengths_in contents)) (length contents.streams)
+pub gathered_large : (file : List ℕ) (contents : Contents) (has : HasContents file contents) → IsAccepted file
+    has.parts → IsGathered (fat_table file).valid (HasLargeOf file contents has) (large_counts (lengths_in contents))
+    (length contents.streams)
 gathered_large file contents has ok =
     let lengths = lengths_in contents in
     let n = has.streams.len in
@@ -206,17 +287,21 @@ gathered_large file contents has ok =
           let different : of_stream (slice_index has.entries i) ≢ of_stream (slice_index has.entries j) = λ e.
           let inner : slice_index has.entries i ≡ slice_index has.entries j = cc in
           apart (entries_same file contents has i j a.0 b.0 inner) in
-          absurd (owners_apart file has.parts (of_stream (slice_index has.entries i)) (of_stream (slice_index has.entries j)) s ok different a.1 b.1)
+          absurd (owners_apart file has.parts (of_stream (slice_index has.entries i))
+          (of_stream (slice_index has.entries j)) s ok different a.1 b.1)
     ])
     (λ i h.
     let low : i < length contents.streams = omega arith in
     let stream = get_or contents.streams i nothing in
     let body = has.streams.each i stream (slice_get-get_or contents.streams i nothing low) in
     let count = large_at lengths i (omega arith) ∙ ap (λ m. units_for 512 (large_len m)) (length_in contents i low) in
-    subst (λ m. IsHeld (fat_table file).valid (HasLargeOf file contents has i) m) (sym count) (held_large file contents has i stream (omega arith) body))
+    subst (λ m. IsHeld (fat_table file).valid (HasLargeOf file contents has i) m) (sym count) (held_large file
+    contents has i stream (omega arith) body))
     (length contents.streams) (omega arith)
 
-pub gathered_small : (file : List ℕ) (contents : Contents) (has : HasContents file contents) → IsAccepted file has.parts → IsGathered (mini_table_of file has.parts.directory has.parts.mini_fat).valid (HasSmallOf file contents has) (mini_counts (lengths_in contents)) (length contents.streams)
+pub gathered_small : (file : List ℕ) (contents : Contents) (has : HasContents file contents) → IsAccepted file
+    has.parts → IsGathered (mini_table_of file has.parts.directory has.parts.mini_fat).valid (HasSmallOf file contents
+    has) (mini_counts (lengths_in contents)) (length contents.streams)
 gathered_small file contents has ok =
     let lengths = lengths_in contents in
     let table = mini_table_of file has.parts.directory has.parts.mini_fat in
@@ -227,13 +312,16 @@ gathered_small file contents has ok =
     (λ i j s a b. elim (cases_eq i j) [
       | inl e ↦ e
       | inr apart ↦
-          let different : slice_index has.entries i ≢ slice_index has.entries j = λ e. apart (entries_same file contents has i j a.0 b.0 e) in
-          absurd (small_apart file has.parts (slice_index has.entries i) (slice_index has.entries j) s ok different a.1 b.1)
+          let different : slice_index has.entries i ≢ slice_index has.entries j = λ e. apart (entries_same file
+          contents has i j a.0 b.0 e) in
+          absurd (small_apart file has.parts (slice_index has.entries i) (slice_index has.entries j) s ok different
+          a.1 b.1)
     ])
     (λ i h.
     let low : i < length contents.streams = omega arith in
     let stream = get_or contents.streams i nothing in
     let body = has.streams.each i stream (slice_get-get_or contents.streams i nothing low) in
     let count = minis_at lengths i (omega arith) ∙ ap (λ m. units_for 64 (small_len m)) (length_in contents i low) in
-    subst (λ m. IsHeld table.valid (HasSmallOf file contents has i) m) (sym count) (held_small file contents has i stream ok (omega arith) body))
+    subst (λ m. IsHeld table.valid (HasSmallOf file contents has i) m) (sym count) (held_small file contents has i
+    stream ok (omega arith) body))
     (length contents.streams) (omega arith)

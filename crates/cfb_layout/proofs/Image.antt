@@ -45,12 +45,19 @@ pub record IsHeaderOf (file lengths : List ℕ) : Type 0 where
 
 -- the FAT's entries and the mini FAT's
 pub record HasTables (file lengths : List ℕ) : Type 0 where
-  pub fat : (s : ℕ) → s < sum (sector_counts lengths) → u32_at file (512 * (1 + sum (sector_counts lengths)) + 4 * s) ≡ slice_index (chains_from 0 (sector_counts lengths)) s
-  pub mini_fat : (s : ℕ) → s < sum (mini_counts lengths) → u32_at file (part_place (sector_counts lengths) (length lengths + 1) + 4 * s) ≡ slice_index (chains_from 0 (mini_counts lengths)) s
+  pub fat : (s : ℕ) → s < sum (sector_counts lengths) → u32_at file (512 * (1 + sum (sector_counts lengths)) + 4 * s)
+      ≡ slice_index (chains_from 0 (sector_counts lengths)) s
+  pub mini_fat : (s : ℕ) → s < sum (mini_counts lengths) → u32_at file (part_place (sector_counts lengths)
+      (length lengths + 1) + 4 * s) ≡ slice_index (chains_from 0 (mini_counts lengths)) s
 
 pub record IsImage (file : List ℕ) (streams : List NamedBytes) (clsid : List ℕ) : Type 0 where
   pub header : IsHeaderOf file (lengths_of streams)
   pub tables : HasTables file (lengths_of streams)
-  pub entries : (k : ℕ) → k < 4 * slice_index (sector_counts (lengths_of streams)) (length (lengths_of streams) + 2) → IsEntryAt file (directory_entry streams clsid k) (part_place (sector_counts (lengths_of streams)) (length (lengths_of streams) + 2) + 128 * k)
-  pub large : (i x : ℕ) → i < length streams → x < length (large_part (slice_index_or streams i no_stream).bytes) → slice_index file (part_place (sector_counts (lengths_of streams)) i + x) ≡ slice_index (slice_index_or streams i no_stream).bytes x
-  pub small : (x : ℕ) → x < length (mini_stream streams) → slice_index file (part_place (sector_counts (lengths_of streams)) (length (lengths_of streams)) + x) ≡ slice_index (mini_stream streams) x
+  pub entries : (k : ℕ) → k < 4 * slice_index (sector_counts (lengths_of streams)) (length (lengths_of streams) + 2) →
+      IsEntryAt file (directory_entry streams clsid k) (part_place (sector_counts (lengths_of streams))
+      (length (lengths_of streams) + 2) + 128 * k)
+  pub large : (i x : ℕ) → i < length streams → x < length (large_part (slice_index_or streams i no_stream).bytes) →
+      slice_index file (part_place (sector_counts (lengths_of streams)) i + x) ≡ slice_index (slice_index_or streams i
+      no_stream).bytes x
+  pub small : (x : ℕ) → x < length (mini_stream streams) → slice_index file (part_place (sector_counts
+      (lengths_of streams)) (length (lengths_of streams)) + x) ≡ slice_index (mini_stream streams) x

@@ -10,11 +10,13 @@ use Rattle.cfb_layout.proofs.ImageChains.{mini_sectors}
 use Rattle.cfb_layout.proofs.ImageTree.{directory_of, root_holds, tree_holds, storage_holds}
 use Rattle.cfb_layout.proofs.ImageNames.{names_hold}
 use Rattle.cfb_layout.proofs.ImageParts.{parts_of, image_directory, image_mini_fat, image_mini_stream}
-use Rattle.cfb_layout.proofs.ImageRules.{length_holds, header_holds, fat_holds, directory_holds, mini_fat_holds, mini_stream_holds, streams_hold}
+use Rattle.cfb_layout.proofs.ImageRules.{length_holds, header_holds, fat_holds, directory_holds, mini_fat_holds}
+use Rattle.cfb_layout.proofs.ImageRules.{mini_stream_holds, streams_hold}
 use Rattle.cfb_layout.proofs.ImageSharing.{sharing_holds}
 
 -- all rules
-pub image_holds : (file : List ℕ) (streams : List NamedBytes) (clsid : List ℕ) → IsImage file streams clsid → AreStreams streams → IsLayout streams clsid → Hold (container_rules file)
+pub image_holds : (file : List ℕ) (streams : List NamedBytes) (clsid : List ℕ) → IsImage file streams clsid →
+    AreStreams streams → IsLayout streams clsid → Hold (container_rules file)
 image_holds file streams clsid im are lay =
     let lengths = lengths_of streams in (
       (length_holds file lengths im.header lay.fits, λ p b. b.wrong im.header.signed),
@@ -44,7 +46,13 @@ image_holds file streams clsid im are lay =
                               mini_stream_holds file streams clsid im lay,
                               (
                                 (parts_of streams).mini_stream,
-                                (image_mini_stream file streams clsid im lay, (streams_hold file streams clsid im lay, sharing_holds file streams clsid im lay)),
+                                (
+                                  image_mini_stream file streams clsid im lay,
+                                  (
+                                    streams_hold file streams clsid im lay,
+                                    sharing_holds file streams clsid im lay,
+                                  ),
+                                ),
                               ),
                             ),
                           ),

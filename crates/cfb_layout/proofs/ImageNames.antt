@@ -1,5 +1,6 @@
 -- The names of an image, in their order.
-use Rattle.std.proofs.Common.{◌≡◌, inl, inr, ℕ, ◌+◌, ◌-◌, ◌<◌, ◌≤◌, List, length, slice_index, slice_index_or, sym, ap, ◌∙◌, arith}
+use Rattle.std.proofs.Common.{◌≡◌, inl, inr, ℕ, ◌+◌, ◌-◌, ◌<◌, ◌≤◌, List, length, slice_index, slice_index_or, sym}
+use Rattle.std.proofs.Common.{ap, ◌∙◌, arith}
 use Rattle.std.proofs.lemmas.Bool.{cases_order}
 use Rattle.std.proofs.lemmas.Option.{slice_get-get_or}
 use Rattle.doc_bits.specs.Rules.{Nowhere}
@@ -11,13 +12,15 @@ use Rattle.cfb_layout.proofs.Image.{IsImage}
 use Rattle.cfb_layout.proofs.ImageTree.{directory_of, place_in, image_stream, reached_only}
 
 -- the name of an entry
-pub image_name : (file : List ℕ) (streams : List NamedBytes) (clsid : List ℕ) (i k : ℕ) → IsImage file streams clsid → i < length streams → k ≡ i + 1 → IsNameOf file (place_in streams k) (slice_index_or streams i no_stream).name
+pub image_name : (file : List ℕ) (streams : List NamedBytes) (clsid : List ℕ) (i k : ℕ) → IsImage file streams clsid →
+    i < length streams → k ≡ i + 1 → IsNameOf file (place_in streams k) (slice_index_or streams i no_stream).name
 image_name file streams clsid i k im low is =
     let e = image_stream file streams clsid i k im low is in
     record { long = e.long; units = λ j h. sym (e.units j h) }
 
 -- the order of names is that of entries
-pub entry_before : (file : List ℕ) (at other : ℕ) (name later : List ℕ) → IsNameOf file at name → IsNameOf file other later → ComesBefore name later → EntryBefore file at other
+pub entry_before : (file : List ℕ) (at other : ℕ) (name later : List ℕ) → IsNameOf file at name → IsNameOf file other
+    later → ComesBefore name later → EntryBefore file at other
 entry_before file at other name later a b h =
     let x = a.long in
     let y = b.long in
@@ -28,8 +31,10 @@ entry_before file at other name later a b h =
           let place = same.1.0 in
           let less = same.1.1 in
           let inside = less.inside in
-          let first : (i : ℕ) → i < length name → upper_case (entry_unit file at i) ≡ upper_case (slice_index name i) = λ i low. ap upper_case (sym (a.units i low)) in
-          let second : (i : ℕ) → i < length name → upper_case (entry_unit file other i) ≡ upper_case (slice_index later i) = λ i low. ap upper_case (sym (b.units i (omega arith))) in
+          let first : (i : ℕ) → i < length name → upper_case (entry_unit file at i) ≡ upper_case (slice_index name
+          i) = λ i low. ap upper_case (sym (a.units i low)) in
+          let second : (i : ℕ) → i < length name → upper_case (entry_unit file other i) ≡ upper_case (slice_index
+          later i) = λ i low. ap upper_case (sym (b.units i (omega arith))) in
           inr (
             omega arith,
             (
@@ -37,7 +42,8 @@ entry_before file at other name later a b h =
               record {
                 inside = omega arith;
                 front = λ i low. first i (omega arith) ∙ (less.front i low ∙ sym (second i (omega arith)));
-                less = let p = first place inside in let q = second place inside in let lower = less.less in omega arith;
+                less = let p = first place inside in let q = second place inside in let lower = less.less in
+                    omega arith;
               },
             ),
           )
@@ -68,15 +74,21 @@ after_apart file at other h one =
     ]
 
 -- the entries stand in the order of their names
-pub image_order : (file : List ℕ) (streams : List NamedBytes) (clsid : List ℕ) (e k : ℕ) → IsImage file streams clsid → AreStreams streams → 1 ≤ e → e < k → k ≤ length streams → EntryBefore file (place_in streams e) (place_in streams k)
+pub image_order : (file : List ℕ) (streams : List NamedBytes) (clsid : List ℕ) (e k : ℕ) → IsImage file streams
+    clsid → AreStreams streams → 1 ≤ e → e < k → k ≤ length streams → EntryBefore file (place_in streams e)
+    (place_in streams k)
 image_order file streams clsid e k im are some less low =
     let a = image_name file streams clsid (e - 1) e im (omega arith) (omega arith) in
     let b = image_name file streams clsid (k - 1) k im (omega arith) (omega arith) in
-    entry_before file (place_in streams e) (place_in streams k) (slice_index_or streams (e - 1) no_stream).name (slice_index_or streams (k - 1) no_stream).name a b
-    (are.order (e - 1) (k - 1) (slice_index_or streams (e - 1) no_stream) (slice_index_or streams (k - 1) no_stream) (omega arith) (slice_get-get_or streams (e - 1) no_stream (omega arith)) (slice_get-get_or streams (k - 1) no_stream (omega arith)))
+    entry_before file (place_in streams e) (place_in streams k) (slice_index_or streams (e - 1) no_stream).name
+    (slice_index_or streams (k - 1) no_stream).name a b
+    (are.order (e - 1) (k - 1) (slice_index_or streams (e - 1) no_stream) (slice_index_or streams (k - 1) no_stream)
+    (omega arith) (slice_get-get_or streams (e - 1) no_stream (omega arith)) (slice_get-get_or streams (k - 1)
+    no_stream (omega arith)))
 
 -- rule 9
-pub names_hold : (file : List ℕ) (streams : List NamedBytes) (clsid : List ℕ) → IsImage file streams clsid → AreStreams streams → length streams ≤ 1023 → Nowhere (BreaksName file (directory_of streams))
+pub names_hold : (file : List ℕ) (streams : List NamedBytes) (clsid : List ℕ) → IsImage file streams clsid →
+    AreStreams streams → length streams ≤ 1023 → Nowhere (BreaksName file (directory_of streams))
 names_hold file streams clsid im are few = λ p h.
     let k = h.entry in
     let w = reached_only file streams clsid k im few h.reached in
@@ -89,7 +101,14 @@ names_hold file streams clsid im are few = λ p h.
     let some = are.some (k - 1) stream there in
     let short = are.short (k - 1) stream there in
     elim h.broken.wrong [
-      | inl wrong ↦ elim wrong [ inl odd ↦ odd (omega arith) | inr size ↦ elim size [ inl low ↦ omega arith | inr high ↦ omega arith ] ]
+      | inl wrong ↦ elim wrong [
+        | inl odd ↦ odd (omega arith)
+        | inr size ↦ elim size [
+          | inl low ↦ omega arith
+          | inr
+              high ↦ omega arith
+        ]
+      ]
       | inr taken ↦
           let v = reached_only file streams clsid taken.earlier im few taken.reached in
           let x = v.from in
@@ -97,8 +116,10 @@ names_hold file streams clsid im are few = λ p h.
           elim (cases_order taken.earlier k) [
             | inl same ↦ let e = ap (λ j. place_in streams j) same in let less = taken.below in omega arith
             | inr apart ↦ elim apart [
-              | inl less ↦ before_apart file (place_in streams taken.earlier) (place_in streams k) (image_order file streams clsid taken.earlier k im are x less (omega arith)) taken.same
-              | inr more ↦ after_apart file (place_in streams taken.earlier) (place_in streams k) (image_order file streams clsid k taken.earlier im are from more (omega arith)) taken.same
+              | inl less ↦ before_apart file (place_in streams taken.earlier) (place_in streams k) (image_order file
+                  streams clsid taken.earlier k im are x less (omega arith)) taken.same
+              | inr more ↦ after_apart file (place_in streams taken.earlier) (place_in streams k) (image_order file
+                  streams clsid k taken.earlier im are from more (omega arith)) taken.same
             ]
           ]
     ]

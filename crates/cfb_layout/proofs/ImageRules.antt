@@ -19,7 +19,8 @@ use Rattle.cfb_layout.proofs.CountLemmas.{length-sector_counts, counts_directory
 use Rattle.cfb_layout.proofs.Image.{IsHeaderOf, IsImage}
 use Rattle.cfb_layout.proofs.ImageChains.{sectors_of, image_valid, mini_sectors}
 use Rattle.cfb_layout.proofs.ImageTree.{directory_of, place_in, reached_only}
-use Rattle.cfb_layout.proofs.ImageParts.{parts_of, image_directory, image_mini_fat, image_mini_stream, large_holds, small_holds}
+use Rattle.cfb_layout.proofs.ImageParts.{parts_of, image_directory, image_mini_fat, image_mini_stream, large_holds}
+use Rattle.cfb_layout.proofs.ImageParts.{small_holds}
 
 -- there are two sectors at least
 two_sectors : (lengths : List ℕ) → 1 ≤ sum (sector_counts lengths)
@@ -77,13 +78,16 @@ fat_holds file lengths h fits = λ p b.
     ]
 
 -- rule 6
-pub directory_holds : (file : List ℕ) (streams : List NamedBytes) (clsid : List ℕ) → IsImage file streams clsid → IsLayout streams clsid → Nowhere (BreaksDirectory file)
+pub directory_holds : (file : List ℕ) (streams : List NamedBytes) (clsid : List ℕ) → IsImage file streams clsid →
+    IsLayout streams clsid → Nowhere (BreaksDirectory file)
 directory_holds file streams clsid im lay = λ p b.
     let is = image_directory file streams clsid im lay in
     elim b [
       | inl many ↦
           let table = fat_table file in
-          let same = full_unique table.entry table.valid (u32_at file 48) (directory_of streams) many.sectors (chain_full table.entry table.valid (u32_at file 48) (directory_of streams) is.holds.range is.holds.chain) many.full in
+          let same = full_unique table.entry table.valid (u32_at file 48) (directory_of streams) many.sectors
+          (chain_full table.entry table.valid (u32_at file 48) (directory_of streams) is.holds.range
+          is.holds.chain) many.full in
           let len = ap length same in
           let more = many.long in
           let short = is.short in omega arith
@@ -91,21 +95,25 @@ directory_holds file streams clsid im lay = λ p b.
     ]
 
 -- rule 11
-pub mini_fat_holds : (file : List ℕ) (streams : List NamedBytes) (clsid : List ℕ) → IsImage file streams clsid → IsLayout streams clsid → Nowhere (BreaksMiniFat file)
+pub mini_fat_holds : (file : List ℕ) (streams : List NamedBytes) (clsid : List ℕ) → IsImage file streams clsid →
+    IsLayout streams clsid → Nowhere (BreaksMiniFat file)
 mini_fat_holds file streams clsid im lay = λ p b. elim (image_mini_fat file streams clsid im lay) [
   | inl none ↦ b.there none.0
   | inr some ↦ holds_none (fat_table file) (mini_fat_head file) (mini_sectors (lengths_of streams)) some.1 p b.broken
 ]
 
 -- rule 12
-pub mini_stream_holds : (file : List ℕ) (streams : List NamedBytes) (clsid : List ℕ) → IsImage file streams clsid → IsLayout streams clsid → Nowhere (BreaksMiniStream file (directory_of streams))
+pub mini_stream_holds : (file : List ℕ) (streams : List NamedBytes) (clsid : List ℕ) → IsImage file streams clsid →
+    IsLayout streams clsid → Nowhere (BreaksMiniStream file (directory_of streams))
 mini_stream_holds file streams clsid im lay = λ p b. elim (image_mini_stream file streams clsid im lay) [
   | inl none ↦ b.there none.0
-  | inr some ↦ holds_none (fat_table file) (stream_head file 512 (place_in streams 0)) (parts_of streams).mini_stream some.1 p b.broken
+  | inr some ↦ holds_none (fat_table file) (stream_head file 512 (place_in streams 0)) (parts_of streams).mini_stream
+      some.1 p b.broken
 ]
 
 -- rule 13
-pub streams_hold : (file : List ℕ) (streams : List NamedBytes) (clsid : List ℕ) → IsImage file streams clsid → IsLayout streams clsid → Nowhere (BreaksStream file (directory_of streams) (mini_sectors (lengths_of streams)))
+pub streams_hold : (file : List ℕ) (streams : List NamedBytes) (clsid : List ℕ) → IsImage file streams clsid →
+    IsLayout streams clsid → Nowhere (BreaksStream file (directory_of streams) (mini_sectors (lengths_of streams)))
 streams_hold file streams clsid im lay = λ p b.
     let k = b.entry in
     let w = reached_only file streams clsid k im lay.few b.reached in
@@ -113,9 +121,13 @@ streams_hold file streams clsid im lay = λ p b.
     let below = w.below in
     elim b.broken [
       | inl large ↦
-          holds_none (fat_table file) (stream_head file 512 (place_in streams k)) (sectors_of (sector_counts (lengths_of streams)) (k - 1))
-          (large_holds file streams clsid (k - 1) k im lay (omega arith) (omega arith) large.is_large.large) p large.broken
+          holds_none (fat_table file) (stream_head file 512 (place_in streams k)) (sectors_of (sector_counts
+          (lengths_of streams)) (k - 1))
+          (large_holds file streams clsid (k - 1) k im lay (omega arith) (omega arith) large.is_large.large) p
+          large.broken
       | inr small ↦
-          holds_none (mini_table_of file (directory_of streams) (mini_sectors (lengths_of streams))) (stream_head file 64 (place_in streams k)) (sectors_of (mini_counts (lengths_of streams)) (k - 1))
-          (small_holds file streams clsid (k - 1) k im lay (omega arith) (omega arith) small.is_small.some small.is_small.small) p small.broken
+          holds_none (mini_table_of file (directory_of streams) (mini_sectors (lengths_of streams))) (stream_head file
+          64 (place_in streams k)) (sectors_of (mini_counts (lengths_of streams)) (k - 1))
+          (small_holds file streams clsid (k - 1) k im lay (omega arith) (omega arith) small.is_small.some
+          small.is_small.small) p small.broken
     ]

@@ -1,5 +1,6 @@
 -- No two owners share a sector of an image.
-use Rattle.std.proofs.Common.{◌≡◌, inl, inr, ℕ, zero, suc, ◌+◌, ◌-◌, ◌<◌, ◌≤◌, ltb, List, [], ◌∷◌, ◌++◌, length, sum, refl, sym, ap, ◌∙◌, subst, arith, length-append, nat_lt, if◌then◌else◌}
+use Rattle.std.proofs.Common.{◌≡◌, inl, inr, ℕ, zero, suc, ◌+◌, ◌-◌, ◌<◌, ◌≤◌, ltb, List, [], ◌∷◌, ◌++◌, length, sum}
+use Rattle.std.proofs.Common.{refl, sym, ap, ◌∙◌, subst, arith, length-append, nat_lt, if◌then◌else◌}
 use Rattle.std.proofs.lemmas.Bool.{lt-ltb, le-ltb, cond-true, cond-false}
 use Rattle.std.proofs.lemmas.List.{take-append-le, get_or_append_left, get_or_push, take_all}
 use Rattle.doc_bits.specs.Rules.{Nowhere}
@@ -29,7 +30,8 @@ pub record IsOwned {A : Type 0} (counts : List ℕ) (owner_at : ℕ → A) (owne
   pub inside : IsIn counts part s
 
 -- so no two owners share one
-none_shared : {A : Type 0} (counts : List ℕ) (owner_at : ℕ → A) (owns : A → ℕ → Type 0) (place_of : ℕ → ℕ) → ((owner : A) (s : ℕ) → owns owner s → IsOwned counts owner_at owner s) → Nowhere (IsShared owns place_of)
+none_shared : {A : Type 0} (counts : List ℕ) (owner_at : ℕ → A) (owns : A → ℕ → Type 0) (place_of : ℕ → ℕ) →
+    ((owner : A) (s : ℕ) → owns owner s → IsOwned counts owner_at owner s) → Nowhere (IsShared owns place_of)
 none_shared counts owner_at owns place_of owned = λ p b.
     let x = owned b.one b.sector b.first in
     let y = owned b.other b.sector b.second in
@@ -48,7 +50,8 @@ in_front counts last i s low is =
     let count = get_or_append_left counts (last ∷ []) 0 i low in
     record { from = omega arith; below = omega arith }
 
-in_last : (counts : List ℕ) (last s : ℕ) → sum counts ≤ s → s < sum counts + last → IsIn (counts ++ last ∷ []) (length counts) s
+in_last : (counts : List ℕ) (last s : ℕ) → sum counts ≤ s → s < sum counts + last → IsIn (counts ++ last ∷ [])
+    (length counts) s
 in_last counts last s from below =
     let start = ap sum (take-append-le (length counts) counts (last ∷ []) (omega arith)) in
     let whole = ap sum (take_all (length counts) counts (omega arith)) in
@@ -68,9 +71,12 @@ part_owner count i = if nat_lt i count then of_stream (i + 1) else owner_behind 
 behind_is : (count i j : ℕ) → i ≡ count + j → owner_behind j ≡ part_owner count i
 behind_is count i j e =
     let rest : i - count ≡ j = omega arith in
-    sym (cond-false (ltb i count) (of_stream (i + 1)) (owner_behind (i - count)) (le-ltb i count (omega arith)) ∙ ap owner_behind rest)
+    sym (cond-false (ltb i count) (of_stream (i + 1)) (owner_behind (i - count)) (le-ltb i count (omega arith)) ∙ ap
+    owner_behind rest)
 
-part_owned : (lengths : List ℕ) (i j s : ℕ) → i ≡ length lengths + j → j < 3 → HasSector (sectors_of (sector_counts lengths) i) s → IsOwned (all_counts lengths) (part_owner (length lengths)) (owner_behind j) s
+part_owned : (lengths : List ℕ) (i j s : ℕ) → i ≡ length lengths + j → j < 3 →
+    HasSector (sectors_of (sector_counts lengths) i) s → IsOwned (all_counts lengths) (part_owner (length lengths))
+    (owner_behind j) s
 part_owned lengths i j s e low has =
     let len = length-sector_counts lengths in
     let all = length-append (sector_counts lengths) (fat_count lengths ∷ []) in
@@ -78,10 +84,13 @@ part_owned lengths i j s e low has =
       part = i;
       below = omega arith;
       is = behind_is (length lengths) i j e;
-      inside = in_front (sector_counts lengths) (fat_count lengths) i s (omega arith) (part_sector (sector_counts lengths) i s has);
+      inside = in_front (sector_counts lengths) (fat_count lengths) i s (omega arith) (part_sector (sector_counts
+          lengths) i s has);
     }
 
-owned : (file : List ℕ) (streams : List NamedBytes) (clsid : List ℕ) → IsImage file streams clsid → IsLayout streams clsid → (owner : Owner) (s : ℕ) → Owns file (parts_of streams) owner s → IsOwned (all_counts (lengths_of streams)) (part_owner (length (lengths_of streams))) owner s
+owned : (file : List ℕ) (streams : List NamedBytes) (clsid : List ℕ) → IsImage file streams clsid → IsLayout streams
+    clsid → (owner : Owner) (s : ℕ) → Owns file (parts_of streams) owner s → IsOwned (all_counts (lengths_of streams))
+    (part_owner (length (lengths_of streams))) owner s
 owned file streams clsid im lay of_fat s has =
     let lengths = lengths_of streams in
     let counts = sector_counts lengths in
@@ -98,9 +107,12 @@ owned file streams clsid im lay of_fat s has =
       is = behind_is (length lengths) (length counts) 3 len;
       inside = in_last counts (fat_count lengths) s (omega arith) (omega arith);
     }
-owned file streams clsid im lay of_directory s has = part_owned (lengths_of streams) (length (lengths_of streams) + 2) 2 s refl (omega arith) has
-owned file streams clsid im lay of_mini_fat s has = part_owned (lengths_of streams) (length (lengths_of streams) + 1) 1 s refl (omega arith) has
-owned file streams clsid im lay of_mini_stream s has = part_owned (lengths_of streams) (length (lengths_of streams)) 0 s (omega arith) (omega arith) has
+owned file streams clsid im lay of_directory s has = part_owned (lengths_of streams) (length (lengths_of streams) + 2)
+    2 s refl (omega arith) has
+owned file streams clsid im lay of_mini_fat s has = part_owned (lengths_of streams) (length (lengths_of streams) + 1)
+    1 s refl (omega arith) has
+owned file streams clsid im lay of_mini_stream s has = part_owned (lengths_of streams) (length (lengths_of streams)) 0
+    s (omega arith) (omega arith) has
 owned file streams clsid im lay (of_stream e) s has =
     let lengths = lengths_of streams in
     let counts = sector_counts lengths in
@@ -111,17 +123,22 @@ owned file streams clsid im lay (of_stream e) s has =
     let from = w.from in
     let below = w.below in
     let ours = large_holds file streams clsid (e - 1) e im lay (omega arith) (omega arith) has.is_large.large in
-    let same = holds_unique (fat_table file) (stream_head file 512 (place_in streams e)) has.sectors (sectors_of counts (e - 1)) has.holds ours in
+    let same = holds_unique (fat_table file) (stream_head file 512 (place_in streams e)) has.sectors
+    (sectors_of counts (e - 1)) has.holds ours in
     let back : e ≡ e - 1 + 1 = omega arith in
     record {
       part = e - 1;
       below = omega arith;
-      is = ap of_stream back ∙ sym (cond-true (ltb (e - 1) (length lengths)) (of_stream (e - 1 + 1)) (owner_behind (e - 1 - length lengths)) (lt-ltb (e - 1) (length lengths) (omega arith)));
-      inside = in_front counts (fat_count lengths) (e - 1) s (omega arith) (part_sector counts (e - 1) s (subst (λ xs. HasSector xs s) same has.has));
+      is = ap of_stream back ∙ sym (cond-true (ltb (e - 1) (length lengths)) (of_stream (e - 1 + 1)) (owner_behind
+          (e - 1 - length lengths)) (lt-ltb (e - 1) (length lengths) (omega arith)));
+      inside = in_front counts (fat_count lengths) (e - 1) s (omega arith) (part_sector counts (e - 1) s
+          (subst (λ xs. HasSector xs s) same has.has));
     }
 
 -- mini sectors likewise
-small_owned : (file : List ℕ) (streams : List NamedBytes) (clsid : List ℕ) → IsImage file streams clsid → IsLayout streams clsid → (e s : ℕ) → HasSmallSector file (directory_of streams) (mini_sectors (lengths_of streams)) e s → IsOwned (mini_counts (lengths_of streams)) (λ i. i + 1) e s
+small_owned : (file : List ℕ) (streams : List NamedBytes) (clsid : List ℕ) → IsImage file streams clsid →
+    IsLayout streams clsid → (e s : ℕ) → HasSmallSector file (directory_of streams) (mini_sectors
+    (lengths_of streams)) e s → IsOwned (mini_counts (lengths_of streams)) (λ i. i + 1) e s
 small_owned file streams clsid im lay e s has =
     let lengths = lengths_of streams in
     let counts = mini_counts lengths in
@@ -130,8 +147,10 @@ small_owned file streams clsid im lay e s has =
     let w = reached_only file streams clsid e im lay.few has.is_small.is_entry.reached in
     let from = w.from in
     let below = w.below in
-    let ours = small_holds file streams clsid (e - 1) e im lay (omega arith) (omega arith) has.is_small.some has.is_small.small in
-    let same = holds_unique (mini_table_of file (directory_of streams) (mini_sectors lengths)) (stream_head file 64 (place_in streams e)) has.sectors (sectors_of counts (e - 1)) has.holds ours in
+    let ours = small_holds file streams clsid (e - 1) e im lay (omega arith) (omega arith) has.is_small.some
+    has.is_small.small in
+    let same = holds_unique (mini_table_of file (directory_of streams) (mini_sectors lengths)) (stream_head file 64
+    (place_in streams e)) has.sectors (sectors_of counts (e - 1)) has.holds ours in
     record {
       part = e - 1;
       below = omega arith;
@@ -140,8 +159,12 @@ small_owned file streams clsid im lay e s has =
     }
 
 -- rule 14
-pub sharing_holds : (file : List ℕ) (streams : List NamedBytes) (clsid : List ℕ) → IsImage file streams clsid → IsLayout streams clsid → Nowhere (BreaksSharing file (parts_of streams))
+pub sharing_holds : (file : List ℕ) (streams : List NamedBytes) (clsid : List ℕ) → IsImage file streams clsid →
+    IsLayout streams clsid → Nowhere (BreaksSharing file (parts_of streams))
 sharing_holds file streams clsid im lay = λ p b. elim b [
-  | inl sector ↦ none_shared (all_counts (lengths_of streams)) (part_owner (length (lengths_of streams))) (Owns file (parts_of streams)) (fat_table file).place (owned file streams clsid im lay) p sector
-  | inr mini ↦ none_shared (mini_counts (lengths_of streams)) (λ i. i + 1) (HasSmallSector file (directory_of streams) (mini_sectors (lengths_of streams))) (mini_table_of file (directory_of streams) (mini_sectors (lengths_of streams))).place (small_owned file streams clsid im lay) p mini
+  | inl sector ↦ none_shared (all_counts (lengths_of streams)) (part_owner (length (lengths_of streams)))
+      (Owns file (parts_of streams)) (fat_table file).place (owned file streams clsid im lay) p sector
+  | inr mini ↦ none_shared (mini_counts (lengths_of streams)) (λ i. i + 1) (HasSmallSector file (directory_of streams)
+      (mini_sectors (lengths_of streams))) (mini_table_of file (directory_of streams) (mini_sectors
+      (lengths_of streams))).place (small_owned file streams clsid im lay) p mini
 ]

@@ -1,10 +1,12 @@
 -- The bytes of the streams of an image, and what is read.
-use Rattle.std.proofs.Common.{◌≡◌, inl, inr, ℕ, ◌+◌, ◌-◌, ◌*◌, ◌<◌, ◌≤◌, ltb, List, Some, None, length, map, take, drop, slice_index, slice_index_or, sym, ap, ◌∙◌, subst, arith, length-take, length-drop}
+use Rattle.std.proofs.Common.{◌≡◌, inl, inr, ℕ, ◌+◌, ◌-◌, ◌*◌, ◌<◌, ◌≤◌, ltb, List, Some, None, length, map, take}
+use Rattle.std.proofs.Common.{drop, slice_index, slice_index_or, sym, ap, ◌∙◌, subst, arith, length-take, length-drop}
 use Rattle.std.specs.List.{flat_map, range_with_len}
 use Rattle.std.proofs.lemmas.Bool.{cases_lt, cases_eq, lt-ltb, le-ltb, cond-true, cond-false}
 use Rattle.std.proofs.lemmas.List.{take-take, get_or-take, get_or-drop, nil_from_length}
 use Rattle.std.proofs.lemmas.Option.{get_or_from_slice_get, slice_get_within}
-use Rattle.std.proofs.lemmas.List.FromFn.{length-range_with_len, get_or-range_with_len, length-map-range_with_len, get_or-map-range_with_len}
+use Rattle.std.proofs.lemmas.List.FromFn.{length-range_with_len, get_or-range_with_len, length-map-range_with_len}
+use Rattle.std.proofs.lemmas.List.FromFn.{get_or-map-range_with_len}
 use Rattle.cfb_sectors.specs.Header.{sector_bytes}
 use Rattle.cfb_streams.specs.Contents.{NamedBytes, AreStreams}
 use Rattle.cfb_directory.specs.Directory.{entry_size}
@@ -18,17 +20,24 @@ use Rattle.cfb_layout.specs.Layout.{lengths_of, no_stream, mini_stream, stream_a
 use Rattle.cfb_layout.specs.Laws.{IsLayout}
 use Rattle.cfb_layout.proofs.SectorLemmas.{start_room}
 use Rattle.cfb_layout.proofs.BytesLemmas.{run_bytes, range_is}
-use Rattle.cfb_layout.proofs.CountLemmas.{length-sector_counts, length-mini_counts, minis_at, counts_stream, counts_mini_stream, sectors-needed, length-lengths_of, lengths_at}
+use Rattle.cfb_layout.proofs.CountLemmas.{length-sector_counts, length-mini_counts, minis_at, counts_stream}
+use Rattle.cfb_layout.proofs.CountLemmas.{counts_mini_stream, sectors-needed, length-lengths_of, lengths_at}
 use Rattle.cfb_layout.proofs.TreeLemmas.{IsWithin}
 use Rattle.cfb_layout.proofs.Image.{IsImage, part_place}
 use Rattle.cfb_layout.proofs.ImageChains.{sectors_of}
-use Rattle.cfb_layout.proofs.ImageTree.{directory_of, place_in, image_entry, image_stream, image_node, reached_only, reached_each}
+use Rattle.cfb_layout.proofs.ImageTree.{directory_of, place_in, image_entry, image_stream, image_node, reached_only}
+use Rattle.cfb_layout.proofs.ImageTree.{reached_each}
 use Rattle.cfb_layout.proofs.ImageNames.{image_name, image_order}
-use Rattle.cfb_layout.proofs.PartLemmas.{large_is, small_is, large_whole, small_whole, length-mini_stream, mini_stream_at}
-use Rattle.cfb_layout.proofs.ImageParts.{parts_of, image_directory, image_mini_fat, image_mini_stream, large_holds, small_holds}
+use Rattle.cfb_layout.proofs.PartLemmas.{large_is, small_is, large_whole, small_whole, length-mini_stream}
+use Rattle.cfb_layout.proofs.PartLemmas.{mini_stream_at}
+use Rattle.cfb_layout.proofs.ImageParts.{parts_of, image_directory, image_mini_fat, image_mini_stream, large_holds}
+use Rattle.cfb_layout.proofs.ImageParts.{small_holds}
 
 -- the bytes of a part are those of its sectors
-long_bytes : (file : List ℕ) (streams : List NamedBytes) (clsid : List ℕ) (i : ℕ) → IsImage file streams clsid → i < length streams → 4096 ≤ length (slice_index_or streams i no_stream).bytes → (slice_index_or streams i no_stream).bytes ≡ take (length (slice_index_or streams i no_stream).bytes) (flat_map (sector_bytes 512 512 file) (sectors_of (sector_counts (lengths_of streams)) i))
+long_bytes : (file : List ℕ) (streams : List NamedBytes) (clsid : List ℕ) (i : ℕ) → IsImage file streams clsid →
+    i < length streams → 4096 ≤ length (slice_index_or streams i no_stream).bytes →
+    (slice_index_or streams i no_stream).bytes ≡ take (length (slice_index_or streams i no_stream).bytes)
+    (flat_map (sector_bytes 512 512 file) (sectors_of (sector_counts (lengths_of streams)) i))
 long_bytes file streams clsid i im low large =
     let lengths = lengths_of streams in
     let counts = sector_counts lengths in
@@ -48,10 +57,13 @@ long_bytes file streams clsid i im low large =
     let place : at + x ≡ part_place counts i + x = omega arith in
     ap (λ p. slice_index file p) place ∙ im.large i x low (omega arith)) in
     let run = run_bytes 512 512 file start count in
-    sym (ap (λ xs. take (length bytes) xs) run ∙ (take-take (length bytes) (512 * count) (drop at file) (omega arith) ∙ joined))
+    sym (ap (λ xs. take (length bytes) xs) run ∙ (take-take (length bytes) (512 * count) (drop at file) (omega arith)
+    ∙ joined))
 
 -- the mini stream stands in its sectors
-stored_at : (file : List ℕ) (streams : List NamedBytes) (clsid : List ℕ) (x : ℕ) → IsImage file streams clsid → x < length (mini_stream streams) → slice_index (mini_bytes file (parts_of streams)) x ≡ slice_index (mini_stream streams) x
+stored_at : (file : List ℕ) (streams : List NamedBytes) (clsid : List ℕ) (x : ℕ) → IsImage file streams clsid →
+    x < length (mini_stream streams) → slice_index (mini_bytes file (parts_of streams)) x ≡ slice_index (mini_stream
+    streams) x
 stored_at file streams clsid x im low =
     let lengths = lengths_of streams in
     let counts = sector_counts lengths in
@@ -66,7 +78,8 @@ stored_at file streams clsid x im low =
     ∙ (get_or-take (512 * count) (drop at file) x 0 (omega arith)
     ∙ (get_or-drop at file x 0 ∙ (ap (λ p. slice_index file p) place ∙ im.small x low)))
 
-stored_room : (file : List ℕ) (streams : List NamedBytes) (clsid : List ℕ) → IsImage file streams clsid → length (mini_stream streams) ≤ length (mini_bytes file (parts_of streams))
+stored_room : (file : List ℕ) (streams : List NamedBytes) (clsid : List ℕ) → IsImage file streams clsid →
+    length (mini_stream streams) ≤ length (mini_bytes file (parts_of streams))
 stored_room file streams clsid im =
     let lengths = lengths_of streams in
     let counts = sector_counts lengths in
@@ -83,7 +96,11 @@ stored_room file streams clsid im =
     let b = length-drop at file in
     omega arith
 
-short_bytes : (file : List ℕ) (streams : List NamedBytes) (clsid : List ℕ) (i : ℕ) → IsImage file streams clsid → i < length streams → length (slice_index_or streams i no_stream).bytes < 4096 → (slice_index_or streams i no_stream).bytes ≡ take (length (slice_index_or streams i no_stream).bytes) (flat_map (sector_bytes 0 64 (mini_bytes file (parts_of streams))) (sectors_of (mini_counts (lengths_of streams)) i))
+short_bytes : (file : List ℕ) (streams : List NamedBytes) (clsid : List ℕ) (i : ℕ) → IsImage file streams clsid →
+    i < length streams → length (slice_index_or streams i no_stream).bytes < 4096 →
+    (slice_index_or streams i no_stream).bytes ≡ take (length (slice_index_or streams i no_stream).bytes)
+    (flat_map (sector_bytes 0 64 (mini_bytes file (parts_of streams))) (sectors_of (mini_counts (lengths_of streams))
+    i))
 short_bytes file streams clsid i im low small =
     let lengths = lengths_of streams in
     let counts = mini_counts lengths in
@@ -105,17 +122,24 @@ short_bytes file streams clsid i im low small =
     stored_at file streams clsid (at + x) im (omega arith)
     ∙ (mini_stream_at streams i x (at + x) low (omega arith) (omega arith) ∙ ap (λ xs. slice_index xs x) whole)) in
     let run = run_bytes 0 64 stored start count in
-    sym (ap (λ xs. take (length bytes) xs) run ∙ (take-take (length bytes) (64 * count) (drop at stored) (omega arith) ∙ joined))
+    sym (ap (λ xs. take (length bytes) xs) run ∙ (take-take (length bytes) (64 * count) (drop at stored) (omega arith)
+    ∙ joined))
 
 -- the entry of a stream
-pub stream_reached : (file : List ℕ) (streams : List NamedBytes) (clsid : List ℕ) (k : ℕ) → IsImage file streams clsid → IsWithin (all_entries (length streams)) k → IsStreamEntry file (directory_of streams) k
-stream_reached file streams clsid k im w = record { reached = reached_each file streams clsid k im w; stream = (image_node file streams clsid k im w).kind }
+pub stream_reached : (file : List ℕ) (streams : List NamedBytes) (clsid : List ℕ) (k : ℕ) → IsImage file streams
+    clsid → IsWithin (all_entries (length streams)) k → IsStreamEntry file (directory_of streams) k
+stream_reached file streams clsid k im w = record {
+  reached = reached_each file streams clsid k im w;
+  stream = (image_node file streams clsid k im w).kind;
+}
 
-pub image_body : (file : List ℕ) (streams : List NamedBytes) (clsid : List ℕ) (i k : ℕ) → IsImage file streams clsid → IsLayout streams clsid → i < length streams → k ≡ i + 1 → IsStreamOf file (parts_of streams) k (stream_at streams i)
+pub image_body : (file : List ℕ) (streams : List NamedBytes) (clsid : List ℕ) (i k : ℕ) → IsImage file streams clsid →
+    IsLayout streams clsid → i < length streams → k ≡ i + 1 → IsStreamOf file (parts_of streams) k (stream_at streams i)
 image_body file streams clsid i k im lay low is =
     let lengths = lengths_of streams in
     let bytes = (slice_index_or streams i no_stream).bytes in
-    let size : entry_size file (place_in streams k) ≡ length bytes = (image_stream file streams clsid i k im low is).size ∙ lengths_at streams i low in
+    let size : entry_size file (place_in streams k) ≡ length bytes = (image_stream file streams clsid i k im low
+    is).size ∙ lengths_at streams i low in
     let here = lengths_at streams i low in
     let entry = stream_reached file streams clsid k im (record { from = omega arith; below = omega arith }) in
     record {
@@ -123,7 +147,8 @@ image_body file streams clsid i k im lay low is =
       name = image_name file streams clsid i k im low is;
       holds = elim (cases_lt (slice_index lengths i) 4096) [
         | inl small ↦
-            let chain = cond-true (ltb (slice_index lengths i) 4096) None (Some (sectors_of (sector_counts lengths) i)) (lt-ltb (slice_index lengths i) 4096 small) in
+            let chain = cond-true (ltb (slice_index lengths i) 4096) None (Some (sectors_of (sector_counts lengths)
+            i)) (lt-ltb (slice_index lengths i) 4096 small) in
             elim (cases_eq (length bytes) 0) [
               | inl none ↦ inl (record { empty = size ∙ none; bytes = nil_from_length bytes none; chain = chain })
               | inr some ↦ inr (inl (record {
@@ -131,19 +156,23 @@ image_body file streams clsid i k im lay low is =
                   is_small = record { is_entry = entry; some = omega arith; small = omega arith };
                   sectors = sectors_of (mini_counts lengths) i;
                   holds = small_holds file streams clsid i k im lay low is (omega arith) (omega arith);
-                  joined = short_bytes file streams clsid i im low (omega arith) ∙ ap (λ m. take m (flat_map (sector_bytes 0 64 (mini_bytes file (parts_of streams))) (sectors_of (mini_counts lengths) i))) (sym size);
+                  joined = short_bytes file streams clsid i im low (omega arith) ∙ ap (λ m. take m
+                      (flat_map (sector_bytes 0 64 (mini_bytes file (parts_of streams))) (sectors_of (mini_counts
+                      lengths) i))) (sym size);
                 };
                 chain = chain;
               }))
             ]
         | inr large ↦
-            let chain = cond-false (ltb (slice_index lengths i) 4096) None (Some (sectors_of (sector_counts lengths) i)) (le-ltb (slice_index lengths i) 4096 large) in
+            let chain = cond-false (ltb (slice_index lengths i) 4096) None (Some (sectors_of (sector_counts lengths)
+            i)) (le-ltb (slice_index lengths i) 4096 large) in
             inr (inr (record {
               sectors = sectors_of (sector_counts lengths) i;
               body = record {
                 is_large = record { is_entry = entry; large = omega arith };
                 holds = large_holds file streams clsid i k im lay low is (omega arith);
-                joined = long_bytes file streams clsid i im low (omega arith) ∙ ap (λ m. take m (flat_map (sector_bytes 512 512 file) (sectors_of (sector_counts lengths) i))) (sym size);
+                joined = long_bytes file streams clsid i im low (omega arith) ∙ ap (λ m. take m
+                    (flat_map (sector_bytes 512 512 file) (sectors_of (sector_counts lengths) i))) (sym size);
               };
               chain = chain;
             }))
@@ -151,13 +180,16 @@ image_body file streams clsid i k im lay low is =
     }
 
 -- the streams' entries, in the order of their names
-pub image_lists : (file : List ℕ) (streams : List NamedBytes) (clsid : List ℕ) → IsImage file streams clsid → AreStreams streams → IsLayout streams clsid → ListsStreams file (directory_of streams) (range_with_len 1 (length streams))
+pub image_lists : (file : List ℕ) (streams : List NamedBytes) (clsid : List ℕ) → IsImage file streams clsid →
+    AreStreams streams → IsLayout streams clsid → ListsStreams file (directory_of streams) (range_with_len 1
+    (length streams))
 image_lists file streams clsid im are lay =
     let n = length streams in
     let len = length-range_with_len 1 n in
     let at : (i : ℕ) → i < n → slice_index (range_with_len 1 n) i ≡ 1 + i = λ i h. get_or-range_with_len 1 n i 0 h in
     record {
-      sound = λ i h. let e = at i (omega arith) in stream_reached file streams clsid (slice_index (range_with_len 1 n) i) im (record { from = omega arith; below = omega arith });
+      sound = λ i h. let e = at i (omega arith) in stream_reached file streams clsid (slice_index (range_with_len 1 n)
+          i) im (record { from = omega arith; below = omega arith });
       complete = λ k entry.
           let w = reached_only file streams clsid k im lay.few entry.reached in
           let from = w.from in
@@ -166,11 +198,13 @@ image_lists file streams clsid im are lay =
       order = λ i j less h.
           let a = at i (omega arith) in
           let b = at j (omega arith) in
-          image_order file streams clsid (slice_index (range_with_len 1 n) i) (slice_index (range_with_len 1 n) j) im are (omega arith) (omega arith) (omega arith);
+          image_order file streams clsid (slice_index (range_with_len 1 n) i) (slice_index (range_with_len 1 n) j) im
+          are (omega arith) (omega arith) (omega arith);
     }
 
 -- what is read of an image
-pub image_contents : (file : List ℕ) (streams : List NamedBytes) (clsid : List ℕ) → IsImage file streams clsid → AreStreams streams → IsLayout streams clsid → HasContents file (contents_of streams clsid)
+pub image_contents : (file : List ℕ) (streams : List NamedBytes) (clsid : List ℕ) → IsImage file streams clsid →
+    AreStreams streams → IsLayout streams clsid → HasContents file (contents_of streams clsid)
 unfolding contents_of
 image_contents file streams clsid im are lay =
     let n = length streams in
@@ -187,11 +221,15 @@ image_contents file streams clsid im are lay =
       streams = record {
         len = made ∙ sym len;
         each = λ i stream got.
-            let low : i < n = let w = slice_get_within (map (stream_at streams) (range_with_len 0 n)) i stream got in omega arith in
-            let at : slice_index (range_with_len 1 n) i ≡ i + 1 = let e = get_or-range_with_len 1 n i 0 low in omega arith in
+            let low : i < n = let w = slice_get_within (map (stream_at streams) (range_with_len 0 n)) i stream got in
+            omega arith in
+            let at : slice_index (range_with_len 1 n) i ≡ i + 1 = let e = get_or-range_with_len 1 n i 0 low in
+            omega arith in
             let is : stream_at streams i ≡ stream =
-            sym (get_or-map-range_with_len (stream_at streams) 0 n i i stream low (omega arith)) ∙ get_or_from_slice_get (map (stream_at streams) (range_with_len 0 n)) i stream stream got in
-            subst (λ s. IsStreamOf file (parts_of streams) (slice_index (range_with_len 1 n) i) s) is (image_body file streams clsid i (slice_index (range_with_len 1 n) i) im lay low at);
+            sym (get_or-map-range_with_len (stream_at streams) 0 n i i stream low (omega arith)) ∙
+            get_or_from_slice_get (map (stream_at streams) (range_with_len 0 n)) i stream stream got in
+            subst (λ s. IsStreamOf file (parts_of streams) (slice_index (range_with_len 1 n) i) s) is (image_body file
+            streams clsid i (slice_index (range_with_len 1 n) i) im lay low at);
       };
       clsid = sym root.clsid;
     }

@@ -1,5 +1,6 @@
 -- The canonical container is an image.
-use Rattle.std.proofs.Common.{◌≡◌, inl, inr, ℕ, ◌+◌, ◌*◌, ◌^◌, ◌<◌, ◌≤◌, List, ◌++◌, length, take, replicate, slice_index, slice_index_or, sum, refl, ap, ◌∙◌, arith}
+use Rattle.std.proofs.Common.{◌≡◌, inl, inr, ℕ, ◌+◌, ◌*◌, ◌^◌, ◌<◌, ◌≤◌, List, ◌++◌, length, take, replicate}
+use Rattle.std.proofs.Common.{slice_index, slice_index_or, sum, refl, ap, ◌∙◌, arith}
 use Rattle.std.specs.List.{flat_map, range_with_len}
 use Rattle.std.proofs.lemmas.Bool.{cases_lt}
 use Rattle.std.proofs.lemmas.List.{get_or_append_left}
@@ -14,14 +15,20 @@ use Rattle.cfb_layout.specs.Sectors.{units_for, padded, chains_from, table_bytes
 use Rattle.cfb_layout.specs.Fields.{fields_bytes}
 use Rattle.cfb_layout.specs.Counts.{mini_counts, sector_counts, fat_count, first_sector}
 use Rattle.cfb_layout.specs.Entries.{entry_bytes}
-use Rattle.cfb_layout.specs.Layout.{lengths_of, no_stream, large_part, mini_stream, fat, directory_entry, directory_bytes, parts, header_fields, fat_numbers, header_bytes, compound_file, contents_of}
+use Rattle.cfb_layout.specs.Layout.{lengths_of, no_stream, large_part, mini_stream, fat, directory_entry}
+use Rattle.cfb_layout.specs.Layout.{directory_bytes, parts, header_fields, fat_numbers, header_bytes, compound_file}
+use Rattle.cfb_layout.specs.Layout.{contents_of}
 use Rattle.cfb_layout.specs.Laws.{IsLayout}
 use Rattle.cfb_layout.proofs.BytesLemmas.{blocks_at, entry_at, field_at, padded_at, filled_at, length-padded}
 use Rattle.cfb_layout.proofs.SectorLemmas.{length-chains_from, chains_below}
-use Rattle.cfb_layout.proofs.CountLemmas.{length-sector_counts, counts_mini_fat, counts_directory, sectors-needed, length-lengths_of}
+use Rattle.cfb_layout.proofs.CountLemmas.{length-sector_counts, counts_mini_fat, counts_directory, sectors-needed}
+use Rattle.cfb_layout.proofs.CountLemmas.{length-lengths_of}
 use Rattle.cfb_layout.proofs.SectorLemmas.{start_room}
 use Rattle.cfb_layout.proofs.EntryLemmas.{length-entry_bytes, entry_reads}
-use Rattle.cfb_layout.proofs.FileLemmas.{entries_whole, fats_few, length-fields, length-header_bytes, length-compound_file, length-fat_numbers, part_stream, part_behind, length-table_bytes, length-directory_bytes, length-fat, file_at, file_number, start_all}
+use Rattle.cfb_layout.proofs.FileLemmas.{entries_whole, fats_few, length-fields, length-header_bytes}
+use Rattle.cfb_layout.proofs.FileLemmas.{length-compound_file, length-fat_numbers, part_stream, part_behind}
+use Rattle.cfb_layout.proofs.FileLemmas.{length-table_bytes, length-directory_bytes, length-fat, file_at, file_number}
+use Rattle.cfb_layout.proofs.FileLemmas.{start_all}
 use Rattle.cfb_layout.proofs.Image.{IsEntryAt, IsHeaderOf, HasTables, IsImage, part_place}
 use Rattle.cfb_layout.proofs.PartLemmas.{large_whole, large_empty}
 use Rattle.cfb_layout.proofs.ImageStreams.{image_contents}
@@ -29,7 +36,10 @@ use Rattle.cfb_layout.proofs.ImageAccepted.{image_holds}
 use Rattle.cfb_layout.proofs.WritableLemmas.{first_below, bounded, entry_writable}
 
 -- the entries of the directory
-made_entry : (streams : List NamedBytes) (clsid : List ℕ) (k : ℕ) → AreStreams streams → IsLayout streams clsid → k < 4 * slice_index (sector_counts (lengths_of streams)) (length (lengths_of streams) + 2) → IsEntryAt (compound_file streams clsid) (directory_entry streams clsid k) (part_place (sector_counts (lengths_of streams)) (length (lengths_of streams) + 2) + 128 * k)
+made_entry : (streams : List NamedBytes) (clsid : List ℕ) (k : ℕ) → AreStreams streams → IsLayout streams clsid →
+    k < 4 * slice_index (sector_counts (lengths_of streams)) (length (lengths_of streams) + 2) →
+    IsEntryAt (compound_file streams clsid) (directory_entry streams clsid k) (part_place (sector_counts
+    (lengths_of streams)) (length (lengths_of streams) + 2) + 128 * k)
 unfolding directory_bytes
 made_entry streams clsid k are lay low =
     let lengths = lengths_of streams in
@@ -45,7 +55,8 @@ made_entry streams clsid k are lay low =
     let all = length-compound_file streams clsid are lay in
     let c = length-sector_counts lengths in
     let room = start_room counts i (omega arith) in
-    let whole : (j : ℕ) → length (entry_bytes (directory_entry streams clsid j)) ≡ 128 = λ j. length-entry_bytes (directory_entry streams clsid j) (entries_whole streams clsid j are lay.clsid_len) in
+    let whole : (j : ℕ) → length (entry_bytes (directory_entry streams clsid j)) ≡ 128 = λ j. length-entry_bytes
+    (directory_entry streams clsid j) (entries_whole streams clsid j are lay.clsid_len) in
     let same : 0 + k ≡ k = omega arith in
     entry_reads file (directory_entry streams clsid k) (part_place counts i + 128 * k)
     (record {
@@ -55,26 +66,31 @@ made_entry streams clsid k are lay low =
           ap (λ p. slice_index file p) place
           ∙ (file_at streams clsid i (128 * k + x) are lay (omega arith) (omega arith)
           ∙ (ap (λ xs. slice_index xs (128 * k + x)) part
-          ∙ (blocks_at (λ j. entry_bytes (directory_entry streams clsid j)) 128 0 (4 * units_for 4 (length streams + 1)) k x (128 * k + x) whole (omega arith) h refl
+          ∙ (blocks_at (λ j. entry_bytes (directory_entry streams clsid j)) 128 0 (4 * units_for 4 (length streams +
+          1)) k x (128 * k + x) whole (omega arith) h refl
           ∙ ap (λ j. slice_index (entry_bytes (directory_entry streams clsid j)) x) same)));
     })
     (entry_writable streams clsid k are lay)
 
 -- an entry of a table in sectors
-table_number : (entries : List ℕ) (s : ℕ) → s < length entries → slice_index entries s < 2 ^ 32 → number_at (table_bytes entries) (4 * s) 4 ≡ slice_index entries s
+table_number : (entries : List ℕ) (s : ℕ) → s < length entries → slice_index entries s < 2 ^ 32 →
+    number_at (table_bytes entries) (4 * s) 4 ≡ slice_index entries s
 table_number entries s h low =
     let len = length-padded 128 free_sector entries (omega arith) in
     let here = padded_at 128 free_sector entries s h in
     entry_at 4 (padded 128 free_sector entries) s (4 * s) (omega arith) (omega arith) refl ∙ here
 
 -- the FAT and the mini FAT
-fat_front : (lengths : List ℕ) (s : ℕ) → s < sum (sector_counts lengths) → slice_index (fat lengths) s ≡ slice_index (chains_from 0 (sector_counts lengths)) s
+fat_front : (lengths : List ℕ) (s : ℕ) → s < sum (sector_counts lengths) → slice_index (fat lengths) s ≡ slice_index
+    (chains_from 0 (sector_counts lengths)) s
 unfolding fat
 fat_front lengths s h =
     let len = length-chains_from 0 (sector_counts lengths) in
-    get_or_append_left (chains_from 0 (sector_counts lengths)) (replicate (fat_count lengths) fat_sector_mark) 0 s (omega arith)
+    get_or_append_left (chains_from 0 (sector_counts lengths)) (replicate (fat_count lengths) fat_sector_mark) 0 s
+    (omega arith)
 
-made_tables : (streams : List NamedBytes) (clsid : List ℕ) → AreStreams streams → IsLayout streams clsid → HasTables (compound_file streams clsid) (lengths_of streams)
+made_tables : (streams : List NamedBytes) (clsid : List ℕ) → AreStreams streams → IsLayout streams clsid →
+    HasTables (compound_file streams clsid) (lengths_of streams)
 made_tables streams clsid are lay =
     let lengths = lengths_of streams in
     let counts = sector_counts lengths in
@@ -96,7 +112,8 @@ made_tables streams clsid are lay =
           let front = fat_front lengths s h in
           ap (λ p. u32_at file p) place
           ∙ (file_number streams clsid i (4 * s) 4 are lay (omega arith) (omega arith)
-          ∙ (ap (λ xs. number_at xs (4 * s) 4) part ∙ (table_number (fat lengths) s (omega arith) (omega arith) ∙ front)));
+          ∙ (ap (λ xs. number_at xs (4 * s) 4) part ∙ (table_number (fat lengths) s (omega arith) (omega arith) ∙
+          front)));
       mini_fat = λ s h.
           let i = length lengths + 1 in
           let part = part_behind streams clsid i 1 refl in
@@ -108,22 +125,30 @@ made_tables streams clsid are lay =
     }
 
 -- a number of the header
-header_number : (streams : List NamedBytes) (clsid : List ℕ) (at width : ℕ) → IsLayout streams clsid → at + width ≤ 504 → number_at (compound_file streams clsid) (8 + at) width ≡ number_at (fields_bytes (header_fields (lengths_of streams)) ++ flat_map (number_bytes 4) (fat_numbers 109 (lengths_of streams))) at width
+header_number : (streams : List NamedBytes) (clsid : List ℕ) (at width : ℕ) → IsLayout streams clsid →
+    at + width ≤ 504 → number_at (compound_file streams clsid) (8 + at) width ≡ number_at (fields_bytes (header_fields
+    (lengths_of streams)) ++ flat_map (number_bytes 4) (fat_numbers 109 (lengths_of streams))) at width
 unfolding compound_file header_bytes
 header_number streams clsid at width lay room =
     let lengths = lengths_of streams in
     let len = length-header_bytes lengths lay.fits in
     number_at-before (header_bytes lengths) (flat_map (λ part. part) (parts streams clsid)) (8 + at) width (omega arith)
-    ∙ number_at-after signature (fields_bytes (header_fields lengths) ++ flat_map (number_bytes 4) (fat_numbers 109 lengths)) at width
+    ∙ number_at-after signature (fields_bytes (header_fields lengths) ++ flat_map (number_bytes 4) (fat_numbers 109
+    lengths)) at width
 
-field_number : (streams : List NamedBytes) (clsid : List ℕ) (at width : ℕ) → IsLayout streams clsid → at + width ≤ 68 → number_at (compound_file streams clsid) (8 + at) width ≡ number_at (fields_bytes (header_fields (lengths_of streams))) at width
+field_number : (streams : List NamedBytes) (clsid : List ℕ) (at width : ℕ) → IsLayout streams clsid →
+    at + width ≤ 68 → number_at (compound_file streams clsid) (8 + at) width ≡ number_at (fields_bytes (header_fields
+    (lengths_of streams))) at width
 field_number streams clsid at width lay room =
     let lengths = lengths_of streams in
     let len = length-fields lengths in
     header_number streams clsid at width lay (omega arith)
-    ∙ number_at-before (fields_bytes (header_fields lengths)) (flat_map (number_bytes 4) (fat_numbers 109 lengths)) at width (omega arith)
+    ∙ number_at-before (fields_bytes (header_fields lengths)) (flat_map (number_bytes 4) (fat_numbers 109 lengths)) at
+    width (omega arith)
 
-list_number : (streams : List NamedBytes) (clsid : List ℕ) (k : ℕ) → IsLayout streams clsid → k < fat_count (lengths_of streams) → u32_at (compound_file streams clsid) (76 + 4 * k) ≡ sum (sector_counts (lengths_of streams)) + k
+list_number : (streams : List NamedBytes) (clsid : List ℕ) (k : ℕ) → IsLayout streams clsid →
+    k < fat_count (lengths_of streams) → u32_at (compound_file streams clsid) (76 + 4 * k) ≡ sum (sector_counts
+    (lengths_of streams)) + k
 unfolding fat_numbers
 list_number streams clsid k lay h =
     let lengths = lengths_of streams in
@@ -148,7 +173,8 @@ signed : (streams : List NamedBytes) (clsid : List ℕ) → take 8 (compound_fil
 unfolding compound_file header_bytes
 signed streams clsid = refl
 
-made_header : (streams : List NamedBytes) (clsid : List ℕ) → AreStreams streams → IsLayout streams clsid → IsHeaderOf (compound_file streams clsid) (lengths_of streams)
+made_header : (streams : List NamedBytes) (clsid : List ℕ) → AreStreams streams → IsLayout streams clsid →
+    IsHeaderOf (compound_file streams clsid) (lengths_of streams)
 made_header streams clsid are lay =
     let lengths = lengths_of streams in
     let counts = sector_counts lengths in
@@ -159,10 +185,13 @@ made_header streams clsid are lay =
     let sectors = b.sectors in
     let minis = b.minis in
     let count = counts_mini_fat lengths in
-    let up : (at width : ℕ) → at + width ≤ 68 → number_at (compound_file streams clsid) (8 + at) width ≡ number_at (fields_bytes fields) at width = λ at width room. field_number streams clsid at width lay room in
+    let up : (at width : ℕ) → at + width ≤ 68 → number_at (compound_file streams clsid) (8 + at) width ≡ number_at
+    (fields_bytes fields) at width = λ at width room. field_number streams clsid at width lay room in
     let fats_low : fat_count lengths < 256 ^ 4 = omega arith in
-    let directory_low : first_sector counts (length lengths + 2) < 256 ^ 4 = let h = first_below counts (length lengths + 2) (omega arith) in omega arith in
-    let mini_low : first_sector counts (length lengths + 1) < 256 ^ 4 = let h = first_below counts (length lengths + 1) (omega arith) in omega arith in
+    let directory_low : first_sector counts (length lengths + 2) < 256 ^ 4 = let h = first_below counts
+    (length lengths + 2) (omega arith) in omega arith in
+    let mini_low : first_sector counts (length lengths + 1) < 256 ^ 4 = let h = first_below counts (length lengths +
+    1) (omega arith) in omega arith in
     let minis_low : slice_index counts (length lengths + 1) < 256 ^ 4 = omega arith in
     record {
       len = omega arith;
@@ -181,7 +210,10 @@ made_header streams clsid are lay =
     }
 
 -- the streams' bytes and the mini stream's
-made_large : (streams : List NamedBytes) (clsid : List ℕ) (i x : ℕ) → AreStreams streams → IsLayout streams clsid → i < length streams → x < length (large_part (slice_index_or streams i no_stream).bytes) → slice_index (compound_file streams clsid) (part_place (sector_counts (lengths_of streams)) i + x) ≡ slice_index (slice_index_or streams i no_stream).bytes x
+made_large : (streams : List NamedBytes) (clsid : List ℕ) (i x : ℕ) → AreStreams streams → IsLayout streams clsid →
+    i < length streams → x < length (large_part (slice_index_or streams i no_stream).bytes) →
+    slice_index (compound_file streams clsid) (part_place (sector_counts (lengths_of streams)) i + x) ≡ slice_index
+    (slice_index_or streams i no_stream).bytes x
 made_large streams clsid i x are lay low less =
     let bytes = (slice_index_or streams i no_stream).bytes in
     let part = part_stream streams clsid i low in
@@ -194,7 +226,9 @@ made_large streams clsid i x are lay low less =
       | inr large ↦ ap (λ xs. slice_index xs x) (large_whole bytes large)
     ]))
 
-made_small : (streams : List NamedBytes) (clsid : List ℕ) (x : ℕ) → AreStreams streams → IsLayout streams clsid → x < length (mini_stream streams) → slice_index (compound_file streams clsid) (part_place (sector_counts (lengths_of streams)) (length (lengths_of streams)) + x) ≡ slice_index (mini_stream streams) x
+made_small : (streams : List NamedBytes) (clsid : List ℕ) (x : ℕ) → AreStreams streams → IsLayout streams clsid →
+    x < length (mini_stream streams) → slice_index (compound_file streams clsid) (part_place (sector_counts
+    (lengths_of streams)) (length (lengths_of streams)) + x) ≡ slice_index (mini_stream streams) x
 made_small streams clsid x are lay less =
     let lengths = lengths_of streams in
     let n = length-lengths_of streams in
@@ -203,7 +237,8 @@ made_small streams clsid x are lay less =
     file_at streams clsid (length lengths) x are lay (omega arith) (omega arith)
     ∙ (ap (λ xs. slice_index xs x) part ∙ padded_at 512 0 (mini_stream streams) x less)
 
-pub made_image : (streams : List NamedBytes) (clsid : List ℕ) → AreStreams streams → IsLayout streams clsid → IsImage (compound_file streams clsid) streams clsid
+pub made_image : (streams : List NamedBytes) (clsid : List ℕ) → AreStreams streams → IsLayout streams clsid →
+    IsImage (compound_file streams clsid) streams clsid
 made_image streams clsid are lay = record {
   header = made_header streams clsid are lay;
   tables = made_tables streams clsid are lay;
@@ -213,8 +248,12 @@ made_image streams clsid are lay = record {
 }
 
 -- so it is accepted, and read as it was laid out
-pub file_holds : (streams : List NamedBytes) (clsid : List ℕ) → AreStreams streams → IsLayout streams clsid → Hold (container_rules (compound_file streams clsid))
-file_holds streams clsid are lay = image_holds (compound_file streams clsid) streams clsid (made_image streams clsid are lay) are lay
+pub file_holds : (streams : List NamedBytes) (clsid : List ℕ) → AreStreams streams → IsLayout streams clsid →
+    Hold (container_rules (compound_file streams clsid))
+file_holds streams clsid are lay = image_holds (compound_file streams clsid) streams clsid (made_image streams clsid
+    are lay) are lay
 
-pub file_contents : (streams : List NamedBytes) (clsid : List ℕ) → AreStreams streams → IsLayout streams clsid → HasContents (compound_file streams clsid) (contents_of streams clsid)
-file_contents streams clsid are lay = image_contents (compound_file streams clsid) streams clsid (made_image streams clsid are lay) are lay
+pub file_contents : (streams : List NamedBytes) (clsid : List ℕ) → AreStreams streams → IsLayout streams clsid →
+    HasContents (compound_file streams clsid) (contents_of streams clsid)
+file_contents streams clsid are lay = image_contents (compound_file streams clsid) streams clsid (made_image streams
+    clsid are lay) are lay

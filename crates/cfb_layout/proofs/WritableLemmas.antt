@@ -1,5 +1,6 @@
 -- What fits, fits the fields of the header and of the entries.
-use Rattle.std.proofs.Common.{◌≡◌, inl, inr, ℕ, zero, suc, ◌+◌, ◌^◌, ◌<◌, ltb, true, List, length, slice_index, slice_index_or, sum, refl, ap, ◌∙◌, arith}
+use Rattle.std.proofs.Common.{◌≡◌, inl, inr, ℕ, zero, suc, ◌+◌, ◌^◌, ◌<◌, ltb, true, List, length, slice_index}
+use Rattle.std.proofs.Common.{slice_index_or, sum, refl, ap, ◌∙◌, arith}
 use Rattle.std.proofs.lemmas.Bool.{cases_lt, ltb-true, cond_both}
 use Rattle.std.proofs.lemmas.List.{get_or_past}
 use Rattle.std.specs.List.{list_all}
@@ -16,7 +17,8 @@ use Rattle.cfb_layout.specs.Entries.{unused_entry, root_name}
 use Rattle.cfb_layout.specs.Layout.{lengths_of, no_stream, root_entry, stream_entry, directory_entry}
 use Rattle.cfb_layout.specs.Laws.{IsLayout}
 use Rattle.cfb_layout.proofs.SectorLemmas.{start_below}
-use Rattle.cfb_layout.proofs.CountLemmas.{length-sector_counts, counts_stream, counts_mini_stream, sectors-needed, length-lengths_of, lengths_at}
+use Rattle.cfb_layout.proofs.CountLemmas.{length-sector_counts, counts_stream, counts_mini_stream, sectors-needed}
+use Rattle.cfb_layout.proofs.CountLemmas.{length-lengths_of, lengths_at}
 use Rattle.cfb_layout.proofs.SectorLemmas.{start_room}
 use Rattle.cfb_layout.proofs.TreeLemmas.{part_is, top_none, top_some}
 use Rattle.cfb_layout.proofs.EntryLemmas.{IsWritable}
@@ -54,7 +56,8 @@ bounded lengths fits =
         | inl small ↦ omega arith
         | inr large ↦
             let part = start_room counts i (omega arith) in
-            let count = counts_stream lengths i h ∙ ap (λ m. units_for 512 m) (large_is (slice_index lengths i) large) in
+            let count = counts_stream lengths i h ∙ ap (λ m. units_for 512 m) (large_is (slice_index lengths i) large)
+            in
             omega arith
       ];
     }
@@ -67,11 +70,13 @@ root_all = refl
 root_unit : (i : ℕ) → slice_index root_name i < 2 ^ 16
 root_unit i = elim (cases_lt i (length root_name)) [
   | inr past ↦ let e = get_or_past root_name i 0 past in omega arith
-  | inl low ↦ ltb-true (slice_index root_name i) 65536 (All-get_or (λ unit. ltb unit 65536 ≡ true) root_name i 0 low (AllPass-from_list_all (λ unit. ltb unit 65536) root_name root_all))
+  | inl low ↦ ltb-true (slice_index root_name i) 65536 (All-get_or (λ unit. ltb unit 65536 ≡ true) root_name i 0 low
+      (AllPass-from_list_all (λ unit. ltb unit 65536) root_name root_all))
 ]
 
 -- the numbers of each entry fit their fields
-root_writable : (streams : List NamedBytes) (clsid : List ℕ) → AreStreams streams → IsLayout streams clsid → IsWritable (root_entry (lengths_of streams) clsid)
+root_writable : (streams : List NamedBytes) (clsid : List ℕ) → AreStreams streams → IsLayout streams clsid →
+    IsWritable (root_entry (lengths_of streams) clsid)
 root_writable streams clsid are lay =
     let lengths = lengths_of streams in
     let n = length-lengths_of streams in
@@ -91,7 +96,8 @@ root_writable streams clsid are lay =
       size = omega arith;
     }
 
-stream_writable : (streams : List NamedBytes) (clsid : List ℕ) (i : ℕ) → AreStreams streams → IsLayout streams clsid → i < length streams → IsWritable (stream_entry (lengths_of streams) i (slice_index_or streams i no_stream))
+stream_writable : (streams : List NamedBytes) (clsid : List ℕ) (i : ℕ) → AreStreams streams → IsLayout streams clsid →
+    i < length streams → IsWritable (stream_entry (lengths_of streams) i (slice_index_or streams i no_stream))
 stream_writable streams clsid i are lay low =
     let lengths = lengths_of streams in
     let n = length-lengths_of streams in
@@ -102,7 +108,8 @@ stream_writable streams clsid i are lay low =
     let size = b.each i (omega arith) in
     let here = lengths_at streams i low in
     let all = all_entries (length lengths) in
-    let part = part_is (length lengths) (i + 1) all (omega arith) (record { from = omega arith; below = omega arith }) in
+    let part = part_is (length lengths) (i + 1) all (omega arith) (record { from = omega arith; below = omega arith })
+    in
     let from = part.from in
     let end = part.end in
     let stream = slice_index_or streams i no_stream in
@@ -116,8 +123,10 @@ stream_writable streams clsid i are lay low =
       left = top_below (lower (part_of (length lengths) (i + 1) all)) (omega arith);
       right = top_below (upper (part_of (length lengths) (i + 1) all)) (omega arith);
       child = omega arith;
-      start = cond_both (ltb (slice_index lengths i) 4096) (first_sector (mini_counts lengths) i) (first_sector (sector_counts lengths) i) (λ n. n < 2 ^ 32)
-          (λ is. first_below (mini_counts lengths) i (omega arith)) (λ is. first_below (sector_counts lengths) i (omega arith));
+      start = cond_both (ltb (slice_index lengths i) 4096) (first_sector (mini_counts lengths) i) (first_sector
+          (sector_counts lengths) i) (λ n. n < 2 ^ 32)
+          (λ is. first_below (mini_counts lengths) i (omega arith)) (λ is. first_below (sector_counts lengths) i
+          (omega arith));
       size = omega arith;
     }
 
@@ -134,9 +143,11 @@ unused_writable = record {
   size = omega arith;
 }
 
-pub entry_writable : (streams : List NamedBytes) (clsid : List ℕ) (k : ℕ) → AreStreams streams → IsLayout streams clsid → IsWritable (directory_entry streams clsid k)
+pub entry_writable : (streams : List NamedBytes) (clsid : List ℕ) (k : ℕ) → AreStreams streams → IsLayout streams
+    clsid → IsWritable (directory_entry streams clsid k)
 entry_writable streams clsid zero are lay = root_writable streams clsid are lay
 entry_writable streams clsid (suc i) are lay =
-    cond_both (ltb i (length streams)) (stream_entry (lengths_of streams) i (slice_index_or streams i no_stream)) unused_entry IsWritable
+    cond_both (ltb i (length streams)) (stream_entry (lengths_of streams) i (slice_index_or streams i no_stream))
+    unused_entry IsWritable
     (λ is. stream_writable streams clsid i are lay (ltb-true i (length streams) is))
     (λ is. unused_writable)

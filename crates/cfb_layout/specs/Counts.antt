@@ -1,6 +1,7 @@
 -- How many sectors the canonical container takes, as a function of the lengths of its streams alone. Each stream has a
 -- large part, in sectors, and a small part, in mini sectors; one of the two is empty.
-use Rattle.std.specs.Prelude.{◌≤◌, ℕ, ◌+◌, ◌*◌, List, [], ◌∷◌, ◌++◌, length, map, sum, nat_lt, if◌then◌else◌, slice_index}
+use Rattle.std.specs.Prelude.{◌≤◌, ℕ, ◌+◌, ◌*◌, List, [], ◌∷◌, ◌++◌, length, map, sum, nat_lt, if◌then◌else◌}
+use Rattle.std.specs.Prelude.{slice_index}
 use Rattle.cfb_sectors.specs.SectorChain.{end_of_chain}
 use Rattle.cfb_layout.specs.Sectors.{units_for, start_of}
 
@@ -22,7 +23,8 @@ large_counts lengths = map (λ len. units_for 512 (large_len len)) lengths
 unfoldable pub sector_counts : List ℕ → List ℕ
 sector_counts lengths =
     large_counts lengths
-    ++ (units_for 512 (64 * sum (mini_counts lengths)) ∷ (units_for 128 (sum (mini_counts lengths)) ∷ (units_for 4 (length lengths + 1) ∷ [])))
+    ++ (units_for 512 (64 * sum (mini_counts lengths)) ∷ (units_for 128 (sum (mini_counts lengths)) ∷ (units_for 4
+    (length lengths + 1) ∷ [])))
 
 -- the sectors of the FAT
 abbrev pub fat_count : List ℕ → ℕ
@@ -46,4 +48,5 @@ first_sector counts i = if nat_lt 0 (slice_index counts i) then start_of counts 
 -- the start of a stream, by the FAT or by the mini FAT
 abbrev pub stream_start : List ℕ → ℕ → ℕ
 stream_start lengths i =
-    if nat_lt (slice_index lengths i) 4096 then first_sector (mini_counts lengths) i else first_sector (sector_counts lengths) i
+    if nat_lt (slice_index lengths i) 4096 then first_sector (mini_counts lengths) i else first_sector (sector_counts
+    lengths) i

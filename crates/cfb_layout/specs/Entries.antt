@@ -32,7 +32,8 @@ name_bytes name = filled 64 0 (flat_map (number_bytes 2) name)
 
 unfoldable pub entry_bytes : Entry → List ℕ
 entry_bytes entry =
-    name_bytes entry.name ++ (fields_bytes (link_fields entry.fields) ++ (entry.clsid ++ fields_bytes (place_fields entry.fields)))
+    name_bytes entry.name ++ (fields_bytes (link_fields entry.fields) ++ (entry.clsid ++ fields_bytes (place_fields
+    entry.fields)))
 
 -- the length of a name in bytes, with its zero unit
 abbrev pub name_length : ℕ → ℕ

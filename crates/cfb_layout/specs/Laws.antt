@@ -13,17 +13,20 @@ pub record IsLayout (streams : List NamedBytes) (clsid : List ℕ) : Type 0 wher
   pub few : length streams ≤ 1023
   pub fits : Fits (lengths_of streams)
   pub clsid_len : length clsid ≡ 16
-  pub names : (i : ℕ) (stream : NamedBytes) → slice_get streams i ≡ Some stream → (k : ℕ) → slice_index stream.name k < 2 ^ 16
+  pub names : (i : ℕ) (stream : NamedBytes) → slice_get streams i ≡ Some stream → (k : ℕ) → slice_index stream.name k
+      < 2 ^ 16
 
 -- it is accepted
 abbrev pub BreaksNoRule : Type 0
 BreaksNoRule =
-    (streams : List NamedBytes) (clsid : List ℕ) → AreStreams streams → IsLayout streams clsid → Hold (container_rules (compound_file streams clsid))
+    (streams : List NamedBytes) (clsid : List ℕ) → AreStreams streams → IsLayout streams clsid →
+    Hold (container_rules (compound_file streams clsid))
 
 -- it is read as these streams, those of 4,096 bytes or more in sectors that stand in a row, and this CLSID
 abbrev pub HoldsItsStreams : Type 0
 HoldsItsStreams =
-    (streams : List NamedBytes) (clsid : List ℕ) → AreStreams streams → IsLayout streams clsid → HasContents (compound_file streams clsid) (contents_of streams clsid)
+    (streams : List NamedBytes) (clsid : List ℕ) → AreStreams streams → IsLayout streams clsid →
+    HasContents (compound_file streams clsid) (contents_of streams clsid)
 
 -- with so many FAT sectors each sector, theirs too, has an entry; and with no fewer
 pub record IsLeastFat (sectors count : ℕ) : Type 0 where

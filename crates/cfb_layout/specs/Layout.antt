@@ -1,21 +1,25 @@
 -- Profile: the canonical container, the one file that is written for these streams and this CLSID. Each stream has a
--- large part and a small part, one of which is empty. An empty part takes no sector and no FAT entry, so part i is stream
+-- large part and a small part, one of which is empty. An empty part takes no sector and no FAT entry, so part i is
+-- stream
 -- i and directory entry i + 1. Nothing is searched for, and no table is filled as it goes.
-use Rattle.std.specs.Prelude.{ℕ, zero, suc, ◌+◌, ◌*◌, List, [], ◌∷◌, ◌++◌, Option, Some, None, length, map, replicate, sum, nat_lt, if◌then◌else◌, slice_index, slice_index_or}
+use Rattle.std.specs.Prelude.{ℕ, zero, suc, ◌+◌, ◌*◌, List, [], ◌∷◌, ◌++◌, Option, Some, None, length, map, replicate}
+use Rattle.std.specs.Prelude.{sum, nat_lt, if◌then◌else◌, slice_index, slice_index_or}
 use Rattle.std.specs.List.{flat_map, range_with_len}
 use Rattle.doc_bits.specs.Number.{number_bytes}
 use Rattle.cfb_streams.specs.Contents.{NamedBytes, Stream, Contents}
 use Rattle.cfb_directory.specs.Directory.{no_entry}
 use Rattle.cfb_sectors.specs.SectorChain.{end_of_chain}
 use Rattle.cfb_sectors.specs.Opening.{signature}
-use Rattle.cfb_layout.specs.Sectors.{units_for, filled, padded, chains_from, start_of, table_bytes, free_sector, fat_sector_mark}
+use Rattle.cfb_layout.specs.Sectors.{units_for, filled, padded, chains_from, start_of, table_bytes, free_sector}
+use Rattle.cfb_layout.specs.Sectors.{fat_sector_mark}
 use Rattle.cfb_layout.specs.declared.entries.EntryFields.{EntryFields}
 use Rattle.cfb_layout.specs.declared.fields.Field.{Field}
 use Rattle.cfb_layout.specs.declared.fields.Field.TheVariants.{Long, Word}
 use Rattle.cfb_layout.specs.Fields.{fields_bytes}
 use Rattle.cfb_layout.specs.Tree.{top, all_entries, left_of, right_of}
 use Rattle.cfb_layout.specs.Counts.{mini_counts, sector_counts, fat_count, first_sector, stream_start}
-use Rattle.cfb_layout.specs.Entries.{Entry, entry_bytes, unused_entry, name_length, stream_kind, root_kind, black, no_clsid, root_name}
+use Rattle.cfb_layout.specs.Entries.{Entry, entry_bytes, unused_entry, name_length, stream_kind, root_kind, black}
+use Rattle.cfb_layout.specs.Entries.{no_clsid, root_name}
 
 -- the bytes that stand in sectors, and those that stand in mini sectors
 abbrev pub large_part : List ℕ → List ℕ
@@ -65,7 +69,12 @@ stream_fields lengths i units = record {
 }
 
 abbrev pub stream_entry : List ℕ → ℕ → NamedBytes → Entry
-stream_entry lengths i stream = record { name = stream.name; clsid = no_clsid; fields = stream_fields lengths i (length stream.name) }
+stream_entry lengths i stream = record {
+  name = stream.name;
+  clsid = no_clsid;
+  fields = stream_fields lengths i
+      (length stream.name);
+}
 
 abbrev pub no_stream : NamedBytes
 no_stream = record { name = []; bytes = [] }
@@ -74,11 +83,13 @@ no_stream = record { name = []; bytes = [] }
 abbrev pub directory_entry : List NamedBytes → List ℕ → ℕ → Entry
 directory_entry streams clsid zero = root_entry (lengths_of streams) clsid
 directory_entry streams clsid (suc i) =
-    if nat_lt i (length streams) then stream_entry (lengths_of streams) i (slice_index_or streams i no_stream) else unused_entry
+    if nat_lt i (length streams) then stream_entry (lengths_of streams) i (slice_index_or streams i no_stream)
+    else unused_entry
 
 unfoldable pub directory_bytes : List NamedBytes → List ℕ → List ℕ
 directory_bytes streams clsid =
-    flat_map (λ k. entry_bytes (directory_entry streams clsid k)) (range_with_len 0 (4 * units_for 4 (length streams + 1)))
+    flat_map (λ k. entry_bytes (directory_entry streams clsid k)) (range_with_len 0 (4 * units_for 4 (length streams +
+    1)))
 
 -- the parts in the order of their sectors: the streams, the mini stream, the mini FAT, the directory and the FAT
 unfoldable pub parts : List NamedBytes → List ℕ → List (List ℕ)
@@ -106,7 +117,8 @@ unfoldable pub fat_numbers : ℕ → List ℕ → List ℕ
 fat_numbers count lengths = filled count free_sector (range_with_len (sum (sector_counts lengths)) (fat_count lengths))
 
 unfoldable pub header_bytes : List ℕ → List ℕ
-header_bytes lengths = signature ++ (fields_bytes (header_fields lengths) ++ flat_map (number_bytes 4) (fat_numbers 109 lengths))
+header_bytes lengths = signature ++ (fields_bytes (header_fields lengths) ++ flat_map (number_bytes 4) (fat_numbers
+    109 lengths))
 
 -- the canonical container
 unfoldable pub compound_file : List NamedBytes → List ℕ → List ℕ
@@ -126,4 +138,7 @@ stream_at streams i = record {
 }
 
 unfoldable pub contents_of : List NamedBytes → List ℕ → Contents
-contents_of streams clsid = record { streams = map (stream_at streams) (range_with_len 0 (length streams)); clsid = clsid }
+contents_of streams clsid = record {
+  streams = map (stream_at streams) (range_with_len 0 (length streams));
+  clsid = clsid;
+}

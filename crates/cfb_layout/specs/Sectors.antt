@@ -24,7 +24,8 @@ filled len filler xs = xs ++ replicate (len - length xs) filler
 unfoldable pub padded : ℕ → ℕ → List ℕ → List ℕ
 padded unit filler xs = xs ++ replicate (units_for unit (length xs) * unit - length xs) filler
 
--- the entries of a chain of sectors that stand in a row from `start` on: each names the next, and the last ends the chain
+-- the entries of a chain of sectors that stand in a row from `start` on: each names the next, and the last ends the
+-- chain
 abbrev pub chain_entries : ℕ → ℕ → List ℕ
 chain_entries start zero = []
 chain_entries start (suc more) = range_with_len (start + 1) more ++ end_of_chain ∷ []

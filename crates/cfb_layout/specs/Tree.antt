@@ -1,4 +1,5 @@
--- Profile: the tree of the root's entries. Over entries in a row the middle one is on top, those below it are left of it and
+-- Profile: the tree of the root's entries. Over entries in a row the middle one is on top, those below it are left of
+-- it and
 -- those above it right. A span of entries is its first one and their number.
 use Rattle.std.specs.Prelude.{ℕ, zero, suc, ◌+◌, ◌-◌, ◌/◌, nat_eq, nat_lt, if◌then◌else◌}
 use Rattle.cfb_directory.specs.Directory.{no_entry}

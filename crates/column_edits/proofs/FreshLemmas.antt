@@ -1,5 +1,6 @@
 -- Settings of items that are there.
-use Rattle.std.proofs.Common.{◌≡◌, ◌∙◌, inl, inr, refl, sym, ap, subst, ℕ, List, [], ◌∷◌, ◌++◌, map, Option, Some, None, append_assoc}
+use Rattle.std.proofs.Common.{◌≡◌, ◌∙◌, inl, inr, refl, sym, ap, subst, ℕ, List, [], ◌∷◌, ◌++◌, map, Option, Some}
+use Rattle.std.proofs.Common.{None, append_assoc}
 use Rattle.std.specs.Prelude.{slice_get}
 use Rattle.std.specs.Option.{option_map, unwrap_or}
 use Rattle.std.specs.FinMap.{empty}
@@ -11,7 +12,8 @@ use Rattle.plain_doc.specs.declared.item.Item.{Item}
 use Rattle.plain_doc.specs.Document.{IsFormedText}
 use Rattle.plain_doc.proofs.MainLemmas.{maps_there}
 use Rattle.doc_columns.specs.Columns.{bare_items}
-use Rattle.edit_ops.specs.Fresh.{special_codes, base_of, base_settings, special, unit_item, unit_items, plain_end, field_mark, field_items, note_items}
+use Rattle.edit_ops.specs.Fresh.{special_codes, base_of, base_settings, special, unit_item, unit_items, plain_end}
+use Rattle.edit_ops.specs.Fresh.{field_mark, field_items, note_items}
 
 base_chp : (o : Option Item) →
     base_of o ≡ unwrap_or (option_map (without special_codes) (option_map (λ (item : Item). item.chp) o)) empty

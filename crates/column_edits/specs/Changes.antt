@@ -3,7 +3,9 @@ use Rattle.std.specs.Prelude.{List, map}
 use Rattle.edit_ops.specs.declared.changes.Change.{Change}
 use Rattle.edit_ops.specs.declared.changes.Change.TheVariants as plain
 use Rattle.column_edits.specs.declared.changes.ColumnChange.{ColumnChange}
-use Rattle.column_edits.specs.declared.changes.ColumnChange.TheVariants.{SpliceText, ModifyItems, SetSection, SpliceNotes, SpliceHeads, SetStyleCharacters, SetStyleParagraphs}
+use Rattle.column_edits.specs.declared.changes.ColumnChange.TheVariants.{SpliceText, ModifyItems, SetSection}
+use Rattle.column_edits.specs.declared.changes.ColumnChange.TheVariants.{SpliceNotes, SpliceHeads, SetStyleCharacters}
+use Rattle.column_edits.specs.declared.changes.ColumnChange.TheVariants.{SetStyleParagraphs}
 
 -- the same change, of the items that columns stand for
 abbrev pub as_change : ColumnChange → Change

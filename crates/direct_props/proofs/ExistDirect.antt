@@ -1,5 +1,6 @@
 -- A place that breaks no rule has direct settings, and they are well formed.
-use Rattle.std.proofs.Common.{refl, sym, subst, ℕ, zero, suc, ◌+◌, ◌*◌, ◌<◌, List, [], ◌∷◌, drop, false, Option, Some, None, arith}
+use Rattle.std.proofs.Common.{refl, sym, subst, ℕ, zero, suc, ◌+◌, ◌*◌, ◌<◌, List, [], ◌∷◌, drop, false, Option, Some}
+use Rattle.std.proofs.Common.{None, arith}
 use Rattle.std.specs.Option.{unwrap_or, ForSome}
 use Rattle.std.specs.FinMap.{empty}
 use Rattle.doc_bits.specs.Number.{u16_at, AreBytes}
@@ -43,14 +44,17 @@ settings_there list groups bytes accepted =
       made = after.new;
       style = style_of accepted.list groups;
       makes = record { prls = accepted.list; spelt = accepted.spelt; map = after.after; style_is = refl };
-      formed = IsPropertyMap-after accepted.list groups empty after.new accepted.spelt.entries values after.after (IsPropertyMap-empty groups);
+      formed = IsPropertyMap-after accepted.list groups empty after.new accepted.spelt.entries values after.after
+          (IsPropertyMap-empty groups);
       small = λ n e. style_small accepted.list groups n values e;
     }
 
 -- what a list of bytes makes of no settings is well formed
-pub made_formed : (list : List ℕ) (groups : ℕ) (made : Settings) (style : Option ℕ) → AreBytes list → MakesSettings list groups made style → IsPropertyMap groups made
+pub made_formed : (list : List ℕ) (groups : ℕ) (made : Settings) (style : Option ℕ) → AreBytes list →
+    MakesSettings list groups made style → IsPropertyMap groups made
 made_formed list groups made style bytes makes =
-    IsPropertyMap-after makes.prls groups empty made makes.spelt.entries (list_bytes list makes.prls bytes makes.spelt) makes.map (IsPropertyMap-empty groups)
+    IsPropertyMap-after makes.prls groups empty made makes.spelt.entries (list_bytes list makes.prls bytes
+    makes.spelt) makes.map (IsPropertyMap-empty groups)
 
 -- ---- the list of a place is bytes
 
@@ -63,41 +67,55 @@ bare_bytes : (kind : PageKind) → AreBytes (bare_list kind)
 bare_bytes Chpx = no_bytes
 bare_bytes Papx = two_zeros
 
-answered_bytes : (kind : PageKind) (page : List ℕ) (answer : RunAnswer) (list : List ℕ) → AreBytes page → IsListAnswered kind page answer list → AreBytes list
+answered_bytes : (kind : PageKind) (page : List ℕ) (answer : RunAnswer) (list : List ℕ) → AreBytes page →
+    IsListAnswered kind page answer list → AreBytes list
 answered_bytes kind page (Found from to) list bytes is = subst AreBytes (sym is) (AreBytes-range page from to bytes)
 answered_bytes kind page Empty list bytes is = subst AreBytes (sym is) (bare_bytes kind)
 answered_bytes kind page NoRun list bytes is = absurd is
 answered_bytes kind page BadCount list bytes is = absurd is
 answered_bytes kind page (Leaves entry) list bytes is = absurd is
 
-pub list_at_bytes : (kind : PageKind) (bin wd : List ℕ) (fc : ℕ) (list : List ℕ) → AreBytes wd → HasListAt kind bin wd fc list → AreBytes list
+pub list_at_bytes : (kind : PageKind) (bin wd : List ℕ) (fc : ℕ) (list : List ℕ) → AreBytes wd → HasListAt kind bin wd
+    fc list → AreBytes list
 list_at_bytes kind bin wd fc list bytes has =
-    answered_bytes kind (page_at wd has.number) has.answer list (AreBytes-range wd (512 * has.number) (512 * has.number + 512) bytes) has.answered
+    answered_bytes kind (page_at wd has.number) has.answer list (AreBytes-range wd (512 * has.number)
+    (512 * has.number + 512) bytes) has.answered
 
 -- the direct settings of a character in a stream of bytes are well formed
-pub character_formed : (wd bin : List ℕ) (fc : ℕ) (modifier : Modifier) (settings : Settings) → AreBytes wd → IsFormedModifier modifier → IsDirectCharacter wd bin fc modifier settings → IsPropertyMap character_groups settings
+pub character_formed : (wd bin : List ℕ) (fc : ℕ) (modifier : Modifier) (settings : Settings) → AreBytes wd →
+    IsFormedModifier modifier → IsDirectCharacter wd bin fc modifier settings → IsPropertyMap character_groups settings
 character_formed wd bin fc modifier settings bytes formed is =
     IsPropertyMap-over character_groups modifier.clear modifier.chp is.made settings is.modified formed.chp
     (made_formed is.list character_groups is.made is.style (list_at_bytes Chpx bin wd fc is.list bytes is.has) is.makes)
 
 -- ---- characters and marks
 
-pub character_there : (wd bin : List ℕ) (fc : ℕ) (modifier : Modifier) → AreBytes wd → IsRight Chpx wd bin fc → IsRightModifier modifier → HasDirectCharacter wd bin fc modifier
+pub character_there : (wd bin : List ℕ) (fc : ℕ) (modifier : Modifier) → AreBytes wd → IsRight Chpx wd bin fc →
+    IsRightModifier modifier → HasDirectCharacter wd bin fc modifier
 character_there wd bin fc modifier bytes right is =
     let has = list_there Chpx wd bin fc bytes right in
     let made = settings_there has.list character_groups has.bytes has.accepted in
     let after = character_after modifier made.made in
     record {
       settings = after.new;
-      is = record { list = has.list; has = has.has; made = made.made; style = made.style; makes = made.makes; modified = after.after };
-      formed = IsPropertyMap-over character_groups modifier.clear modifier.chp made.made after.new after.after is.formed.chp made.formed;
+      is = record {
+        list = has.list;
+        has = has.has;
+        made = made.made;
+        style = made.style;
+        makes = made.makes;
+        modified = after.after;
+      };
+      formed = IsPropertyMap-over character_groups modifier.clear modifier.chp made.made after.new after.after
+          is.formed.chp made.formed;
     }
 
 small_or : (o : Option ℕ) (n : ℕ) → ForSome o (λ k. k < 65536) → n < 65536 → unwrap_or o n < 65536
 small_or None n some less = less
 small_or (Some k) n some less = some k refl
 
-pub mark_there : (wd bin : List ℕ) (fc : ℕ) (modifier : Modifier) → AreBytes wd → IsRight Papx wd bin fc → IsRightModifier modifier → HasDirectMark wd bin fc modifier
+pub mark_there : (wd bin : List ℕ) (fc : ℕ) (modifier : Modifier) → AreBytes wd → IsRight Papx wd bin fc →
+    IsRightModifier modifier → HasDirectMark wd bin fc modifier
 mark_there wd bin fc modifier bytes right is =
     let has = list_there Papx wd bin fc bytes right in
     let made = settings_there (drop 2 has.list) paragraph_groups (AreBytes-drop 2 has.list has.bytes) has.accepted in
@@ -105,11 +123,20 @@ mark_there wd bin fc modifier bytes right is =
     record {
       istd = mark_style modifier (unwrap_or made.style (u16_at has.list 0));
       settings = after.new;
-      is = record { list = has.list; has = has.has; made = made.made; style = made.style; makes = made.makes; style_is = refl; modified = after.after };
+      is = record {
+        list = has.list;
+        has = has.has;
+        made = made.made;
+        style = made.style;
+        makes = made.makes;
+        style_is = refl;
+        modified = after.after;
+      };
       small =
           small_or modifier.istd (unwrap_or made.style (u16_at has.list 0)) is.small
           (small_or made.style (u16_at has.list 0) made.small (number_at-bound has.list 0 2 has.bytes));
-      formed = IsPropertyMap-over paragraph_groups false modifier.pap made.made after.new after.after is.formed.pap made.formed;
+      formed = IsPropertyMap-over paragraph_groups false modifier.pap made.made after.new after.after is.formed.pap
+          made.formed;
     }
 
 pub direct_settings_there : RightPlacesHaveSettings

@@ -1,5 +1,6 @@
 -- A place that breaks no rule has its list.
-use Rattle.std.proofs.Common.{◌≡◌, ◌⊎◌, ◌∙◌, inl, inr, refl, sym, subst, ℕ, zero, suc, ◌+◌, ◌*◌, ◌<◌, ◌≤◌, List, [], ◌∷◌, length, drop, arith, get_or}
+use Rattle.std.proofs.Common.{◌≡◌, ◌⊎◌, ◌∙◌, inl, inr, refl, sym, subst, ℕ, zero, suc, ◌+◌, ◌*◌, ◌<◌, ◌≤◌, List, []}
+use Rattle.std.proofs.Common.{◌∷◌, length, drop, arith, get_or}
 use Rattle.std.specs.Prelude.{slice_range, slice_index}
 use Rattle.std.proofs.lemmas.Bool.{cases_lt, cases_eq}
 use Rattle.doc_bits.specs.Plc.{plc_cp}
@@ -11,11 +12,13 @@ use Rattle.sprm_table.proofs.FaultLemmas.{passed_none, passed_end}
 use Rattle.fkp_pages.specs.declared.kind.PageKind.{PageKind}
 use Rattle.fkp_pages.specs.declared.kind.PageKind.TheVariants.{Chpx, Papx}
 use Rattle.fkp_pages.specs.declared.kind.RunAnswer.TheVariants.{Found, Empty}
-use Rattle.fkp_pages.specs.Fkp.{HasRunCount, HoldsFc, IsFirstRun, IsListWithin, page_count, most_runs, page_fc, entry_byte, entry_place, list_from, list_to, least_list}
+use Rattle.fkp_pages.specs.Fkp.{HasRunCount, HoldsFc, IsFirstRun, IsListWithin, page_count, most_runs, page_fc}
+use Rattle.fkp_pages.specs.Fkp.{entry_byte, entry_place, list_from, list_to, least_list}
 use Rattle.fkp_pages.specs.Bin.{IsBinRange, IsBinPage, bin_count, page_number, page_at}
 use Rattle.fkp_pages.specs.Properties.{HasListAt}
 use Rattle.fkp_pages.specs.Runs.{run_groups}
-use Rattle.direct_props.specs.PageRules.{page_rules, IsRightPlace, HasPageAnswer, HasNoPage, HasBadPage, IsInNoRun, HasListOutside, HasListFault}
+use Rattle.direct_props.specs.PageRules.{page_rules, IsRightPlace, HasPageAnswer, HasNoPage, HasBadPage, IsInNoRun}
+use Rattle.direct_props.specs.PageRules.{HasListOutside, HasListFault}
 use Rattle.direct_props.proofs.AnswerLemmas.{found_has_room}
 use Rattle.direct_props.proofs.StretchLemmas.{cut_rest}
 use Rattle.doc_bits.proofs.ByteListLemmas.{AreBytes-range}
@@ -31,7 +34,8 @@ pub record IsRight (kind : PageKind) (wd bin : List ℕ) (fc : ℕ) : Type 0 whe
   pub list : Nowhere (HasListOutside kind wd bin fc)
   pub sprms : Nowhere (HasListFault kind wd bin fc)
 
-pub right_of : (kind : PageKind) (wd bin places : List ℕ) → Hold (page_rules kind wd bin places) → (k : ℕ) → k < length places → IsRight kind wd bin (slice_index places k)
+pub right_of : (kind : PageKind) (wd bin places : List ℕ) → Hold (page_rules kind wd bin places) → (k : ℕ) →
+    k < length places → IsRight kind wd bin (slice_index places k)
 right_of kind wd bin places h k below = record {
   bin_page = λ p b. h.0 p (record { entry = k; below = below; broken = b });
   page = λ p b. h.1.0 p (record { entry = k; below = below; broken = b });
@@ -104,17 +108,32 @@ pub record HasAcceptedList (kind : PageKind) (wd bin : List ℕ) (fc : ℕ) : Ty
 nothing_accepted : (groups : ℕ) → IsAcceptedList [] groups
 nothing_accepted groups = passed_end [] groups 0 (passed_none [] groups) (inl (omega arith))
 
-bare : (kind : PageKind) (wd bin : List ℕ) (fc number : ℕ) → HasPageAnswer kind wd bin fc number Empty → 512 * number + 512 ≤ length wd → HasAcceptedList kind wd bin fc
+bare : (kind : PageKind) (wd bin : List ℕ) (fc number : ℕ) → HasPageAnswer kind wd bin fc number Empty →
+    512 * number + 512 ≤ length wd → HasAcceptedList kind wd bin fc
 bare Chpx wd bin fc number has there = record {
   list = [];
-  has = record { number = number; named = has.page; within = there; answer = Empty; answers = has.answers; answered = refl };
+  has = record {
+    number = number;
+    named = has.page;
+    within = there;
+    answer = Empty;
+    answers = has.answers;
+    answered = refl;
+  };
   bytes = λ i. omega arith;
   long = omega arith;
   accepted = nothing_accepted (run_groups Chpx);
 }
 bare Papx wd bin fc number has there = record {
   list = 0 ∷ 0 ∷ [];
-  has = record { number = number; named = has.page; within = there; answer = Empty; answers = has.answers; answered = refl };
+  has = record {
+    number = number;
+    named = has.page;
+    within = there;
+    answer = Empty;
+    answers = has.answers;
+    answered = refl;
+  };
   bytes = zeroes;
   long = omega arith;
   accepted = nothing_accepted (run_groups Papx);
@@ -125,7 +144,8 @@ bare Papx wd bin fc number has there = record {
     zeroes (suc zero) = omega arith
     zeroes (suc (suc i)) = omega arith
 
-there_list : (kind : PageKind) (wd bin : List ℕ) (fc number from to : ℕ) → AreBytes wd → HasPageAnswer kind wd bin fc number (Found from to) → 512 * number + 512 ≤ length wd → IsRight kind wd bin fc → HasAcceptedList kind wd bin fc
+there_list : (kind : PageKind) (wd bin : List ℕ) (fc number from to : ℕ) → AreBytes wd → HasPageAnswer kind wd bin fc
+    number (Found from to) → 512 * number + 512 ≤ length wd → IsRight kind wd bin fc → HasAcceptedList kind wd bin fc
 there_list kind wd bin fc number from to bytes has there right =
     let page = page_at wd number in
     let found = found_has_room kind wd fc number from to has.answers in
@@ -136,54 +156,123 @@ there_list kind wd bin fc number from to bytes has there right =
     let list_long = length-range page from to (omega arith) in
     record {
       list = slice_range page from to;
-      has = record { number = number; named = has.page; within = there; answer = Found from to; answers = has.answers; answered = refl };
+      has = record {
+        number = number;
+        named = has.page;
+        within = there;
+        answer = Found from to;
+        answers = has.answers;
+        answered = refl;
+      };
       bytes = AreBytes-range page from to page_bytes;
       long = omega arith;
       accepted =
           subst (λ xs. IsAcceptedList xs (run_groups kind)) (sym (cut_rest page from to (least_list kind) room))
-          (accepted_of (slice_range page (from + least_list kind) to) (run_groups kind) (AreBytes-range page (from + least_list kind) to page_bytes)
-          (λ p f. right.sprms (512 * number + from + least_list kind + p) (record { number = number; from = from; to = to; answer = has; fault = record { offset = p; here = refl; broken = f } })));
+          (accepted_of (slice_range page (from + least_list kind) to) (run_groups kind) (AreBytes-range page
+          (from + least_list kind) to page_bytes)
+          (λ p f. right.sprms (512 * number + from + least_list kind + p) (record {
+            number = number;
+            from = from;
+            to = to;
+            answer = has;
+            fault = record { offset = p; here = refl; broken = f };
+          })));
     }
 
-run_list_there : (kind : PageKind) (wd bin : List ℕ) (fc number run : ℕ) → AreBytes wd → IsBinPage bin fc number → 512 * number + 512 ≤ length wd → HasRunCount kind (page_at wd number) → IsFirstRun (page_at wd number) fc run → IsRight kind wd bin fc → HasAcceptedList kind wd bin fc
+run_list_there : (kind : PageKind) (wd bin : List ℕ) (fc number run : ℕ) → AreBytes wd → IsBinPage bin fc number →
+    512 * number + 512 ≤ length wd → HasRunCount kind (page_at wd number) → IsFirstRun (page_at wd number) fc run →
+    IsRight kind wd bin fc → HasAcceptedList kind wd bin fc
 run_list_there kind wd bin fc number run bytes named there count first right =
     let page = page_at wd number in
     let at = 2 * entry_byte kind page run in
     elim (cases_eq (entry_byte kind page run) 0) [
-      | inl none ↦ bare kind wd bin fc number (record { page = named; answers = (count, record { run = run; first = first; answers = none }) }) there
+      | inl none ↦ bare kind wd bin fc number (record {
+        page = named;
+        answers = (
+          count,
+          record {
+            run = run;
+            first = first;
+            answers = none;
+          },
+        );
+      }) there
       | inr some ↦ elim (within_or_not kind page at) [
         | inl within ↦
             there_list kind wd bin fc number (list_from kind page at) (list_to kind page at) bytes
-            (record { page = named; answers = (count, record { run = run; first = first; answers = record { some = some; starts = refl; ends = refl; within = within } }) }) there right
+            (record {
+              page = named;
+              answers = (
+                count,
+                record {
+                  run = run;
+                  first = first;
+                  answers = record { some = some; starts = refl; ends = refl; within = within };
+                },
+              );
+            }) there right
         | inr beyond ↦ absurd (right.list (512 * number + entry_place kind page run) (record {
           number = number;
           entry = entry_place kind page run;
-          answer = record { page = named; answers = (count, record { run = run; first = first; answers = record { some = some; here = refl; beyond = beyond } }) };
+          answer = record {
+            page = named;
+            answers = (
+              count,
+              record {
+                run = run;
+                first = first;
+                answers = record { some = some; here = refl; beyond = beyond };
+              },
+            );
+          };
           here = refl;
         }))
       ]
     ]
 
-page_list_there : (kind : PageKind) (wd bin : List ℕ) (fc number : ℕ) → AreBytes wd → IsBinPage bin fc number → 512 * number + 512 ≤ length wd → IsRight kind wd bin fc → HasAcceptedList kind wd bin fc
+page_list_there : (kind : PageKind) (wd bin : List ℕ) (fc number : ℕ) → AreBytes wd → IsBinPage bin fc number →
+    512 * number + 512 ≤ length wd → IsRight kind wd bin fc → HasAcceptedList kind wd bin fc
 page_list_there kind wd bin fc number bytes named there right =
     let page = page_at wd number in
     elim (counted_or_not kind page) [
-      | inr bad ↦ absurd (right.page (512 * number + 511) (record { number = number; page = named; here = refl; bad = inr (inr bad) }))
+      | inr bad ↦ absurd (right.page (512 * number + 511) (record {
+        number = number;
+        page = named;
+        here = refl;
+        bad = inr (inr bad);
+      }))
       | inl count ↦ elim (first_or_none (page_count page) (λ run. HoldsFc page run fc) (holds_or_not page fc)) [
-        | inl found ↦ run_list_there kind wd bin fc number found.0 bytes named there count (record { below = found.1.below; holds = found.1.is; first = found.1.first }) right
-        | inr none ↦ absurd (right.run fc (record { number = number; answer = record { page = named; answers = (count, none) }; here = refl }))
+        | inl found ↦ run_list_there kind wd bin fc number found.0 bytes named there count
+            (record { below = found.1.below; holds = found.1.is; first = found.1.first }) right
+        | inr none ↦ absurd (right.run fc (record {
+          number = number;
+          answer = record {
+            page = named;
+            answers = (
+              count,
+              none,
+            );
+          };
+          here = refl;
+        }))
       ]
     ]
 
 -- a right place has its list
-pub list_there : (kind : PageKind) (wd bin : List ℕ) (fc : ℕ) → AreBytes wd → IsRight kind wd bin fc → HasAcceptedList kind wd bin fc
+pub list_there : (kind : PageKind) (wd bin : List ℕ) (fc : ℕ) → AreBytes wd → IsRight kind wd bin fc → HasAcceptedList
+    kind wd bin fc
 list_there kind wd bin fc bytes right = elim (first_or_none (bin_count bin) (IsBinRange bin fc) (in_range bin fc)) [
   | inr none ↦ absurd (right.bin_page fc (record { here = refl; none = λ k range. none k range.below range }))
   | inl found ↦
       let number = page_number bin found.0 in
       let named : IsBinPage bin fc number = record { entry = found.0; range = found.1.is; page = refl } in
       elim (cases_lt (length wd) (512 * number + 512)) [
-        | inl short ↦ absurd (right.page (512 * number + 511) (record { number = number; page = named; here = refl; bad = inr (inl short) }))
+        | inl short ↦ absurd (right.page (512 * number + 511) (record {
+          number = number;
+          page = named;
+          here = refl;
+          bad = inr (inl short);
+        }))
         | inr there ↦ page_list_there kind wd bin fc number bytes named there right
       ]
 ]

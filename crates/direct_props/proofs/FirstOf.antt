@@ -7,10 +7,18 @@ pub record IsFirstOf (n : ℕ) (Is : ℕ → Type 0) (k : ℕ) : Type 0 where
   pub is : Is k
   pub first : (j : ℕ) → j < k → ¬ (Is j)
 
-pub first_or_none : (n : ℕ) (Is : ℕ → Type 0) → ((k : ℕ) → Is k ⊎ (¬ (Is k))) → ((k : ℕ) × IsFirstOf n Is k) ⊎ ((k : ℕ) → k < n → ¬ (Is k))
+pub first_or_none : (n : ℕ) (Is : ℕ → Type 0) → ((k : ℕ) → Is k ⊎ (¬ (Is k))) → ((k : ℕ) × IsFirstOf n Is k) ⊎
+    ((k : ℕ) → k < n → ¬ (Is k))
 first_or_none zero Is decide = inr (λ k below. absurd (omega arith))
 first_or_none (suc n) Is decide = elim (first_or_none n Is decide) [
-  | inl found ↦ (let below = found.1.below in inl (found.0, record { below = omega arith; is = found.1.is; first = found.1.first }))
+  | inl found ↦ (let below = found.1.below in inl (
+    found.0,
+    record {
+      below = omega arith;
+      is = found.1.is;
+      first = found.1.first;
+    },
+  ))
   | inr none ↦ elim (decide n) [
     | inl here ↦ inl (n, record { below = omega arith; is = here; first = none })
     | inr other ↦ inr (λ k below is. elim (cases_lt k n) [

@@ -1,5 +1,6 @@
 -- What is kept of lists, and what it says of places.
-use Rattle.std.proofs.Common.{◌≡◌, ◌⊎◌, inl, inr, ◌<◌, ◌≤◌, ◌+◌, ◌*◌, ◌∙◌, ℕ, List, [], ◌∷◌, ◌++◌, length, Some, slice_get, get_or, refl, sym, ap, subst, arith, length-append}
+use Rattle.std.proofs.Common.{◌≡◌, ◌⊎◌, inl, inr, ◌<◌, ◌≤◌, ◌+◌, ◌*◌, ◌∙◌, ℕ, List, [], ◌∷◌, ◌++◌, length, Some}
+use Rattle.std.proofs.Common.{slice_get, get_or, refl, sym, ap, subst, arith, length-append}
 use Rattle.std.specs.Prelude.{slice_range}
 use Rattle.std.proofs.lemmas.Bool.{cases_lt}
 use Rattle.std.proofs.lemmas.Option.{none-some, slice_get_within, slice_get_read}
@@ -23,11 +24,13 @@ use Rattle.direct_props.specs.declared.pages.PageStretch.{PageStretch}
 use Rattle.direct_props.specs.Direct.{IsDirectMark}
 use Rattle.direct_props.specs.Stretches.{IsRightList, HasSettingsAround}
 use Rattle.direct_props.specs.Pages.{HasPageAround}
-use Rattle.direct_props.specs.Kept.{HasNoFault, HaveNoFault, IsMadeOf, IsMadeIn, AreMade, PlaceSource, IsMadeAt, HasMadeAround, IsMadeByAnswer}
+use Rattle.direct_props.specs.Kept.{HasNoFault, HaveNoFault, IsMadeOf, IsMadeIn, AreMade, PlaceSource, IsMadeAt}
+use Rattle.direct_props.specs.Kept.{HasMadeAround, IsMadeByAnswer}
 use Rattle.direct_props.proofs.StretchLemmas.{in_page}
 
 -- a value of a list with one more is one of the list, or the last
-pub got : {X : Type 0} (xs : List X) (x y : X) (k : ℕ) → slice_get (xs ++ x ∷ []) k ≡ Some y → (slice_get xs k ≡ Some y) ⊎ ((k ≡ length xs) × (x ≡ y))
+pub got : {X : Type 0} (xs : List X) (x y : X) (k : ℕ) → slice_get (xs ++ x ∷ []) k ≡ Some y →
+    (slice_get xs k ≡ Some y) ⊎ ((k ≡ length xs) × (x ≡ y))
 got xs x y k e =
     let within = slice_get_within (xs ++ x ∷ []) k y e in
     let below : k < length xs + 1 = simp length-append at within in
@@ -40,28 +43,33 @@ got xs x y k e =
     ]
 
 -- one list more has no fault
-pub one_faultless : (kind : PageKind) (wd : List ℕ) (places : List (ℕ × ℕ)) (from to : ℕ) → HaveNoFault kind wd places → HasNoFault kind wd from to → HaveNoFault kind wd (places ++ (from, to) ∷ [])
+pub one_faultless : (kind : PageKind) (wd : List ℕ) (places : List (ℕ × ℕ)) (from to : ℕ) → HaveNoFault kind wd
+    places → HasNoFault kind wd from to → HaveNoFault kind wd (places ++ (from, to) ∷ [])
 one_faultless kind wd places from to have one k a b e = elim (got places (from, to) (a, b) k e) [
   | inl there ↦ have k a b there
   | inr last ↦ subst (λ (place : ℕ × ℕ). HasNoFault kind wd place.0 place.1) last.1 one
 ]
 
 -- a list that has no fault in the stream has none in its page
-pub right_in_page : (kind : PageKind) (wd : List ℕ) (number from to : ℕ) → from + least_list kind ≤ to → to ≤ 511 → HasNoFault kind wd (512 * number + from) (512 * number + to) → IsRightList kind (page_at wd number) from to
+pub right_in_page : (kind : PageKind) (wd : List ℕ) (number from to : ℕ) → from + least_list kind ≤ to → to ≤ 511 →
+    HasNoFault kind wd (512 * number + from) (512 * number + to) → IsRightList kind (page_at wd number) from to
 right_in_page kind wd number from to room within none =
     let e : 512 * number + from + least_list kind ≡ 512 * number + (from + least_list kind) = omega arith in
     record {
       room = room;
       within = within;
-      sprms = subst (λ l. Nowhere (HasSprmFaultAt l (run_groups kind))) (ap (λ a. slice_range wd a (512 * number + to)) e ∙ sym (in_page wd number (from + least_list kind) to (omega arith) (omega arith))) none;
+      sprms = subst (λ l. Nowhere (HasSprmFaultAt l (run_groups kind))) (ap (λ a. slice_range wd a (512 * number +
+          to)) e ∙ sym (in_page wd number (from + least_list kind) to (omega arith) (omega arith))) none;
     }
 
-pub faultless_in_stream : (kind : PageKind) (wd : List ℕ) (number from to : ℕ) → IsRightList kind (page_at wd number) from to → HasNoFault kind wd (512 * number + from) (512 * number + to)
+pub faultless_in_stream : (kind : PageKind) (wd : List ℕ) (number from to : ℕ) → IsRightList kind (page_at wd number)
+    from to → HasNoFault kind wd (512 * number + from) (512 * number + to)
 faultless_in_stream kind wd number from to right =
     let room = right.room in
     let within = right.within in
     let e : 512 * number + from + least_list kind ≡ 512 * number + (from + least_list kind) = omega arith in
-    subst (λ l. Nowhere (HasSprmFaultAt l (run_groups kind))) (in_page wd number (from + least_list kind) to (omega arith) (omega arith) ∙ sym (ap (λ a. slice_range wd a (512 * number + to)) e)) right.sprms
+    subst (λ l. Nowhere (HasSprmFaultAt l (run_groups kind))) (in_page wd number (from + least_list kind) to
+    (omega arith) (omega arith) ∙ sym (ap (λ a. slice_range wd a (512 * number + to)) e)) right.sprms
 
 pub no_places : (kind : PageKind) (wd : List ℕ) → HaveNoFault kind wd []
 no_places kind wd k from to e = absurd (none-some (from, to) e)
@@ -83,7 +91,8 @@ pub no_made : (kind : PageKind) (wd : List ℕ) (modifier : Modifier) → AreMad
 no_made kind wd modifier = record { len = refl; each = λ k place one p q. absurd (none-some place p) }
 
 -- what is kept at a number
-pub made_of_place : (kind : PageKind) (wd : List ℕ) (modifier : Modifier) (places : List (ℕ × ℕ)) (made : List Made) (k from to : ℕ) (one : Made) →
+pub made_of_place : (kind : PageKind) (wd : List ℕ) (modifier : Modifier) (places : List (ℕ × ℕ)) (made : List Made)
+    (k from to : ℕ) (one : Made) →
     AreMade kind wd modifier places made → slice_get places k ≡ Some (from, to) → one ≡ get_or made k one →
     IsMadeOf kind (slice_range wd from to) modifier one
 made_of_place kind wd modifier places made k from to one are there here =
@@ -92,14 +101,17 @@ made_of_place kind wd modifier places made k from to one are there here =
     are.each k (from, to) one there (slice_get_read made (length made) k one refl (omega arith) here)
 
 -- one list more is kept
-pub one_made : (kind : PageKind) (wd : List ℕ) (modifier : Modifier) (places : List (ℕ × ℕ)) (made : List Made) (from to : ℕ) (one : Made) →
+pub one_made : (kind : PageKind) (wd : List ℕ) (modifier : Modifier) (places : List (ℕ × ℕ)) (made : List Made)
+    (from to : ℕ) (one : Made) →
     IsMadeOf kind (slice_range wd from to) modifier one → AreMade kind wd modifier places made →
     AreMade kind wd modifier (places ++ (from, to) ∷ []) (made ++ one ∷ [])
 one_made kind wd modifier places made from to one is are =
-    together_joined (IsMadeIn kind wd modifier) places made ((from, to) ∷ []) (one ∷ []) are (together_one (IsMadeIn kind wd modifier) (from, to) one is)
+    together_joined (IsMadeIn kind wd modifier) places made ((from, to) ∷ []) (one ∷ []) are (together_one
+    (IsMadeIn kind wd modifier) (from, to) one is)
 
 -- what is kept of a list of the stream is what the page's answer makes
-pub kept_answer : (kind : PageKind) (wd : List ℕ) (modifier : Modifier) (number from to : ℕ) (made : Made) → IsRightList kind (page_at wd number) from to →
+pub kept_answer : (kind : PageKind) (wd : List ℕ) (modifier : Modifier) (number from to : ℕ) (made : Made) →
+    IsRightList kind (page_at wd number) from to →
     IsMadeOf kind (slice_range wd (512 * number + from) (512 * number + to)) modifier made →
     IsMadeByAnswer kind modifier (page_at wd number) (Found from to) made
 kept_answer kind wd modifier number from to made right is =
@@ -108,11 +120,13 @@ kept_answer kind wd modifier number from to made right is =
     record {
       list = slice_range (page_at wd number) from to;
       answered = refl;
-      makes = subst (λ l. IsMadeOf kind l modifier made) (sym (in_page wd number from to (omega arith) (omega arith))) is;
+      makes = subst (λ l. IsMadeOf kind l modifier made) (sym (in_page wd number from to (omega arith) (omega arith)))
+          is;
     }
 
 -- what the answer of a page makes is what the list of each of its places makes
-pub made_along : (source : PlaceSource) (fc : ℕ) (stretch : PageStretch) (made : Made) → HasPageAround source.kind source.wd source.bin fc stretch →
+pub made_along : (source : PlaceSource) (fc : ℕ) (stretch : PageStretch) (made : Made) → HasPageAround source.kind
+    source.wd source.bin fc stretch →
     IsMadeByAnswer source.kind source.modifier (page_at source.wd stretch.number) stretch.answer made →
     HasMadeAround source fc (record { first = stretch.first; last = stretch.last; made = made })
 made_along source fc stretch made h by = record {
@@ -122,32 +136,69 @@ made_along source fc stretch made h by = record {
       let here = h.each other a b in
       record {
         list = by.list;
-        has = record { number = stretch.number; named = here.page; within = h.page.within; answer = stretch.answer; answers = here.answers; answered = by.answered };
+        has = record {
+          number = stretch.number;
+          named = here.page;
+          within = h.page.within;
+          answer = stretch.answer;
+          answers = here.answers;
+          answered = by.answered;
+        };
         makes = by.makes;
       };
 }
 
 -- the settings of the characters of a stretch
-pub characters_around : (source : PlaceSource) (fc : ℕ) (stretch : MadeStretch) → source.kind ≡ Chpx → HasMadeAround source fc stretch →
+pub characters_around : (source : PlaceSource) (fc : ℕ) (stretch : MadeStretch) → source.kind ≡ Chpx →
+    HasMadeAround source fc stretch →
     HasSettingsAround source.wd source.bin source.modifier fc stretch.first stretch.last stretch.made.map
 characters_around source fc stretch e h =
-    let made : (other : ℕ) → stretch.first ≤ other → other ≤ stretch.last → IsMadeAt (record { kind = Chpx; wd = source.wd; bin = source.bin; modifier = source.modifier }) other stretch.made =
-    λ other a b. subst (λ k. IsMadeAt (record { kind = k; wd = source.wd; bin = source.bin; modifier = source.modifier }) other stretch.made) e (h.each other a b) in
+    let made : (other : ℕ) → stretch.first ≤ other → other ≤ stretch.last → IsMadeAt (record {
+      kind = Chpx;
+      wd = source.wd;
+      bin = source.bin;
+      modifier = source.modifier;
+    }) other stretch.made =
+    λ other a b. subst (λ k. IsMadeAt (record {
+      kind = k;
+      wd = source.wd;
+      bin = source.bin;
+      modifier = source.modifier;
+    }) other stretch.made) e (h.each other a b) in
     record {
       from = h.from;
       to = h.to;
       each = λ other a b.
           let at = made other a b in
           let makes = at.makes in
-          record { list = at.list; has = at.has; made = makes.made; style = makes.style; makes = makes.makes; modified = makes.modified };
+          record {
+            list = at.list;
+            has = at.has;
+            made = makes.made;
+            style = makes.style;
+            makes = makes.makes;
+            modified = makes.modified;
+          };
       formed = (made fc h.from h.to).makes.formed;
     }
 
 -- the mark of a place
 pub mark_of : (source : PlaceSource) (fc : ℕ) (made : Made) → source.kind ≡ Papx → IsMadeAt source fc made →
-    IsDirectMark source.wd source.bin fc source.modifier made.istd made.map × (IsFormedModifier source.modifier → IsPropertyMap paragraph_groups made.map)
+    IsDirectMark source.wd source.bin fc source.modifier made.istd made.map × (IsFormedModifier source.modifier →
+    IsPropertyMap paragraph_groups made.map)
 mark_of source fc made e here =
     let at : IsMadeAt (record { kind = Papx; wd = source.wd; bin = source.bin; modifier = source.modifier }) fc made =
-    subst (λ k. IsMadeAt (record { kind = k; wd = source.wd; bin = source.bin; modifier = source.modifier }) fc made) e here in
-    let makes = at.makes in
-    (record { list = at.list; has = at.has; made = makes.made; style = makes.style; makes = makes.makes; style_is = makes.style_is; modified = makes.modified }, makes.formed)
+    subst (λ k. IsMadeAt (record { kind = k; wd = source.wd; bin = source.bin; modifier = source.modifier }) fc made)
+    e here in
+    let makes = at.makes in (
+      record {
+        list = at.list;
+        has = at.has;
+        made = makes.made;
+        style = makes.style;
+        makes = makes.makes;
+        style_is = makes.style_is;
+        modified = makes.modified;
+      },
+      makes.formed,
+    )

@@ -23,26 +23,33 @@ record MakeOne (one other : Settings) (style named : Option ℕ) : Type 0 where
   map : one ≡ other
   style_is : style ≡ named
 
-makes_one : (list : List ℕ) (groups : ℕ) (one other : Settings) (style named : Option ℕ) → MakesSettings list groups one style → MakesSettings list groups other named → MakeOne one other style named
+makes_one : (list : List ℕ) (groups : ℕ) (one other : Settings) (style named : Option ℕ) → MakesSettings list groups
+    one style → MakesSettings list groups other named → MakeOne one other style named
 makes_one list groups one other style named a b =
     let prls = spelt_unique list a.prls b.prls a.spelt b.spelt in
     record {
-      map = acting_one a.prls groups empty one other a.map (subst (λ ps. ArePropertiesAfter ps groups empty other) (sym prls) b.map);
+      map = acting_one a.prls groups empty one other a.map (subst (λ ps. ArePropertiesAfter ps groups empty other)
+          (sym prls) b.map);
       style_is = a.style_is ∙ (ap (λ ps. style_of ps groups) prls ∙ sym b.style_is);
     }
 
 pub character_one : DirectCharacterIsOne
 character_one wd bin fc modifier one other table a b =
     let list = list_at_one Chpx bin wd fc a.list b.list table a.has b.has in
-    let made = makes_one b.list character_groups a.made b.made a.style b.style (subst (λ l. MakesSettings l character_groups a.made a.style) list a.makes) b.makes in
-    same_settings one other (λ code. a.modified code ∙ (ap (λ m. character_value modifier code (get m code)) made.map ∙ sym (b.modified code)))
+    let made = makes_one b.list character_groups a.made b.made a.style b.style (subst (λ l. MakesSettings l
+    character_groups a.made a.style) list a.makes) b.makes in
+    same_settings one other (λ code. a.modified code ∙ (ap (λ m. character_value modifier code (get m code)) made.map
+    ∙ sym (b.modified code)))
 
 pub mark_one : DirectMarkIsOne
 mark_one wd bin fc modifier istd number one other table a b =
     let list = list_at_one Papx bin wd fc a.list b.list table a.has b.has in
-    let made = makes_one (drop 2 b.list) paragraph_groups a.made b.made a.style b.style (subst (λ l. MakesSettings (drop 2 l) paragraph_groups a.made a.style) list a.makes) b.makes in (
-      a.style_is ∙ (ap (λ s. mark_style modifier (unwrap_or s (u16_at a.list 0))) made.style_is ∙ (ap (λ l. mark_style modifier (unwrap_or b.style (u16_at l 0))) list ∙ sym b.style_is)),
-      same_settings one other (λ code. a.modified code ∙ (ap (λ m. mark_value modifier code (get m code)) made.map ∙ sym (b.modified code))),
+    let made = makes_one (drop 2 b.list) paragraph_groups a.made b.made a.style b.style (subst (λ l. MakesSettings
+    (drop 2 l) paragraph_groups a.made a.style) list a.makes) b.makes in (
+      a.style_is ∙ (ap (λ s. mark_style modifier (unwrap_or s (u16_at a.list 0))) made.style_is ∙
+          (ap (λ l. mark_style modifier (unwrap_or b.style (u16_at l 0))) list ∙ sym b.style_is)),
+      same_settings one other (λ code. a.modified code ∙ (ap (λ m. mark_value modifier code (get m code)) made.map ∙
+          sym (b.modified code))),
     )
 
 pub page_rules-IsSingle : (kind : PageKind) (wd bin places : List ℕ) → IsSingle (page_rules kind wd bin places)
@@ -57,6 +64,87 @@ abbrev pub high_rule : PageKind → ℕ
 high_rule Chpx = 44
 high_rule Papx = 49
 
-pub page_rules-Ascends : (kind : PageKind) (wd bin places : List ℕ) → Ascends (page_rules kind wd bin places) (low_rule kind) (high_rule kind)
-page_rules-Ascends Chpx wd bin places = (40, ((lit≤ tt, lit< tt), (lit≤ tt, lit≤ tt, (41, ((lit≤ tt, lit< tt), (lit≤ tt, lit≤ tt, (42, ((lit≤ tt, lit< tt), (lit≤ tt, lit≤ tt, (43, ((lit≤ tt, lit< tt), (lit≤ tt, lit≤ tt, (lit≤ tt, lit< tt)))))))))))))
-page_rules-Ascends Papx wd bin places = (45, ((lit≤ tt, lit< tt), (lit≤ tt, lit≤ tt, (46, ((lit≤ tt, lit< tt), (lit≤ tt, lit≤ tt, (47, ((lit≤ tt, lit< tt), (lit≤ tt, lit≤ tt, (48, ((lit≤ tt, lit< tt), (lit≤ tt, lit≤ tt, (lit≤ tt, lit< tt)))))))))))))
+pub page_rules-Ascends : (kind : PageKind) (wd bin places : List ℕ) → Ascends (page_rules kind wd bin places)
+    (low_rule kind) (high_rule kind)
+page_rules-Ascends Chpx wd bin places = (
+  40,
+  (
+    (lit≤ tt, lit< tt),
+    (
+      lit≤ tt,
+      lit≤ tt,
+      (
+        41,
+        (
+          (lit≤ tt, lit< tt),
+          (
+            lit≤ tt,
+            lit≤ tt,
+            (
+              42,
+              (
+                (lit≤ tt, lit< tt),
+                (
+                  lit≤ tt,
+                  lit≤ tt,
+                  (
+                    43,
+                    (
+                      (lit≤ tt, lit< tt),
+                      (
+                        lit≤ tt,
+                        lit≤ tt,
+                        (lit≤ tt, lit< tt),
+                      ),
+                    ),
+                  ),
+                ),
+              ),
+            ),
+          ),
+        ),
+      ),
+    ),
+  ),
+)
+page_rules-Ascends Papx wd bin places = (
+  45,
+  (
+    (lit≤ tt, lit< tt),
+    (
+      lit≤ tt,
+      lit≤ tt,
+      (
+        46,
+        (
+          (lit≤ tt, lit< tt),
+          (
+            lit≤ tt,
+            lit≤ tt,
+            (
+              47,
+              (
+                (lit≤ tt, lit< tt),
+                (
+                  lit≤ tt,
+                  lit≤ tt,
+                  (
+                    48,
+                    (
+                      (lit≤ tt, lit< tt),
+                      (
+                        lit≤ tt,
+                        lit≤ tt,
+                        (lit≤ tt, lit< tt),
+                      ),
+                    ),
+                  ),
+                ),
+              ),
+            ),
+          ),
+        ),
+      ),
+    ),
+  ),
+)

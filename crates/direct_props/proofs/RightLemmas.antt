@@ -9,12 +9,29 @@ use Rattle.direct_props.specs.PageRules.{page_rules, IsRightPlace}
 use Rattle.direct_props.specs.RightLists.{RightListsAreRight, RightPlacesHaveLists, RightPlacesHold}
 use Rattle.direct_props.proofs.StretchLemmas.{right_here, right_list}
 
-pub right_where_hold : (kind : PageKind) (wd bin places : List ℕ) → Hold (page_rules kind wd bin places) → (k : ℕ) → k < length places → IsRightPlace kind wd bin (slice_index_or places k 0)
+pub right_where_hold : (kind : PageKind) (wd bin places : List ℕ) → Hold (page_rules kind wd bin places) → (k : ℕ) →
+    k < length places → IsRightPlace kind wd bin (slice_index_or places k 0)
 right_where_hold kind wd bin places h k below breaks.Bin p b = h.0 p (record { entry = k; below = below; broken = b })
-right_where_hold kind wd bin places h k below breaks.Page p b = h.1.0 p (record { entry = k; below = below; broken = b })
-right_where_hold kind wd bin places h k below breaks.Run p b = h.1.1.0 p (record { entry = k; below = below; broken = b })
-right_where_hold kind wd bin places h k below breaks.List p b = h.1.1.1.0 p (record { entry = k; below = below; broken = b })
-right_where_hold kind wd bin places h k below breaks.Sprm p b = h.1.1.1.1 p (record { entry = k; below = below; broken = b })
+right_where_hold kind wd bin places h k below breaks.Page p b = h.1.0 p (record {
+  entry = k;
+  below = below;
+  broken = b;
+})
+right_where_hold kind wd bin places h k below breaks.Run p b = h.1.1.0 p (record {
+  entry = k;
+  below = below;
+  broken = b;
+})
+right_where_hold kind wd bin places h k below breaks.List p b = h.1.1.1.0 p (record {
+  entry = k;
+  below = below;
+  broken = b;
+})
+right_where_hold kind wd bin places h k below breaks.Sprm p b = h.1.1.1.1 p (record {
+  entry = k;
+  below = below;
+  broken = b;
+})
 
 pub right_places_hold : RightPlacesHold
 right_places_hold kind wd bin places right = (
@@ -30,12 +47,18 @@ right_places_hold kind wd bin places right = (
 
 pub right_lists_are_right : RightListsAreRight
 right_lists_are_right kind wd bin fc list table h =
-    right_here kind wd bin fc h.number h.answer run_answer_one table (record { page = h.named; answers = h.answers }) h.low h.within h.right
+    right_here kind wd bin fc h.number h.answer run_answer_one table (record { page = h.named; answers = h.answers })
+    h.low h.within h.right
 
 pub right_places_have_lists : RightPlacesHaveLists
 right_places_have_lists kind wd bin fc list right has =
     let low : 2 ≤ has.number = elim (cases_lt has.number 2) [
-      | inl less ↦ absurd (right breaks.Page (512 * has.number + 511) (record { number = has.number; page = has.named; here = refl; bad = inl less }))
+      | inl less ↦ absurd (right breaks.Page (512 * has.number + 511) (record {
+        number = has.number;
+        page = has.named;
+        here = refl;
+        bad = inl less;
+      }))
       | inr enough ↦ enough
     ] in
     record {
@@ -45,6 +68,7 @@ right_places_have_lists kind wd bin fc list right has =
       within = has.within;
       answer = has.answer;
       answers = has.answers;
-      right = right_list kind wd bin fc has.number has.answer (record { page = has.named; answers = has.answers }) right;
+      right = right_list kind wd bin fc has.number has.answer (record { page = has.named; answers = has.answers })
+          right;
       answered = has.answered;
     }

@@ -1,4 +1,5 @@
--- The settings that a file gives to a unit and to a paragraph mark: those of the list that its page has for its place in
+-- The settings that a file gives to a unit and to a paragraph mark: those of the list that its page has for its place
+-- in
 -- WordDocument, and then those of the modifier of its piece. Each place stands for itself: no page is gone through.
 use Rattle.std.specs.Prelude.{◌≡◌, ℕ, List, drop, Option}
 use Rattle.std.specs.Option.{unwrap_or}
@@ -29,7 +30,8 @@ pub record IsDirectCharacter (wd bin : List ℕ) (fc : ℕ) (modifier : Modifier
   pub makes : MakesSettings list character_groups made style
   pub modified : IsCharacterAfter modifier made settings
 
--- [MS-DOC] GrpPrlAndIstd, Prm: the style number, which stands before the sprms, and the direct settings of a paragraph mark
+-- [MS-DOC] GrpPrlAndIstd, Prm: the style number, which stands before the sprms, and the direct settings of a
+-- paragraph mark
 pub record IsDirectMark (wd bin : List ℕ) (fc : ℕ) (modifier : Modifier) (istd : ℕ) (settings : Settings) : Type 0 where
   pub list : List ℕ
   pub has : HasListAt Papx bin wd fc list

@@ -30,7 +30,8 @@ DirectMarkIsOne =
 abbrev pub FirstPageFaultIsLeast : Type 0
 FirstPageFaultIsLeast =
     (kind : PageKind) (wd bin places : List ℕ) (r p : ℕ) →
-    IsFirst (page_rules kind wd bin places) r p → IsLeastOfAll (λ a b. a ≤ b) (Breaks (page_rules kind wd bin places)) r p
+    IsFirst (page_rules kind wd bin places) r p → IsLeastOfAll (λ a b. a ≤ b) (Breaks (page_rules kind wd bin places))
+    r p
 
 -- a modifier that may stand at a place: its maps are well formed, and its style number has 16 bits
 pub record IsRightModifier (modifier : Modifier) : Type 0 where
@@ -58,4 +59,5 @@ pub record HasPlaceSettings (wd bin : List ℕ) (fc : ℕ) (modifier : Modifier)
 
 abbrev pub RightPlacesHaveSettings : Type 0
 RightPlacesHaveSettings =
-    (wd bin : List ℕ) (fc : ℕ) (modifier : Modifier) → AreBytes wd → IsRightModifier modifier → HasPlaceSettings wd bin fc modifier
+    (wd bin : List ℕ) (fc : ℕ) (modifier : Modifier) → AreBytes wd → IsRightModifier modifier → HasPlaceSettings wd
+    bin fc modifier

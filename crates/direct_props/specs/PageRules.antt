@@ -78,7 +78,8 @@ BreaksPageRule breaks.Sprm kind wd bin fc place = HasListFault kind wd bin fc pl
 
 -- one of the places breaks the rule
 abbrev pub BreaksAtPlaces : PageRule → PageKind → List ℕ → List ℕ → List ℕ → ℕ → Type 0
-BreaksAtPlaces page_rule kind wd bin places = Among (length places) (λ k. BreaksPageRule page_rule kind wd bin (slice_index places k))
+BreaksAtPlaces page_rule kind wd bin places = Among (length places) (λ k. BreaksPageRule page_rule kind wd bin
+    (slice_index places k))
 
 -- the number of the first of the five rules
 abbrev pub first_rule : PageKind → ℕ

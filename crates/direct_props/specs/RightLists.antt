@@ -1,4 +1,5 @@
--- The positive side of the rules on pages: the page of a place is there, is no page over the FIB, and answers a right list.
+-- The positive side of the rules on pages: the page of a place is there, is no page over the FIB, and answers a right
+-- list.
 use Rattle.std.specs.Prelude.{ℕ, ◌+◌, ◌*◌, ◌≤◌, List, length}
 use Rattle.doc_bits.specs.Rules.{Hold}
 use Rattle.fkp_pages.specs.declared.kind.PageKind.{PageKind}
@@ -35,4 +36,5 @@ RightPlacesHaveLists =
 -- where each place is right the rules on pages hold
 abbrev pub RightPlacesHold : Type 0
 RightPlacesHold =
-    (kind : PageKind) (wd bin places : List ℕ) → AreRightPlaces kind wd bin places → Hold (page_rules kind wd bin places)
+    (kind : PageKind) (wd bin places : List ℕ) → AreRightPlaces kind wd bin places → Hold (page_rules kind wd bin
+    places)

@@ -1,5 +1,6 @@
 -- Lists of bytes: their parts, such lists joined, and the bytes of a number that was read.
-use Rattle.std.proofs.Common.{◌≡◌, inl, inr, refl, sym, ap, subst, ◌∙◌, ℕ, zero, suc, ◌+◌, ◌-◌, ◌*◌, ◌/◌, ◌%◌, ◌^◌, ◌<◌, ◌≤◌, List, [], ◌∷◌, ◌++◌, length, take, drop, get_or, arith, length-take}
+use Rattle.std.proofs.Common.{◌≡◌, inl, inr, refl, sym, ap, subst, ◌∙◌, ℕ, zero, suc, ◌+◌, ◌-◌, ◌*◌, ◌/◌, ◌%◌, ◌^◌}
+use Rattle.std.proofs.Common.{◌<◌, ◌≤◌, List, [], ◌∷◌, ◌++◌, length, take, drop, get_or, arith, length-take}
 use Rattle.std.specs.Prelude.{slice_range}
 use Rattle.std.specs.List.{flat_map}
 use Rattle.std.specs.Int.{bytes_low_first, byte_at}
@@ -38,10 +39,12 @@ joined_bytes xs ys one other i = elim (cases_lt i (length xs)) [
   | inl low ↦ subst (λ b. b < 256) (sym (get_or_append_left xs ys 0 i low)) (one i)
   | inr high ↦
       let at : i ≡ length xs + (i - length xs) = omega arith in
-      subst (λ b. b < 256) (sym (ap (λ n. get_or (xs ++ ys) n 0) at ∙ get_or-append-add xs ys (i - length xs) 0)) (other (i - length xs))
+      subst (λ b. b < 256) (sym (ap (λ n. get_or (xs ++ ys) n 0) at ∙ get_or-append-add xs ys (i - length xs) 0))
+      (other (i - length xs))
 ]
 
-pub AreBytes-flat_map : {A : Type 0} (f : A → List ℕ) (xs : List A) → ((x : A) → AreBytes (f x)) → AreBytes (flat_map f xs)
+pub AreBytes-flat_map : {A : Type 0} (f : A → List ℕ) (xs : List A) → ((x : A) → AreBytes (f x)) →
+    AreBytes (flat_map f xs)
 AreBytes-flat_map f [] each = no_bytes
 AreBytes-flat_map f (x ∷ xs) each = joined_bytes (f x) (flat_map f xs) (each x) (AreBytes-flat_map f xs each)
 
@@ -54,7 +57,8 @@ byte_at-pow zero x = ap (λ (y : ℕ). y % 256) (sym (div-one x))
 byte_at-pow (suc k) x = refl
 
 -- the bytes of a number are those that spell it
-digits : (k i x : ℕ) (xs : List ℕ) → length xs ≡ k → AreBytes xs → x / 256 ^ i ≡ number_at xs 0 k → bytes_low_first i k x ≡ xs
+digits : (k i x : ℕ) (xs : List ℕ) → length xs ≡ k → AreBytes xs → x / 256 ^ i ≡ number_at xs 0 k → bytes_low_first i
+    k x ≡ xs
 digits zero i x [] len bytes e = refl
 digits zero i x (b ∷ rest) len bytes e = absurd (omega arith)
 digits (suc k) i x [] len bytes e = absurd (omega arith)
@@ -64,15 +68,18 @@ digits (suc k) i x (b ∷ rest) len bytes e =
     let byte : b < 256 = bytes 0 in
     let parts : x / 256 ^ i ≡ b + 256 * number_at rest 0 k = e ∙ (first ∙ ap (λ n. b + 256 * n) moved) in
     let low : x / 256 ^ i % 256 ≡ b = rw parts (omega arith) in
-    let shift : x / 256 ^ suc i ≡ x / 256 ^ i / 256 = ap (λ (p : ℕ). x / p) (pow-suc 256 i) ∙ sym (div-div-eq-div-mul x (256 ^ i) 256) in
+    let shift : x / 256 ^ suc i ≡ x / 256 ^ i / 256 = ap (λ (p : ℕ). x / p) (pow-suc 256 i) ∙ sym (div-div-eq-div-mul
+    x (256 ^ i) 256) in
     let high : x / 256 ^ suc i ≡ number_at rest 0 k = shift ∙ rw parts (omega arith) in
     let more : bytes_low_first (suc i) k x ≡ rest = digits k (suc i) x rest (omega arith) (λ j. bytes (suc j)) high in
     rw (byte_at-pow i x, low, more) refl
 
 -- bytes are those of the number that they spell
-pub number_bytes-number_at : (k : ℕ) (xs : List ℕ) → AreBytes xs → k ≤ length xs → number_bytes k (number_at xs 0 k) ≡ take k xs
+pub number_bytes-number_at : (k : ℕ) (xs : List ℕ) → AreBytes xs → k ≤ length xs → number_bytes k (number_at xs 0 k) ≡
+    take k xs
 unfolding number_bytes
 number_bytes-number_at k xs bytes long =
     let len : length (take k xs) ≡ k = omega (arith, length-take k xs) in
-    let read : number_at xs 0 k / 256 ^ 0 ≡ number_at (take k xs) 0 k = div-one (number_at xs 0 k) ∙ sym (number_at-take k xs 0 k (omega arith)) in
+    let read : number_at xs 0 k / 256 ^ 0 ≡ number_at (take k xs) 0 k = div-one (number_at xs 0 k) ∙ sym
+    (number_at-take k xs 0 k (omega arith)) in
     digits k 0 (number_at xs 0 k) (take k xs) len (AreBytes-take k xs bytes) read

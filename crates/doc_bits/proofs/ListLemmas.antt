@@ -1,5 +1,7 @@
 -- Lists: fronts and parts, what stands at a place, and what holds of each element.
-use Rattle.std.proofs.Common.{◌≡◌, ◌≢◌, ◌∙◌, inl, inr, refl, sym, ap, subst, ℕ, zero, suc, ◌+◌, ◌-◌, ◌<◌, ◌≤◌, Bool, true, false, cond, List, [], ◌∷◌, ◌++◌, length, map, take, drop, Option, Some, eqb, get_or, arith, length-take, length-drop}
+use Rattle.std.proofs.Common.{◌≡◌, ◌≢◌, ◌∙◌, inl, inr, refl, sym, ap, subst, ℕ, zero, suc, ◌+◌, ◌-◌, ◌<◌, ◌≤◌, Bool}
+use Rattle.std.proofs.Common.{true, false, cond, List, [], ◌∷◌, ◌++◌, length, map, take, drop, Option, Some, eqb}
+use Rattle.std.proofs.Common.{get_or, arith, length-take, length-drop}
 use Rattle.std.specs.Prelude.{slice_get, slice_index, slice_range}
 use Rattle.std.specs.List.{All, find}
 use Rattle.std.specs.Option.{option_map}
@@ -34,7 +36,8 @@ pub three_parts : (xs : List ℕ) (from to : ℕ) → from ≤ to → xs ≡ tak
 three_parts xs from to h =
     let end : from + (to - from) ≡ to = omega arith in
     let last : drop (to - from) (drop from xs) ≡ drop to xs = drop-drop (to - from) from xs ∙ ap (λ n. drop n xs) end in
-    let middle : slice_range xs from to ++ drop to xs ≡ drop from xs = rw (← last) (take-append-drop (to - from) (drop from xs)) in
+    let middle : slice_range xs from to ++ drop to xs ≡ drop from xs = rw (← last) (take-append-drop (to - from)
+    (drop from xs)) in
     rw middle (sym (take-append-drop from xs))
 
 -- the length of a part
@@ -42,7 +45,8 @@ pub length-range : (xs : List ℕ) (from to : ℕ) → to ≤ length xs → leng
 length-range xs from to h = omega (arith, length-take (to - from) (drop from xs), length-drop from xs)
 
 -- the middle one of three parts
-pub range_mid : {A : Type 0} (whole xs ys zs : List A) (from to : ℕ) → whole ≡ xs ++ (ys ++ zs) → from ≡ length xs → to ≡ length xs + length ys → slice_range whole from to ≡ ys
+pub range_mid : {A : Type 0} (whole xs ys zs : List A) (from to : ℕ) → whole ≡ xs ++ (ys ++ zs) → from ≡ length xs →
+    to ≡ length xs + length ys → slice_range whole from to ≡ ys
 range_mid whole xs ys zs from to e at end =
     let width : to - from ≡ length ys = omega arith in
     rw (e, width, at, drop-append_seam xs (ys ++ zs)) (take-append_seam ys zs)
@@ -73,32 +77,38 @@ All_at P (y ∷ ys) zero x all e = subst P (same_Some y x e) (All-head P y ys al
 All_at P (y ∷ ys) (suc k) x all e = All_at P ys k x (All-tail P y ys all) e
 
 -- and what holds of that at each place holds of each
-pub All-from_slice_get : {A : Type 0} (P : A → Type 0) (xs : List A) → ((k : ℕ) (x : A) → slice_get xs k ≡ Some x → P x) → All P xs
+pub All-from_slice_get : {A : Type 0} (P : A → Type 0) (xs : List A) → ((k : ℕ) (x : A) → slice_get xs k ≡ Some x →
+    P x) → All P xs
 All-from_slice_get P xs each = λ k d low. each k (get_or xs k d) (slice_get-get_or xs k d low)
 
 -- what stands in a map of a list comes from what stands in the list
-pub from_map : {A B : Type 0} (f : A → B) (xs : List A) (k : ℕ) (y : B) → slice_get (map f xs) k ≡ Some y → (x : A) × ((slice_get xs k ≡ Some x) × (f x ≡ y))
+pub from_map : {A B : Type 0} (f : A → B) (xs : List A) (k : ℕ) (y : B) → slice_get (map f xs) k ≡ Some y →
+    (x : A) × ((slice_get xs k ≡ Some x) × (f x ≡ y))
 from_map f [] k y e = absurd (cc (e))
 from_map f (x ∷ xs) zero y e = (x, (refl, same_Some (f x) y e))
 from_map f (x ∷ xs) (suc k) y e = from_map f xs k y e
 
 -- what stands at a place of a map
-pub get-map : {A B : Type 0} (f : A → B) (xs : List A) (k : ℕ) (x : A) → slice_get xs k ≡ Some x → slice_get (map f xs) k ≡ Some (f x)
+pub get-map : {A B : Type 0} (f : A → B) (xs : List A) (k : ℕ) (x : A) → slice_get xs k ≡ Some x →
+    slice_get (map f xs) k ≡ Some (f x)
 get-map f xs k x e = slice_get-map f xs k ∙ ap (option_map f) e
 
 -- what was found has what all have
-first_or_later : {A : Type 0} (P : A → Type 0) (b : Bool) (y x : A) (later : Option A) → P y → (later ≡ Some x → P x) → cond b (Some y) later ≡ Some x → P x
+first_or_later : {A : Type 0} (P : A → Type 0) (b : Bool) (y x : A) (later : Option A) → P y → (later ≡ Some x →
+    P x) → cond b (Some y) later ≡ Some x → P x
 first_or_later P true y x later here rest e = subst P (same_Some y x e) here
 first_or_later P false y x later here rest e = rest e
 
 pub found_has : {A : Type 0} (P : A → Type 0) (p : A → Bool) (xs : List A) (x : A) → All P xs → find p xs ≡ Some x → P x
 found_has P p [] x all e = absurd (cc (e))
-found_has P p (y ∷ ys) x all e = first_or_later P (p y) y x (find p ys) (All-head P y ys all) (found_has P p ys x (All-tail P y ys all)) e
+found_has P p (y ∷ ys) x all e = first_or_later P (p y) y x (find p ys) (All-head P y ys all) (found_has P p ys x
+    (All-tail P y ys all)) e
 
 -- ---- distinct numbers
 
 -- distinct numbers below n are at most n
-pub length_below : (xs : List ℕ) (n : ℕ) → ((i : ℕ) → i < length xs → slice_index xs i < n) → ((i j : ℕ) → i < j → j < length xs → slice_index xs i ≢ slice_index xs j) → length xs ≤ n
+pub length_below : (xs : List ℕ) (n : ℕ) → ((i : ℕ) → i < length xs → slice_index xs i < n) → ((i j : ℕ) → i < j →
+    j < length xs → slice_index xs i ≢ slice_index xs j) → length xs ≤ n
 length_below xs n within distinct =
     length-le_from_distinct_below xs n
     (IsDistinct-from_apart eqb xs (λ i j d h below.
@@ -107,7 +117,8 @@ length_below xs n within distinct =
     ne_eqb (get_or xs i d) (get_or xs j d) (λ e. distinct i j h below (sym a ∙ (e ∙ b)))))
     (λ q any. elim (cases_lt q n) [
       | inl low ↦ low
-      | inr high ↦ absurd (false≢true (sym (list_any_none (eqb q) xs (All-from_get_or (λ x. eqb q x ≡ false) xs 0 (λ i h. let low = within i h in ne_eqb q (get_or xs i 0) (λ e. absurd (omega arith))))) ∙ any))
+      | inr high ↦ absurd (false≢true (sym (list_any_none (eqb q) xs (All-from_get_or (λ x. eqb q x ≡ false) xs 0
+          (λ i h. let low = within i h in ne_eqb q (get_or xs i 0) (λ e. absurd (omega arith))))) ∙ any))
     ])
 
 -- ---- the front of a list

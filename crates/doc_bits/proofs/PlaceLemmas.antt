@@ -7,7 +7,12 @@ use Rattle.doc_bits.specs.Places.{Place, rank, inner, Upto, LeastPlaceOrNone}
 
 -- a place of a part that comes before
 pub upto_later : (p q : Place) → rank p.0 < rank q.0 → Upto p q
-upto_later p q h = record { part = omega arith; number = λ e. absurd (omega arith); offset = λ e f. absurd (omega arith) }
+upto_later p q h = record {
+  part = omega arith;
+  number = λ e. absurd (omega arith);
+  offset = λ e f. absurd (omega
+      arith);
+}
 
 -- in one part the lesser offset comes first
 pub upto_same : (p q : Place) → p.0 ≡ q.0 → p.1 ≤ q.1 → Upto p q
@@ -58,14 +63,16 @@ place_one p q a b =
     λ i. (parts i, offsets i)
 
 -- of two parts of a rule, the first comes first
-pub least_first : (A B : Place → Type 0) (p : Place) → IsLeast Upto A p → ((q : Place) → B q → Upto p q) → IsLeast Upto (λ q. A q ⊎ B q) p
+pub least_first : (A B : Place → Type 0) (p : Place) → IsLeast Upto A p → ((q : Place) → B q → Upto p q) →
+    IsLeast Upto (λ q. A q ⊎ B q) p
 least_first A B p first later = record {
   broken = inl first.broken;
   least = λ q w. elim w [ inl a ↦ first.least q a | inr b ↦ later q b ];
 }
 
 -- where the first holds, it is the second
-pub least_second : (A B : Place → Type 0) (o : Option Place) → Nowhere A → LeastPlaceOrNone B o → LeastPlaceOrNone (λ q. A q ⊎ B q) o
+pub least_second : (A B : Place → Type 0) (o : Option Place) → Nowhere A → LeastPlaceOrNone B o → LeastPlaceOrNone
+    (λ q. A q ⊎ B q) o
 least_second A B None none second = λ q w. elim w [ inl a ↦ none q a | inr b ↦ second q b ]
 least_second A B (Some p) none second = record {
   broken = inr second.broken;
@@ -73,6 +80,7 @@ least_second A B (Some p) none second = record {
 }
 
 -- two ways to say one rule
-pub same_places : (A B : Place → Type 0) (o : Option Place) → ((q : Place) → A q → B q) → ((q : Place) → B q → A q) → LeastPlaceOrNone A o → LeastPlaceOrNone B o
+pub same_places : (A B : Place → Type 0) (o : Option Place) → ((q : Place) → A q → B q) → ((q : Place) → B q → A q) →
+    LeastPlaceOrNone A o → LeastPlaceOrNone B o
 same_places A B None to from h = λ q b. h q (from q b)
 same_places A B (Some p) to from h = record { broken = to p h.broken; least = λ q b. h.least q (from q b) }

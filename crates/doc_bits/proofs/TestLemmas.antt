@@ -14,7 +14,8 @@ true_from_not true e = refl
 true_from_not false e = cc
 
 -- what lies in front of a value and of what was there before
-pub either : {A : Type 0} (b : Bool) (v : A) (o before : Option A) → cond b (Some v) (option_or o before) ≡ option_or (cond b (Some v) o) before
+pub either : {A : Type 0} (b : Bool) (v : A) (o before : Option A) → cond b (Some v) (option_or o before) ≡ option_or
+    (cond b (Some v) o) before
 either true v o before = refl
 either false v o before = refl
 

@@ -39,4 +39,5 @@ AreBytes bytes = (i : ℕ) → slice_index bytes i < 256
 -- the bytes of a number spell it, whatever stands before and after them
 abbrev pub NumberIsReadBack : Type 0
 NumberIsReadBack =
-    (width x : ℕ) (before after : List ℕ) → x < 256 ^ width → number_at (before ++ (number_bytes width x ++ after)) (length before) width ≡ x
+    (width x : ℕ) (before after : List ℕ) → x < 256 ^ width → number_at (before ++ (number_bytes width x ++ after))
+    (length before) width ≡ x

@@ -1,5 +1,6 @@
 -- [MS-DOC] Plc: a table of n + 1 CPs and then n entries of one size, as it is read and as it is printed.
-use Rattle.std.specs.Prelude.{◌≡◌, ℕ, ◌+◌, ◌*◌, ◌^◌, ◌<◌, List, [], ◌∷◌, ◌++◌, length, Some, All, slice_get, slice_index, slice_range}
+use Rattle.std.specs.Prelude.{◌≡◌, ℕ, ◌+◌, ◌*◌, ◌^◌, ◌<◌, List, [], ◌∷◌, ◌++◌, length, Some, All, slice_get}
+use Rattle.std.specs.Prelude.{slice_index, slice_range}
 use Rattle.std.specs.List.{flat_map}
 use Rattle.doc_bits.specs.Number.{u32_at, number_bytes, numbers}
 

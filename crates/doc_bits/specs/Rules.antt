@@ -74,10 +74,12 @@ Breaks (given {A = A} is rules) r p = (x : A) × (is x × Breaks (rules x) r p)
 -- the numbers ascend, from low to before high
 abbrev pub Ascends : {P : Type 0} → Rules P → ℕ → ℕ → Type 0
 Ascends (rule number breaks) low high = (low ≤ number) × (number < high)
-Ascends (first then next) low high = (middle : ℕ) × (Ascends first low middle × ((low ≤ middle) × (middle ≤ high) × Ascends next middle high))
+Ascends (first then next) low high = (middle : ℕ) × (Ascends first low middle × ((low ≤ middle) × (middle ≤ high) ×
+    Ascends next middle high))
 Ascends (given {A = A} is rules) low high = (low ≤ high) × ((x : A) → is x → Ascends (rules x) low high)
 
 -- the least broken rule, at its least place
-pub record IsLeastOfAll {P : Type 0} (upto : P → P → Type 0) (breaks : ℕ → P → Type 0) (r : ℕ) (place : P) : Type 0 where
-  pub broken : breaks r place
-  pub least : (s : ℕ) (q : P) → breaks s q → (r < s) ⊎ ((r ≡ s) × upto place q)
+pub record IsLeastOfAll {P : Type 0} (upto : P → P → Type 0) (breaks : ℕ → P → Type 0) (r : ℕ) (place : P) : Type 0
+  where
+    pub broken : breaks r place
+    pub least : (s : ℕ) (q : P) → breaks s q → (r < s) ⊎ ((r ≡ s) × upto place q)

@@ -1,5 +1,6 @@
 -- The items of a run of what stands beside units.
-use Rattle.std.specs.Prelude.{◌≡◌, ◌⊎◌, ℕ, ◌+◌, ◌<◌, ◌≤◌, List, ◌++◌, Some, true, false, slice_get, slice_range, replicate, All}
+use Rattle.std.specs.Prelude.{◌≡◌, ◌⊎◌, ℕ, ◌+◌, ◌<◌, ◌≤◌, List, ◌++◌, Some, true, false, slice_get, slice_range}
+use Rattle.std.specs.Prelude.{replicate, All}
 use Rattle.prop_map.specs.Settings.{Settings}
 use Rattle.run_lists.specs.declared.runs.Run.{Run}
 use Rattle.plain_doc.specs.declared.item.Item.{Item}

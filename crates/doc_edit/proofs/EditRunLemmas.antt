@@ -1,5 +1,6 @@
 -- The runs that edits add to the tables of a full save.
-use Rattle.std.proofs.Common.{◌≡◌, ◌∙◌, refl, sym, ap, subst, ℕ, ◌+◌, ◌≤◌, Bool, true, List, [], ◌∷◌, ◌++◌, length, take, drop, map, Option, Some, None, arith}
+use Rattle.std.proofs.Common.{◌≡◌, ◌∙◌, refl, sym, ap, subst, ℕ, ◌+◌, ◌≤◌, Bool, true, List, [], ◌∷◌, ◌++◌, length}
+use Rattle.std.proofs.Common.{take, drop, map, Option, Some, None, arith}
 use Rattle.std.specs.Prelude.{◌==◌, is_some, not, slice_range}
 use Rattle.std.specs.List.{slice_get, splice}
 use Rattle.std.specs.Option.{option_map}
@@ -25,24 +26,28 @@ use Rattle.full_save.specs.Runs.{joins_run}
 use Rattle.full_save.specs.WordDocument.{text_at, document_runs}
 use Rattle.full_save.proofs.StreamLengths.{length-runs_from}
 use Rattle.plain_doc.specs.Stretches.{stretches}
-use Rattle.edit_ops.specs.Fresh.{special_codes, base_of, base_settings, plain_end, unit_item, unit_items, inserted_items, split_item}
+use Rattle.edit_ops.specs.Fresh.{special_codes, base_of, base_settings, plain_end, unit_item, unit_items}
+use Rattle.edit_ops.specs.Fresh.{inserted_items, split_item}
 use Rattle.edit_ops.specs.Places.{mark_place}
 use Rattle.edit_ops.specs.Changes.{map_range, modified_item, modified_mark}
 use Rattle.edit_ops.specs.Edits.{setting_characters, naming_style}
 use Rattle.doc_edit.specs.GeneratedSaves.{runs_of, IsPlainAt, EditsAddFewRuns}
-use Rattle.doc_edit.proofs.RunCountLemmas.{count, StandsFor, one_more_put, none_put, several_put, count_changed, count_keys}
+use Rattle.doc_edit.proofs.RunCountLemmas.{count, StandsFor, one_more_put, none_put, several_put, count_changed}
+use Rattle.doc_edit.proofs.RunCountLemmas.{count_keys}
 
 -- ---- the runs of a document are the stretches of its text, whose main text stands first
 
 abbrev behind : Document → List Item
 behind document = with_mark (note_story document ++ head_story document)
 
-runs_with : (kind : PageKind) (document : Document) (main : List Item) → runs_of kind (record document { main = main }) ≡ count (joins_run kind) (main ++ behind document)
+runs_with : (kind : PageKind) (document : Document) (main : List Item) → runs_of kind (record document
+    { main = main }) ≡ count (joins_run kind) (main ++ behind document)
 unfolding text_items note_story head_story
 runs_with kind document main =
     length-runs_from kind text_at (stretches (joins_run kind) (text_items (record document { main = main })))
 
-runs_now : (kind : PageKind) (document : Document) → runs_of kind document ≡ count (joins_run kind) (document.main ++ behind document)
+runs_now : (kind : PageKind) (document : Document) → runs_of kind document ≡ count (joins_run kind) (document.main ++
+    behind document)
 unfolding text_items
 runs_now kind document = length-runs_from kind text_at (stretches (joins_run kind) (text_items document))
 
@@ -60,10 +65,12 @@ module _ (main : List Item) (at : ℕ) (there : IsPlainAt main at) (rest : List 
       ∙ append_assoc (take at main) (there.item ∷ drop (at + 1) main) rest
 
   -- items put before it
-  put_is : (fresh : List Item) → splice main at at fresh ++ rest ≡ take at main ++ (fresh ++ there.item ∷ (drop (at + 1) main ++ rest))
+  put_is : (fresh : List Item) → splice main at at fresh ++ rest ≡ take at main ++ (fresh ++ there.item ∷
+      (drop (at + 1) main ++ rest))
   put_is fresh =
       append_assoc (take at main) (fresh ++ drop at main) rest
-      ∙ ap (λ xs. take at main ++ xs) (append_assoc fresh (drop at main) rest ∙ ap (λ xs. fresh ++ (xs ++ rest)) from_item)
+      ∙ ap (λ xs. take at main ++ xs) (append_assoc fresh (drop at main) rest ∙ ap (λ xs. fresh ++ (xs ++ rest))
+      from_item)
 
 -- ---- insertions
 
@@ -74,15 +81,20 @@ stands_for Chpx item unit = record {
 }
 stands_for Papx item unit = record { joined = refl; alike = λ w. refl }
 
-pub inserted_are : (main : List Item) (at : ℕ) (text : List ℕ) (there : IsPlainAt main at) → inserted_items main at text ≡ unit_items there.item.chp text
-inserted_are [] at text there = let within = slice_get_within [] at there.item there.here in absurd (omega (arith, within))
+pub inserted_are : (main : List Item) (at : ℕ) (text : List ℕ) (there : IsPlainAt main at) → inserted_items main at
+    text ≡ unit_items there.item.chp text
+inserted_are [] at text there = let within = slice_get_within [] at there.item there.here in
+    absurd (omega (arith, within))
 inserted_are (first ∷ main) at text there =
-    cond_both (length (first ∷ main) == 0) (unit_items empty text ++ plain_end ∷ plain_end ∷ []) (unit_items (base_settings (first ∷ main) at) text)
+    cond_both (length (first ∷ main) == 0) (unit_items empty text ++ plain_end ∷ plain_end ∷ [])
+    (unit_items (base_settings (first ∷ main) at) text)
     (λ items. items ≡ unit_items (base_settings (first ∷ main) at) text)
     (λ e. let none = eqb-true (length (first ∷ main)) 0 e in absurd (omega (arith, none))) (λ e. refl)
     ∙ ap (λ chp. unit_items chp text) (ap base_of there.here ∙ there.plain)
 
-insertion : (kind : PageKind) (main : List Item) (at : ℕ) (text : List ℕ) (there : IsPlainAt main at) (rest : List Item) → count (joins_run kind) (splice main at at (inserted_items main at text) ++ rest) ≡ count (joins_run kind) (main ++ rest)
+insertion : (kind : PageKind) (main : List Item) (at : ℕ) (text : List ℕ) (there : IsPlainAt main at) (rest : List
+    Item) → count (joins_run kind) (splice main at at (inserted_items main at text) ++ rest) ≡ count (joins_run kind)
+    (main ++ rest)
 insertion kind main at text there rest =
     let joins = joins_run kind in
     let more = drop (at + 1) main ++ rest in
@@ -96,23 +108,28 @@ insertion kind main at text there rest =
 split_chp : (main : List Item) (at : ℕ) (there : IsPlainAt main at) → (split_item main at).chp ≡ there.item.chp
 split_chp main at there = ap base_of there.here ∙ there.plain
 
-split_stands : (main : List Item) (at : ℕ) (there : IsPlainAt main at) → StandsFor is_alike (split_item main at) there.item
+split_stands : (main : List Item) (at : ℕ) (there : IsPlainAt main at) → StandsFor is_alike (split_item main at)
+    there.item
 split_stands main at there = record {
   joined = (same_settings-Decides (split_item main at).chp there.item.chp).1 (split_chp main at there);
   alike = λ w. ap (same_settings w.chp) (split_chp main at there);
 }
 
-split_characters : (main : List Item) (at : ℕ) (there : IsPlainAt main at) (rest : List Item) → count is_alike (splice main at at (split_item main at ∷ []) ++ rest) ≡ count is_alike (main ++ rest)
+split_characters : (main : List Item) (at : ℕ) (there : IsPlainAt main at) (rest : List Item) →
+    count is_alike (splice main at at (split_item main at ∷ []) ++ rest) ≡ count is_alike (main ++ rest)
 split_characters main at there rest =
     ap (count is_alike) (put_is main at there rest (split_item main at ∷ []))
-    ∙ none_put is_alike (take at main) (split_item main at) there.item (drop (at + 1) main ++ rest) (split_stands main at there)
+    ∙ none_put is_alike (take at main) (split_item main at) there.item (drop (at + 1) main ++ rest) (split_stands main
+    at there)
     ∙ ap (count is_alike) (sym (main_is main at there rest))
 
-split_paragraphs : (main : List Item) (at : ℕ) (there : IsPlainAt main at) (rest : List Item) → count is_inside (splice main at at (split_item main at ∷ []) ++ rest) ≤ count is_inside (main ++ rest) + 1
+split_paragraphs : (main : List Item) (at : ℕ) (there : IsPlainAt main at) (rest : List Item) → count is_inside
+    (splice main at at (split_item main at ∷ []) ++ rest) ≤ count is_inside (main ++ rest) + 1
 split_paragraphs main at there rest =
     let after = ap (count is_inside) (put_is main at there rest (split_item main at ∷ [])) in
     let now = ap (count is_inside) (main_is main at there rest) in
-    let one = one_more_put is_inside (take at main) (split_item main at) there.item (drop (at + 1) main ++ rest) (λ w. refl) in
+    let one = one_more_put is_inside (take at main) (split_item main at) there.item (drop (at + 1) main ++ rest)
+    (λ w. refl) in
     omega (arith, after, now, one)
 
 -- ---- items of a range changed
@@ -120,28 +137,35 @@ split_paragraphs main at there rest =
 module _ (f : Item → Item) (main : List Item) (from to : ℕ) (rest : List Item) (ordered : from ≤ to) where
   range_is : main ++ rest ≡ take from main ++ (slice_range main from to ++ (drop to main ++ rest))
   range_is =
-      ap (λ xs. xs ++ rest) (sym (take-append-drop from main) ∙ ap (λ xs. take from main ++ xs) (drop_split main from to ordered))
+      ap (λ xs. xs ++ rest) (sym (take-append-drop from main) ∙ ap (λ xs. take from main ++ xs) (drop_split main from
+      to ordered))
       ∙ append_assoc (take from main) (slice_range main from to ++ drop to main) rest
       ∙ ap (λ xs. take from main ++ xs) (append_assoc (slice_range main from to) (drop to main) rest)
 
-  changed_is : map_range f main from to ++ rest ≡ take from main ++ (map f (slice_range main from to) ++ (drop to main ++ rest))
+  changed_is : map_range f main from to ++ rest ≡ take from main ++ (map f (slice_range main from to) ++ (drop to main
+      ++ rest))
   changed_is =
       append_assoc (take from main) (map f (slice_range main from to) ++ drop to main) rest
       ∙ ap (λ xs. take from main ++ xs) (append_assoc (map f (slice_range main from to)) (drop to main) rest)
 
-same_keys : {K : Type 0} (key : Item → K) (f : Item → Item) (xs : List Item) → ((x : Item) → key (f x) ≡ key x) → map key (map f xs) ≡ map key xs
+same_keys : {K : Type 0} (key : Item → K) (f : Item → Item) (xs : List Item) → ((x : Item) → key (f x) ≡ key x) →
+    map key (map f xs) ≡ map key xs
 same_keys key f [] same = refl
-same_keys key f (x ∷ xs) same = ap (λ k. k ∷ map key (map f xs)) (same x) ∙ ap (λ ks. key x ∷ ks) (same_keys key f xs same)
+same_keys key f (x ∷ xs) same = ap (λ k. k ∷ map key (map f xs)) (same x) ∙ ap (λ ks. key x ∷ ks) (same_keys key f xs
+    same)
 
 -- a change that keeps what joining goes by
-keys_stay : {K : Type 0} (key : Item → K) (joins : K → K → Bool) (f : Item → Item) (main : List Item) (from to : ℕ) (rest : List Item) → from ≤ to → ((x : Item) → key (f x) ≡ key x) → count (λ x y. joins (key x) (key y)) (map_range f main from to ++ rest) ≡ count (λ x y. joins (key x) (key y)) (main ++ rest)
+keys_stay : {K : Type 0} (key : Item → K) (joins : K → K → Bool) (f : Item → Item) (main : List Item) (from to : ℕ)
+    (rest : List Item) → from ≤ to → ((x : Item) → key (f x) ≡ key x) → count (λ x y. joins (key x) (key y))
+    (map_range f main from to ++ rest) ≡ count (λ x y. joins (key x) (key y)) (main ++ rest)
 keys_stay key joins f main from to rest ordered same =
     let front = take from main in
     let middle = slice_range main from to in
     let more = drop to main ++ rest in
     let keys : map key (front ++ (map f middle ++ more)) ≡ map key (front ++ (middle ++ more)) =
     map-append key front (map f middle ++ more)
-    ∙ ap (λ ks. map key front ++ ks) (map-append key (map f middle) more ∙ ap (λ ks. ks ++ map key more) (same_keys key f middle same) ∙ sym (map-append key middle more))
+    ∙ ap (λ ks. map key front ++ ks) (map-append key (map f middle) more ∙ ap (λ ks. ks ++ map key more)
+    (same_keys key f middle same) ∙ sym (map-append key middle more))
     ∙ sym (map-append key front (middle ++ more)) in
     count_keys key joins (map_range f main from to ++ rest)
     ∙ ap (λ xs. count joins (map key xs)) (changed_is f main from to rest ordered)
@@ -150,37 +174,47 @@ keys_stay key joins f main from to rest ordered same =
     ∙ sym (count_keys key joins (main ++ rest))
 
 -- characters that are set
-alike_still : (modifier : Modifier) (x y : Item) → is_alike x y ≡ true → is_alike (modified_item modifier x) (modified_item modifier y) ≡ true
+alike_still : (modifier : Modifier) (x y : Item) → is_alike x y ≡ true → is_alike (modified_item modifier x)
+    (modified_item modifier y) ≡ true
 alike_still modifier x y joined =
     (same_settings-Decides (modified_characters modifier x.chp) (modified_characters modifier y.chp)).1
     (ap (modified_characters modifier) ((same_settings-Decides x.chp y.chp).0 joined))
 
-characters_set : (modifier : Modifier) (main : List Item) (from to : ℕ) (rest : List Item) → from ≤ to → count is_alike (map_range (modified_item modifier) main from to ++ rest) ≤ count is_alike (main ++ rest) + 2
+characters_set : (modifier : Modifier) (main : List Item) (from to : ℕ) (rest : List Item) → from ≤ to →
+    count is_alike (map_range (modified_item modifier) main from to ++ rest) ≤ count is_alike (main ++ rest) + 2
 characters_set modifier main from to rest ordered =
     let f = modified_item modifier in
     let after = ap (count is_alike) (changed_is f main from to rest ordered) in
     let now = ap (count is_alike) (range_is f main from to rest ordered) in
-    let two = count_changed is_alike f (take from main) (slice_range main from to) (drop to main ++ rest) (alike_still modifier) in
+    let two = count_changed is_alike f (take from main) (slice_range main from to) (drop to main ++ rest) (alike_still
+    modifier) in
     omega (arith, after, now, two)
 
 -- marks stay where they are
-marked_still : (modifier : Modifier) (mark : Option Mark) → is_some (option_map (modified_mark modifier) mark) ≡ is_some mark
+marked_still : (modifier : Modifier) (mark : Option Mark) → is_some (option_map (modified_mark modifier) mark) ≡
+    is_some mark
 marked_still modifier None = refl
 marked_still modifier (Some mark) = refl
 
-paragraphs_stay : (modifier : Modifier) (main : List Item) (from to : ℕ) (rest : List Item) → from ≤ to → count is_inside (map_range (modified_item modifier) main from to ++ rest) ≡ count is_inside (main ++ rest)
+paragraphs_stay : (modifier : Modifier) (main : List Item) (from to : ℕ) (rest : List Item) → from ≤ to →
+    count is_inside (map_range (modified_item modifier) main from to ++ rest) ≡ count is_inside (main ++ rest)
 paragraphs_stay modifier main from to rest ordered =
     keys_stay (λ item. is_some item.mark) (λ one next. not one) (modified_item modifier) main from to rest ordered
     (λ item. marked_still modifier item.mark)
 
-characters_stay : (istd : ℕ) (main : List Item) (from to : ℕ) (rest : List Item) → from ≤ to → count is_alike (map_range (modified_item (naming_style istd)) main from to ++ rest) ≡ count is_alike (main ++ rest)
+characters_stay : (istd : ℕ) (main : List Item) (from to : ℕ) (rest : List Item) → from ≤ to →
+    count is_alike (map_range (modified_item (naming_style istd)) main from to ++ rest) ≡ count is_alike (main ++ rest)
 characters_stay istd main from to rest ordered =
     keys_stay (λ item. item.chp) same_settings (modified_item (naming_style istd)) main from to rest ordered
     (λ item. empty-overlay item.chp)
 
-style_named : (kind : PageKind) (main : List Item) (at istd : ℕ) (rest : List Item) → count (joins_run kind) (map_range (modified_item (naming_style istd)) main (mark_place main at) (mark_place main at + 1) ++ rest) ≡ count (joins_run kind) (main ++ rest)
-style_named Chpx main at istd rest = characters_stay istd main (mark_place main at) (mark_place main at + 1) rest (omega arith)
-style_named Papx main at istd rest = paragraphs_stay (naming_style istd) main (mark_place main at) (mark_place main at + 1) rest (omega arith)
+style_named : (kind : PageKind) (main : List Item) (at istd : ℕ) (rest : List Item) → count (joins_run kind)
+    (map_range (modified_item (naming_style istd)) main (mark_place main at) (mark_place main at + 1) ++ rest) ≡ count
+    (joins_run kind) (main ++ rest)
+style_named Chpx main at istd rest = characters_stay istd main (mark_place main at) (mark_place main at + 1) rest
+    (omega arith)
+style_named Papx main at istd rest = paragraphs_stay (naming_style istd) main (mark_place main at) (mark_place main at
+    + 1) rest (omega arith)
 
 -- ---- documents
 
@@ -204,7 +238,8 @@ few_added = record {
       omega (arith, after, now, two);
   paragraphs = λ document from to set ordered.
       runs_with Papx document (map_range (modified_item (setting_characters set)) document.main from to)
-      ∙ (paragraphs_stay (setting_characters set) document.main from to (behind document) ordered ∙ sym (runs_now Papx document));
+      ∙ (paragraphs_stay (setting_characters set) document.main from to (behind document) ordered ∙ sym (runs_now Papx
+      document));
   style = λ kind document at istd.
       let place = mark_place document.main at in
       runs_with kind document (map_range (modified_item (naming_style istd)) document.main place (place + 1))

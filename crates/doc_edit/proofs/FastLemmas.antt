@@ -1,5 +1,6 @@
 -- A fast save that is made on a session, whatever has been so far, and one that is refused.
-use Rattle.std.proofs.Common.{◌≡◌, ◌≢◌, ◌∙◌, refl, sym, ap, subst, ℕ, suc, ◌+◌, ◌<◌, ◌≤◌, List, length, false, Some, arith}
+use Rattle.std.proofs.Common.{◌≡◌, ◌≢◌, ◌∙◌, refl, sym, ap, subst, ℕ, suc, ◌+◌, ◌<◌, ◌≤◌, List, length, false, Some}
+use Rattle.std.proofs.Common.{arith}
 use Rattle.std.specs.Prelude.{Result, IfErr}
 use Rattle.std.proofs.lemmas.Result.{IfErr-weaker}
 use Rattle.cfb_layout.specs.Counts.{most_sectors}
@@ -13,7 +14,8 @@ use Rattle.fast_save.specs.Ledgers.{after_fast, sector_bound}
 use Rattle.fast_save.specs.Session.{SessionView}
 use Rattle.fast_save.specs.Edited.{bytes_added}
 use Rattle.fast_save.specs.declared.fast.FastFault.{FastFault}
-use Rattle.fast_save.specs.declared.fast.FastFault.TheVariants.{Sixteenth as FastSixteenth, TooManyPieces as FastPieces, TooLarge as FastLarge}
+use Rattle.fast_save.specs.declared.fast.FastFault.TheVariants.{Sixteenth as FastSixteenth}
+use Rattle.fast_save.specs.declared.fast.FastFault.TheVariants.{TooManyPieces as FastPieces, TooLarge as FastLarge}
 use Rattle.fast_save.specs.Fast.{IsFastFault, IsSavedFast}
 use Rattle.doc_edit.specs.declared.faults.RunFault.{RunFault}
 use Rattle.doc_edit.specs.declared.faults.RunFault.TheVariants.{Stopped, Memory}
@@ -29,7 +31,8 @@ use Rattle.doc_edit.proofs.GrownLemmas.{next_grown}
 abbrev sectors_in : Counts → Document → ℕ
 sectors_in counts document = sector_bound counts (length (table_stream document))
 
-sectors_at : (state : RunState) (session : SessionView) (policies : List Policy) → IsAt state session policies → sectors_in session.counts session.document ≡ fast_sectors state
+sectors_at : (state : RunState) (session : SessionView) (policies : List Policy) → IsAt state session policies →
+    sectors_in session.counts session.document ≡ fast_sectors state
 unfolding fast_sectors
 sectors_at state session policies at =
     let documents = at.document in
@@ -37,7 +40,8 @@ sectors_at state session policies at =
     λ j. sectors_in (counts j) (documents j)
 
 -- the file has grown from the one before
-step_grown : (session made : SessionView) → IsSavedFast session made → HasGrownFrom session.bytes (2048 + bytes_added session.counts) made.quick_saves made.bytes
+step_grown : (session made : SessionView) → IsSavedFast session made → HasGrownFrom session.bytes (2048 + bytes_added
+    session.counts) made.quick_saves made.bytes
 step_grown session made save =
     let grown = save.behind.grown in
     record {
@@ -51,7 +55,8 @@ step_grown session made save =
       complex = save.behind.complex;
     }
 
-file_saved : (state : RunState) (session made : SessionView) (policies : List Policy) → IsAt state session policies → IsSavedFast session made → IsFileOf (saved_fast state) made.bytes
+file_saved : (state : RunState) (session made : SessionView) (policies : List Policy) → IsAt state session policies →
+    IsSavedFast session made → IsFileOf (saved_fast state) made.bytes
 file_saved state session made policies at save =
     let file = at.file in
     let within = file.within in
@@ -69,7 +74,8 @@ file_saved state session made policies at save =
           (subst (λ q. HasGrownBy (suc state.since.fast_saves) state.file most q made.bytes) count grown);
     }
 
-fast_at : (state : RunState) (session made : SessionView) (policies : List Policy) → IsAt state session policies → IsSavedFast session made → IsAt (saved_fast state) made policies
+fast_at : (state : RunState) (session made : SessionView) (policies : List Policy) → IsAt state session policies →
+    IsSavedFast session made → IsAt (saved_fast state) made policies
 fast_at state session made policies at save =
     let sectors = sectors_at state session policies at in
     let counts = at.counts in
@@ -82,7 +88,8 @@ fast_at state session made policies at save =
       file = file_saved state session made policies at save;
     }
 
-pub fast_made : (command : Command) (session made : SessionView) (policies : List Policy) → save_mode command ≡ Some false → IsSavedFast session made → Makes command session policies made policies
+pub fast_made : (command : Command) (session made : SessionView) (policies : List Policy) → save_mode command ≡ Some
+    false → IsSavedFast session made → Makes command session policies made policies
 fast_made command session made policies mode save state at =
     let judged = save.judged in
     let saves = judged.saves in
@@ -94,15 +101,18 @@ fast_made command session made policies mode save state at =
         room = record { few = λ same. omega (arith, same, saves, quick); pieces = omega (arith, pieces, pieces_are) };
         fits = subst (λ n. n ≤ most_sectors) (sectors_at state session policies at) judged.sectors;
       });
-      leaves = subst (λ m. IsAt (state_by m state command) made policies) (sym mode) (fast_at state session made policies at save);
+      leaves = subst (λ m. IsAt (state_by m state command) made policies) (sym mode) (fast_at state session made
+          policies at save);
     }
 
-by_fast : (command : Command) (state : RunState) (index : ℕ) (fault : RunFault) → save_mode command ≡ Some false → HaltsBy index (StopsFastSave state) fault → HaltsBy index (Stops state command) fault
+by_fast : (command : Command) (state : RunState) (index : ℕ) (fault : RunFault) → save_mode command ≡ Some false →
+    HaltsBy index (StopsFastSave state) fault → HaltsBy index (Stops state command) fault
 by_fast command state index Memory mode halts = tt
 by_fast command state index (Stopped at stop) mode halts =
     (halts.0, subst (λ m. StopsBy m state command stop) (sym mode) halts.1)
 
-fast_refused : (command : Command) (session : SessionView) (policies : List Policy) (index : ℕ) (fault : RunFault) → save_mode command ≡ Some false → HaltsFast session index fault → Halts command session policies index fault
+fast_refused : (command : Command) (session : SessionView) (policies : List Policy) (index : ℕ) (fault : RunFault) →
+    save_mode command ≡ Some false → HaltsFast session index fault → Halts command session policies index fault
 fast_refused command session policies index fault mode halts state at =
     by_fast command state index fault mode
     (halts state (record {
@@ -111,7 +121,9 @@ fast_refused command session policies index fault mode halts state at =
       sectors = sym (sectors_at state session policies at);
     }))
 
-pub fast_halts : {T : Type 0} (command : Command) (session : SessionView) (policies : List Policy) (index : ℕ) (result : Result T RunFault) → save_mode command ≡ Some false → IfErr result (HaltsFast session index) → IfErr result (Halts command session policies index)
+pub fast_halts : {T : Type 0} (command : Command) (session : SessionView) (policies : List Policy) (index : ℕ)
+    (result : Result T RunFault) → save_mode command ≡ Some false → IfErr result (HaltsFast session index) →
+    IfErr result (Halts command session policies index)
 fast_halts command session policies index result mode halts =
     IfErr-weaker result (HaltsFast session index) (Halts command session policies index)
     (λ fault. fast_refused command session policies index fault mode) halts
@@ -120,25 +132,33 @@ fast_halts command session policies index result mode halts =
 
 -- a fault of the session refuses it
 abbrev pub RefusesFast : SessionView → FastFault → Type 0
-RefusesFast session fault = IsFastFault session.quick_saves session.counts (length (table_stream session.document)) fault
+RefusesFast session fault = IsFastFault session.quick_saves session.counts (length (table_stream session.document))
+    fault
 
-pub sixteenth_stops : (session : SessionView) (index count : ℕ) → RefusesFast session (FastSixteenth count) → (state : RunState) → IsCountedAs session state → HaltsBy index (StopsFastSave state) (Stopped index (Sixteenth count))
+pub sixteenth_stops : (session : SessionView) (index count : ℕ) → RefusesFast session (FastSixteenth count) →
+    (state : RunState) → IsCountedAs session state → HaltsBy index (StopsFastSave state) (Stopped index
+    (Sixteenth count))
 sixteenth_stops session index count refuses state is =
     let fifteen : state.quick_saves ≡ 15 = is.quick_saves ∙ refuses.0 in
     (refl, (fifteen, refuses.1 ∙ sym fifteen))
 
 -- fewer fast saves in a row
-not_fifteen : (session : SessionView) (state : RunState) → IsCountedAs session state → session.quick_saves < 15 → state.quick_saves ≢ 15
+not_fifteen : (session : SessionView) (state : RunState) → IsCountedAs session state → session.quick_saves < 15 →
+    state.quick_saves ≢ 15
 not_fifteen session state is few same = let count = is.quick_saves in omega (arith, count, few, same)
 
-pub pieces_stop : (session : SessionView) (index pieces : ℕ) → RefusesFast session (FastPieces pieces) → (state : RunState) → IsCountedAs session state → HaltsBy index (StopsFastSave state) (Stopped index (TooManyPieces pieces))
+pub pieces_stop : (session : SessionView) (index pieces : ℕ) → RefusesFast session (FastPieces pieces) →
+    (state : RunState) → IsCountedAs session state → HaltsBy index (StopsFastSave state) (Stopped index (TooManyPieces
+    pieces))
 pieces_stop session index pieces refuses state is =
     let count = ap (λ (c : Counts). c.pieces) is.counts in
     let many = refuses.many in
     let number = refuses.number in
     (refl, (not_fifteen session state is refuses.saves, (omega (arith, count, many), omega (arith, number, count))))
 
-pub sectors_stop : (session : SessionView) (index sectors : ℕ) → RefusesFast session (FastLarge sectors) → (state : RunState) → IsCountedAs session state → HaltsBy index (StopsFastSave state) (Stopped index (TooLarge sectors))
+pub sectors_stop : (session : SessionView) (index sectors : ℕ) → RefusesFast session (FastLarge sectors) →
+    (state : RunState) → IsCountedAs session state → HaltsBy index (StopsFastSave state) (Stopped index
+    (TooLarge sectors))
 sectors_stop session index sectors refuses state is =
     let count = ap (λ (c : Counts). c.pieces) is.counts in
     let few = refuses.few in

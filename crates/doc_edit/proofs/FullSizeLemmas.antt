@@ -1,5 +1,6 @@
 -- How large the full save of a small document is. It belongs to full_save.
-use Rattle.std.proofs.Common.{◌≡◌, ◌∙◌, refl, sym, ap, subst, ℕ, ◌+◌, ◌*◌, ◌/◌, ◌<◌, ◌≤◌, max, Bool, true, false, cond, List, [], ◌∷◌, ◌++◌, length, arith, length-append}
+use Rattle.std.proofs.Common.{◌≡◌, ◌∙◌, refl, sym, ap, subst, ℕ, ◌+◌, ◌*◌, ◌/◌, ◌<◌, ◌≤◌, max, Bool, true, false}
+use Rattle.std.proofs.Common.{cond, List, [], ◌∷◌, ◌++◌, length, arith, length-append}
 use Rattle.std.specs.Prelude.{if◌then◌else◌, nat_lt}
 use Rattle.std.proofs.Common.{ltb-true}
 use Rattle.std.proofs.lemmas.Bool.{cond_both}
@@ -25,7 +26,8 @@ use Rattle.plain_doc.proofs.RightLemmas.{sound_is_right}
 use Rattle.full_save.specs.Text.{text_items}
 use Rattle.full_save.specs.Sections.{sepxes}
 use Rattle.full_save.specs.Streams.{put_stream, saved_streams}
-use Rattle.full_save.specs.WordDocument.{text_bytes, document_runs, document_pages, bin_table, wd_body, wd_stream, table_stream, full_text, first_character_page, first_paragraph_page}
+use Rattle.full_save.specs.WordDocument.{text_bytes, document_runs, document_pages, bin_table, wd_body, wd_stream}
+use Rattle.full_save.specs.WordDocument.{table_stream, full_text, first_character_page, first_paragraph_page}
 use Rattle.full_save.specs.Layout.{layout_streams, sectors_of}
 use Rattle.full_save.proofs.TextLaidOut.{whole_pages, length-pages, length-text}
 use Rattle.full_save.proofs.LayoutLemmas.{length-wd_stream}
@@ -37,9 +39,11 @@ large_few : (len : ℕ) → large_len len ≤ len
 large_few len = cond_both (nat_lt len 4096) 0 len (λ n. n ≤ len) (λ e. omega arith) (λ e. omega arith)
 
 small_few : (len : ℕ) → small_len len ≤ 4095
-small_few len = cond_both (nat_lt len 4096) len 0 (λ n. n ≤ 4095) (λ e. let less = ltb-true len 4096 e in omega (arith, less)) (λ e. omega arith)
+small_few len = cond_both (nat_lt len 4096) len 0 (λ n. n ≤ 4095) (λ e. let less = ltb-true len 4096 e in
+    omega (arith, less)) (λ e. omega arith)
 
-two_streams : (one other : ℕ) → sectors_needed (one ∷ other ∷ []) ≤ 20 + ((one + 511) / 512 + (other + 511) / 512) + (18 + ((one + 511) / 512 + (other + 511) / 512) + 126) / 127
+two_streams : (one other : ℕ) → sectors_needed (one ∷ other ∷ []) ≤ 20 + ((one + 511) / 512 + (other + 511) / 512) +
+    (18 + ((one + 511) / 512 + (other + 511) / 512) + 126) / 127
 unfolding sectors_needed sector_counts large_counts mini_counts
 two_streams one other =
     let a = large_few one in
@@ -48,17 +52,20 @@ two_streams one other =
     let d = small_few other in
     omega (arith, a, b, c, d)
 
-layout_is : (table wd : List ℕ) (others : List NamedBytes) → others ≡ [] → lengths_of (saved_streams table wd others) ≡ length table ∷ length wd ∷ []
+layout_is : (table wd : List ℕ) (others : List NamedBytes) → others ≡ [] → lengths_of (saved_streams table wd others)
+    ≡ length table ∷ length wd ∷ []
 unfolding put_stream
 layout_is table wd others none = ap (λ streams. lengths_of (saved_streams table wd streams)) none
 
 -- ---- the parts of WordDocument
 
-module _ (document : Document) (formed : IsFormed document) (right : IsRightDocument document) (small : IsSmallDocument document) where
+module _ (document : Document) (formed : IsFormed document) (right : IsRightDocument document)
+    (small : IsSmallDocument document) where
   few_pages : (kind : PageKind) → length (document_pages kind document).starts ≤ runs_of kind document
   few_pages kind = (whole_pages kind document formed right).few
 
-  short_body : length (wd_body document) ≤ 512 * ((2 * length (text_items document) + 511) / 512) + 512 * (1601 + 802) + 503
+  short_body : length (wd_body document) ≤ 512 * ((2 * length (text_items document) + 511) / 512) + 512 * (1601 + 802)
+      + 503
   unfolding wd_body
   short_body =
       let text = text_bytes document in
@@ -79,13 +86,15 @@ module _ (document : Document) (formed : IsFormed document) (right : IsRightDocu
       let sections = small.sections in
       omega (arith, units, whole, a, b, c, chp_size, pap_size, chp_pages, pap_pages, chp_runs, pap_runs, sections)
 
-  length-bin : (kind : PageKind) (number : ℕ) → length (bin_table kind (document_runs kind document) number) ≡ 4 + 8 * length (document_pages kind document).starts
+  length-bin : (kind : PageKind) (number : ℕ) → length (bin_table kind (document_runs kind document) number) ≡ 4 + 8 *
+      length (document_pages kind document).starts
   length-bin kind number =
       let starts = (document_pages kind document).starts in
       length-printed_bin (numbered_bins number starts) (last_fc (document_runs kind document))
       ∙ ap (λ n. 4 + 8 * n) (length-numbered_bins number starts)
 
-  layout_lengths : lengths_of (layout_streams document) ≡ length (table_stream document) ∷ length (wd_stream document) ∷ []
+  layout_lengths : lengths_of (layout_streams document) ≡ length (table_stream document) ∷ length (wd_stream document)
+      ∷ []
   unfolding layout_streams
   layout_lengths = layout_is (table_stream document) (wd_stream document) document.carried.streams small.streams
 

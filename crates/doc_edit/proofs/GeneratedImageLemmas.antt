@@ -63,7 +63,8 @@ pub never_stopped : (seed index : ℕ) (stop : Stop) (session : SessionView) (po
 never_stopped seed index stop session policies fault few is none stops same =
     let named = subst (λ f. IsRunFault (start_of session policies) (generated seed) f) same stops in
     let begun = subst (λ s. StopsAt (start_of s policies) (generated seed) index stop) is named in
-    let at = subst (λ p. StopsAt (start_of (session_in_full blank_document) p) (generated seed) index stop) none begun in
+    let at = subst (λ p. StopsAt (start_of (session_in_full blank_document) p) (generated seed) index stop) none begun
+    in
     ends_once.none generator_start (generated seed) index stop (generator_accepted seed few) at
 
 -- what it leaves

@@ -9,7 +9,8 @@ use Rattle.doc_edit.specs.Files.{IsWordDocumentOf, HasGrownFrom, HasGrownBy}
 one_stream : (file one other : List ℕ) → IsWordDocumentOf file one → IsWordDocumentOf file other → one ≡ other
 one_stream file one other first second =
     sym first.is
-    ∙ (ap (λ (parts : FileParts). parts.text.wd) (file_parts_one file first.parts second.parts first.has second.has) ∙ second.is)
+    ∙ (ap (λ (parts : FileParts). parts.text.wd) (file_parts_one file first.parts second.parts first.has second.has) ∙
+    second.is)
 
 keeps_on : (old middle new : List ℕ) → KeepsBytes old middle → KeepsBytes middle new → KeepsBytes old new
 keeps_on old middle new first second =
@@ -19,12 +20,14 @@ keeps_on old middle new first second =
     let then_fib = second.fib in
     record {
       longer = omega (arith, longer, then_longer);
-      bytes = λ i from below. second.bytes i (omega (arith, from, fib)) (omega (arith, below, longer)) ∙ first.bytes i from below;
+      bytes = λ i from below. second.bytes i (omega (arith, from, fib)) (omega (arith, below, longer)) ∙ first.bytes i
+          from below;
       fib = omega (arith, fib, then_fib);
     }
 
 -- no longer than it may be
-pub grown_more : (file : List ℕ) (most more quick_saves : ℕ) (bytes : List ℕ) → most ≤ more → HasGrownFrom file most quick_saves bytes → HasGrownFrom file more quick_saves bytes
+pub grown_more : (file : List ℕ) (most more quick_saves : ℕ) (bytes : List ℕ) → most ≤ more → HasGrownFrom file most
+    quick_saves bytes → HasGrownFrom file more quick_saves bytes
 grown_more file most more quick_saves bytes less grown =
     let len = grown.grown in
     record {
@@ -38,7 +41,8 @@ grown_more file most more quick_saves bytes less grown =
       complex = grown.complex;
     }
 
-grown_on : (file bytes made : List ℕ) (most more quick_saves then_saves : ℕ) → HasGrownFrom file most quick_saves bytes → HasGrownFrom bytes more then_saves made → HasGrownFrom file (most + more) then_saves made
+grown_on : (file bytes made : List ℕ) (most more quick_saves then_saves : ℕ) → HasGrownFrom file most quick_saves
+    bytes → HasGrownFrom bytes more then_saves made → HasGrownFrom file (most + more) then_saves made
 grown_on file bytes made most more quick_saves then_saves first second =
     let same : first.new ≡ second.old = one_stream bytes first.new second.old first.is second.was in
     let len = first.grown in
@@ -49,20 +53,25 @@ grown_on file bytes made most more quick_saves then_saves first second =
       was = first.was;
       new = second.new;
       is = second.is;
-      kept = keeps_on first.old second.old second.new (subst (λ wd. KeepsBytes first.old wd) same first.kept) second.kept;
+      kept = keeps_on first.old second.old second.new (subst (λ wd. KeepsBytes first.old wd) same first.kept)
+          second.kept;
       grown = omega (arith, len, then_len, middle);
       count = second.count;
       complex = second.complex;
     }
 
 -- one fast save more
-pub next_grown : (fast : ℕ) (file bytes made : List ℕ) (most more quick_saves then_saves : ℕ) → HasGrownBy fast file most quick_saves bytes → HasGrownFrom bytes more then_saves made → HasGrownBy (suc fast) file (most + more) then_saves made
+pub next_grown : (fast : ℕ) (file bytes made : List ℕ) (most more quick_saves then_saves : ℕ) → HasGrownBy fast file
+    most quick_saves bytes → HasGrownFrom bytes more then_saves made → HasGrownBy (suc fast) file (most + more)
+    then_saves made
 next_grown zero file bytes made most more quick_saves then_saves same second =
-    grown_more file more (most + more) then_saves made (omega arith) (subst (λ f. HasGrownFrom f more then_saves made) same second)
+    grown_more file more (most + more) then_saves made (omega arith) (subst (λ f. HasGrownFrom f more then_saves made)
+    same second)
 next_grown (suc fast) file bytes made most more quick_saves then_saves first second =
     grown_on file bytes made most more quick_saves then_saves first second
 
 -- there was a fast save
-pub some_fast : (fast : ℕ) (file : List ℕ) (most quick_saves : ℕ) (bytes : List ℕ) → 0 < fast → HasGrownBy fast file most quick_saves bytes → HasGrownFrom file most quick_saves bytes
+pub some_fast : (fast : ℕ) (file : List ℕ) (most quick_saves : ℕ) (bytes : List ℕ) → 0 < fast → HasGrownBy fast file
+    most quick_saves bytes → HasGrownFrom file most quick_saves bytes
 some_fast zero file most quick_saves bytes some grown = absurd (omega (arith, some))
 some_fast (suc more) file most quick_saves bytes some grown = grown

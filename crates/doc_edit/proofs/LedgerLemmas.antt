@@ -1,13 +1,16 @@
 -- How the ledgers grow. It belongs to fast_save, but for what is generated.
-use Rattle.std.proofs.Common.{◌≡◌, ◌∙◌, refl, sym, ap, subst, ℕ, zero, suc, ◌+◌, ◌*◌, ◌/◌, ◌^◌, ◌-◌, ◌≤◌, min, Bool, true, false, arith}
+use Rattle.std.proofs.Common.{◌≡◌, ◌∙◌, refl, sym, ap, subst, ℕ, zero, suc, ◌+◌, ◌*◌, ◌/◌, ◌^◌, ◌-◌, ◌≤◌, min, Bool}
+use Rattle.std.proofs.Common.{true, false, arith}
 use Rattle.std.specs.Prelude.{if◌then◌else◌}
 use Rattle.std.proofs.Math.Nat.{min-le_left, mul-le-mul_right}
 use Rattle.cfb_layout.specs.Counts.{most_sectors}
 use Rattle.edit_script.specs.declared.commands.Command.{Command}
 use Rattle.edit_ops.specs.Runs.{most_runs}
 use Rattle.fast_save.specs.declared.ledgers.Counts.{Counts}
-use Rattle.fast_save.specs.Ledgers.{raised, after_edit, after_fast, sections_set, modifier_bytes, bytes_reckoned, sector_bound}
-use Rattle.doc_edit.specs.GeneratedSaves.{most_table_bytes, most_bin_bytes, sectors_within, HasGrown, IsSmallEdit, FitsFast, GeneratedSavesAreSmall}
+use Rattle.fast_save.specs.Ledgers.{raised, after_edit, after_fast, sections_set, modifier_bytes, bytes_reckoned}
+use Rattle.fast_save.specs.Ledgers.{sector_bound}
+use Rattle.doc_edit.specs.GeneratedSaves.{most_table_bytes, most_bin_bytes, sectors_within, HasGrown, IsSmallEdit}
+use Rattle.doc_edit.specs.GeneratedSaves.{FitsFast, GeneratedSavesAreSmall}
 
 -- a count rises by no more
 raised-le : (count more : ℕ) → raised count more ≤ count + more
@@ -18,7 +21,8 @@ modifier_few : (modified : Bool) (printed : ℕ) → (if modified then min 788 (
 modifier_few true printed = min-le_left 788 (46 + printed)
 modifier_few false printed = omega arith
 
-pub edit_grows : (fast edits units : ℕ) (counts : Counts) (command : Command) → HasGrown fast edits counts → IsSmallEdit command units → HasGrown fast (edits + 1) (after_edit command units counts)
+pub edit_grows : (fast edits units : ℕ) (counts : Counts) (command : Command) → HasGrown fast edits counts →
+    IsSmallEdit command units → HasGrown fast (edits + 1) (after_edit command units counts)
 edit_grows fast edits units counts command grown small =
     let pieces = raised-le counts.pieces 4 in
     let added = raised-le counts.units units in
@@ -41,19 +45,23 @@ edit_grows fast edits units counts command grown small =
     }
 
 -- the bytes that are reckoned for the pieces
-pieces_reckoned : (modifier pieces fast edits : ℕ) → modifier ≤ 788 → pieces ≤ 1 + 200 * fast + 4 * edits → edits ≤ 50 → (12 + modifier) * pieces ≤ 800 * (1 + 200 * (fast + 1))
+pieces_reckoned : (modifier pieces fast edits : ℕ) → modifier ≤ 788 → pieces ≤ 1 + 200 * fast + 4 * edits →
+    edits ≤ 50 → (12 + modifier) * pieces ≤ 800 * (1 + 200 * (fast + 1))
 pieces_reckoned modifier pieces fast edits short few fifty =
     let wide : 12 + modifier ≤ 800 = omega (arith, short) in
     let each : (12 + modifier) * pieces ≤ 800 * pieces = mul-le-mul_right pieces wide in
     omega (arith, each, few, fifty)
 
-within_next : (fast : ℕ) → sectors_within (suc fast) ≡ sectors_within fast + (2400 + 528 * 150 + 800 * (1 + 200 * (fast + 1)) + most_table_bytes + (most_bin_bytes + 2656 * fast) + 16384 + 499) / 500 + 8
+within_next : (fast : ℕ) → sectors_within (suc fast) ≡ sectors_within fast + (2400 + 528 * 150 + 800 *
+    (1 + 200 * (fast + 1)) + most_table_bytes + (most_bin_bytes + 2656 * fast) + 16384 + 499) / 500 + 8
 unfolding sectors_within
 within_next fast = refl
 
-reckoned_within : (fast edits table_bytes : ℕ) (counts : Counts) → HasGrown fast edits counts → edits ≤ 50 → table_bytes ≤ most_table_bytes → sector_bound counts table_bytes ≤ sectors_within (suc fast)
+reckoned_within : (fast edits table_bytes : ℕ) (counts : Counts) → HasGrown fast edits counts → edits ≤ 50 →
+    table_bytes ≤ most_table_bytes → sector_bound counts table_bytes ≤ sectors_within (suc fast)
 reckoned_within fast edits table_bytes counts grown fifty small =
-    let pieces = pieces_reckoned (modifier_bytes counts) counts.pieces fast edits (modifier_few counts.modified counts.printed) grown.pieces fifty in
+    let pieces = pieces_reckoned (modifier_bytes counts) counts.pieces fast edits (modifier_few counts.modified
+    counts.printed) grown.pieces fifty in
     let sectors = grown.sectors in
     let bins = grown.bins in
     let units = grown.units in
@@ -63,7 +71,8 @@ reckoned_within fast edits table_bytes counts grown fifty small =
     let bound = min-le_left (counts.sectors + (bytes_reckoned counts table_bytes + 499) / 500 + 8) (2 ^ 64 - 1) in
     omega (arith, bound, pieces, sectors, bins, units, sections, runs, next, fifty, small)
 
-pub fast_grows : (fast edits table_bytes : ℕ) (counts : Counts) → HasGrown fast edits counts → edits ≤ 50 → table_bytes ≤ most_table_bytes → HasGrown (fast + 1) 0 (after_fast (sector_bound counts table_bytes) counts)
+pub fast_grows : (fast edits table_bytes : ℕ) (counts : Counts) → HasGrown fast edits counts → edits ≤ 50 →
+    table_bytes ≤ most_table_bytes → HasGrown (fast + 1) 0 (after_fast (sector_bound counts table_bytes) counts)
 fast_grows fast edits table_bytes counts grown fifty small =
     let within = reckoned_within fast edits table_bytes counts grown fifty small in
     let next : suc fast ≡ fast + 1 = omega arith in
@@ -92,7 +101,8 @@ seven_fit (suc (suc (suc (suc (suc zero))))) few = omega arith
 seven_fit (suc (suc (suc (suc (suc (suc zero)))))) few = omega arith
 seven_fit (suc (suc (suc (suc (suc (suc (suc more))))))) few = absurd (omega (arith, few))
 
-pub fast_fits : (fast edits table_bytes : ℕ) (counts : Counts) → HasGrown fast edits counts → edits ≤ 50 → table_bytes ≤ most_table_bytes → fast ≤ 6 → FitsFast counts table_bytes
+pub fast_fits : (fast edits table_bytes : ℕ) (counts : Counts) → HasGrown fast edits counts → edits ≤ 50 →
+    table_bytes ≤ most_table_bytes → fast ≤ 6 → FitsFast counts table_bytes
 fast_fits fast edits table_bytes counts grown fifty small few =
     let within = reckoned_within fast edits table_bytes counts grown fifty small in
     let fits = seven_fit fast few in

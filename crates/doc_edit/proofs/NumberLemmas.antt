@@ -10,7 +10,8 @@ next : (seed edit : ℕ) → edit_number seed (suc edit) ≡ next_number (edit_n
 unfolding edit_number
 next seed edit = refl
 
-pub number_next : (seed edit number made : ℕ) → number ≡ edit_number seed edit → made ≡ next_number number → made ≡ edit_number seed (edit + 1)
+pub number_next : (seed edit number made : ℕ) → number ≡ edit_number seed edit → made ≡ next_number number →
+    made ≡ edit_number seed (edit + 1)
 number_next seed edit number made is then =
     let more : suc edit ≡ edit + 1 = omega arith in
     then ∙ (ap next_number is ∙ (sym (next seed edit) ∙ ap (edit_number seed) more))

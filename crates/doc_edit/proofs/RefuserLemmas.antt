@@ -4,17 +4,21 @@ use Rattle.std.proofs.lemmas.Bool.{cases_order}
 use Rattle.edit_guards.specs.declared.facts.Facts.{Facts}
 use Rattle.edit_guards.specs.Policies.{Policy, AllGrant, IsFirstRefuser, lock_of}
 
-not_behind : (policies : List Policy) (facts : Facts) (i j : ℕ) → IsFirstRefuser policies facts i → IsFirstRefuser policies facts j → i < j → ⊥
+not_behind : (policies : List Policy) (facts : Facts) (i j : ℕ) → IsFirstRefuser policies facts i →
+    IsFirstRefuser policies facts j → i < j → ⊥
 not_behind policies facts i j first second less =
     first.refuses (lock_of []) (second.before i (lock_of []) (omega arith) less)
 
-one_of : (policies : List Policy) (facts : Facts) (i j : ℕ) → IsFirstRefuser policies facts i → IsFirstRefuser policies facts j → (i ≡ j) ⊎ ((i < j) ⊎ (j < i)) → i ≡ j
+one_of : (policies : List Policy) (facts : Facts) (i j : ℕ) → IsFirstRefuser policies facts i →
+    IsFirstRefuser policies facts j → (i ≡ j) ⊎ ((i < j) ⊎ (j < i)) → i ≡ j
 one_of policies facts i j first second (inl same) = same
 one_of policies facts i j first second (inr (inl less)) = absurd (not_behind policies facts i j first second less)
 one_of policies facts i j first second (inr (inr more)) = absurd (not_behind policies facts j i second first more)
 
-pub one_refuser : (policies : List Policy) (facts : Facts) (i j : ℕ) → IsFirstRefuser policies facts i → IsFirstRefuser policies facts j → i ≡ j
+pub one_refuser : (policies : List Policy) (facts : Facts) (i j : ℕ) → IsFirstRefuser policies facts i →
+    IsFirstRefuser policies facts j → i ≡ j
 one_refuser policies facts i j first second = one_of policies facts i j first second (cases_order i j)
 
-pub no_refuser : (policies : List Policy) (facts : Facts) (i : ℕ) → AllGrant policies facts → IsFirstRefuser policies facts i → ⊥
+pub no_refuser : (policies : List Policy) (facts : Facts) (i : ℕ) → AllGrant policies facts → IsFirstRefuser policies
+    facts i → ⊥
 no_refuser policies facts i all first = first.refuses (lock_of []) (all i (lock_of []) first.there)

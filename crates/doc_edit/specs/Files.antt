@@ -13,7 +13,8 @@ pub record IsWordDocumentOf (file wd : List ℕ) : Type 0 where
   pub has : HasFileParts file parts
   pub is : parts.text.wd ≡ wd
 
--- WordDocument of the second file has each byte of the first one behind the FIB, and so many bytes more at most; its FIB
+-- WordDocument of the second file has each byte of the first one behind the FIB, and so many bytes more at most; its
+-- FIB
 -- counts so many fast saves in a row
 pub record HasGrownFrom (file : List ℕ) (most quick_saves : ℕ) (bytes : List ℕ) : Type 0 where
   pub old : List ℕ

@@ -26,12 +26,14 @@ pub record IsAt (state : RunState) (session : SessionView) (policies : List Poli
   pub file : IsFileOf state session.bytes
 
 -- the command passes, and leaves this
-pub record MakesBy (command : Command) (state : RunState) (session : SessionView) (policies : List Policy) : Type 0 where
-  pub passes : Passes state command
-  pub leaves : IsAt (state_after state command) session policies
+pub record MakesBy (command : Command) (state : RunState) (session : SessionView) (policies : List Policy) : Type 0
+  where
+    pub passes : Passes state command
+    pub leaves : IsAt (state_after state command) session policies
 
 -- the command of this number does
-pub record MakesCommand (commands : Commands) (i : ℕ) (state : RunState) (session : SessionView) (policies : List Policy)
+pub record MakesCommand (commands : Commands) (i : ℕ) (state : RunState) (session : SessionView) (policies : List
+    Policy)
     : Type 0 where
   pub command : Command
   pub there : command_at commands i state ≡ Some command

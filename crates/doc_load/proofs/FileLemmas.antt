@@ -23,7 +23,8 @@ use Rattle.doc_load.specs.FormatRules.{judged_places, paragraph_places, rules_of
 use Rattle.doc_load.specs.SheetRules.{rules_of_sheet}
 use Rattle.doc_load.specs.Source.{DocSource, part_bytes}
 use Rattle.doc_load.specs.PartRules.{layout_rules, story_rules, part_rules}
-use Rattle.doc_load.specs.FileRules.{table_stream_name, clx_of, source_of, table_rules, wd_rules, loading_rules, contents_rules, file_rules}
+use Rattle.doc_load.specs.FileRules.{table_stream_name, clx_of, source_of, table_rules, wd_rules, loading_rules}
+use Rattle.doc_load.specs.FileRules.{contents_rules, file_rules}
 use Rattle.cfb_streams.specs.Names.{wd_name}
 use Rattle.doc_load.proofs.RefusalLemmas.{single_in}
 use Rattle.doc_load.proofs.OneLemmas.{sections_one, notes_one, heads_one}
@@ -31,7 +32,8 @@ use Rattle.doc_load.proofs.NameLemmas.{named_one}
 use Rattle.doc_load.proofs.TextLemmas.{text_one}
 
 -- the rules of a layer ascend in any part
-ascends_in : (place : Where) (rules : Rules ℕ) (low high : ℕ) → Ascends rules low high → Ascends (rules_in place rules) low high
+ascends_in : (place : Where) (rules : Rules ℕ) (low high : ℕ) → Ascends rules low high →
+    Ascends (rules_in place rules) low high
 ascends_in place (rule number breaks) low high up = up
 ascends_in place (first then next) low high up =
     (up.0, (ascends_in place first low up.0 up.1.0, (up.1.1.0, up.1.1.1, ascends_in place next up.0 high up.1.1.2)))
@@ -41,7 +43,13 @@ layout_single : (source : DocSource) → IsSingle (layout_rules source)
 layout_single source = ((tt, ((λ a b ha hb. sections_one source a b ha hb), λ list h. (tt, (tt, tt)))), (tt, tt))
 
 format_single : (source : DocSource) → IsSingle (rules_of_formats source)
-format_single source = ((λ a b ha hb. sections_one source a b ha hb), λ list h. ((tt, (tt, (tt, (tt, tt)))), (tt, (tt, (tt, (tt, tt))))))
+format_single source = (
+  (λ a b ha hb. sections_one source a b ha hb),
+  λ list h. (
+    (tt, (tt, (tt, (tt, tt)))),
+    (tt, (tt, (tt, (tt, tt)))),
+  ),
+)
 
 story_single : (source : DocSource) → IsSingle (story_rules source)
 story_single source = (
@@ -50,7 +58,16 @@ story_single source = (
     tt,
     (
       ((λ a b ha hb. sections_one source a b ha hb), λ list h. tt),
-      (((λ a b ha hb. notes_one source a b ha hb), λ notes h. ((λ a b ha hb. heads_one source a b ha hb), λ heads h. tt)), tt),
+      (
+        (
+          (λ a b ha hb. notes_one source a b ha hb),
+          λ notes h. (
+            (λ a b ha hb. heads_one source a b ha hb),
+            λ heads h. tt,
+          ),
+        ),
+        tt,
+      ),
     ),
   ),
 )
@@ -60,12 +77,75 @@ part_single : (source : DocSource) → IsSingle (part_rules source)
 part_single source = (layout_single source, (format_single source, ((tt, (tt, tt)), story_single source)))
 
 layout_ascends : (source : DocSource) → Ascends (layout_rules source) 33 39
-layout_ascends source =
-    (37, ((34, ((lit≤ tt, lit< tt), (lit≤ tt, lit≤ tt, (lit≤ tt, λ list h. (35, ((lit≤ tt, lit< tt), (lit≤ tt, lit≤ tt, (36, ((lit≤ tt, lit< tt), (lit≤ tt, lit≤ tt, (lit≤ tt, lit< tt))))))))))), (lit≤ tt, lit≤ tt, (38, ((lit≤ tt, lit< tt), (lit≤ tt, lit≤ tt, (lit≤ tt, lit< tt)))))))
+layout_ascends source = (
+  37,
+  (
+    (
+      34,
+      (
+        (lit≤ tt, lit< tt),
+        (
+          lit≤ tt,
+          lit≤ tt,
+          (
+            lit≤ tt,
+            λ list h. (
+              35,
+              (
+                (lit≤ tt, lit< tt),
+                (lit≤ tt, lit≤ tt, (36, ((lit≤ tt, lit< tt), (lit≤ tt, lit≤ tt, (lit≤ tt, lit< tt))))),
+              ),
+            ),
+          ),
+        ),
+      ),
+    ),
+    (lit≤ tt, lit≤ tt, (38, ((lit≤ tt, lit< tt), (lit≤ tt, lit≤ tt, (lit≤ tt, lit< tt))))),
+  ),
+)
 
 story_ascends : (source : DocSource) → Ascends (story_rules source) 52 57
-story_ascends source =
-    (53, ((lit≤ tt, lit< tt), (lit≤ tt, lit≤ tt, (54, ((lit≤ tt, lit< tt), (lit≤ tt, lit≤ tt, (55, ((lit≤ tt, λ list h. (lit≤ tt, lit< tt)), (lit≤ tt, lit≤ tt, (56, ((lit≤ tt, λ notes h. (lit≤ tt, λ heads i. (lit≤ tt, lit< tt))), (lit≤ tt, lit≤ tt, (lit≤ tt, lit< tt)))))))))))))
+story_ascends source = (
+  53,
+  (
+    (lit≤ tt, lit< tt),
+    (
+      lit≤ tt,
+      lit≤ tt,
+      (
+        54,
+        (
+          (lit≤ tt, lit< tt),
+          (
+            lit≤ tt,
+            lit≤ tt,
+            (
+              55,
+              (
+                (lit≤ tt, λ list h. (lit≤ tt, lit< tt)),
+                (
+                  lit≤ tt,
+                  lit≤ tt,
+                  (
+                    56,
+                    (
+                      (lit≤ tt, λ notes h. (lit≤ tt, λ heads i. (lit≤ tt, lit< tt))),
+                      (
+                        lit≤ tt,
+                        lit≤ tt,
+                        (lit≤ tt, lit< tt),
+                      ),
+                    ),
+                  ),
+                ),
+              ),
+            ),
+          ),
+        ),
+      ),
+    ),
+  ),
+)
 
 format_ascends : (source : DocSource) → Ascends (rules_of_formats source) 39 49
 format_ascends source = (
@@ -75,32 +155,81 @@ format_ascends source = (
       let paragraphs = part_bytes source PlcfBtePapx in (
         44,
         (
-          ascends_in Wd (page_rules Chpx source.wd characters (judged_places source)) 39 44 (page_rules-Ascends Chpx source.wd characters (judged_places source)),
-          (lit≤ tt, lit≤ tt, ascends_in Wd (page_rules Papx source.wd paragraphs (paragraph_places source list)) 44 49 (page_rules-Ascends Papx source.wd paragraphs (paragraph_places source list))),
+          ascends_in Wd (page_rules Chpx source.wd characters (judged_places source)) 39 44 (page_rules-Ascends Chpx
+              source.wd characters (judged_places source)),
+          (
+            lit≤ tt,
+            lit≤ tt,
+            ascends_in Wd (page_rules Papx source.wd paragraphs (paragraph_places source list)) 44 49
+                (page_rules-Ascends Papx source.wd paragraphs (paragraph_places source list)),
+          ),
         ),
       ),
 )
 
 sheet_ascends : (source : DocSource) → Ascends (rules_of_sheet source) 49 52
-sheet_ascends source = (50, ((lit≤ tt, lit< tt), (lit≤ tt, lit≤ tt, (51, ((lit≤ tt, lit< tt), (lit≤ tt, lit≤ tt, (lit≤ tt, lit< tt)))))))
+sheet_ascends source = (
+  50,
+  (
+    (lit≤ tt, lit< tt),
+    (
+      lit≤ tt,
+      lit≤ tt,
+      (
+        51,
+        (
+          (lit≤ tt, lit< tt),
+          (
+            lit≤ tt,
+            lit≤ tt,
+            (lit≤ tt, lit< tt),
+          ),
+        ),
+      ),
+    ),
+  ),
+)
 
 part_ascends : (source : DocSource) → Ascends (part_rules source) 33 57
-part_ascends source =
-    (39, (layout_ascends source, (lit≤ tt, lit≤ tt, (49, (format_ascends source, (lit≤ tt, lit≤ tt, (52, (sheet_ascends source, (lit≤ tt, lit≤ tt, story_ascends source)))))))))
+part_ascends source = (
+  39,
+  (
+    layout_ascends source,
+    (
+      lit≤ tt,
+      lit≤ tt,
+      (
+        49,
+        (
+          format_ascends source,
+          (
+            lit≤ tt,
+            lit≤ tt,
+            (52, (sheet_ascends source, (lit≤ tt, lit≤ tt, story_ascends source))),
+          ),
+        ),
+      ),
+    ),
+  ),
+)
 
 table_single : (wd table : List ℕ) → IsSingle (table_rules wd table)
 table_single wd table =
     let clx = clx_of wd table in
     let at = (fib_pair wd (pair_of Clx)).0 in
-    let text_len = text_length (fib_fields wd).ccps in
-    (tt, single_in Table (clx_rules clx at (early_bounds (length wd)) text_len) (clx_rules-IsSingle clx at (early_bounds (length wd)) text_len))
+    let text_len = text_length (fib_fields wd).ccps in (
+      tt,
+      single_in Table (clx_rules clx at (early_bounds (length wd)) text_len) (clx_rules-IsSingle clx at
+          (early_bounds (length wd)) text_len),
+    )
 
 table_ascends : (wd table : List ℕ) → Ascends (table_rules wd table) 26 33
 table_ascends wd table =
     let clx = clx_of wd table in
     let at = (fib_pair wd (pair_of Clx)).0 in
     let text_len = text_length (fib_fields wd).ccps in
-    let clx_up = ascends_in Table (clx_rules clx at (early_bounds (length wd)) text_len) 27 33 (clx_rules-Ascends clx at (early_bounds (length wd)) text_len) in
+    let clx_up = ascends_in Table (clx_rules clx at (early_bounds (length wd)) text_len) 27 33 (clx_rules-Ascends clx
+    at (early_bounds (length wd)) text_len) in
     (27, ((lit≤ tt, lit< tt), (lit≤ tt, lit≤ tt, clx_up)))
 
 wd_ascends : (contents : Contents) (wd : List ℕ) → Ascends (wd_rules contents wd) 16 33
@@ -119,22 +248,52 @@ contents_ascends : (contents : Contents) → Ascends (contents_rules contents) 1
 contents_ascends contents =
     (33, (text_ascends contents, (lit≤ tt, lit≤ tt, (lit≤ tt, λ text h. part_ascends (source_of text)))))
 
-wd_single : (file : List ℕ) (contents : Contents) (wd : List ℕ) → HasContents file contents → IsSingle (wd_rules contents wd)
-wd_single file contents wd has =
-    (single_in Wd (fib_rules wd) (fib_rules-IsSingle wd), (tt, ((λ x y hx hy. named_one file contents (table_stream_name wd) x y has hx hy), λ table h. table_single wd table)))
+wd_single : (file : List ℕ) (contents : Contents) (wd : List ℕ) → HasContents file contents →
+    IsSingle (wd_rules contents wd)
+wd_single file contents wd has = (
+  single_in Wd (fib_rules wd) (fib_rules-IsSingle wd),
+  (
+    tt,
+    (
+      (λ x y hx hy. named_one file contents (table_stream_name wd) x y has hx hy),
+      λ table h. table_single wd
+          table,
+    ),
+  ),
+)
 
 text_single : (file : List ℕ) (contents : Contents) → HasContents file contents → IsSingle (loading_rules contents)
 text_single file contents has =
     (tt, ((λ x y hx hy. named_one file contents wd_name x y has hx hy), λ wd h. wd_single file contents wd has))
 
 contents_single : (file : List ℕ) (contents : Contents) → HasContents file contents → IsSingle (contents_rules contents)
-contents_single file contents has =
-    (text_single file contents has, ((λ a b ha hb. text_one file contents a b has ha hb), λ text h. part_single (source_of text)))
+contents_single file contents has = (
+  text_single file contents has,
+  (
+    (λ a b ha hb. text_one file contents a b has ha hb),
+    λ text h. part_single
+        (source_of text),
+  ),
+)
 
 pub file_single : (file : List ℕ) → IsSingle (file_rules file)
-file_single file =
-    (single_in File (container_rules file) (container_single file), ((λ x y hx hy. contents_unique file x y hx hy), λ contents has. contents_single file contents has))
+file_single file = (
+  single_in File (container_rules file) (container_single file),
+  (
+    (λ x y hx hy. contents_unique file x y hx hy),
+    λ contents has. contents_single file contents has,
+  ),
+)
 
 pub file_ascends : (file : List ℕ) → Ascends (file_rules file) 1 57
-file_ascends file =
-    (15, (ascends_in File (container_rules file) 1 15 (container_ascends file), (lit≤ tt, lit≤ tt, (lit≤ tt, λ contents h. contents_ascends contents))))
+file_ascends file = (
+  15,
+  (
+    ascends_in File (container_rules file) 1 15 (container_ascends file),
+    (
+      lit≤ tt,
+      lit≤ tt,
+      (lit≤ tt, λ contents h. contents_ascends contents),
+    ),
+  ),
+)

@@ -12,25 +12,31 @@ use Rattle.doc_load.specs.SectionRules.{section_begin, sepx_list, HasSepxFault}
 use Rattle.prop_map.specs.Formed.{section_groups}
 
 -- a section begins in the main text, and a later one not at its first unit
-pub section_within : (plc : List ℕ) (main_len : ℕ) (list : List Sed) → AreSections plc main_len list → (k : ℕ) → k < length list → section_begin list k < main_len
+pub section_within : (plc : List ℕ) (main_len : ℕ) (list : List Sed) → AreSections plc main_len list → (k : ℕ) →
+    k < length list → section_begin list k < main_len
 section_within plc main_len list are k h =
     let len = length-map list (λ (sed : Sed). sed.start) in (are.leading.in_order k (omega arith)).within
 
-pub section_later : (plc : List ℕ) (main_len : ℕ) (list : List Sed) → AreSections plc main_len list → (k : ℕ) → k < length list → 1 ≤ k → 1 ≤ section_begin list k
+pub section_later : (plc : List ℕ) (main_len : ℕ) (list : List Sed) → AreSections plc main_len list → (k : ℕ) →
+    k < length list → 1 ≤ k → 1 ≤ section_begin list k
 section_later plc main_len list are k h later =
     let len = length-map list (λ (sed : Sed). sed.start) in
     let before = (are.leading.in_order k (omega arith)).after (k - 1) (omega arith) in omega arith
 
 -- the table has the bytes of its sections
-pub sections_fit : (plc : List ℕ) (main_len : ℕ) (list : List Sed) → AreSections plc main_len list → 0 < length list → 4 + 16 * length list ≤ length plc
+pub sections_fit : (plc : List ℕ) (main_len : ℕ) (list : List Sed) → AreSections plc main_len list → 0 < length list →
+    4 + 16 * length list ≤ length plc
 sections_fit plc main_len list are some =
     let all = are.all in omega arith
 
 -- the list of a Sepx, where it stands
-pub settings_none : (wd : List ℕ) (fc from to : ℕ) → from ≡ fc + 2 → to ≡ fc + 2 + u16_at wd fc → Nowhere (HasSprmFaultAt (slice_range wd from to) section_groups) → Nowhere (HasSepxFault wd fc)
+pub settings_none : (wd : List ℕ) (fc from to : ℕ) → from ≡ fc + 2 → to ≡ fc + 2 + u16_at wd fc →
+    Nowhere (HasSprmFaultAt (slice_range wd from to) section_groups) → Nowhere (HasSepxFault wd fc)
 settings_none wd fc from to begins ends none = λ p w. (rw (begins, ends) at none) w.fault.offset w.fault.broken
 
-pub settings_first : (wd : List ℕ) (fc from to at : ℕ) → fc ≢ 0xFFFFFFFF → from ≡ fc + 2 → to ≡ fc + 2 + u16_at wd fc → IsLeast (λ a b. a ≤ b) (HasSprmFaultAt (slice_range wd from to) section_groups) at → IsLeast (λ a b. a ≤ b) (HasSepxFault wd fc) (from + at)
+pub settings_first : (wd : List ℕ) (fc from to at : ℕ) → fc ≢ 0xFFFFFFFF → from ≡ fc + 2 → to ≡ fc + 2 + u16_at wd
+    fc → IsLeast (λ a b. a ≤ b) (HasSprmFaultAt (slice_range wd from to) section_groups) at → IsLeast (λ a b. a ≤ b)
+    (HasSepxFault wd fc) (from + at)
 settings_first wd fc from to at settings begins ends least =
     let here = rw (begins, ends) at least in
     let moved = least_from (HasSprmFaultAt (sepx_list wd fc) section_groups) (fc + 2) at here in

@@ -9,7 +9,8 @@ Appends-nil None = tt
 Appends-nil (Some old) = sym (append-nil old)
 
 -- one piece was appended, and then another
-pub Appends-append : (old mid new : Option (List ℕ)) (first next : List ℕ) → Appends old mid first → Appends mid new next → Appends old new (first ++ next)
+pub Appends-append : (old mid new : Option (List ℕ)) (first next : List ℕ) → Appends old mid first → Appends mid new
+    next → Appends old new (first ++ next)
 Appends-append None None None first next a b = tt
 Appends-append None None (Some new) first next a b = b
 Appends-append None (Some mid) new first next a b = absurd a

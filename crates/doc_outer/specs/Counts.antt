@@ -1,4 +1,5 @@
--- Counts of what went wrong outside. A count is a number of 64 bits that never falls; at its last value it stands still.
+-- Counts of what went wrong outside. A count is a number of 64 bits that never falls; at its last value it stands
+-- still.
 use Rattle.std.specs.Prelude.{ℕ, ◌+◌, ◌≤◌, min}
 
 -- the last value of a count

@@ -64,7 +64,14 @@ store_putting store name bytes answer = record {
 abbrev pub store_code : Coded Store
 store_code =
     code_by (Files × ((List ℕ × ℕ) × (ℕ × (ℕ × ℕ))))
-    (coded× (map.code (coded_list coded_ℕ) (coded_list coded_ℕ)) (coded× (coded× (coded_list coded_ℕ) coded_ℕ) (coded× coded_ℕ (coded× coded_ℕ coded_ℕ))))
+    (coded× (map.code (coded_list coded_ℕ) (coded_list coded_ℕ)) (coded× (coded× (coded_list coded_ℕ) coded_ℕ)
+    (coded× coded_ℕ (coded× coded_ℕ coded_ℕ))))
     (λ s. (s.files, ((s.plan.failing, s.plan.numbered), (s.faults, (s.put_faults, s.missed)))))
-    (λ p. record { files = p.0; plan = record { failing = p.1.0.0; numbered = p.1.0.1 }; faults = p.1.1.0; put_faults = p.1.1.1.0; missed = p.1.1.1.1 })
+    (λ p. record {
+      files = p.0;
+      plan = record { failing = p.1.0.0; numbered = p.1.0.1 };
+      faults = p.1.1.0;
+      put_faults = p.1.1.1.0;
+      missed = p.1.1.1.1;
+    })
     (λ _. refl)

@@ -83,7 +83,8 @@ climb_step low high (cp ∷ cps) climb (suc j) zero next below = absurd (omega a
 climb_step low high (cp ∷ cps) climb (suc j) (suc k) next below =
     climb_step cp high cps climb.1.1 j k (omega arith) (omega arith)
 
-pub climb_in_order : (len : ℕ) (cps : List ℕ) → Climb 0 len cps → slice_index cps 0 ≡ 0 → AreCpsInOrder (cut_cps len) cps
+pub climb_in_order : (len : ℕ) (cps : List ℕ) → Climb 0 len cps → slice_index cps 0 ≡ 0 → AreCpsInOrder (cut_cps len)
+    cps
 climb_in_order len cps climb begins k below = record {
   begin = λ needed first. ap (slice_index cps) first ∙ begins;
   after = λ j next. climb_step 0 len cps climb j k next below;

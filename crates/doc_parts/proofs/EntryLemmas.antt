@@ -1,5 +1,6 @@
 -- Each kind of entry is spelled by its printed bytes.
-use Rattle.std.proofs.Common.{◌≡◌, ℕ, ◌%◌, ◌^◌, ◌<◌, ◌≤◌, [], ◌++◌, Option, Some, None, Bool, true, false, not, refl, sym, ap, ◌∙◌, arith, length-append}
+use Rattle.std.proofs.Common.{◌≡◌, ℕ, ◌%◌, ◌^◌, ◌<◌, ◌≤◌, [], ◌++◌, Option, Some, None, Bool, true, false, not, refl}
+use Rattle.std.proofs.Common.{sym, ap, ◌∙◌, arith, length-append}
 use Rattle.std.specs.Prelude.{IsTrue, ◌==◌, replicate, if◌then◌else◌}
 use Rattle.std.proofs.Math.Nat.{mod-eq_of_lt}
 use Rattle.std.proofs.lemmas.Bool.Decides.{nat_tests}
@@ -18,7 +19,12 @@ pub sed-IsSpelled : (sed : Sed) → sed.sepx < 2 ^ 32 → IsSpelled sed_form sed
 sed-IsSpelled sed h = record {
   sized =
       let four = length-number_bytes 4 sed.sepx in
-      omega (arith, length-append (number_bytes 4 sed.sepx) (replicate 6 0), length-append (replicate 2 0) (number_bytes 4 sed.sepx ++ replicate 6 0));
+      omega (
+        arith,
+        length-append (number_bytes 4 sed.sepx) (replicate 6 0),
+        length-append (replicate 2 0)
+            (number_bytes 4 sed.sepx ++ replicate 6 0),
+      );
   again =
       let make : ℕ → Option Sed = λ n. Some (record { start = sed.start; sepx = n }) in
       ap make (number_at-read_back 4 sed.sepx (replicate 2 0) (replicate 6 0) h);
@@ -33,7 +39,8 @@ fld-IsSpelled fld h =
     let top = (field_unit_bounds fld.unit h).1 in
     let byte : fld.unit % 256 ≡ fld.unit = mod-eq_of_lt (omega arith) in
     let low : fld.unit % 32 ≡ fld.unit = mod-eq_of_lt (omega arith) in
-    let make : ℕ → Option Fld = λ n. (if is_field_unit n then Some (record { cp = fld.cp; unit = n; byte = fld.byte }) else None) in
+    let make : ℕ → Option Fld = λ n. (if is_field_unit n then Some (record { cp = fld.cp; unit = n; byte = fld.byte })
+    else None) in
     let choose : Bool → Option Fld = λ b. (if b then Some fld else None) in
     record { sized = refl; again = ap make (ap (λ n. n % 32) byte ∙ low) ∙ ap choose h }
 
@@ -49,7 +56,11 @@ auto_again false = ap (λ n. not (n == 0)) (two_bytes 0 (omega arith))
 pub ref-IsSpelled : (reference : NoteRef) → IsSpelled ref_form reference
 ref-IsSpelled reference =
     let make : Bool → Option NoteRef = λ b. Some (record { cp = reference.cp; auto = b }) in
-    record { sized = length-number_bytes 2 (if reference.auto then 1 else 0); again = ap make (auto_again reference.auto) }
+    record {
+      sized = length-number_bytes 2 (if reference.auto then 1 else 0);
+      again = ap make
+          (auto_again reference.auto);
+    }
 
 pub cut-IsSpelled : (cp : ℕ) → IsSpelled cut_form cp
 cut-IsSpelled cp = record { sized = refl; again = refl }

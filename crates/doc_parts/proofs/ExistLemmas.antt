@@ -1,5 +1,6 @@
 -- Lists from what stands at each place, and the entries of tables without a wrong one.
-use Rattle.std.proofs.Common.{◌≡◌, inl, inr, refl, sym, ap, subst, ℕ, zero, suc, ◌<◌, ◌∙◌, List, [], ◌∷◌, ◌++◌, length, Option, Some, None, IsSome, get_or, arith, length-append}
+use Rattle.std.proofs.Common.{◌≡◌, inl, inr, refl, sym, ap, subst, ℕ, zero, suc, ◌<◌, ◌∙◌, List, [], ◌∷◌, ◌++◌}
+use Rattle.std.proofs.Common.{length, Option, Some, None, IsSome, get_or, arith, length-append}
 use Rattle.std.specs.Prelude.{slice_get}
 use Rattle.std.specs.Option.{unwrap_or}
 use Rattle.std.proofs.lemmas.Bool.{cases_lt}
@@ -20,18 +21,25 @@ pub record HasList {A : Type 0} (n : ℕ) (Is : ℕ → A → Type 0) : Type 0 w
   pub len : length list ≡ n
   pub each : (k : ℕ) (x : A) → slice_get list k ≡ Some x → Is k x
 
-more_each : {A : Type 0} (Is : ℕ → A → Type 0) (list : List A) (x : A) → ((k : ℕ) (y : A) → slice_get list k ≡ Some y → Is k y) → Is (length list) x → (k : ℕ) (y : A) → slice_get (list ++ x ∷ []) k ≡ Some y → Is k y
+more_each : {A : Type 0} (Is : ℕ → A → Type 0) (list : List A) (x : A) → ((k : ℕ) (y : A) → slice_get list k ≡ Some
+    y → Is k y) → Is (length list) x → (k : ℕ) (y : A) → slice_get (list ++ x ∷ []) k ≡ Some y → Is k y
 more_each Is list x each last k y here = elim (cases_lt k (length list)) [
   | inl low ↦ each k y (sym (slice_get_before list (x ∷ []) k low) ∙ here)
   | inr high ↦
       let within = slice_get_within (list ++ x ∷ []) k y here in
       let at : k ≡ length list = omega (arith, high, within, length-append list (x ∷ [])) in
-      let same : x ≡ y = ap (λ o. unwrap_or o x) (sym (slice_get_push list x) ∙ (ap (slice_get (list ++ x ∷ [])) (sym at) ∙ here)) in
+      let same : x ≡ y = ap (λ o. unwrap_or o x) (sym (slice_get_push list x) ∙ (ap (slice_get (list ++ x ∷ []))
+      (sym at) ∙ here)) in
       subst (λ n. Is n y) (sym at) (subst (Is (length list)) same last)
 ]
 
 pub list_of : {A : Type 0} (n : ℕ) (Is : ℕ → A → Type 0) → ((k : ℕ) → k < n → (x : A) × Is k x) → HasList n Is
-list_of zero Is at = record { list = []; len = refl; each = λ k x here. absurd (let within = slice_get_within [] k x here in omega arith) }
+list_of zero Is at = record {
+  list = [];
+  len = refl;
+  each = λ k x here. absurd (let within = slice_get_within [] k x
+      here in omega arith);
+}
 list_of (suc n) Is at =
     let before = list_of n Is (λ k below. at k (omega arith)) in
     let last = at n (omega arith) in
@@ -61,7 +69,8 @@ some_or_not (Some x) twice = (x, refl)
 is_some_of : {E : Type 0} (o : Option E) (x : E) → o ≡ Some x → IsSome o
 is_some_of o x e = subst IsSome (sym e) refl
 
-right_entry : {E : Type 0} (form : EntryForm E) (cps : CpForm) (table : PlcPart) (k : ℕ) → ¬ ¬ (IsRightEntry form cps table k) → IsRightEntry form cps table k
+right_entry : {E : Type 0} (form : EntryForm E) (cps : CpForm) (table : PlcPart) (k : ℕ) →
+    ¬ ¬ (IsRightEntry form cps table k) → IsRightEntry form cps table k
 right_entry form cps table k twice =
     let there = some_or_not (entry_at form table k) (λ no. twice (λ is. no is.spelled)) in
     record {
@@ -70,9 +79,11 @@ right_entry form cps table k twice =
     }
 
 -- a table without a wrong entry has its entries
-pub entries_there : {E : Type 0} (form : EntryForm E) (cps : CpForm) (table : PlcPart) → KeepsCp form → ((k : ℕ) → k < table.count → ¬ ¬ (IsRightEntry form cps table k)) → (list : List E) × AreEntries form cps table list
+pub entries_there : {E : Type 0} (form : EntryForm E) (cps : CpForm) (table : PlcPart) → KeepsCp form →
+    ((k : ℕ) → k < table.count → ¬ ¬ (IsRightEntry form cps table k)) → (list : List E) × AreEntries form cps table list
 entries_there {E = E} form cps table keeps right =
-    let found = list_of table.count (λ (k : ℕ) (x : E). entry_at form table k ≡ Some x) (λ k below. some_or_not (entry_at form table k) (λ no. right k below (λ is. no is.spelled))) in
+    let found = list_of table.count (λ (k : ℕ) (x : E). entry_at form table k ≡ Some x) (λ k below. some_or_not
+    (entry_at form table k) (λ no. right k below (λ is. no is.spelled))) in
     let len = found.len in (
       found.list,
       record {
@@ -86,6 +97,8 @@ entries_there {E = E} form cps table keeps right =
       },
     )
   where
-    at_place : (list : List E) (at : ℕ → Option E) → ((k : ℕ) (x : E) → slice_get list k ≡ Some x → at k ≡ Some x) → (k : ℕ) → k < length list → slice_get list k ≡ at k
+    at_place : (list : List E) (at : ℕ → Option E) → ((k : ℕ) (x : E) → slice_get list k ≡ Some x → at k ≡ Some x) →
+        (k : ℕ) → k < length list → slice_get list k ≡ at k
     at_place [] at each k below = absurd (omega arith)
-    at_place (x ∷ xs) at each k below = slice_get-get_or (x ∷ xs) k x below ∙ sym (each k (get_or (x ∷ xs) k x) (slice_get-get_or (x ∷ xs) k x below))
+    at_place (x ∷ xs) at each k below = slice_get-get_or (x ∷ xs) k x below ∙ sym (each k (get_or (x ∷ xs) k x)
+        (slice_get-get_or (x ∷ xs) k x below))

@@ -20,7 +20,8 @@ pub fld-sized : 2 ≡ fld_form.size
 fld-sized = refl
 
 pub fld-keeps_cp : KeepsCp fld_form
-fld-keeps_cp cp bytes entry h = sym (ap (λ (fld : Fld). fld.cp) (cond_some (is_field_unit (slice_index bytes 0 % 32)) _ entry h).1)
+fld-keeps_cp cp bytes entry h = sym (ap (λ (fld : Fld). fld.cp) (cond_some (is_field_unit (slice_index bytes 0 % 32))
+    _ entry h).1)
 
 pub ref-sized : 2 ≡ ref_form.size
 ref-sized = refl

@@ -1,5 +1,6 @@
 -- [MS-DOC] PlcFld: the field characters of a story.
-use Rattle.std.specs.Prelude.{ℕ, ◌%◌, ◌<◌, ◌&&◌, List, [], ◌∷◌, slice_index, Option, Some, None, false, Bool, if◌then◌else◌, nat_le, map, All, IsTrue, ◌^◌}
+use Rattle.std.specs.Prelude.{ℕ, ◌%◌, ◌<◌, ◌&&◌, List, [], ◌∷◌, slice_index, Option, Some, None, false, Bool}
+use Rattle.std.specs.Prelude.{if◌then◌else◌, nat_le, map, All, IsTrue, ◌^◌}
 use Rattle.doc_bits.specs.Rules.{Rules, rule, Hold}
 use Rattle.doc_parts.specs.declared.lists.Fld.{Fld}
 use Rattle.doc_parts.specs.declared.field_part.FieldKind.{FieldKind}

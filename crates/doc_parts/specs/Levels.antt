@@ -1,5 +1,6 @@
 -- [MS-DOC] PlfLst: a 16-bit count and the LSTFs; after the part stand the levels.
-use Rattle.std.specs.Prelude.{◌≡◌, ◌⊎◌, ℕ, zero, suc, ◌+◌, ◌*◌, ◌%◌, ◌<◌, ◌≤◌, List, length, slice_index, slice_range, ◌==◌, if◌then◌else◌}
+use Rattle.std.specs.Prelude.{◌≡◌, ◌⊎◌, ℕ, zero, suc, ◌+◌, ◌*◌, ◌%◌, ◌<◌, ◌≤◌, List, length, slice_index, slice_range}
+use Rattle.std.specs.Prelude.{◌==◌, if◌then◌else◌}
 use Rattle.doc_bits.specs.Number.{u16_at}
 use Rattle.doc_bits.specs.Rules.{Rules, rule, Among}
 use Rattle.doc_parts.specs.Table.{IsWrongPart}

@@ -1,5 +1,6 @@
 -- [MS-DOC] Plc, as a part of the table stream: what its entries are, where it breaks a rule, and how it is printed.
-use Rattle.std.specs.Prelude.{◌≡◌, ◌⊎◌, ℕ, ◌+◌, ◌-◌, ◌*◌, ◌/◌, ◌<◌, ◌≤◌, List, length, map, Option, Some, MatchOption, IsSome, slice_get}
+use Rattle.std.specs.Prelude.{◌≡◌, ◌⊎◌, ℕ, ◌+◌, ◌-◌, ◌*◌, ◌/◌, ◌<◌, ◌≤◌, List, length, map, Option, Some, MatchOption}
+use Rattle.std.specs.Prelude.{IsSome, slice_get}
 use Rattle.doc_bits.specs.Plc.{PlcPart, IsPlcOf, plc_cp, plc_entry}
 pub use Rattle.doc_bits.specs.Plc.{printed_plc, HasPlc}
 use Rattle.doc_bits.specs.Rules.{Rules, Among, LeastOrNone, IsFirst}
@@ -42,9 +43,10 @@ pub record IsRightEntry {E : Type 0} (form : EntryForm E) (cps : CpForm) (table 
   pub spelled : IsSome (entry_at form table k)
 
 -- a wrong entry, at the place of its CP
-pub record IsWrongEntry {E : Type 0} (form : EntryForm E) (cps : CpForm) (table : PlcPart) (at k place : ℕ) : Type 0 where
-  pub here : place ≡ at + 4 * k
-  pub broken : ¬ (IsRightEntry form cps table k)
+pub record IsWrongEntry {E : Type 0} (form : EntryForm E) (cps : CpForm) (table : PlcPart) (at k place : ℕ) : Type 0
+  where
+    pub here : place ≡ at + 4 * k
+    pub broken : ¬ (IsRightEntry form cps table k)
 
 -- the part has not the length that it has to have
 abbrev pub IsWrongPart : Type 0 → ℕ → ℕ → Type 0
@@ -67,11 +69,12 @@ pub record AreLeading {E : Type 0} (form : EntryForm E) (cps : CpForm) (table : 
   pub in_order : AreCpsInOrder cps (map form.cp_of list)
 
 -- the list has the entries of a table before the first wrong one
-pub record StopsAtWrong {E : Type 0} (form : EntryForm E) (cps : CpForm) (table : PlcPart) (list : List E) : Type 0 where
-  pub within : length list ≤ table.count
-  pub each : (k : ℕ) → k < length list → slice_get list k ≡ entry_at form table k
-  pub right : (k : ℕ) → k < length list → IsRightEntry form cps table k
-  pub stop : length list < table.count → ¬ (IsRightEntry form cps table (length list))
+pub record StopsAtWrong {E : Type 0} (form : EntryForm E) (cps : CpForm) (table : PlcPart) (list : List E) : Type 0
+  where
+    pub within : length list ≤ table.count
+    pub each : (k : ℕ) → k < length list → slice_get list k ≡ entry_at form table k
+    pub right : (k : ℕ) → k < length list → IsRightEntry form cps table k
+    pub stop : length list < table.count → ¬ (IsRightEntry form cps table (length list))
 
 -- the list has all entries of a table
 pub record AreEntries {E : Type 0} (form : EntryForm E) (cps : CpForm) (table : PlcPart) (list : List E) : Type 0 where

@@ -14,7 +14,8 @@ adds_one P count more at old mid new x so_far more_is at_is right is =
     let so_long = so_far.len in
     record {
       len = omega (arith, ap length is, length-append mid (x ∷ []), so_long, more_is);
-      kept = λ k lower. let low : k < length mid = omega (arith, so_long) in ap (λ l. slice_get l k) is ∙ (slice_get_before mid (x ∷ []) k low ∙ so_far.kept k lower);
+      kept = λ k lower. let low : k < length mid = omega (arith, so_long) in ap (λ l. slice_get l k) is ∙
+          (slice_get_before mid (x ∷ []) k low ∙ so_far.kept k lower);
       each = λ k entry upper here.
           let there : slice_get (mid ++ x ∷ []) k ≡ Some entry = ap (λ l. slice_get l k) (sym is) ∙ here in
           elim (cases_lt k (length mid)) [

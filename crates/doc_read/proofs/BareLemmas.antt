@@ -56,9 +56,12 @@ pub bare_read : (view : TextView) (modifier : Modifier) (passed : Passed) (cp un
 bare_read view modifier passed cp unit chp unit_is goes_on characters here later = record {
   unit_is = unit_is;
   characters = characters.is;
-  sect_is = sym (entry_none view.marks.section_cps view.maps cp (none_at view.marks.section_cps passed.section cp here.sections later.sections));
+  sect_is = sym (entry_none view.marks.section_cps view.maps cp (none_at view.marks.section_cps passed.section cp
+      here.sections later.sections));
   mark_is = subst (λ b. IsMarkAt b view.wd view.paragraphs (slice_index view.places cp) modifier None) (sym goes_on) tt;
-  fld_is = sym (entry_none view.marks.field_cps view.marks.field_bytes cp (none_at view.marks.field_cps passed.field cp here.fields later.fields));
-  note_is = sym (entry_none view.marks.note_cps view.marks.note_kinds cp (none_at view.marks.note_cps passed.note cp here.notes later.notes));
+  fld_is = sym (entry_none view.marks.field_cps view.marks.field_bytes cp (none_at view.marks.field_cps passed.field
+      cp here.fields later.fields));
+  note_is = sym (entry_none view.marks.note_cps view.marks.note_kinds cp (none_at view.marks.note_cps passed.note cp
+      here.notes later.notes));
   maps = HasPropertyMaps-from_parts (bare_item unit chp) characters.formed tt tt;
 }

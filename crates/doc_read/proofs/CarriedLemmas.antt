@@ -23,11 +23,13 @@ without_chain stream = record { name = stream.name; bytes = stream.bytes }
 -- the first stream is carried or left out
 cons-carried : (stream : Stream) (streams : List Stream) → is_carried stream.name ≡ true →
     carried_streams (stream ∷ streams) ≡ without_chain stream ∷ carried_streams streams
-cons-carried stream streams carried = ap (λ b. map without_chain (cond b (stream ∷ filter (λ s. is_carried s.name) streams) (filter (λ s. is_carried s.name) streams))) carried
+cons-carried stream streams carried = ap (λ b. map without_chain (cond b (stream ∷ filter (λ s. is_carried s.name)
+    streams) (filter (λ s. is_carried s.name) streams))) carried
 
 cons-left_out : (stream : Stream) (streams : List Stream) → is_carried stream.name ≡ false →
     carried_streams (stream ∷ streams) ≡ carried_streams streams
-cons-left_out stream streams left = ap (λ b. map without_chain (cond b (stream ∷ filter (λ s. is_carried s.name) streams) (filter (λ s. is_carried s.name) streams))) left
+cons-left_out stream streams left = ap (λ b. map without_chain (cond b (stream ∷ filter (λ s. is_carried s.name)
+    streams) (filter (λ s. is_carried s.name) streams))) left
 
 -- with one more stream in front
 from-later : (stream : Stream) (streams : List Stream) (named : NamedBytes) → IsFrom streams named →
@@ -60,16 +62,20 @@ pub carried-from : (streams : List Stream) (i : ℕ) (named : NamedBytes) →
     slice_get (carried_streams streams) i ≡ Some named → IsFrom streams named
 carried-from [] i named here = absurd (none-some named here)
 carried-from (stream ∷ streams) i named here = elim (cases_Bool (is_carried stream.name)) [
-  | inl carried ↦ from-cons stream streams i named carried (λ k there. carried-from streams k named there) (subst (λ xs. slice_get xs i ≡ Some named) (cons-carried stream streams carried) here)
-  | inr left ↦ from-later stream streams named (carried-from streams i named (subst (λ xs. slice_get xs i ≡ Some named) (cons-left_out stream streams left) here))
+  | inl carried ↦ from-cons stream streams i named carried (λ k there. carried-from streams k named there)
+      (subst (λ xs. slice_get xs i ≡ Some named) (cons-carried stream streams carried) here)
+  | inr left ↦ from-later stream streams named (carried-from streams i named (subst (λ xs. slice_get xs i ≡ Some
+      named) (cons-left_out stream streams left) here))
 ]
 
 -- names that ascend
 abbrev pub Ascend : List Stream → Type 0
-Ascend streams = (i j : ℕ) (stream later : Stream) → i < j → slice_get streams i ≡ Some stream → slice_get streams j ≡ Some later → ComesBefore stream.name later.name
+Ascend streams = (i j : ℕ) (stream later : Stream) → i < j → slice_get streams i ≡ Some stream → slice_get streams j ≡
+    Some later → ComesBefore stream.name later.name
 
 abbrev pub AscendNamed : List NamedBytes → Type 0
-AscendNamed streams = (i j : ℕ) (named later : NamedBytes) → i < j → slice_get streams i ≡ Some named → slice_get streams j ≡ Some later → ComesBefore named.name later.name
+AscendNamed streams = (i j : ℕ) (named later : NamedBytes) → i < j → slice_get streams i ≡ Some named →
+    slice_get streams j ≡ Some later → ComesBefore named.name later.name
 
 order-cons : (stream : Stream) (streams : List Stream) → Ascend (stream ∷ streams) →
     AscendNamed (carried_streams streams) → AscendNamed (without_chain stream ∷ carried_streams streams)
@@ -78,7 +84,8 @@ order-cons stream streams order tail zero (suc j) named later less here there =
     let from = carried-from streams j later there in
     let first : stream.name ≡ named.name = ap (λ (n : NamedBytes). n.name) (same_Some _ _ here) in
     subst (λ name. ComesBefore name later.name) first
-    (subst (λ name. ComesBefore stream.name name) (sym from.name) (order zero (suc from.index) stream from.stream (omega arith) refl from.here))
+    (subst (λ name. ComesBefore stream.name name) (sym from.name) (order zero (suc from.index) stream from.stream
+    (omega arith) refl from.here))
 order-cons stream streams order tail (suc i) zero named later less here there = absurd (omega arith)
 order-cons stream streams order tail (suc i) (suc j) named later less here there =
     tail i j named later (omega arith) here there
@@ -87,9 +94,11 @@ order-cons stream streams order tail (suc i) (suc j) named later less here there
 pub carried-order : (streams : List Stream) → Ascend streams → AscendNamed (carried_streams streams)
 carried-order [] order = λ i j named later less here there. absurd (none-some named here)
 carried-order (stream ∷ streams) order =
-    let tail : AscendNamed (carried_streams streams) = carried-order streams (λ i j one other less here there. order (suc i) (suc j) one other (omega arith) here there) in
+    let tail : AscendNamed (carried_streams streams) = carried-order streams (λ i j one other less here there. order
+    (suc i) (suc j) one other (omega arith) here there) in
     elim (cases_Bool (is_carried stream.name)) [
-      | inl carried ↦ subst AscendNamed (sym (cons-carried stream streams carried)) (order-cons stream streams order tail)
+      | inl carried ↦ subst AscendNamed (sym (cons-carried stream streams carried)) (order-cons stream streams order
+          tail)
       | inr left ↦ subst AscendNamed (sym (cons-left_out stream streams left)) tail
     ]
 
@@ -123,7 +132,8 @@ left_out-one : (streams : List Stream) (i : ℕ) (stream : Stream) → slice_get
 left_out-one [] i stream here left = absurd (none-some stream here)
 left_out-one (first ∷ streams) zero stream here left =
     let count = carried-count streams in
-    left_out-first first streams 0 (subst (λ (s : Stream). is_carried s.name ≡ false) (sym (same_Some _ _ here)) left) (omega arith)
+    left_out-first first streams 0 (subst (λ (s : Stream). is_carried s.name ≡ false) (sym (same_Some _ _ here)) left)
+    (omega arith)
 left_out-one (first ∷ streams) (suc i) stream here left =
     left_out-later first streams 1 (left_out-one streams i stream here left)
 
@@ -134,7 +144,8 @@ pub left_out-two : (streams : List Stream) (i j : ℕ) (stream later : Stream) �
 left_out-two [] i j stream later less here there left not_later = absurd (none-some stream here)
 left_out-two (first ∷ streams) zero zero stream later less here there left not_later = absurd (omega arith)
 left_out-two (first ∷ streams) zero (suc j) stream later less here there left not_later =
-    left_out-first first streams 1 (subst (λ (s : Stream). is_carried s.name ≡ false) (sym (same_Some _ _ here)) left) (left_out-one streams j later there not_later)
+    left_out-first first streams 1 (subst (λ (s : Stream). is_carried s.name ≡ false) (sym (same_Some _ _ here)) left)
+    (left_out-one streams j later there not_later)
 left_out-two (first ∷ streams) (suc i) zero stream later less here there left not_later = absurd (omega arith)
 left_out-two (first ∷ streams) (suc i) (suc j) stream later less here there left not_later =
     left_out-later first streams 2 (left_out-two streams i j stream later (omega arith) here there left not_later)

@@ -36,7 +36,8 @@ entries-apart : (file directory entries : List ℕ) → AreOrdered file director
     j < length entries → slice_index entries i ≢ slice_index entries j
 entries-apart file directory entries order i j less below same =
     not_itself file (entry_place directory (slice_index entries j))
-    (subst (λ entry. EntryBefore file (entry_place directory entry) (entry_place directory (slice_index entries j))) same (order i j less below))
+    (subst (λ entry. EntryBefore file (entry_place directory entry) (entry_place directory (slice_index entries j)))
+    same (order i j less below))
 
 -- a directory has at most 1,024 entries, and entry 0 is the root
 entries-few : (file directory entries : List ℕ) → length directory ≤ 256 → ListsStreams file directory entries →
@@ -77,7 +78,8 @@ stream-short file parts entry stream whole is =
           let inside = chain_inside file head long.sectors whole long.body.holds in
           let few =
           path_short (fat_table file).entry (valid_below file) head.start long.sectors long.body.holds.chain.path in
-          let cut = length-cut 512 512 file long.sectors stream.bytes _ (λ i below. let within = inside.inside i below in omega arith) long.body.joined in
+          let cut = length-cut 512 512 file long.sectors stream.bytes _ (λ i below. let within = inside.inside i below
+          in omega arith) long.body.joined in
           let most = whole.most in
           omega arith
     ]
@@ -103,7 +105,8 @@ comes-before file at other name later is is_later before =
               place,
               record {
                 inside = within;
-                front = λ i low. ap upper_case (is.units i (omega arith)) ∙ (differs.front i low ∙ ap upper_case (sym (is_later.units i (omega arith))));
+                front = λ i low. ap upper_case (is.units i (omega arith)) ∙ (differs.front i low ∙ ap upper_case
+                    (sym (is_later.units i (omega arith))));
                 less = rw (is.units place within, is_later.units place within_later) differs.less;
               },
             ),
@@ -133,11 +136,15 @@ contents-bounded file contents holds has =
     let count = has.streams.len in
     record {
       few = (let few = entries-few file directory entries has.directory.short has.lists in omega arith);
-      short = λ i stream here. stream-short file has.parts (slice_index entries i) stream whole (has.streams.each i stream here);
-      some = λ i stream here. (stream-name file has.parts (slice_index entries i) stream names (has.streams.each i stream here)).0;
-      fit = λ i stream here. (stream-name file has.parts (slice_index entries i) stream names (has.streams.each i stream here)).1;
+      short = λ i stream here. stream-short file has.parts (slice_index entries i) stream whole (has.streams.each i
+          stream here);
+      some = λ i stream here. (stream-name file has.parts (slice_index entries i) stream names (has.streams.each i
+          stream here)).0;
+      fit = λ i stream here. (stream-name file has.parts (slice_index entries i) stream names (has.streams.each i
+          stream here)).1;
       order = λ i j stream later less here there.
-          comes-before file (entry_place directory (slice_index entries i)) (entry_place directory (slice_index entries j)) stream.name later.name
+          comes-before file (entry_place directory (slice_index entries i)) (entry_place directory (slice_index
+          entries j)) stream.name later.name
           (has.streams.each i stream here).name (has.streams.each j later there).name
           (has.lists.order i j less (let within = slice_get_within contents.streams j later there in omega arith));
     }

@@ -27,16 +27,20 @@ notes_within source lists len has e =
 pub heads_within : (source : DocSource) (lists : PartLists) (len : ℕ) → HasPartLists source lists →
     len ≡ text_count source → AreCutsWithin (story_begin source Heads) lists.heads len
 heads_within source lists len has e =
-    cuts_within (part_bytes source PlcfHdd) (story_length source Heads) (story_begin source Heads) len lists.heads has.has_heads (omega arith)
+    cuts_within (part_bytes source PlcfHdd) (story_length source Heads) (story_begin source Heads) len lists.heads
+    has.has_heads (omega arith)
 
 -- the main text begins the text, and the others are cut out of it
-pub document-from : (contents : Contents) (text : FileText) (lists : PartLists) (sections : List Settings) (items : List Item) (document : Document) →
+pub document-from : (contents : Contents) (text : FileText) (lists : PartLists) (sections : List Settings)
+    (items : List Item) (document : Document) →
     HasPartLists (source_of text) lists → AreSectionMaps text.wd lists.sections sections →
-    HoldsItems (record { source = source_of text; pieces = text.pieces; lists = lists; sections = sections }) 0 (text_count (source_of text)) items →
+    HoldsItems (record { source = source_of text; pieces = text.pieces; lists = lists; sections = sections }) 0
+    (text_count (source_of text)) items →
     document.main ≡ take (story_length (source_of text) Main) items →
     AreCutFrom items (story_begin (source_of text) Notes) lists.notes (length lists.notes - 1) document.notes →
     AreCutFrom items (story_begin (source_of text) Heads) lists.heads (head_texts lists) document.heads →
-    document.sheet ≡ lists.sheet → HoldsCarried contents (source_of text) lists.levels document.carried → IsDocumentFrom contents text lists document
+    document.sheet ≡ lists.sheet → HoldsCarried contents (source_of text) lists.levels document.carried →
+    IsDocumentFrom contents text lists document
 document-from contents text lists sections items document has maps holds main notes heads sheet carried =
     let source = source_of text in
     let parts : TextParts = record { source = source; pieces = text.pieces; lists = lists; sections = sections } in
@@ -49,10 +53,12 @@ document-from contents text lists sections items document has maps holds main no
             subst (HoldsItems parts 0 (story_length source Main)) (sym main)
             (holds_front parts (text_count source) (story_length source Main) items (omega arith) holds);
         notes =
-            holds_texts parts (text_count source) (story_begin source Notes) (length lists.notes - 1) lists.notes items document.notes holds
+            holds_texts parts (text_count source) (story_begin source Notes) (length lists.notes - 1) lists.notes
+            items document.notes holds
             (notes_within source lists (length items) has len) notes;
         heads =
-            holds_texts parts (text_count source) (story_begin source Heads) (head_texts lists) lists.heads items document.heads holds
+            holds_texts parts (text_count source) (story_begin source Heads) (head_texts lists) lists.heads items
+            document.heads holds
             (heads_within source lists (length items) has len) heads;
         sheet = sheet;
         carried = carried;

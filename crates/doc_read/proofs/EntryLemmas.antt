@@ -28,7 +28,8 @@ entry_found (c ∷ cps) (v ∷ values) cp (suc k) x up below here there =
     let first : c < slice_index cps k = up zero (suc k) (omega arith) below in
     let at : slice_index cps k ≡ cp = here in
     let other : c ≢ cp = λ e. omega (arith, e, at, first) in
-    entry_later c cp v (zip cps values) other ∙ entry_found cps values cp k x (up_tail c cps up) (omega arith) here there
+    entry_later c cp v (zip cps values) other ∙ entry_found cps values cp k x (up_tail c cps up) (omega arith) here
+    there
 
 -- no entry has the CP
 pub entry_none : {A : Type 0} (cps : List ℕ) (values : List A) (cp : ℕ) → IsNotAmong cps cp →
@@ -36,7 +37,8 @@ pub entry_none : {A : Type 0} (cps : List ℕ) (values : List A) (cp : ℕ) → 
 entry_none [] values cp none = refl
 entry_none (c ∷ cps) [] cp none = refl
 entry_none (c ∷ cps) (v ∷ values) cp none =
-    entry_later c cp v (zip cps values) (none zero (omega arith)) ∙ entry_none cps values cp (λ k below. none (suc k) (omega arith))
+    entry_later c cp v (zip cps values) (none zero (omega arith)) ∙ entry_none cps values cp (λ k below. none (suc k)
+    (omega arith))
 
 -- where something stands at a CP, the CP is among those of the entries
 pub entry_some : {A : Type 0} (cps : List ℕ) (values : List A) (cp : ℕ) →
@@ -61,4 +63,5 @@ pub entry_of_parts : {A : Type 0} (entries : List (ℕ × A)) (cps : List ℕ) (
     cps ≡ map (λ entry. entry.0) entries → values ≡ map (λ entry. entry.1) entries →
     entry_at (zip cps values) cp ≡ entry_at entries cp
 entry_of_parts entries cps values cp cps_are values_are =
-    ap (λ l. entry_at (zip l values) cp) cps_are ∙ (ap (λ l. entry_at (zip (map (λ entry. entry.0) entries) l) cp) values_are ∙ ap (λ l. entry_at l cp) (zip_parts entries))
+    ap (λ l. entry_at (zip l values) cp) cps_are ∙ (ap (λ l. entry_at (zip (map (λ entry. entry.0) entries) l) cp)
+    values_are ∙ ap (λ l. entry_at l cp) (zip_parts entries))

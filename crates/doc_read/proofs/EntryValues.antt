@@ -37,14 +37,16 @@ mapped_has Q f (Some a) x has e = subst Q (same_Some (f a) x e) (has a refl)
 pub entry_has : {A : Type 0} (Q : A → Type 0) (entries : List (ℕ × A)) (cp : ℕ) (x : A) →
     All (λ (e : ℕ × A). Q e.1) entries → entry_at entries cp ≡ Some x → Q x
 entry_has {A = A} Q entries cp x all e =
-    mapped_has Q (λ (e : ℕ × A). e.1) (find (λ e. e.0 == cp) entries) x (λ a is. found_has (λ (e : ℕ × A). Q e.1) (λ e. e.0 == cp) entries a all is) e
+    mapped_has Q (λ (e : ℕ × A). e.1) (find (λ e. e.0 == cp) entries) x (λ a is. found_has (λ (e : ℕ × A). Q e.1)
+    (λ e. e.0 == cp) entries a all is) e
 
 pub zipped_has : {A : Type 0} (Q : A → Type 0) (cps : List ℕ) (values : List A) → All Q values →
     All (λ (e : ℕ × A). Q e.1) (zip cps values)
 zipped_has {A = A} Q [] values all = All-nil (λ (e : ℕ × A). Q e.1)
 zipped_has {A = A} Q (c ∷ cps) [] all = All-nil (λ (e : ℕ × A). Q e.1)
 zipped_has {A = A} Q (c ∷ cps) (v ∷ values) all =
-    All-cons (λ (e : ℕ × A). Q e.1) (c, v) (zip cps values) (All-head Q v values all) (zipped_has Q cps values (All-tail Q v values all))
+    All-cons (λ (e : ℕ × A). Q e.1) (c, v) (zip cps values) (All-head Q v values all) (zipped_has Q cps values
+    (All-tail Q v values all))
 
 -- ---- field bytes
 
@@ -54,7 +56,8 @@ fields_are_bytes bytes story_len list are fields =
     All-from_slice_get (λ (fld : Fld). fld.byte < 256) list (λ k fld here.
     let table = plc_part 2 bytes in
     let from = 4 * (table.count + 1) + table.size * k in
-    subst (λ n. n < 256) (sym (fld_byte bytes story_len k list fld fields here)) (AreBytes-range bytes from (from + table.size) are 1))
+    subst (λ n. n < 256) (sym (fld_byte bytes story_len k list fld fields here)) (AreBytes-range bytes from
+    (from + table.size) are 1))
 
 story_has : (begin : ℕ) (list : List Fld) → All (λ (fld : Fld). fld.byte < 256) list →
     All (λ (e : ℕ × ℕ). e.1 < 256) (story_bytes begin list)
@@ -70,10 +73,13 @@ pub all_bytes : (source : DocSource) (lists : PartLists) → AreByteFields lists
     All (λ (e : ℕ × ℕ). e.1 < 256) (field_bytes source lists)
 all_bytes source lists are =
     let P : ℕ × ℕ → Type 0 = λ e. e.1 < 256 in
-    All-append P (story_bytes (story_begin source Main) lists.main_fields) (story_bytes (story_begin source Notes) lists.note_fields ++ story_bytes (story_begin source Heads) lists.head_fields)
+    All-append P (story_bytes (story_begin source Main) lists.main_fields) (story_bytes (story_begin source Notes)
+    lists.note_fields ++ story_bytes (story_begin source Heads) lists.head_fields)
     (story_has (story_begin source Main) lists.main_fields are.main)
-    (All-append P (story_bytes (story_begin source Notes) lists.note_fields) (story_bytes (story_begin source Heads) lists.head_fields)
-    (story_has (story_begin source Notes) lists.note_fields are.notes) (story_has (story_begin source Heads) lists.head_fields are.heads))
+    (All-append P (story_bytes (story_begin source Notes) lists.note_fields) (story_bytes (story_begin source Heads)
+    lists.head_fields)
+    (story_has (story_begin source Notes) lists.note_fields are.notes) (story_has (story_begin source Heads)
+    lists.head_fields are.heads))
 
 -- ---- units
 

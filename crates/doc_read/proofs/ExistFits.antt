@@ -51,6 +51,7 @@ text_fits wd table pieces are h is =
     let last = ascends.last in
     let bound = number_at-bound parts.plc.bytes (4 * parts.plc.count) 4 (plc_bytes clx parts are spelt) in
     record {
-      total = length-flat_pieces pieces ∙ total_of_pieces parts.plc len pieces ascends (is.pieces_are ∙ ap (λ (p : ClxParts). clx_pieces p.plc) same);
+      total = length-flat_pieces pieces ∙ total_of_pieces parts.plc len pieces ascends (is.pieces_are ∙ ap
+          (λ (p : ClxParts). clx_pieces p.plc) same);
       few = omega arith;
     }

@@ -41,14 +41,16 @@ sectors_bytes base unit bytes (s ∷ ss) are =
 body_bytes : (base unit size : ℕ) (bytes sectors body : List ℕ) → AreBytes bytes →
     body ≡ take size (flat_map (sector_bytes base unit bytes) sectors) → AreBytes body
 body_bytes base unit size bytes sectors body are e =
-    subst AreBytes (sym e) (AreBytes-take size (flat_map (sector_bytes base unit bytes) sectors) (sectors_bytes base unit bytes sectors are))
+    subst AreBytes (sym e) (AreBytes-take size (flat_map (sector_bytes base unit bytes) sectors) (sectors_bytes base
+    unit bytes sectors are))
 
 stream_bytes : (file : List ℕ) (contents : Contents) → AreBytes file → HasContents file contents →
     (i : ℕ) (stream : Stream) → slice_get contents.streams i ≡ Some stream → AreBytes stream.bytes
 stream_bytes file contents are has i stream here = elim (has.streams.each i stream here).holds [
   | inl none ↦ subst AreBytes (sym none.bytes) no_bytes
   | inr (inl short) ↦
-      body_bytes 0 64 _ _ short.body.sectors stream.bytes (sectors_bytes 512 512 file has.parts.mini_stream are) short.body.joined
+      body_bytes 0 64 _ _ short.body.sectors stream.bytes (sectors_bytes 512 512 file has.parts.mini_stream are)
+      short.body.joined
   | inr (inr long) ↦ body_bytes 512 512 _ file long.sectors stream.bytes are long.body.joined
 ]
 
@@ -68,26 +70,31 @@ prm_bytes prcs true b n isprm operand sprms bytes small named =
 prm_bytes prcs false true n isprm operand sprms bytes small named =
     subst (All HasByteValue) (sym named) (All-nil HasByteValue)
 prm_bytes prcs false false n isprm operand sprms bytes small named =
-    subst (All HasByteValue) (sym named.1.1) (All-cons HasByteValue (named.0, operand ∷ []) [] (one_byte operand small) (All-nil HasByteValue))
+    subst (All HasByteValue) (sym named.1.1) (All-cons HasByteValue (named.0, operand ∷ []) [] (one_byte operand
+    small) (All-nil HasByteValue))
 
 -- the lists of the Prcs, and the Plc, are bytes where the Clx is
 sized_body : (clxt width : ℕ) (body more : List ℕ) →
     AreBytes ((clxt ∷ (number_bytes width (length body) ++ body)) ++ more) → AreBytes body
 sized_body clxt width body more are =
-    back_bytes (number_bytes width (length body)) body (λ i. front_bytes (clxt ∷ (number_bytes width (length body) ++ body)) more are (suc i))
+    back_bytes (number_bytes width (length body)) body (λ i. front_bytes (clxt ∷ (number_bytes width (length body) ++
+    body)) more are (suc i))
 
 prcs_bytes : (prcs : List (List ℕ)) (more : List ℕ) → AreBytes (flat_map prc_bytes prcs ++ more) →
     (k : ℕ) (g : List ℕ) → slice_get prcs k ≡ Some g → AreBytes g
 prcs_bytes [] more are k g here = absurd (let within = slice_get_within [] k g here in omega arith)
 prcs_bytes (p ∷ ps) more are zero g here =
     subst AreBytes (same_Some p g here)
-    (sized_body 1 2 p (flat_map prc_bytes ps ++ more) (subst AreBytes (append_assoc (prc_bytes p) (flat_map prc_bytes ps) more) are))
+    (sized_body 1 2 p (flat_map prc_bytes ps ++ more) (subst AreBytes (append_assoc (prc_bytes p) (flat_map prc_bytes
+    ps) more) are))
 prcs_bytes (p ∷ ps) more are (suc k) g here =
-    prcs_bytes ps more (back_bytes (prc_bytes p) (flat_map prc_bytes ps ++ more) (subst AreBytes (append_assoc (prc_bytes p) (flat_map prc_bytes ps) more) are)) k g here
+    prcs_bytes ps more (back_bytes (prc_bytes p) (flat_map prc_bytes ps ++ more) (subst AreBytes (append_assoc
+    (prc_bytes p) (flat_map prc_bytes ps) more) are)) k g here
 
 pub plc_bytes : (clx : List ℕ) (parts : ClxParts) → AreBytes clx → SpellsClx clx parts → AreBytes parts.plc.bytes
 plc_bytes clx parts are is =
-    sized_body 2 4 parts.plc.bytes is.more (back_bytes (flat_map prc_bytes parts.prcs) (pcdt_bytes parts.plc.bytes ++ is.more) (subst AreBytes is.spelt are))
+    sized_body 2 4 parts.plc.bytes is.more (back_bytes (flat_map prc_bytes parts.prcs) (pcdt_bytes parts.plc.bytes ++
+    is.more) (subst AreBytes is.spelt are))
 
 pub right_modifiers : (clx : List ℕ) (pieces : List TextPiece) → AreBytes clx → IsClx clx pieces →
     All (λ piece. IsRightModifier piece.modifier) pieces
@@ -103,11 +110,14 @@ right_modifiers clx pieces are is =
     let word = prm_word plc k in
     let small : word < 65536 = number_at-bound plc.bytes _ 2 plc_are in
     let entries = named_entries prcs (pcd_prm plc k) names.sprms names.named in
-    let bytes = prm_bytes prcs (word % 2 == 1) (word / 2 % 128 == 0) (word / 2) (word / 2 % 128) (word / 256) names.sprms prc_are (omega arith) names.named in
+    let bytes = prm_bytes prcs (word % 2 == 1) (word / 2 % 128 == 0) (word / 2) (word / 2 % 128) (word / 256)
+    names.sprms prc_are (omega arith) names.named in
     record {
       formed = record {
-        chp = IsPropertyMap-after names.sprms character_groups empty piece.modifier.chp entries bytes names.does.characters (IsPropertyMap-empty character_groups);
-        pap = IsPropertyMap-after names.sprms paragraph_groups empty piece.modifier.pap entries bytes names.does.marks (IsPropertyMap-empty paragraph_groups);
+        chp = IsPropertyMap-after names.sprms character_groups empty piece.modifier.chp entries bytes
+            names.does.characters (IsPropertyMap-empty character_groups);
+        pap = IsPropertyMap-after names.sprms paragraph_groups empty piece.modifier.pap entries bytes names.does.marks
+            (IsPropertyMap-empty paragraph_groups);
       };
       small = λ n e. style_small names.sprms paragraph_groups n bytes (sym names.does.style ∙ e);
     })
@@ -133,4 +143,5 @@ unfolding flat_pieces
 place_right pieces all cp place here =
     let flat = flat_map unit_places pieces in
     let within = slice_get_within flat cp place here in
-    subst (λ (p : UnitPlace). IsRightModifier p.modifier) (get_or_from_slice_get flat cp place place here) (places_right pieces all cp place within)
+    subst (λ (p : UnitPlace). IsRightModifier p.modifier) (get_or_from_slice_get flat cp place place here)
+    (places_right pieces all cp place within)

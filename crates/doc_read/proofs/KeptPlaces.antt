@@ -39,7 +39,8 @@ kept_at p (x ∷ xs) (suc i) below e =
 -- the place of a unit that ends a paragraph is among theirs
 pub paragraph_place : (source : DocSource) (sections : List Sed) (cp : ℕ) → cp < length (judged_units source) →
     ends_paragraph source sections cp ≡ true →
-    (k : ℕ) × ((k < length (paragraph_places source sections)) × (slice_index (paragraph_places source sections) k ≡ slice_index (judged_places source) cp))
+    (k : ℕ) × ((k < length (paragraph_places source sections)) × (slice_index (paragraph_places source sections) k ≡
+    slice_index (judged_places source) cp))
 unfolding IsKeptAt
 paragraph_place source sections cp below ends =
     let n = length (judged_units source) in
@@ -51,5 +52,11 @@ paragraph_place source sections cp below ends =
     let found = kept_at p all cp there (ap p at ∙ ends) in
     let k = found.0 in
     let within : k < length (paragraph_ends source sections) = found.1.0 in
-    let place : slice_index (paragraph_places source sections) k ≡ slice_index places (slice_index (paragraph_ends source sections) k) = get_or-map (slice_index places) (paragraph_ends source sections) k 0 0 within in
-    (k, (omega (arith, within, length-map (paragraph_ends source sections) (slice_index places)), place ∙ ap (slice_index places) (found.1.1 ∙ at)))
+    let place : slice_index (paragraph_places source sections) k ≡ slice_index places (slice_index (paragraph_ends
+    source sections) k) = get_or-map (slice_index places) (paragraph_ends source sections) k 0 0 within in (
+      k,
+      (
+        omega (arith, within, length-map (paragraph_ends source sections) (slice_index places)),
+        place ∙ ap (slice_index places) (found.1.1 ∙ at),
+      ),
+    )

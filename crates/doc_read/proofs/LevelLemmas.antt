@@ -34,9 +34,12 @@ level_end-range table from to at within =
     byte-range table from to (at + 25) (omega arith) ∙ ap (λ i. slice_index table i) pap_place in
     let chp : slice_index levels (at + 24) ≡ slice_index table (from + at + 24) =
     byte-range table from to (at + 24) (omega arith) ∙ ap (λ i. slice_index table i) chp_place in
-    let text : from + (at + 28 + slice_index levels (at + 25) + slice_index levels (at + 24)) ≡ from + at + 28 + slice_index table (from + at + 25) + slice_index table (from + at + 24) = omega arith in
-    let units : u16_at levels (at + 28 + slice_index levels (at + 25) + slice_index levels (at + 24)) ≡ u16_at table (from + at + 28 + slice_index table (from + at + 25) + slice_index table (from + at + 24)) =
-    number_at-range table from to (at + 28 + slice_index levels (at + 25) + slice_index levels (at + 24)) 2 (omega arith) ∙ ap (λ i. u16_at table i) text in
+    let text : from + (at + 28 + slice_index levels (at + 25) + slice_index levels (at + 24)) ≡ from + at + 28 +
+    slice_index table (from + at + 25) + slice_index table (from + at + 24) = omega arith in
+    let units : u16_at levels (at + 28 + slice_index levels (at + 25) + slice_index levels (at + 24)) ≡ u16_at table
+    (from + at + 28 + slice_index table (from + at + 25) + slice_index table (from + at + 24)) =
+    number_at-range table from to (at + 28 + slice_index levels (at + 25) + slice_index levels (at + 24)) 2
+    (omega arith) ∙ ap (λ i. u16_at table i) text in
     omega arith
 
 -- levels that end within a range begin there as far from its begin
@@ -56,7 +59,8 @@ level_start-range table from to (suc k) within =
     level_start-range table from to k (omega arith) in
     let ends : level_end table (from + level_start levels 0 k) ≡ level_end table (level_start table from k) =
     ap (level_end table) before in
-    ap (λ n. from + n) there ∙ (level_end-range table from to (level_start levels 0 k) (omega arith) ∙ (ends ∙ sym here))
+    ap (λ n. from + n) there ∙ (level_end-range table from to (level_start levels 0 k) (omega arith) ∙
+    (ends ∙ sym here))
 
 -- levels that are cut out are whole
 pub levels-cut : (table : List ℕ) (from to count : ℕ) → to ≡ level_start table from count → to ≤ length table →
@@ -123,7 +127,8 @@ levels-of_some table lst levels at lcb len within part holds have bytes =
     let ends : at + lcb + len ≡ level_start table (at + lcb) (level_count lst) =
     have ∙ ap (λ xs. level_start table (at + lcb) (level_count xs)) part in
     subst (λ xs. AreLevelsFrom xs 0 (level_count lst) (length xs)) (sym bytes)
-    (levels-cut table (at + lcb) (at + lcb + len) (level_count lst) ends (levels_within table at lcb len within holds have))
+    (levels-cut table (at + lcb) (at + lcb + len) (level_count lst) ends (levels_within table at lcb len within holds
+    have))
 
 -- a document that breaks no rule has its lists with their levels
 pub lists-with_levels : (source : DocSource) (levels : List ℕ) → Hold (rules_of_lists source) →
@@ -135,16 +140,19 @@ lists-with_levels source levels holds has =
     let lcb = length (part_bytes source PlfLst) in
     let level_holds : Hold (level_rules source.table (part_place source PlfLst) (length (part_bytes source PlfLst))) =
     λ place broken. holds (Table, place) (refl, broken) in
-    let part : list_part source.table (part_place source PlfLst) (length (part_bytes source PlfLst)) ≡ part_bytes source PlfLst = list_part-same table at _ in
+    let part : list_part source.table (part_place source PlfLst) (length (part_bytes source PlfLst)) ≡ part_bytes
+    source PlfLst = list_part-same table at _ in
     record {
-      counted = subst (λ xs. 0 < length xs → 2 + 28 * u16_at xs 0 ≤ length xs) part (lists-counted table at lcb level_holds);
+      counted = subst (λ xs. 0 < length xs → 2 + 28 * u16_at xs 0 ≤ length xs) part (lists-counted table at lcb
+          level_holds);
       whole = elim (cases_lt 0 lcb) [
         | inl some ↦
             let within : at + lcb ≤ length table = omega (arith, some, length-take {A = ℕ}, length-drop {A = ℕ}) in
             levels-of_some table lst levels at lcb has.len within part level_holds has.have has.bytes_are
         | inr none ↦
             let empty : length lst ≡ 0 = omega (arith, none) in
-            levels-of_none table lst levels (at + lcb) has.len empty (has.have ∙ ap (λ xs. level_start table (at + lcb) (level_count xs)) part) has.bytes_are
+            levels-of_none table lst levels (at + lcb) has.len empty (has.have ∙ ap (λ xs. level_start table
+            (at + lcb) (level_count xs)) part) has.bytes_are
       ];
     }
 

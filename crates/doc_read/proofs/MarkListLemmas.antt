@@ -29,13 +29,15 @@ use Rattle.doc_read.proofs.UpLemmas.{IsUpWithin, up_in_order, up_shift, up_join,
 story_cps : (begin : ℕ) (fields : List Fld) →
     map (λ cp. begin + cp) (map (λ fld. fld.cp) fields) ≡ map (λ entry. entry.0) (story_bytes begin fields)
 story_cps begin fields =
-    map-map (λ cp. begin + cp) (λ (fld : Fld). fld.cp) fields ∙ sym (map-map {C = ℕ} (λ (entry : ℕ × ℕ). entry.0) (λ (fld : Fld). (begin + fld.cp, fld.byte)) fields)
+    map-map (λ cp. begin + cp) (λ (fld : Fld). fld.cp) fields ∙ sym (map-map {C = ℕ} (λ (entry : ℕ × ℕ). entry.0)
+    (λ (fld : Fld). (begin + fld.cp, fld.byte)) fields)
 
 story_up : (begin len high : ℕ) (fields : List Fld) → begin + len ≤ high →
     AreCpsInOrder (fld_cps len) (map (λ fld. fld.cp) fields) →
     IsUpWithin begin high (map (λ entry. entry.0) (story_bytes begin fields))
 story_up begin len high fields enough in_order =
-    subst (λ l. IsUpWithin begin high l) (story_cps begin fields) (up_shift begin len high (map (λ fld. fld.cp) fields) enough (up_in_order false len (map (λ fld. fld.cp) fields) in_order))
+    subst (λ l. IsUpWithin begin high l) (story_cps begin fields) (up_shift begin len high (map (λ fld. fld.cp)
+    fields) enough (up_in_order false len (map (λ fld. fld.cp) fields) in_order))
 
 -- the CPs of a list in three parts
 pub three_parts : (f : ℕ × ℕ → ℕ) (xs ys zs : List (ℕ × ℕ)) →
@@ -50,10 +52,12 @@ fields_up source lists has =
     let three = story_length source Heads in
     let main = story_up 0 one one lists.main_fields (omega arith) has.has_main_fields.leading.in_order in
     let notes = story_up one two (one + two) lists.note_fields (omega arith) has.has_note_fields.leading.in_order in
-    let heads = story_up (one + two) three (one + two + three) lists.head_fields (omega arith) has.has_head_fields.leading.in_order in
+    let heads = story_up (one + two) three (one + two + three) lists.head_fields (omega arith)
+    has.has_head_fields.leading.in_order in
     let rest = up_join one (one + two) (one + two + three) _ _ (omega arith) (omega arith) notes heads in
     let all = up_join 0 one (one + two + three) _ _ (omega arith) (omega arith) main rest in
-    subst AreUp (sym (three_parts (λ entry. entry.0) (story_bytes 0 lists.main_fields) (story_bytes one lists.note_fields) (story_bytes (one + two) lists.head_fields))) all.up
+    subst AreUp (sym (three_parts (λ entry. entry.0) (story_bytes 0 lists.main_fields) (story_bytes one
+    lists.note_fields) (story_bytes (one + two) lists.head_fields))) all.up
 
 -- those of the references to notes
 pub note_cps_are : (refs : List NoteRef) → map (λ ref. ref.cp) refs ≡ map (λ entry. entry.0) (note_kinds refs)
@@ -92,7 +96,8 @@ ends_up sections main_len some in_order =
     let is = up_in_order true main_len starts in_order in
     let there : 0 < length starts = omega (arith, length-map sections (λ (sed : Sed). sed.start)) in
     let first = is.below 0 there in
-    up_join 1 main_len (main_len + 1) (drop 1 starts) (main_len ∷ []) (omega (arith, first)) (omega arith) (up_rest main_len starts is) (up_one main_len)
+    up_join 1 main_len (main_len + 1) (drop 1 starts) (main_len ∷ []) (omega (arith, first)) (omega arith)
+    (up_rest main_len starts is) (up_one main_len)
 
 pub length-section_lasts : (sections : List Sed) (main_len : ℕ) → 1 ≤ length sections →
     length (section_lasts sections main_len) ≡ length sections

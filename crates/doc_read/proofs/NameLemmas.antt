@@ -9,9 +9,11 @@ use Rattle.doc_read.specs.CarriedParts.{is_carried}
 
 -- the three tests of a name
 three : (name : List ℕ) → is_carried name ≡ true
-    → (not (is_same_name name wd_name) ≡ true) × ((not (is_same_name name first_table_name) ≡ true) × (not (is_same_name name second_table_name) ≡ true))
+    → (not (is_same_name name wd_name) ≡ true) × ((not (is_same_name name first_table_name) ≡ true) ×
+    (not (is_same_name name second_table_name) ≡ true))
 three name carried =
-    let parts = and_parts (not (is_same_name name wd_name)) (not (is_same_name name first_table_name) && not (is_same_name name second_table_name)) carried in
+    let parts = and_parts (not (is_same_name name wd_name)) (not (is_same_name name first_table_name) && not
+    (is_same_name name second_table_name)) carried in
     (parts.0, and_parts (not (is_same_name name first_table_name)) (not (is_same_name name second_table_name)) parts.1)
 
 is_not : (name other : List ℕ) → AreSameNames name other → not (is_same_name name other) ≡ false
@@ -33,14 +35,19 @@ carried_name name carried =
 -- one that has one of them is not carried
 pub wd-not_carried : (name : List ℕ) → AreSameNames name wd_name → is_carried name ≡ false
 wd-not_carried name same =
-    and_left (not (is_same_name name wd_name)) (not (is_same_name name first_table_name) && not (is_same_name name second_table_name))
+    and_left (not (is_same_name name wd_name)) (not (is_same_name name first_table_name) && not (is_same_name name
+    second_table_name))
     (is_not name wd_name same)
 
 pub table-not_carried : (name : List ℕ) (first : Bool) →
     AreSameNames name (if first then second_table_name else first_table_name) → is_carried name ≡ false
 table-not_carried name true same =
-    and_right (not (is_same_name name wd_name)) (not (is_same_name name first_table_name) && not (is_same_name name second_table_name))
-    (and_right (not (is_same_name name first_table_name)) (not (is_same_name name second_table_name)) (is_not name second_table_name same))
+    and_right (not (is_same_name name wd_name)) (not (is_same_name name first_table_name) && not (is_same_name name
+    second_table_name))
+    (and_right (not (is_same_name name first_table_name)) (not (is_same_name name second_table_name)) (is_not name
+    second_table_name same))
 table-not_carried name false same =
-    and_right (not (is_same_name name wd_name)) (not (is_same_name name first_table_name) && not (is_same_name name second_table_name))
-    (and_left (not (is_same_name name first_table_name)) (not (is_same_name name second_table_name)) (is_not name first_table_name same))
+    and_right (not (is_same_name name wd_name)) (not (is_same_name name first_table_name) && not (is_same_name name
+    second_table_name))
+    (and_left (not (is_same_name name first_table_name)) (not (is_same_name name second_table_name)) (is_not name
+    first_table_name same))

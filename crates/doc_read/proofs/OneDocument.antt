@@ -134,8 +134,10 @@ parts_make_one parts bins a b ha hb =
     let of = text_parts parts in
     same_document a b
     (items_one of bins 0 (story_length source Main) a.main b.main ha.main hb.main)
-    (texts_one of bins (story_begin source Notes) parts.lists.notes (length parts.lists.notes - 1) a.notes b.notes ha.notes hb.notes)
-    (texts_one of bins (story_begin source Heads) parts.lists.heads (head_texts parts.lists) a.heads b.heads ha.heads hb.heads)
+    (texts_one of bins (story_begin source Notes) parts.lists.notes (length parts.lists.notes - 1) a.notes b.notes
+    ha.notes hb.notes)
+    (texts_one of bins (story_begin source Heads) parts.lists.heads (head_texts parts.lists) a.heads b.heads ha.heads
+    hb.heads)
     (ha.sheet ∙ sym hb.sheet)
     (carried_one parts.contents source parts.lists.levels a.carried b.carried ha.carried hb.carried)
 
@@ -156,7 +158,8 @@ file_bins file parts h has =
 pub document_one : DocumentIsOne
 document_one file a b ha hb =
     let parts : ha.parts ≡ hb.parts = file_parts_one file ha.parts hb.parts ha.has_parts hb.has_parts in
-    parts_make_one hb.parts (file_bins file hb.parts hb.rules hb.has_parts) a b (subst (λ p. IsDocumentOf p a) parts ha.document_is) hb.document_is
+    parts_make_one hb.parts (file_bins file hb.parts hb.rules hb.has_parts) a b (subst (λ p. IsDocumentOf p a) parts
+    ha.document_is) hb.document_is
 
 -- ---- all rules
 
@@ -165,5 +168,18 @@ all_single file =
     (file_single file, ((λ a b ha hb. document_one file a b ha hb), λ document h. document_rules-IsSingle document))
 
 pub all_ascend : (file : List ℕ) → Ascends (all_rules file) 1 72
-all_ascend file =
-    (57, (file_ascends file, (lit≤ tt, lit≤ tt, (lit≤ tt, λ document h. ascends_wider (document_rules document) 60 72 57 72 (lit≤ tt) (lit≤ tt) (document_rules-Ascends document)))))
+all_ascend file = (
+  57,
+  (
+    file_ascends file,
+    (
+      lit≤ tt,
+      lit≤ tt,
+      (
+        lit≤ tt,
+        λ document h. ascends_wider (document_rules document) 60 72
+            57 72 (lit≤ tt) (lit≤ tt) (document_rules-Ascends document),
+      ),
+    ),
+  ),
+)

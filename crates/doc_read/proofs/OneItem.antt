@@ -25,7 +25,8 @@ mark_of_one : (end : Bool) (source : DocSource) (place : UnitPlace) (a b : Optio
     IsMarkAt end source.wd (part_bytes source PlcfBtePapx) place.at place.modifier a →
     IsMarkAt end source.wd (part_bytes source PlcfBtePapx) place.at place.modifier b → a ≡ b
 mark_of_one true source place (Some a) (Some b) bins ha hb =
-    let one = mark_one source.wd (part_bytes source PlcfBtePapx) place.at place.modifier a.istd b.istd a.pap b.pap bins.paragraphs ha hb in
+    let one = mark_one source.wd (part_bytes source PlcfBtePapx) place.at place.modifier a.istd b.istd a.pap b.pap
+    bins.paragraphs ha hb in
     λ i. Some (record { istd = one.0 i; pap = one.1 i })
 mark_of_one true source place (Some a) None bins ha hb = absurd hb
 mark_of_one true source place None b bins ha hb = absurd ha
@@ -46,22 +47,28 @@ item_one parts bins cp a b ha hb =
     let source = parts.source in
     let place : ha.place ≡ hb.place = ap (λ o. unwrap_or o ha.place) (sym ha.here ∙ hb.here) in
     let unit : a.unit ≡ b.unit = ha.unit ∙ (ap (unit_at source.wd) place ∙ sym hb.unit) in
-    let chp : a.chp ≡ b.chp = character_one source.wd (part_bytes source PlcfBteChpx) hb.place.at hb.place.modifier a.chp b.chp bins.characters
-    (subst (λ p. IsDirectCharacter source.wd (part_bytes source PlcfBteChpx) p.at p.modifier a.chp) place ha.characters) hb.characters in
+    let chp : a.chp ≡ b.chp = character_one source.wd (part_bytes source PlcfBteChpx) hb.place.at hb.place.modifier
+    a.chp b.chp bins.characters
+    (subst (λ p. IsDirectCharacter source.wd (part_bytes source PlcfBteChpx) p.at p.modifier a.chp) place
+    ha.characters) hb.characters in
     let sect : a.sect ≡ b.sect = ha.section ∙ sym hb.section in
     let end : is_paragraph_end a.unit (is_some a.sect) ≡ is_paragraph_end b.unit (is_some b.sect) =
     λ i. is_paragraph_end (unit i) (is_some (sect i)) in
-    let near : IsMarkAt (is_paragraph_end b.unit (is_some b.sect)) source.wd (part_bytes source PlcfBtePapx) ha.place.at ha.place.modifier a.mark = subst (λ e. IsMarkAt e source.wd (part_bytes source PlcfBtePapx) ha.place.at ha.place.modifier a.mark) end ha.mark in
+    let near : IsMarkAt (is_paragraph_end b.unit (is_some b.sect)) source.wd (part_bytes source PlcfBtePapx)
+    ha.place.at ha.place.modifier a.mark = subst (λ e. IsMarkAt e source.wd (part_bytes source PlcfBtePapx)
+    ha.place.at ha.place.modifier a.mark) end ha.mark in
     let mark : a.mark ≡ b.mark =
     mark_of_one (is_paragraph_end b.unit (is_some b.sect)) source hb.place a.mark b.mark bins
-    (subst (λ p. IsMarkAt (is_paragraph_end b.unit (is_some b.sect)) source.wd (part_bytes source PlcfBtePapx) p.at p.modifier a.mark) place near) hb.mark in
+    (subst (λ p. IsMarkAt (is_paragraph_end b.unit (is_some b.sect)) source.wd (part_bytes source PlcfBtePapx) p.at
+    p.modifier a.mark) place near) hb.mark in
     same_item a b unit chp mark sect (ha.field ∙ sym hb.field) (ha.note ∙ sym hb.note)
 
 -- a text has one list of items
 pub items_one : (parts : TextParts) → HaveBins parts.source → (from to : ℕ) (a b : List Item) →
     HoldsItems parts from to a → HoldsItems parts from to b → a ≡ b
 items_one parts bins from to a b ha hb =
-    same_lists (λ i. IsItemAt parts (from + i)) (λ i. item_one parts bins (from + i)) a b (ha.len ∙ sym hb.len) ha.each hb.each
+    same_lists (λ i. IsItemAt parts (from + i)) (λ i. item_one parts bins (from + i)) a b (ha.len ∙ sym hb.len)
+    ha.each hb.each
 
 -- text k of a story
 record IsText (parts : TextParts) (begin : ℕ) (cuts : List ℕ) (k : ℕ) (text : List Item) : Type 0 where
@@ -71,7 +78,8 @@ record IsText (parts : TextParts) (begin : ℕ) (cuts : List ℕ) (k : ℕ) (tex
 text_one : (parts : TextParts) → HaveBins parts.source → (begin : ℕ) (cuts : List ℕ) (k : ℕ) (a b : List Item) →
     IsText parts begin cuts k a → IsText parts begin cuts k b → a ≡ b
 text_one parts bins begin cuts k a b ha hb = elim (cases_lt (k + 1) (length cuts)) [
-  | inl there ↦ items_one parts bins (begin + slice_index cuts k) (begin + slice_index cuts (k + 1)) a b (ha.there there) (hb.there there)
+  | inl there ↦ items_one parts bins (begin + slice_index cuts k) (begin + slice_index cuts (k + 1)) a b
+      (ha.there there) (hb.there there)
   | inr missing ↦ ha.missing missing ∙ sym (hb.missing missing)
 ]
 

@@ -9,4 +9,5 @@ pub short-cons : (copy part : List ℕ) (parts : List (List ℕ)) → copy ≡ p
     ArePartsShort parts → ArePartsShort (copy ∷ parts)
 short-cons copy part parts same short rest =
     let copy_short : length copy < 2 ^ 32 = subst (λ xs. length xs < 2 ^ 32) (sym same) short in
-    and_from (nat_lt (length copy) (2 ^ 40)) (list_all (λ xs. nat_lt (length xs) (2 ^ 40)) parts) (lt-ltb (length copy) (2 ^ 40) (omega arith)) rest
+    and_from (nat_lt (length copy) (2 ^ 40)) (list_all (λ xs. nat_lt (length xs) (2 ^ 40)) parts)
+    (lt-ltb (length copy) (2 ^ 40) (omega arith)) rest

@@ -37,7 +37,8 @@ pub settings_one : (list : List ℕ) (groups : ℕ) (one other : Settings) (styl
     MakesSettings list groups one style → MakesSettings list groups other named → one ≡ other
 settings_one list groups one other style named a b =
     let prls = spelt_unique list a.prls b.prls a.spelt b.spelt in
-    acting_one a.prls groups empty one other a.map (subst (λ ps. ArePropertiesAfter ps groups empty other) (sym prls) b.map)
+    acting_one a.prls groups empty one other a.map (subst (λ ps. ArePropertiesAfter ps groups empty other) (sym prls)
+    b.map)
 
 -- a section has one map of settings
 section_one : (wd : List ℕ) (fc : ℕ) (one other : Settings) → IsSectionSettings wd fc one →
@@ -51,7 +52,8 @@ section_one wd fc one other (inr a) (inr b) =
 pub section_maps_one : (wd : List ℕ) (sections : List Sed) (one other : List Settings) → HaveSettings wd sections one →
     HaveSettings wd sections other → one ≡ other
 section_maps_one wd sections one other a b =
-    same_lists (λ k. IsSectionSettings wd (section_fc sections k)) (λ k. section_one wd (section_fc sections k)) one other (a.len ∙ sym b.len) a.each b.each
+    same_lists (λ k. IsSectionSettings wd (section_fc sections k)) (λ k. section_one wd (section_fc sections k)) one
+    other (a.len ∙ sym b.len) a.each b.each
 
 -- what a file has is the same where each part of it is
 same_parts : (a b : FileParts) → a.contents ≡ b.contents → a.text ≡ b.text → a.lists ≡ b.lists →
@@ -72,4 +74,5 @@ file_parts_one file a b ha hb =
     subst (λ t. HaveSettings t.wd a.lists.sections a.sections) text ha.has_sections in
     let there : HaveSettings b.text.wd b.lists.sections a.sections =
     subst (λ l. HaveSettings b.text.wd l.sections a.sections) lists near in
-    same_parts a b contents text lists (section_maps_one b.text.wd b.lists.sections a.sections b.sections there hb.has_sections)
+    same_parts a b contents text lists (section_maps_one b.text.wd b.lists.sections a.sections b.sections there
+    hb.has_sections)

@@ -29,7 +29,8 @@ place_in_piece pieces i j cp piece here below cp_is =
     let inside : j < length (unit_places (get_or pieces i piece)) = omega arith in
     let got = get_or-flat_map unit_places pieces i j piece d within inside in
     let cp_at : cp ≡ length (flat_map unit_places (take i pieces)) + j = omega arith in
-    let value : get_or (flat_map unit_places pieces) cp d ≡ d = ap (λ n. get_or (flat_map unit_places pieces) n d) cp_at ∙ (got ∙ (ap (λ (p : TextPiece). get_or (unit_places p) j d) it ∙ get_or-unit_places piece j d below)) in
+    let value : get_or (flat_map unit_places pieces) cp d ≡ d = ap (λ n. get_or (flat_map unit_places pieces) n d)
+    cp_at ∙ (got ∙ (ap (λ (p : TextPiece). get_or (unit_places p) j d) it ∙ get_or-unit_places piece j d below)) in
     let all : length (flat_map unit_places pieces) ≡ total_length pieces = length-flat_pieces pieces in
     let bound = total-within pieces i piece here in
     let there : cp < length (flat_map unit_places pieces) = omega (arith, all, bound, cp_is) in
@@ -41,7 +42,8 @@ pub read_at_place : (f : UnitPlace → ℕ) (pieces : List TextPiece) (cp count 
 read_at_place f pieces cp count place here below =
     let flat = flat_pieces pieces in
     let within = slice_get_within flat cp place here in
-    get_or-take count (map f flat) cp 0 below ∙ (get_or-map f flat cp place 0 within ∙ ap f (get_or_from_slice_get flat cp place place here))
+    get_or-take count (map f flat) cp 0 below ∙ (get_or-map f flat cp place 0 within ∙ ap f (get_or_from_slice_get
+    flat cp place place here))
 
 -- a part of a list
 pub range_at : (xs : List ℕ) (from to k : ℕ) → k < to - from →

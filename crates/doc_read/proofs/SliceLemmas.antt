@@ -23,7 +23,8 @@ slice_get-range xs from to i x e =
     let there : slice_get (drop from xs) i ≡ Some x = slice_get-take (to - from) (drop from xs) i x e in
     let within = slice_get_within (drop from xs) i x there in
     let value : get_or (drop from xs) i x ≡ x = get_or_from_slice_get (drop from xs) i x x there in
-    slice_get-get_or xs (from + i) x (omega (arith, length-drop from xs)) ∙ ap Some (sym (get_or-drop from xs i x) ∙ value)
+    slice_get-get_or xs (from + i) x (omega (arith, length-drop from xs)) ∙ ap Some (sym (get_or-drop from xs i x) ∙
+    value)
 
 -- a CP counted from the start
 from_start : (cp : ℕ) → 0 + cp ≡ cp
@@ -34,7 +35,8 @@ pub holds_range : (parts : TextParts) (total from to : ℕ) (text : List Item) �
     HoldsItems parts 0 total text → HoldsItems parts from to (slice_range text from to)
 holds_range parts total from to text order within holds = record {
   len = simp (length-take, length-drop) (omega arith);
-  each = λ i item e. subst (λ cp. IsItemAt parts cp item) (from_start (from + i)) (holds.each (from + i) item (slice_get-range text from to i item e));
+  each = λ i item e. subst (λ cp. IsItemAt parts cp item) (from_start (from + i)) (holds.each (from + i) item
+      (slice_get-range text from to i item e));
 }
 
 -- so has its front
@@ -46,7 +48,8 @@ holds_front parts total to text within holds = record {
 }
 
 -- and each text that is cut out of it
-pub holds_texts : (parts : TextParts) (total begin count : ℕ) (cuts : List ℕ) (items : List Item) (texts : List (List Item)) →
+pub holds_texts : (parts : TextParts) (total begin count : ℕ) (cuts : List ℕ) (items : List Item) (texts : List
+    (List Item)) →
     HoldsItems parts 0 total items → AreCutsWithin begin cuts (length items) → AreCutFrom items begin cuts count texts →
     HoldsTexts parts begin cuts count texts
 holds_texts parts total begin count cuts items texts holds within cut = record {
@@ -55,7 +58,8 @@ holds_texts parts total begin count cuts items texts holds within cut = record {
       let from = begin + slice_index cuts k in
       let to = begin + slice_index cuts (k + 1) in
       let order = within.order k more in
-      subst (HoldsItems parts from to) (sym (cut.there k text e more)) (holds_range parts total from to items (omega arith) (within.within (k + 1) more) holds);
+      subst (HoldsItems parts from to) (sym (cut.there k text e more)) (holds_range parts total from to items
+      (omega arith) (within.within (k + 1) more) holds);
   missing = cut.missing;
 }
 
@@ -88,9 +92,11 @@ texts_none items begin cuts = record {
 }
 
 -- one more
-pub texts_more : (items : List Item) (begin : ℕ) (cuts : List ℕ) (count : ℕ) (texts : List (List Item)) (text : List Item) →
+pub texts_more : (items : List Item) (begin : ℕ) (cuts : List ℕ) (count : ℕ) (texts : List (List Item)) (text : List
+    Item) →
     AreCutFrom items begin cuts count texts →
-    (count + 1 < length cuts → text ≡ slice_range items (begin + slice_index cuts count) (begin + slice_index cuts (count + 1))) →
+    (count + 1 < length cuts → text ≡ slice_range items (begin + slice_index cuts count) (begin + slice_index cuts
+    (count + 1))) →
     (length cuts ≤ count + 1 → text ≡ []) → AreCutFrom items begin cuts (count + 1) (texts ++ text ∷ [])
 texts_more items begin cuts count texts text are there missing = record {
   len = omega (arith, are.len, length-append texts (text ∷ []));
@@ -100,7 +106,8 @@ texts_more items begin cuts count texts text are there missing = record {
         let same : k ≡ count = last.0 ∙ are.len in
         let here : text ≡ slice_range items (begin + slice_index cuts count) (begin + slice_index cuts (count + 1)) =
         there (omega arith) in
-        last.1 ∙ (here ∙ ap (λ n. slice_range items (begin + slice_index cuts n) (begin + slice_index cuts (n + 1))) (sym same))
+        last.1 ∙ (here ∙ ap (λ n. slice_range items (begin + slice_index cuts n) (begin + slice_index cuts (n + 1)))
+        (sym same))
   ];
   missing = λ k other g over. elim (pushed texts text other k g) [
     | inl before ↦ are.missing k other before over
@@ -114,9 +121,11 @@ pub cut_as : (items : List Item) (begin other : ℕ) (cuts list : List ℕ) (cou
     AreCutFrom items other list many texts
 cut_as items begin other cuts list count many texts begin_is cuts_are count_is cut =
     subst (λ b. AreCutFrom items b list many texts) begin_is
-    (subst (λ cs. AreCutFrom items begin cs many texts) cuts_are (subst (λ n. AreCutFrom items begin cuts n texts) count_is cut))
+    (subst (λ cs. AreCutFrom items begin cs many texts) cuts_are (subst (λ n. AreCutFrom items begin cuts n texts)
+    count_is cut))
 
 pub within_as : (begin other : ℕ) (cuts list : List ℕ) (len : ℕ) → other ≡ begin → list ≡ cuts →
     AreCutsWithin begin cuts len → AreCutsWithin other list len
 within_as begin other cuts list len begin_is cuts_are within =
-    subst (λ b. AreCutsWithin b list len) (sym begin_is) (subst (λ cs. AreCutsWithin begin cs len) (sym cuts_are) within)
+    subst (λ b. AreCutsWithin b list len) (sym begin_is) (subst (λ cs. AreCutsWithin begin cs len) (sym cuts_are)
+    within)

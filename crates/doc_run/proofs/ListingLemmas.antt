@@ -23,7 +23,9 @@ stream_of None name bytes n b = absurd (none-some name n)
 stream_of (Some s) name bytes n b = (s, (refl, (ap value_of n, ap value_of b)))
 
 -- the lines from a stream on
-pub lines-from : (streams : List Stream) (i : ℕ) (name bytes : List ℕ) → option_map (λ s. s.name) (slice_get streams i) ≡ Some name → option_map (λ s. s.bytes) (slice_get streams i) ≡ Some bytes → stream_lines (drop i streams) ≡ line (decimal (length bytes) ++ (32 ∷ [] ++ shown false name)) ++ stream_lines (drop (i + 1) streams)
+pub lines-from : (streams : List Stream) (i : ℕ) (name bytes : List ℕ) → option_map (λ s. s.name) (slice_get streams
+    i) ≡ Some name → option_map (λ s. s.bytes) (slice_get streams i) ≡ Some bytes → stream_lines (drop i streams) ≡
+    line (decimal (length bytes) ++ (32 ∷ [] ++ shown false name)) ++ stream_lines (drop (i + 1) streams)
 lines-from streams i name bytes n b =
     let it = stream_of (slice_get streams i) name bytes n b in
     let here : drop i streams ≡ it.0 ∷ drop (i + 1) streams =

@@ -131,7 +131,8 @@ streams_single file = single_in File (container_rules file) (container_single fi
 -- one list of streams
 listing_one : (file text said : List ℕ) → IsListingOf file text → IsListingOf file said → text ≡ said
 listing_one file text said a b =
-    a.lines ∙ (ap (λ (c : Contents). stream_lines c.streams) (contents_unique file a.contents b.contents a.has b.has) ∙ sym b.lines)
+    a.lines ∙ (ap (λ (c : Contents). stream_lines c.streams) (contents_unique file a.contents b.contents a.has b.has)
+    ∙ sym b.lines)
 
 lists_one : (file : List ℕ) (a b : Outcome) → ListsStreams file a → ListsStreams file b → a ≡ b
 lists_one file a b x y = x.ends ∙ (ap (says 0) (listing_one file x.text y.text x.listing y.listing) ∙ sym y.ends)

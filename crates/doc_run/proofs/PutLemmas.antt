@@ -124,7 +124,8 @@ ends_put policies (full file out) held outcome e =
 ends_put policies (compare first second) held outcome e =
     let at = PutsUnder (compare first second) in
     reads_put at first held all_rules (ReadsSecond second held) outcome
-    (λ one reads. reads_put at second held all_rules (ComparesFiles one) outcome (λ other c. compares_put at c.first c.second outcome c.compares) reads) e
+    (λ one reads. reads_put at second held all_rules (ComparesFiles one) outcome (λ other c. compares_put at c.first
+    c.second outcome c.compares) reads) e
 ends_put policies (edit file script out) held outcome e =
     reads_put (λ name. name ≡ out) file held all_rules (EditsFile policies script out held) outcome
     (λ bytes x. script_put (start_of x.session policies) script out held outcome x.reads) e

@@ -50,7 +50,8 @@ pub record AreEqualFiles (files : Files) (first second : List ℕ) : Type 0 wher
       (one other : Document) → HoldsDocument right_first.bytes one → HoldsDocument right_second.bytes other →
       one ≡ other
 
--- the file is accepted, and the script is one that a session on it accepts: each edit is granted by all policies too, and
+-- the file is accepted, and the script is one that a session on it accepts: each edit is granted by all policies too,
+-- and
 -- no save is refused
 pub record IsEditable (policies : List Policy) (files : Files) (file script : List ℕ) : Type 0 where
   pub right : HoldsRight all_rules files file

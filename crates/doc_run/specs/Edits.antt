@@ -20,7 +20,8 @@ use Rattle.doc_run.specs.EditLines.{script_line, stop_line, edited_line}
 use Rattle.doc_run.specs.Outcomes.{Outcome, says, puts}
 use Rattle.doc_run.specs.Stages.{longest_file, Reads}
 
--- the status of a run that a command of the script stops: an edit that is refused, one that a guard does not allow, or a
+-- the status of a run that a command of the script stops: an edit that is refused, one that a guard does not allow,
+-- or a
 -- save
 abbrev pub stop_status : Stop → ℕ
 stop_status (Refused fault) = 8

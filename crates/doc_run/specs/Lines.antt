@@ -11,7 +11,8 @@ use Rattle.doc_show.specs.Story.{line}
 
 -- the commands that are built
 abbrev pub usage_line : List ℕ
-usage_line = line (codes "usage: docbin text FILE | streams FILE | check FILE | show FILE | props FILE POS | full FILE OUT | equal A B | edit FILE SCRIPT OUT | gen N OUT")
+usage_line = line (codes "usage: docbin text FILE | streams FILE | check FILE | show FILE | props FILE POS" ++ codes
+    " | full FILE OUT | equal A B | edit FILE SCRIPT OUT | gen N OUT")
 
 -- how a place is named
 abbrev pub place_name : Where → List ℕ

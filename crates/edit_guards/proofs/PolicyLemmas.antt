@@ -1,5 +1,6 @@
 -- What is found among guards is found among their policies, and guards that are told one by one are all told.
-use Rattle.std.proofs.Common.{◌≡◌, ℕ, ◌+◌, ◌-◌, ◌<◌, ◌≤◌, List, [], ◌∷◌, ◌++◌, map, length, MatchOption, Option, Some, None, arith, ap, subst, sym, ◌∙◌}
+use Rattle.std.proofs.Common.{◌≡◌, ℕ, ◌+◌, ◌-◌, ◌<◌, ◌≤◌, List, [], ◌∷◌, ◌++◌, map, length, MatchOption, Option, Some}
+use Rattle.std.proofs.Common.{None, arith, ap, subst, sym, ◌∙◌}
 use Rattle.std.specs.Prelude.{take, drop, slice_set, slice_index_or}
 use Rattle.std.specs.List.{AllWithin, HoldsAt}
 use Rattle.std.proofs.lemmas.List.Elements.{All-map, All-from_all_within}
@@ -27,7 +28,10 @@ first_refuser_of_search {G} policy guards facts None all =
 first_refuser_of_search policy [] facts (Some index) found = absurd (omega (arith, found.0))
 first_refuser_of_search policy (guard ∷ guards) facts (Some index) found = record {
   there = subst (λ n. index < n) (sym (length-map (guard ∷ guards) policy)) found.0;
-  before = all_within_map policy (λ (p : Policy). Grants p facts) (guard ∷ guards) guard index (omega (arith, found.0)) found.2;
+  before = all_within_map policy (λ (p : Policy). Grants p facts) (guard ∷ guards) guard index (omega (
+    arith,
+    found.0,
+  )) found.2;
   refuses = λ d. subst (λ (p : Policy). ¬ (Grants p facts))
       (sym (get_or-map policy (guard ∷ guards) index guard d found.0)) (found.1 guard);
 }
@@ -44,7 +48,8 @@ waits : (before policies : List Policy) (facts : Facts) (index : ℕ) (d : Polic
 waits before policies facts index d within told =
     ap (λ (ps : List Policy). slice_index_or ps index d) told
     ∙ get_or-append_right (policies_after (take index before) facts) (drop index before) index index d
-    (length-map (take index before) (λ (p : Policy). policy_after p facts) ∙ length-take-le index before (omega (arith, within))) (omega arith)
+    (length-map (take index before) (λ (p : Policy). policy_after p facts) ∙ length-take-le index before
+    (omega (arith, within))) (omega arith)
     ∙ get_or-drop index before (index - index) d
     ∙ ap (λ k. slice_index_or before k d) (omega arith)
 

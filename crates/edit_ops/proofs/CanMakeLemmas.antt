@@ -1,5 +1,6 @@
 -- The changes of an edit that may be tried can be made, one after another.
-use Rattle.std.proofs.Common.{◌≡◌, ◌∙◌, refl, sym, ℕ, ◌+◌, ◌<◌, ◌≤◌, inl, inr, List, [], ◌∷◌, ◌++◌, length, Option, Some, None, arith, length-append, cond, ◌==◌}
+use Rattle.std.proofs.Common.{◌≡◌, ◌∙◌, refl, sym, ℕ, ◌+◌, ◌<◌, ◌≤◌, inl, inr, List, [], ◌∷◌, ◌++◌, length, Option}
+use Rattle.std.proofs.Common.{Some, None, arith, length-append, cond, ◌==◌}
 use Rattle.std.specs.Prelude.{Bool, true, false, MatchOption, slice_get, replicate, is_some}
 use Rattle.std.specs.Option.{unwrap_or}
 use Rattle.text_codes.specs.Paragraph.{paragraph_mark, cell_mark}
@@ -21,16 +22,21 @@ use Rattle.plain_doc.specs.Sound.{IsSound}
 use Rattle.plain_doc.specs.RightDocument.{IsRightText, IsRightDocument}
 use Rattle.plain_doc.proofs.RightLemmas.{sound_is_right}
 use Rattle.edit_script.specs.declared.commands.Command.{Command}
-use Rattle.edit_script.specs.declared.commands.Command.TheVariants.{Insert, Erase, Char, Plain, Para, Style, Field, Note, Split, Merge, Sect, Row, StyleChar, StylePara, Save}
+use Rattle.edit_script.specs.declared.commands.Command.TheVariants.{Insert, Erase, Char, Plain, Para, Style, Field}
+use Rattle.edit_script.specs.declared.commands.Command.TheVariants.{Note, Split, Merge, Sect, Row, StyleChar}
+use Rattle.edit_script.specs.declared.commands.Command.TheVariants.{StylePara, Save}
 use Rattle.edit_ops.specs.declared.changes.Change.TheVariants.{ModifyItems}
 use Rattle.edit_ops.specs.Places.{text_at, items_at, mark_place, note_number, head_number}
-use Rattle.edit_ops.specs.Fresh.{unit_item, unit_items, inserted_items, field_items, field_mark, base_settings, cell_items, cell_settings, row_items, row_settings, mark_item, mark_with, plain_end}
-use Rattle.edit_ops.specs.Edits.{changes_of, erased, section_changes, put_in, setting_characters, setting_paragraphs, clearing, naming_style}
+use Rattle.edit_ops.specs.Fresh.{unit_item, unit_items, inserted_items, field_items, field_mark, base_settings}
+use Rattle.edit_ops.specs.Fresh.{cell_items, cell_settings, row_items, row_settings, mark_item, mark_with, plain_end}
+use Rattle.edit_ops.specs.Edits.{changes_of, erased, section_changes, put_in, setting_characters, setting_paragraphs}
+use Rattle.edit_ops.specs.Edits.{clearing, naming_style}
 use Rattle.edit_ops.specs.Ranges.{IsInRange, HasText, HasPlace, HasRange, TakesText, EndsWithMark, BeginsParagraph}
 use Rattle.edit_ops.specs.Codes.{HasRightCodes}
 use Rattle.edit_ops.specs.Causes.{CanBeTried}
 use Rattle.edit_ops.specs.Makes.{CanSplice, CanMakeAll}
-use Rattle.edit_ops.proofs.TextLemmas.{text_weaker, right_text, part_of, few_items, mark_within, section_within, unit_within, count_upto, count_within}
+use Rattle.edit_ops.proofs.TextLemmas.{text_weaker, right_text, part_of, few_items, mark_within, section_within}
+use Rattle.edit_ops.proofs.TextLemmas.{unit_within, count_upto, count_within}
 
 -- ---- settings
 
@@ -54,16 +60,20 @@ naming_formed istd = record { chp = no_settings character_groups; pap = no_setti
 pub length-units : (chp : Settings) (units : List ℕ) → length (unit_items chp units) ≡ length units
 length-units chp units = length-map units (unit_item chp)
 
-either_length : {A : Type 0} (b : Bool) (xs ys : List A) (n : ℕ) → length xs ≤ n → length ys ≤ n → length (cond b xs ys) ≤ n
+either_length : {A : Type 0} (b : Bool) (xs ys : List A) (n : ℕ) → length xs ≤ n → length ys ≤ n →
+    length (cond b xs ys) ≤ n
 either_length true xs ys n one other = one
 either_length false xs ys n one other = other
 
-pub length-inserted : (text : List Item) (at : ℕ) (units : List ℕ) → length (inserted_items text at units) ≤ length units + 2
+pub length-inserted : (text : List Item) (at : ℕ) (units : List ℕ) → length (inserted_items text at units) ≤ length
+    units + 2
 length-inserted text at units =
     let front = length-units empty units in
-    let all : length (unit_items empty units ++ plain_end ∷ plain_end ∷ []) ≡ length (unit_items empty units) + 2 = length-append (unit_items empty units) (plain_end ∷ plain_end ∷ []) in
+    let all : length (unit_items empty units ++ plain_end ∷ plain_end ∷ []) ≡ length (unit_items empty units) + 2 =
+    length-append (unit_items empty units) (plain_end ∷ plain_end ∷ []) in
     let base = length-units (base_settings text at) units in
-    either_length (length text == 0) (unit_items empty units ++ plain_end ∷ plain_end ∷ []) (unit_items (base_settings text at) units) (length units + 2) (omega arith) (omega arith)
+    either_length (length text == 0) (unit_items empty units ++ plain_end ∷ plain_end ∷ []) (unit_items (base_settings
+    text at) units) (length units + 2) (omega arith) (omega arith)
 
 length-cells : (cells : List (List ℕ)) → length (flat_map cell_items cells) ≡ sum_by length cells + length cells
 length-cells [] = refl
@@ -75,23 +85,29 @@ length-cells (cell ∷ more) =
     let sum = sum_by-cons length cell more in
     omega arith
 
-pub length-row : (width : ℕ) (cells : List (List ℕ)) → length (row_items width cells) ≡ sum_by length cells + length cells + 1
+pub length-row : (width : ℕ) (cells : List (List ℕ)) → length (row_items width cells) ≡ sum_by length cells + length
+    cells + 1
 length-row width cells =
-    let all = length-append (flat_map cell_items cells) (mark_item empty cell_mark (mark_with (row_settings (length cells) width)) ∷ []) in
+    let all = length-append (flat_map cell_items cells) (mark_item empty cell_mark (mark_with (row_settings
+    (length cells) width)) ∷ []) in
     let front = length-cells cells in
     omega arith
 
-pub length-field : (base : Settings) (type : ℕ) (code shown : List ℕ) → length (field_items base type code shown) ≡ length code + length shown + 3
+pub length-field : (base : Settings) (type : ℕ) (code shown : List ℕ) → length (field_items base type code shown) ≡
+    length code + length shown + 3
 length-field base type code shown =
     let inner = length-append (unit_items base shown) (field_mark base 0x15 0x80 ∷ []) in
-    let outer = length-append (unit_items base code) (field_mark base 0x14 0xFF ∷ unit_items base shown ++ field_mark base 0x15 0x80 ∷ []) in
+    let outer = length-append (unit_items base code) (field_mark base 0x14 0xFF ∷ unit_items base shown ++ field_mark
+    base 0x15 0x80 ∷ []) in
     let units = length-units base code in
     let more = length-units base shown in
     omega arith
 
 -- ---- each kind
 
-can_put : (document : Document) (story : Story) (at : ℕ) (items : List Item) → IsRightDocument document → HasText document story (λ text. at ≤ length text) → length items ≤ 4000000100 → CanMakeAll (put_in story at items) document
+can_put : (document : Document) (story : Story) (at : ℕ) (items : List Item) → IsRightDocument document →
+    HasText document story (λ text. at ≤ length text) → length items ≤ 4000000100 → CanMakeAll (put_in story at items)
+    document
 can_put document story at items right within few = (
   text_weaker (text_at document story) _ _ within (λ text there inside.
       let short = few_items document story text right there in
@@ -99,37 +115,56 @@ can_put document story at items right within few = (
   tt,
 )
 
-has_place : (document : Document) (story : Story) (at : ℕ) → HasText document story (HasPlace at) → HasText document story (λ text. at ≤ length text)
-has_place document story at there = text_weaker (text_at document story) _ _ there (λ text is within. omega (arith, within))
+has_place : (document : Document) (story : Story) (at : ℕ) → HasText document story (HasPlace at) → HasText document
+    story (λ text. at ≤ length text)
+has_place document story at there = text_weaker (text_at document story) _ _ there (λ text is within. omega (
+  arith,
+  within,
+))
 
 takes : (story : Story) (at : ℕ) (text : List Item) → TakesText story at text → at ≤ length text
 takes Main at text within = omega (arith, within)
 takes (NoteText k) at text within = omega (arith, within)
-takes (HeadText k) at text within = elim within [ inl inside ↦ omega (arith, inside) | inr empty ↦ let z = empty.0 in omega (arith, z) ]
+takes (HeadText k) at text within = elim within [
+  | inl inside ↦ omega (arith, inside)
+  | inr empty ↦ let z = empty.0 in
+      omega (arith, z)
+]
 
-takes_text : (document : Document) (story : Story) (at : ℕ) → HasText document story (TakesText story at) → HasText document story (λ text. at ≤ length text)
+takes_text : (document : Document) (story : Story) (at : ℕ) → HasText document story (TakesText story at) →
+    HasText document story (λ text. at ≤ length text)
 takes_text document story at there = text_weaker (text_at document story) _ _ there (λ text is h. takes story at text h)
 
-begins : (document : Document) (story : Story) (at : ℕ) → HasText document story (BeginsParagraph at) → HasText document story (λ text. at ≤ length text)
-begins document story at there = text_weaker (text_at document story) _ _ there (λ text is h. let within = h.0 in omega arith)
+begins : (document : Document) (story : Story) (at : ℕ) → HasText document story (BeginsParagraph at) →
+    HasText document story (λ text. at ≤ length text)
+begins document story at there = text_weaker (text_at document story) _ _ there (λ text is h. let within = h.0 in
+    omega arith)
 
-can_modify : (document : Document) (story : Story) (from to : ℕ) (modifier : Modifier) → HasText document story (HasRange from to) → IsFormedModifier modifier → CanMakeAll (ModifyItems story from to modifier ∷ []) document
+can_modify : (document : Document) (story : Story) (from to : ℕ) (modifier : Modifier) → HasText document story
+    (HasRange from to) → IsFormedModifier modifier → CanMakeAll (ModifyItems story from to modifier ∷ []) document
 can_modify document story from to modifier range formed = ((range, formed), tt)
 
-mark_range : (document : Document) (story : Story) (at : ℕ) → IsRightDocument document → HasText document story (HasPlace at) → HasText document story (HasRange (mark_place (items_at document story) at) (mark_place (items_at document story) at + 1))
+mark_range : (document : Document) (story : Story) (at : ℕ) → IsRightDocument document → HasText document story
+    (HasPlace at) → HasText document story (HasRange (mark_place (items_at document story) at)
+    (mark_place (items_at document story) at + 1))
 mark_range document story at right there =
     range_of (text_at document story) (λ text is. right_text document story text right is) there
   where
-    range_of : (o : Option (List Item)) → ((text : List Item) → o ≡ Some text → IsRightText document.sheet (part_of story) text) → MatchOption o ⊥ (HasPlace at) → MatchOption o ⊥ (HasRange (mark_place (unwrap_or o []) at) (mark_place (unwrap_or o []) at + 1))
+    range_of : (o : Option (List Item)) → ((text : List Item) → o ≡ Some text → IsRightText document.sheet
+        (part_of story) text) → MatchOption o ⊥ (HasPlace at) → MatchOption o ⊥ (HasRange (mark_place (unwrap_or o [])
+        at) (mark_place (unwrap_or o []) at + 1))
     range_of None rights h = h
     range_of (Some text) rights h =
         let within = mark_within document.sheet (part_of story) text at (rights text refl) h in
         (omega arith, omega (arith, within))
 
-pub unit_range : (document : Document) (story : Story) (at : ℕ) → HasText document story (EndsWithMark at) → HasText document story (HasRange (mark_place (items_at document story) at) (mark_place (items_at document story) at + 1))
+pub unit_range : (document : Document) (story : Story) (at : ℕ) → HasText document story (EndsWithMark at) →
+    HasText document story (HasRange (mark_place (items_at document story) at) (mark_place (items_at document story)
+    at + 1))
 unit_range document story at there = range_of (text_at document story) there
   where
-    range_of : (o : Option (List Item)) → MatchOption o ⊥ (EndsWithMark at) → MatchOption o ⊥ (HasRange (mark_place (unwrap_or o []) at) (mark_place (unwrap_or o []) at + 1))
+    range_of : (o : Option (List Item)) → MatchOption o ⊥ (EndsWithMark at) → MatchOption o ⊥
+        (HasRange (mark_place (unwrap_or o []) at) (mark_place (unwrap_or o []) at + 1))
     range_of None h = h
     range_of (Some text) h =
         let within = unit_within text at paragraph_mark h.1 in
@@ -152,7 +187,9 @@ are_few document right =
     let sections = count_by-le-length (λ item. is_some item.sect) document.main in
     record { main = main; notes = omega arith; heads = omega arith }
 
-pub can_splice_notes : (document : Document) (from to : ℕ) (fresh : List (List Item)) → IsRightDocument document → from ≤ to → length fresh ≤ 6 → CanSplice (note_number document.main from) (note_number document.main to) fresh document.notes
+pub can_splice_notes : (document : Document) (from to : ℕ) (fresh : List (List Item)) → IsRightDocument document →
+    from ≤ to → length fresh ≤ 6 → CanSplice (note_number document.main from) (note_number document.main to) fresh
+    document.notes
 can_splice_notes document from to fresh right ordered few =
     let few_there = (are_few document right).notes in
     let all = right.notes in
@@ -160,7 +197,9 @@ can_splice_notes document from to fresh right ordered few =
     let within = count_within (λ item. is_some item.note) document.main to in
     record { ordered = upto; within = omega arith; few = omega arith }
 
-pub can_splice_heads : (document : Document) (from to : ℕ) (fresh : List (List Item)) → IsRightDocument document → from ≤ to → length fresh ≤ 6 → CanSplice (head_number document.main from) (head_number document.main to) fresh document.heads
+pub can_splice_heads : (document : Document) (from to : ℕ) (fresh : List (List Item)) → IsRightDocument document →
+    from ≤ to → length fresh ≤ 6 → CanSplice (head_number document.main from) (head_number document.main to) fresh
+    document.heads
 can_splice_heads document from to fresh right ordered few =
     let few_there = (are_few document right).heads in
     let all = right.heads in
@@ -168,7 +207,8 @@ can_splice_heads document from to fresh right ordered few =
     let within = count_within (λ item. is_some item.sect) document.main to in
     record { ordered = omega arith; within = omega arith; few = omega arith }
 
-can_erase : (document : Document) (story : Story) (from to : ℕ) → IsRightDocument document → HasText document story (HasRange from to) → CanMakeAll (erased document story from to) document
+can_erase : (document : Document) (story : Story) (from to : ℕ) → IsRightDocument document → HasText document story
+    (HasRange from to) → CanMakeAll (erased document story from to) document
 can_erase document Main from to right range =
     let few = few_main document right in
     let ordered = range.0 in
@@ -194,7 +234,9 @@ can_erase document (HeadText k) from to right range = (
   tt,
 )
 
-can_section : (document : Document) (at : ℕ) (new : Bool) (set : Settings) → IsRightDocument document → at < length document.main → IsPropertyMap section_groups set → CanMakeAll (section_changes document.main at new set) document
+can_section : (document : Document) (at : ℕ) (new : Bool) (set : Settings) → IsRightDocument document →
+    at < length document.main → IsPropertyMap section_groups set → CanMakeAll (section_changes document.main at new
+    set) document
 can_section document at false set right within formed = ((section_within document at right within, formed), tt)
 can_section document at true set right within formed =
     let few = few_main document right in (
@@ -202,19 +244,25 @@ can_section document at true set right within formed =
       (can_splice_heads document at at (replicate 6 []) right (omega arith) (omega arith), tt),
     )
 
-pub can_make : (document : Document) (command : Command) → IsSound document → CanBeTried document command → CanMakeAll (changes_of document command) document
+pub can_make : (document : Document) (command : Command) → IsSound document → CanBeTried document command →
+    CanMakeAll (changes_of document command) document
 can_make document command sound tried = by_kind command (sound_is_right document sound) tried.range tried.codes
   where
-    by_kind : (command : Command) → IsRightDocument document → IsInRange document command → HasRightCodes command → CanMakeAll (changes_of document command) document
+    by_kind : (command : Command) → IsRightDocument document → IsInRange document command → HasRightCodes command →
+        CanMakeAll (changes_of document command) document
     by_kind (Insert story at text) right range codes =
         let few = codes.1 in
         let put = length-inserted (items_at document story) at text in
-        can_put document story at (inserted_items (items_at document story) at text) right (takes_text document story at range) (omega arith)
+        can_put document story at (inserted_items (items_at document story) at text) right (takes_text document story
+        at range) (omega arith)
     by_kind (Erase story from to) right range codes = can_erase document story from to right range
-    by_kind (Char story from to set) right range codes = can_modify document story from to (setting_characters set) range (setting_formed set codes)
+    by_kind (Char story from to set) right range codes = can_modify document story from to (setting_characters set)
+        range (setting_formed set codes)
     by_kind (Plain story from to) right range codes = can_modify document story from to clearing range clearing_formed
-    by_kind (Para story at set) right range codes = can_modify document story _ _ (setting_paragraphs set) (mark_range document story at right range) (setting_marks_formed set codes)
-    by_kind (Style story at istd) right range codes = can_modify document story _ _ (naming_style istd) (mark_range document story at right range) (naming_formed istd)
+    by_kind (Para story at set) right range codes = can_modify document story _ _ (setting_paragraphs set)
+        (mark_range document story at right range) (setting_marks_formed set codes)
+    by_kind (Style story at istd) right range codes = can_modify document story _ _ (naming_style istd)
+        (mark_range document story at right range) (naming_formed istd)
     by_kind (Field story at type code shown) right range codes =
         let few = codes.few in
         let put = length-field (base_settings (items_at document story) at) type code shown in
@@ -225,7 +273,8 @@ can_make document command sound tried = by_kind command (sound_is_right document
           record { ordered = omega arith; within = omega arith; few = omega arith },
           (can_splice_notes document at at _ right (omega arith) (omega arith), tt),
         )
-    by_kind (Split story at) right range codes = can_put document story at _ right (has_place document story at range) (omega arith)
+    by_kind (Split story at) right range codes = can_put document story at _ right (has_place document story at range)
+        (omega arith)
     by_kind (Merge story at) right range codes = can_erase document story _ _ right (unit_range document story at range)
     by_kind (Sect at new set) right range codes = can_section document at new set right range codes
     by_kind (Row story at width cells) right range codes =

@@ -1,5 +1,6 @@
 -- What the changes of an edit add and remove can be counted.
-use Rattle.std.proofs.Common.{◌≡◌, refl, ℕ, ◌+◌, ◌^◌, ◌<◌, ◌≤◌, List, [], ◌∷◌, length, Option, Some, None, arith, length-append}
+use Rattle.std.proofs.Common.{◌≡◌, refl, ℕ, ◌+◌, ◌^◌, ◌<◌, ◌≤◌, List, [], ◌∷◌, length, Option, Some, None, arith}
+use Rattle.std.proofs.Common.{length-append}
 use Rattle.std.specs.FinMap.{empty}
 use Rattle.std.specs.Prelude.{Bool, true, false, MatchOption, replicate}
 use Rattle.std.specs.List.{All, sum_by}
@@ -15,11 +16,15 @@ use Rattle.plain_doc.specs.Sound.{IsSound}
 use Rattle.plain_doc.specs.RightDocument.{IsRightDocument}
 use Rattle.plain_doc.proofs.RightLemmas.{sound_is_right}
 use Rattle.edit_script.specs.declared.commands.Command.{Command}
-use Rattle.edit_script.specs.declared.commands.Command.TheVariants.{Insert, Erase, Char, Plain, Para, Style, Field, Note, Split, Merge, Sect, Row, StyleChar, StylePara, Save}
+use Rattle.edit_script.specs.declared.commands.Command.TheVariants.{Insert, Erase, Char, Plain, Para, Style, Field}
+use Rattle.edit_script.specs.declared.commands.Command.TheVariants.{Note, Split, Merge, Sect, Row, StyleChar}
+use Rattle.edit_script.specs.declared.commands.Command.TheVariants.{StylePara, Save}
 use Rattle.edit_ops.specs.declared.changes.Change.{Change}
-use Rattle.edit_ops.specs.declared.changes.Change.TheVariants.{SpliceText, ModifyItems, SetSection, SpliceNotes, SpliceHeads, SetStyleCharacters, SetStyleParagraphs}
+use Rattle.edit_ops.specs.declared.changes.Change.TheVariants.{SpliceText, ModifyItems, SetSection, SpliceNotes}
+use Rattle.edit_ops.specs.declared.changes.Change.TheVariants.{SpliceHeads, SetStyleCharacters, SetStyleParagraphs}
 use Rattle.edit_ops.specs.Places.{text_at, items_at, note_number, head_number}
-use Rattle.edit_ops.specs.Fresh.{section_item, plain_end, inserted_items, field_items, base_settings, row_items, note_items, note_reference, unit_items}
+use Rattle.edit_ops.specs.Fresh.{section_item, plain_end, inserted_items, field_items, base_settings, row_items}
+use Rattle.edit_ops.specs.Fresh.{note_items, note_reference, unit_items}
 use Rattle.edit_ops.specs.Edits.{changes_of, erased, section_changes, put_in}
 use Rattle.edit_ops.specs.Ranges.{IsInRange, HasText, HasRange}
 use Rattle.edit_ops.specs.Codes.{HasRightCodes}
@@ -28,7 +33,8 @@ use Rattle.edit_ops.specs.EditFacts.{items_added, items_removed}
 use Rattle.edit_ops.specs.Makes.{CanRemove}
 use Rattle.edit_ops.proofs.TextLemmas.{few_items}
 use Rattle.edit_ops.proofs.SumLemmas.{no_range, range_sum}
-use Rattle.edit_ops.proofs.CanMakeLemmas.{length-inserted, length-field, length-row, length-units, can_splice_notes, can_splice_heads, unit_range}
+use Rattle.edit_ops.proofs.CanMakeLemmas.{length-inserted, length-field, length-row, length-units, can_splice_notes}
+use Rattle.edit_ops.proofs.CanMakeLemmas.{can_splice_heads, unit_range}
 
 length-note : (text : List ℕ) → length (note_items text) ≡ length text + 2
 length-note text =
@@ -44,13 +50,20 @@ pub record AreCountable (document : Document) (changes : List Change) : Type 0 w
   pub there : All (CanRemove document) changes
 
 -- a list of one change
-one : (document : Document) (change : Change) → items_added change < 2 ^ 32 → items_removed document change < 2 ^ 32 → CanRemove document change → AreCountable document (change ∷ [])
+one : (document : Document) (change : Change) → items_added change < 2 ^ 32 → items_removed document change < 2 ^ 32 →
+    CanRemove document change → AreCountable document (change ∷ [])
 one document change added removed there =
     let sum_in = sum_by-cons items_added change [] in
     let sum_out = sum_by-cons (items_removed document) change [] in
-    record { added = omega arith; removed = omega arith; there = All-cons (CanRemove document) change [] there (All-nil (CanRemove document)) }
+    record {
+      added = omega arith;
+      removed = omega arith;
+      there = All-cons (CanRemove document) change [] there
+          (All-nil (CanRemove document));
+    }
 
-put : (document : Document) (story : Story) (at : ℕ) (items : List Item) → length items < 2 ^ 32 → AreCountable document (put_in story at items)
+put : (document : Document) (story : Story) (at : ℕ) (items : List Item) → length items < 2 ^ 32 →
+    AreCountable document (put_in story at items)
 put document story at items few = one document (SpliceText story at at items) few (omega arith) (omega arith)
 
 no_texts : (count : ℕ) → sum_by length (replicate {A = List Item} count []) ≡ 0
@@ -58,7 +71,8 @@ no_texts count =
     let each = sum_by-replicate {X = List Item} length count [] in
     omega arith
 
-erased_main : (document : Document) (from to : ℕ) → IsRightDocument document → HasRange from to document.main → AreCountable document (erased document Main from to)
+erased_main : (document : Document) (from to : ℕ) → IsRightDocument document → HasRange from to document.main →
+    AreCountable document (erased document Main from to)
 erased_main document from to right range =
     let few = right.few in
     let ordered = range.0 in
@@ -88,17 +102,21 @@ record IsShortRange (from to : ℕ) : Type 0 where
   ordered : from < to
   short : to ≤ 499998
 
-short_range : (document : Document) (story : Story) (from to : ℕ) → IsRightDocument document → HasText document story (HasRange from to) → IsShortRange from to
-short_range document story from to right range = range_of (text_at document story) (λ text there. few_items document story text right there) range
+short_range : (document : Document) (story : Story) (from to : ℕ) → IsRightDocument document → HasText document story
+    (HasRange from to) → IsShortRange from to
+short_range document story from to right range = range_of (text_at document story) (λ text there. few_items document
+    story text right there) range
   where
-    range_of : (o : Option (List Item)) → ((text : List Item) → o ≡ Some text → length text ≤ 499998) → MatchOption o ⊥ (HasRange from to) → IsShortRange from to
+    range_of : (o : Option (List Item)) → ((text : List Item) → o ≡ Some text → length text ≤ 499998) →
+        MatchOption o ⊥ (HasRange from to) → IsShortRange from to
     range_of None few h = absurd h
     range_of (Some text) few h =
         let short = few text refl in
         let within = h.1 in
         record { ordered = h.0; short = omega arith }
 
-erased_from : (document : Document) (story : Story) (from to : ℕ) → IsRightDocument document → HasText document story (HasRange from to) → AreCountable document (erased document story from to)
+erased_from : (document : Document) (story : Story) (from to : ℕ) → IsRightDocument document → HasText document story
+    (HasRange from to) → AreCountable document (erased document story from to)
 erased_from document Main from to right range = erased_main document from to right range
 erased_from document (NoteText k) from to right range =
     let short = short_range document (NoteText k) from to right range in
@@ -112,7 +130,9 @@ erased_from document (HeadText k) from to right range =
     one document (SpliceText (HeadText k) from to []) (omega arith) (omega arith) (omega arith)
 
 -- a splice of no range beside a text
-two : (document : Document) (first next : Change) → items_added first + items_added next < 2 ^ 32 → items_removed document first ≡ 0 → items_removed document next ≡ 0 → CanRemove document first → CanRemove document next → AreCountable document (first ∷ next ∷ [])
+two : (document : Document) (first next : Change) → items_added first + items_added next < 2 ^ 32 →
+    items_removed document first ≡ 0 → items_removed document next ≡ 0 → CanRemove document first → CanRemove document
+    next → AreCountable document (first ∷ next ∷ [])
 two document first next added removed_first removed_next there_first there_next =
     let in_1 = sum_by-cons items_added first (next ∷ []) in
     let in_2 = sum_by-cons items_added next [] in
@@ -121,51 +141,74 @@ two document first next added removed_first removed_next there_first there_next 
     record {
       added = omega arith;
       removed = omega arith;
-      there = All-cons (CanRemove document) first (next ∷ []) there_first (All-cons (CanRemove document) next [] there_next (All-nil (CanRemove document)));
+      there = All-cons (CanRemove document) first (next ∷ []) there_first (All-cons (CanRemove document) next []
+          there_next (All-nil (CanRemove document)));
     }
 
-note_put : (document : Document) (at : ℕ) (reference : Item) (text : List ℕ) → IsRightDocument document → at < length document.main → length text ≤ 4000000000 → AreCountable document (SpliceText Main at at (reference ∷ []) ∷ SpliceNotes (note_number document.main at) (note_number document.main at) (note_items text ∷ []) ∷ [])
+note_put : (document : Document) (at : ℕ) (reference : Item) (text : List ℕ) → IsRightDocument document →
+    at < length document.main → length text ≤ 4000000000 → AreCountable document (SpliceText Main at at (reference ∷
+    []) ∷ SpliceNotes (note_number document.main at) (note_number document.main at) (note_items text ∷ []) ∷ [])
 note_put document at reference text right within few =
     let notes = can_splice_notes document at at (note_items text ∷ []) right (omega arith) (omega arith) in
     let one = sum_by-cons length (note_items text) [] in
     let len = length-note text in
-    two document (SpliceText Main at at (reference ∷ [])) (SpliceNotes (note_number document.main at) (note_number document.main at) (note_items text ∷ []))
-    (omega arith) (omega arith) (no_range length document.notes (note_number document.main at)) (omega arith) (notes.ordered, notes.within)
+    two document (SpliceText Main at at (reference ∷ [])) (SpliceNotes (note_number document.main at) (note_number
+    document.main at) (note_items text ∷ []))
+    (omega arith) (omega arith) (no_range length document.notes (note_number document.main at)) (omega arith)
+    (notes.ordered, notes.within)
 
-section_put : (document : Document) (at : ℕ) (new : Bool) (set : Settings) → IsRightDocument document → at < length document.main → AreCountable document (section_changes document.main at new set)
+section_put : (document : Document) (at : ℕ) (new : Bool) (set : Settings) → IsRightDocument document →
+    at < length document.main → AreCountable document (section_changes document.main at new set)
 section_put document at false set right within = one document (SetSection _ set) (omega arith) (omega arith) tt
 section_put document at true set right within =
     let heads = can_splice_heads document at at (replicate 6 []) right (omega arith) (omega arith) in
     let none = no_texts 6 in
-    two document (SpliceText Main at at (section_item document.main at set ∷ [])) (SpliceHeads (head_number document.main at) (head_number document.main at) (replicate 6 []))
-    (omega arith) (omega arith) (no_range length document.heads (head_number document.main at)) (omega arith) (heads.ordered, heads.within)
+    two document (SpliceText Main at at (section_item document.main at set ∷ [])) (SpliceHeads (head_number
+    document.main at) (head_number document.main at) (replicate 6 []))
+    (omega arith) (omega arith) (no_range length document.heads (head_number document.main at)) (omega arith)
+    (heads.ordered, heads.within)
 
-pub countable : (document : Document) (command : Command) → IsSound document → CanBeTried document command → AreCountable document (changes_of document command)
+pub countable : (document : Document) (command : Command) → IsSound document → CanBeTried document command →
+    AreCountable document (changes_of document command)
 countable document command sound tried = by_kind command (sound_is_right document sound) tried.range tried.codes
   where
-    by_kind : (command : Command) → IsRightDocument document → IsInRange document command → HasRightCodes command → AreCountable document (changes_of document command)
+    by_kind : (command : Command) → IsRightDocument document → IsInRange document command → HasRightCodes command →
+        AreCountable document (changes_of document command)
     by_kind (Insert story at text) right range codes =
         let few = codes.1 in
         let len = length-inserted (items_at document story) at text in
         put document story at (inserted_items (items_at document story) at text) (omega arith)
     by_kind (Erase story from to) right range codes = erased_from document story from to right range
-    by_kind (Char story from to set) right range codes = one document (ModifyItems story from to _) (omega arith) (omega arith) tt
-    by_kind (Plain story from to) right range codes = one document (ModifyItems story from to _) (omega arith) (omega arith) tt
-    by_kind (Para story at set) right range codes = one document (ModifyItems story _ _ _) (omega arith) (omega arith) tt
-    by_kind (Style story at istd) right range codes = one document (ModifyItems story _ _ _) (omega arith) (omega arith) tt
+    by_kind (Char story from to set) right range codes = one document (ModifyItems story from to _) (omega arith)
+        (omega arith) tt
+    by_kind (Plain story from to) right range codes = one document (ModifyItems story from to _) (omega arith)
+        (omega arith) tt
+    by_kind (Para story at set) right range codes = one document (ModifyItems story _ _ _) (omega arith) (omega arith)
+        tt
+    by_kind (Style story at istd) right range codes = one document (ModifyItems story _ _ _) (omega arith)
+        (omega arith) tt
     by_kind (Field story at type code shown) right range codes =
         let few = codes.few in
         let len = length-field (base_settings (items_at document story) at) type code shown in
         put document story at (field_items (base_settings (items_at document story) at) type code shown) (omega arith)
-    by_kind (Note at text) right range codes = note_put document at (note_reference (base_settings document.main at)) text right range codes.1
+    by_kind (Note at text) right range codes = note_put document at (note_reference (base_settings document.main at))
+        text right range codes.1
     by_kind (Split story at) right range codes = put document story at _ (omega arith)
-    by_kind (Merge story at) right range codes = erased_from document story _ _ right (unit_range document story at range)
+    by_kind (Merge story at) right range codes = erased_from document story _ _ right (unit_range document story at
+        range)
     by_kind (Sect at new set) right range codes = section_put document at new set right range
     by_kind (Row story at width cells) right range codes =
         let few = codes.few in
         let units = codes.units in
         let len = length-row width cells in
         put document story at (row_items width cells) (omega arith)
-    by_kind (StyleChar istd set) right range codes = one document (SetStyleCharacters istd set) (omega arith) (omega arith) tt
-    by_kind (StylePara istd set) right range codes = one document (SetStyleParagraphs istd set) (omega arith) (omega arith) tt
-    by_kind (Save full) right range codes = record { added = omega arith; removed = omega arith; there = All-nil (CanRemove document) }
+    by_kind (StyleChar istd set) right range codes = one document (SetStyleCharacters istd set) (omega arith)
+        (omega arith) tt
+    by_kind (StylePara istd set) right range codes = one document (SetStyleParagraphs istd set) (omega arith)
+        (omega arith) tt
+    by_kind (Save full) right range codes = record {
+      added = omega arith;
+      removed = omega arith;
+      there = All-nil
+          (CanRemove document);
+    }

@@ -6,7 +6,9 @@ use Rattle.doc_bits.specs.declared.places.Story.TheVariants.{Main, Note as NoteT
 use Rattle.prop_map.specs.Settings.{Settings}
 use Rattle.plain_doc.specs.declared.item.Item.{Item}
 use Rattle.plain_doc.specs.declared.document.Document.{Document}
-use Rattle.edit_script.specs.declared.commands.Command.TheVariants.{Insert, Erase, Char, Plain, Para, Style, Field, Note, Split, Merge, Sect, Row, StyleChar, StylePara, Save}
+use Rattle.edit_script.specs.declared.commands.Command.TheVariants.{Insert, Erase, Char, Plain, Para, Style, Field}
+use Rattle.edit_script.specs.declared.commands.Command.TheVariants.{Note, Split, Merge, Sect, Row, StyleChar}
+use Rattle.edit_script.specs.declared.commands.Command.TheVariants.{StylePara, Save}
 use Rattle.edit_ops.specs.Edits.{erased, section_changes}
 use Rattle.edit_ops.specs.Laws.{ChangesAreFew, FormattingMovesNoItems}
 
@@ -15,7 +17,8 @@ few_erased document Main from to = omega arith
 few_erased document (NoteText number) from to = omega arith
 few_erased document (HeadText number) from to = omega arith
 
-few_of_section : (main : List Item) (at : ℕ) (new : Bool) (set : Settings) → length (section_changes main at new set) ≤ 3
+few_of_section : (main : List Item) (at : ℕ) (new : Bool) (set : Settings) → length (section_changes main at new set)
+    ≤ 3
 few_of_section main at false set = omega arith
 few_of_section main at true set = omega arith
 

@@ -18,35 +18,55 @@ use Rattle.edit_ops.specs.Fresh.{special, unit_item, mark_item}
 
 -- ---- settings
 
-pub special_formed : (base : Settings) → IsPropertyMap character_groups base → IsPropertyMap character_groups (special base)
+pub special_formed : (base : Settings) → IsPropertyMap character_groups base → IsPropertyMap character_groups
+    (special base)
 special_formed base formed =
     stay_formed character_groups base (0x0855, 1 ∷ []) formed
     (record {
-      setting = record { entry = record { some = omega arith; word = omega arith; size = refl }; held = refl; sets = refl };
+      setting = record {
+        entry = record { some = omega arith; word = omega arith; size = refl };
+        held = refl;
+        sets = refl;
+      };
       bytes = one_byte 1 (omega arith);
     })
 
-pub in_table_formed : (base : Settings) → IsPropertyMap paragraph_groups base → IsPropertyMap paragraph_groups (insert base 0x2416 (1 ∷ []))
+pub in_table_formed : (base : Settings) → IsPropertyMap paragraph_groups base → IsPropertyMap paragraph_groups
+    (insert base 0x2416 (1 ∷ []))
 in_table_formed base formed =
     stay_formed paragraph_groups base (0x2416, 1 ∷ []) formed
     (record {
-      setting = record { entry = record { some = omega arith; word = omega arith; size = refl }; held = refl; sets = refl };
+      setting = record {
+        entry = record { some = omega arith; word = omega arith; size = refl };
+        held = refl;
+        sets = refl;
+      };
       bytes = one_byte 1 (omega arith);
     })
 
-pub row_end_formed : (base : Settings) → IsPropertyMap paragraph_groups base → IsPropertyMap paragraph_groups (insert base 0x2417 (1 ∷ []))
+pub row_end_formed : (base : Settings) → IsPropertyMap paragraph_groups base → IsPropertyMap paragraph_groups
+    (insert base 0x2417 (1 ∷ []))
 row_end_formed base formed =
     stay_formed paragraph_groups base (0x2417, 1 ∷ []) formed
     (record {
-      setting = record { entry = record { some = omega arith; word = omega arith; size = refl }; held = refl; sets = refl };
+      setting = record {
+        entry = record { some = omega arith; word = omega arith; size = refl };
+        held = refl;
+        sets = refl;
+      };
       bytes = one_byte 1 (omega arith);
     })
 
-pub definition_formed : (base : Settings) (value : List ℕ) → length value ≤ 65534 → AreBytes value → IsPropertyMap paragraph_groups base → IsPropertyMap paragraph_groups (insert base 0xD608 value)
+pub definition_formed : (base : Settings) (value : List ℕ) → length value ≤ 65534 → AreBytes value →
+    IsPropertyMap paragraph_groups base → IsPropertyMap paragraph_groups (insert base 0xD608 value)
 definition_formed base value short bytes formed =
     stay_formed paragraph_groups base (0xD608, value) formed
     (record {
-      setting = record { entry = record { some = omega arith; word = omega arith; size = short }; held = refl; sets = refl };
+      setting = record {
+        entry = record { some = omega arith; word = omega arith; size = short };
+        held = refl;
+        sets = refl;
+      };
       bytes = bytes;
     })
 
@@ -55,12 +75,14 @@ definition_formed base value short bytes formed =
 pub unit_maps : (chp : Settings) (unit : ℕ) → IsPropertyMap character_groups chp → HasPropertyMaps (unit_item chp unit)
 unit_maps chp unit formed = HasPropertyMaps-from_parts (unit_item chp unit) formed tt tt
 
-pub mark_maps : (chp : Settings) (unit : ℕ) (mark : Mark) → IsPropertyMap character_groups chp → IsPropertyMap paragraph_groups mark.pap → HasPropertyMaps (mark_item chp unit mark)
+pub mark_maps : (chp : Settings) (unit : ℕ) (mark : Mark) → IsPropertyMap character_groups chp →
+    IsPropertyMap paragraph_groups mark.pap → HasPropertyMaps (mark_item chp unit mark)
 mark_maps chp unit mark formed pap = HasPropertyMaps-from_parts (mark_item chp unit mark) formed pap tt
 
 -- ---- maps of items that are there
 
-pub mark_formed : (text : List Item) (at : ℕ) (mark : Mark) → IsFormedText text → mark_at text at ≡ Some mark → IsPropertyMap paragraph_groups mark.pap
+pub mark_formed : (text : List Item) (at : ℕ) (mark : Mark) → IsFormedText text → mark_at text at ≡ Some mark →
+    IsPropertyMap paragraph_groups mark.pap
 mark_formed text at mark formed is = elim (slice_get_cases text (mark_place text at)).1 [
   | inl w ↦
       let has : w.0.mark ≡ Some mark = sym (ap (option_and_then (λ item. item.mark)) w.2) ∙ is in
@@ -68,7 +90,8 @@ mark_formed text at mark formed is = elim (slice_get_cases text (mark_place text
   | inr past ↦ absurd (none-some mark (sym (ap (option_and_then (λ item. item.mark)) past.1) ∙ is))
 ]
 
-pub section_formed : (main : List Item) (at : ℕ) (sect : Settings) → IsFormedText main → section_at main at ≡ Some sect → IsPropertyMap section_groups sect
+pub section_formed : (main : List Item) (at : ℕ) (sect : Settings) → IsFormedText main → section_at main at ≡ Some
+    sect → IsPropertyMap section_groups sect
 section_formed main at sect formed is = elim (slice_get_cases main (section_place main at)).1 [
   | inl w ↦
       let has : w.0.sect ≡ Some sect = sym (ap (option_and_then (λ item. item.sect)) w.2) ∙ is in

@@ -16,13 +16,19 @@ not_true false none = refl
 pub nothing : Item
 nothing = record { unit = 0; fld = None; note = None; chp = empty; mark = None; sect = None }
 
-unmarked : (text : List Item) (k : ℕ) → k < length text → ¬ (EndsParagraph text k) → is_some (get_or text k nothing).mark ≡ false
+unmarked : (text : List Item) (k : ℕ) → k < length text → ¬ (EndsParagraph text k) →
+    is_some (get_or text k nothing).mark ≡ false
 unmarked text k within none =
     let here = slice_get-get_or text k nothing within in
-    not_true (is_some (get_or text k nothing).mark) (λ marked. none (record { item = get_or text k nothing; here = here; marked = marked }))
+    not_true (is_some (get_or text k nothing).mark) (λ marked. none (record {
+      item = get_or text k nothing;
+      here = here;
+      marked = marked;
+    }))
 
 marked_there : (text : List Item) (k : ℕ) → EndsParagraph text k → is_some (get_or text k nothing).mark ≡ true
-marked_there text k ends = ap (λ item. is_some item.mark) (get_or_from_slice_get text k ends.item nothing ends.here) ∙ ends.marked
+marked_there text k ends = ap (λ item. is_some item.mark) (get_or_from_slice_get text k ends.item nothing ends.here) ∙
+    ends.marked
 
 -- the place where a paragraph ends, and the text's end where none ends
 pub end_is : (text : List Item) (at end : ℕ) → IsParagraphEnd text at end → end ≡ mark_place text at
@@ -32,7 +38,8 @@ end_is text at end is =
     (λ k from less. unmarked text k (omega arith) (λ ends. let later = is.least k from ends in absurd (omega arith)))
     (λ _. marked_there text end is.ends)
 
-pub no_end_is : (text : List Item) (at : ℕ) → at ≤ length text → HasNoParagraphEnd text at → length text ≡ mark_place text at
+pub no_end_is : (text : List Item) (at : ℕ) → at ≤ length text → HasNoParagraphEnd text at → length text ≡ mark_place
+    text at
 no_end_is text at within none =
     first_is (λ item. is_some item.mark) text at (length text) nothing within (omega arith)
     (λ k from less. unmarked text k less (none k from))
@@ -40,4 +47,5 @@ no_end_is text at within none =
 
 -- a read within a list does not look at its default
 pub any_default : (text : List Item) (i : ℕ) (item d : Item) → i < length text → get_or text i d ≡ get_or text i item
-any_default text i item d within = get_or_from_slice_get text i (get_or text i item) d (slice_get-get_or text i item within)
+any_default text i item d within = get_or_from_slice_get text i (get_or text i item) d (slice_get-get_or text i item
+    within)

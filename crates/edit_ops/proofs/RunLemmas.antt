@@ -1,5 +1,6 @@
 -- Runs of what commands put: elements that all join are one run, and one element is one more at most.
-use Rattle.std.proofs.Common.{◌≡◌, ◌∙◌, refl, sym, ap, subst, ℕ, suc, ◌+◌, ◌≤◌, Bool, true, false, cond, List, [], ◌∷◌, ◌++◌, length, Option, None, arith}
+use Rattle.std.proofs.Common.{◌≡◌, ◌∙◌, refl, sym, ap, subst, ℕ, suc, ◌+◌, ◌≤◌, Bool, true, false, cond, List, []}
+use Rattle.std.proofs.Common.{◌∷◌, ◌++◌, length, Option, None, arith}
 use Rattle.std.specs.Prelude.{if◌then◌else◌, ◌==◌, is_some}
 use Rattle.std.specs.List.{All, flat_map, sum_by}
 use Rattle.std.specs.FinMap.{empty}
@@ -17,31 +18,39 @@ use Rattle.plain_doc.proofs.SettingsLemmas.{same_settings-Decides}
 use Rattle.plain_doc.proofs.StretchLemmas.{one_more, none_more}
 use Rattle.doc_bits.specs.declared.places.Story.{Story}
 use Rattle.doc_bits.specs.declared.places.Story.TheVariants.{Main, Note as NoteText, Head as HeadText}
-use Rattle.edit_script.specs.declared.commands.Command.TheVariants.{Insert, Erase, Char, Plain, Para, Style, Field, Note, Split, Merge, Sect, Row, StyleChar, StylePara, Save}
+use Rattle.edit_script.specs.declared.commands.Command.TheVariants.{Insert, Erase, Char, Plain, Para, Style, Field}
+use Rattle.edit_script.specs.declared.commands.Command.TheVariants.{Note, Split, Merge, Sect, Row, StyleChar}
+use Rattle.edit_script.specs.declared.commands.Command.TheVariants.{StylePara, Save}
 use Rattle.edit_ops.specs.Places.{items_at}
-use Rattle.edit_ops.specs.Fresh.{unit_item, unit_items, mark_item, mark_with, plain_end, cell_items, cell_settings, row_items, row_settings, field_items, field_mark, special, base_settings, note_items}
+use Rattle.edit_ops.specs.Fresh.{unit_item, unit_items, mark_item, mark_with, plain_end, cell_items, cell_settings}
+use Rattle.edit_ops.specs.Fresh.{row_items, row_settings, field_items, field_mark, special, base_settings, note_items}
 use Rattle.edit_ops.specs.Edits.{erased, section_changes}
 use Rattle.edit_ops.specs.Runs.{paragraph_count, run_count, texts_put, most_runs_of_section, RunsAreFew}
 
 -- ---- stretches of any list
 
-first_more : {A : Type 0} (joins : A → A → Bool) (x : A) (xs : List A) → length (stretches joins (x ∷ xs)) ≤ 1 + length (stretches joins xs)
+first_more : {A : Type 0} (joins : A → A → Bool) (x : A) (xs : List A) → length (stretches joins (x ∷ xs)) ≤ 1 +
+    length (stretches joins xs)
 unfolding stretches
 first_more joins x xs = one_more joins x (stretches joins xs)
 
 -- elements that all join, before others
-joined_before : {A : Type 0} (joins : A → A → Bool) (P : A → Type 0) → ((x y : A) → P x → P y → joins x y ≡ true) → (xs ys : List A) → All P xs → length (stretches joins (xs ++ ys)) ≤ 1 + length (stretches joins ys)
+joined_before : {A : Type 0} (joins : A → A → Bool) (P : A → Type 0) → ((x y : A) → P x → P y → joins x y ≡ true) →
+    (xs ys : List A) → All P xs → length (stretches joins (xs ++ ys)) ≤ 1 + length (stretches joins ys)
 unfolding stretches
 joined_before joins P same [] ys all = omega arith
 joined_before joins P same (x ∷ []) ys all = one_more joins x (stretches joins ys)
 joined_before joins P same (x ∷ (y ∷ xs)) ys all =
     let later = joined_before joins P same (y ∷ xs) ys (λ k d within. all (suc k) d (omega (arith, within))) in
-    let none = none_more joins x y (stretches joins (xs ++ ys)) (same x y (all 0 x (omega arith)) (all 1 x (omega arith))) in
+    let none = none_more joins x y (stretches joins (xs ++ ys)) (same x y (all 0 x (omega arith))
+    (all 1 x (omega arith))) in
     omega (arith, later, none)
 
-joined_one : {A : Type 0} (joins : A → A → Bool) (P : A → Type 0) → ((x y : A) → P x → P y → joins x y ≡ true) → (xs : List A) → All P xs → length (stretches joins xs) ≤ 1
+joined_one : {A : Type 0} (joins : A → A → Bool) (P : A → Type 0) → ((x y : A) → P x → P y → joins x y ≡ true) →
+    (xs : List A) → All P xs → length (stretches joins xs) ≤ 1
 unfolding stretches
-joined_one joins P same xs all = subst (λ list. length (stretches joins list) ≤ 1) (append-nil xs) (let few = joined_before joins P same xs [] all in omega (arith, few))
+joined_one joins P same xs all = subst (λ list. length (stretches joins list) ≤ 1) (append-nil xs)
+    (let few = joined_before joins P same xs [] all in omega (arith, few))
 
 -- ---- items of equal settings
 
@@ -53,14 +62,16 @@ alike chp x y one other = (same_settings-Decides x.chp y.chp).1 (one ∙ sym oth
 
 pub units_have : (chp : Settings) (units : List ℕ) → All (HasChp chp) (unit_items chp units)
 units_have chp [] = All-nil (HasChp chp)
-units_have chp (unit ∷ units) = All-cons (HasChp chp) (unit_item chp unit) (unit_items chp units) refl (units_have chp units)
+units_have chp (unit ∷ units) = All-cons (HasChp chp) (unit_item chp unit) (unit_items chp units) refl (units_have chp
+    units)
 
 cells_have : (cells : List (List ℕ)) → All (HasChp empty) (flat_map cell_items cells)
 cells_have [] = All-nil (HasChp empty)
 cells_have (text ∷ cells) =
     let mark = mark_item empty cell_mark (mark_with cell_settings) in
     All-append (HasChp empty) (cell_items text) (flat_map cell_items cells)
-    (All-append (HasChp empty) (unit_items empty text) (mark ∷ []) (units_have empty text) (All-cons (HasChp empty) mark [] refl (All-nil (HasChp empty))))
+    (All-append (HasChp empty) (unit_items empty text) (mark ∷ []) (units_have empty text) (All-cons (HasChp empty)
+    mark [] refl (All-nil (HasChp empty))))
     (cells_have cells)
 
 -- they are one run
@@ -68,8 +79,10 @@ pub one_run : (chp : Settings) (items : List Item) → All (HasChp chp) items �
 one_run chp items all = joined_one is_alike (HasChp chp) (alike chp) items all
 
 -- units are one run more
-units_before : (chp : Settings) (units : List ℕ) (rest : List Item) → length (stretches is_alike (unit_items chp units ++ rest)) ≤ 1 + length (stretches is_alike rest)
-units_before chp units rest = joined_before is_alike (HasChp chp) (alike chp) (unit_items chp units) rest (units_have chp units)
+units_before : (chp : Settings) (units : List ℕ) (rest : List Item) → length (stretches is_alike (unit_items chp units
+    ++ rest)) ≤ 1 + length (stretches is_alike rest)
+units_before chp units rest = joined_before is_alike (HasChp chp) (alike chp) (unit_items chp units) rest
+    (units_have chp units)
 
 -- ---- paragraphs
 
@@ -94,9 +107,11 @@ in_cells : (cells : List (List ℕ)) → paragraph_count (flat_map cell_items ce
 in_cells [] = refl
 in_cells (text ∷ cells) =
     let mark = mark_item empty cell_mark (mark_with cell_settings) in
-    let both : paragraph_count (flat_map cell_items (text ∷ cells)) ≡ paragraph_count (cell_items text) + paragraph_count (flat_map cell_items cells) =
+    let both : paragraph_count (flat_map cell_items (text ∷ cells)) ≡ paragraph_count (cell_items text) +
+    paragraph_count (flat_map cell_items cells) =
     both_texts (cell_items text) (flat_map cell_items cells) in
-    let cell : paragraph_count (cell_items text) ≡ paragraph_count (unit_items empty text) + 1 = both_texts (unit_items empty text) (mark ∷ []) in
+    let cell : paragraph_count (cell_items text) ≡ paragraph_count (unit_items empty text) + 1 = both_texts
+    (unit_items empty text) (mark ∷ []) in
     let units = in_units empty text in
     let later = in_cells cells in
     omega (arith, both, cell, units, later)
@@ -107,9 +122,11 @@ first_units : (units : List ℕ) → run_count (unit_items empty units ++ plain_
 first_units units =
     let ends = plain_end ∷ plain_end ∷ [] in
     let all = All-append (HasChp empty) (unit_items empty units) ends (units_have empty units)
-    (All-cons (HasChp empty) plain_end (plain_end ∷ []) refl (All-cons (HasChp empty) plain_end [] refl (All-nil (HasChp empty)))) in
+    (All-cons (HasChp empty) plain_end (plain_end ∷ []) refl (All-cons (HasChp empty) plain_end [] refl
+    (All-nil (HasChp empty)))) in
     let characters = joined_one is_alike (HasChp empty) (alike empty) (unit_items empty units ++ ends) all in
-    let paragraphs : paragraph_count (unit_items empty units ++ ends) ≡ paragraph_count (unit_items empty units) + 2 = both_texts (unit_items empty units) ends in
+    let paragraphs : paragraph_count (unit_items empty units ++ ends) ≡ paragraph_count (unit_items empty units) + 2 =
+    both_texts (unit_items empty units) ends in
     let none = in_units empty units in
     omega (arith, characters, paragraphs, none)
 
@@ -119,7 +136,8 @@ later_units base units =
     let none = in_units base units in
     omega (arith, characters, none)
 
-few_inserted : (none : Bool) (base : Settings) (units : List ℕ) → run_count (if none then unit_items empty units ++ plain_end ∷ plain_end ∷ [] else unit_items base units) ≤ 3
+few_inserted : (none : Bool) (base : Settings) (units : List ℕ) → run_count (if none then unit_items empty units ++
+    plain_end ∷ plain_end ∷ [] else unit_items base units) ≤ 3
 few_inserted true base units = first_units units
 few_inserted false base units = later_units base units
 
@@ -136,10 +154,13 @@ few_of_field base type code shown =
     let second = units_before base code (middle ∷ behind) in
     let third = first_more is_alike middle behind in
     let fourth = units_before base shown end in
-    let paragraphs : paragraph_count (field_items base type code shown) ≡ paragraph_count inside = unmarked begin inside refl in
-    let codes : paragraph_count inside ≡ paragraph_count (unit_items base code) + paragraph_count (middle ∷ behind) = both_texts (unit_items base code) (middle ∷ behind) in
+    let paragraphs : paragraph_count (field_items base type code shown) ≡ paragraph_count inside = unmarked begin
+    inside refl in
+    let codes : paragraph_count inside ≡ paragraph_count (unit_items base code) + paragraph_count (middle ∷ behind) =
+    both_texts (unit_items base code) (middle ∷ behind) in
     let separator : paragraph_count (middle ∷ behind) ≡ paragraph_count behind = unmarked middle behind refl in
-    let units : paragraph_count behind ≡ paragraph_count (unit_items base shown) + 0 = both_texts (unit_items base shown) end in
+    let units : paragraph_count behind ≡ paragraph_count (unit_items base shown) + 0 = both_texts (unit_items base
+    shown) end in
     let no_codes = in_units base code in
     let no_units = in_units base shown in
     omega (arith, first, second, third, fourth, paragraphs, codes, separator, units, no_codes, no_units)
@@ -153,28 +174,33 @@ few_of_note units =
     let first = first_more is_alike number behind in
     let second = units_before empty units end in
     let paragraphs : paragraph_count (note_items units) ≡ paragraph_count behind = unmarked number behind refl in
-    let both : paragraph_count behind ≡ paragraph_count (unit_items empty units) + 1 = both_texts (unit_items empty units) end in
+    let both : paragraph_count behind ≡ paragraph_count (unit_items empty units) + 1 = both_texts (unit_items empty
+    units) end in
     let none = in_units empty units in
     omega (arith, first, second, paragraphs, both, none)
 
 few_of_row : (width : ℕ) (cells : List (List ℕ)) → run_count (row_items width cells) ≤ length cells + 2
 few_of_row width cells =
     let end = mark_item empty cell_mark (mark_with (row_settings (length cells) width)) in
-    let all = All-append (HasChp empty) (flat_map cell_items cells) (end ∷ []) (cells_have cells) (All-cons (HasChp empty) end [] refl (All-nil (HasChp empty))) in
+    let all = All-append (HasChp empty) (flat_map cell_items cells) (end ∷ []) (cells_have cells)
+    (All-cons (HasChp empty) end [] refl (All-nil (HasChp empty))) in
     let characters = joined_one is_alike (HasChp empty) (alike empty) (row_items width cells) all in
-    let both : paragraph_count (row_items width cells) ≡ paragraph_count (flat_map cell_items cells) + 1 = both_texts (flat_map cell_items cells) (end ∷ []) in
+    let both : paragraph_count (row_items width cells) ≡ paragraph_count (flat_map cell_items cells) + 1 = both_texts
+    (flat_map cell_items cells) (end ∷ []) in
     let before = in_cells cells in
     omega (arith, characters, both, before)
 
 -- ---- the changes of each command
 
-few_erased : (document : Document) (story : Story) (from to : ℕ) → sum_by (λ change. sum_by run_count (texts_put change)) (erased document story from to) ≤ 0
+few_erased : (document : Document) (story : Story) (from to : ℕ) → sum_by (λ change. sum_by run_count
+    (texts_put change)) (erased document story from to) ≤ 0
 unfolding stretches
 few_erased document Main from to = omega arith
 few_erased document (NoteText number) from to = omega arith
 few_erased document (HeadText number) from to = omega arith
 
-few_of_section : (main : List Item) (at : ℕ) (new : Bool) (set : Settings) → sum_by (λ change. sum_by run_count (texts_put change)) (section_changes main at new set) ≤ most_runs_of_section new
+few_of_section : (main : List Item) (at : ℕ) (new : Bool) (set : Settings) → sum_by (λ change. sum_by run_count
+    (texts_put change)) (section_changes main at new set) ≤ most_runs_of_section new
 unfolding stretches
 few_of_section main at false set = omega arith
 few_of_section main at true set = omega arith

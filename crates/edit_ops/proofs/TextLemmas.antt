@@ -1,5 +1,6 @@
 -- What a sound document says of the texts that a command may change.
-use Rattle.std.proofs.Common.{◌≡◌, ◌∙◌, refl, sym, ap, inl, inr, cond, ◌∷◌, zero, suc, ℕ, ◌+◌, ◌-◌, ◌<◌, ◌≤◌, Bool, true, false, List, [], length, take, drop, get_or, Option, Some, None, arith}
+use Rattle.std.proofs.Common.{◌≡◌, ◌∙◌, refl, sym, ap, inl, inr, cond, ◌∷◌, zero, suc, ℕ, ◌+◌, ◌-◌, ◌<◌, ◌≤◌, Bool}
+use Rattle.std.proofs.Common.{true, false, List, [], length, take, drop, get_or, Option, Some, None, arith}
 use Rattle.std.specs.Prelude.{slice_get, is_some, MatchOption}
 use Rattle.std.specs.List.{position_or_len, count_by, sum_by}
 use Rattle.std.specs.Option.{option_map, unwrap_or}
@@ -23,7 +24,8 @@ use Rattle.edit_ops.proofs.MarkPlaceLemmas.{nothing}
 
 -- ---- texts that are there
 
-pub text_weaker : {A : Type 0} (o : Option A) (P Q : A → Type 0) → MatchOption o ⊥ P → ((x : A) → o ≡ Some x → P x → Q x) → MatchOption o ⊥ Q
+pub text_weaker : {A : Type 0} (o : Option A) (P Q : A → Type 0) → MatchOption o ⊥ P → ((x : A) → o ≡ Some x → P x →
+    Q x) → MatchOption o ⊥ Q
 text_weaker None P Q h more = h
 text_weaker (Some x) P Q h more = more x refl h
 
@@ -36,12 +38,14 @@ part_of Main = part.Main
 part_of (Note k) = part.Note k
 part_of (Head k) = part.Head k
 
-pub right_text : (document : Document) (story : Story) (text : List Item) → IsRightDocument document → text_at document story ≡ Some text → IsRightText document.sheet (part_of story) text
+pub right_text : (document : Document) (story : Story) (text : List Item) → IsRightDocument document →
+    text_at document story ≡ Some text → IsRightText document.sheet (part_of story) text
 right_text document Main text right there = right.texts part.Main text there
 right_text document (Note k) text right there = right.texts (part.Note k) text there
 right_text document (Head k) text right there = right.texts (part.Head k) text there
 
-among : (texts : List (List Item)) (k : ℕ) (text : List Item) → slice_get texts k ≡ Some text → length text ≤ sum_by length texts
+among : (texts : List (List Item)) (k : ℕ) (text : List Item) → slice_get texts k ≡ Some text → length text ≤ sum_by
+    length texts
 among texts k text there =
     let within = slice_get_within texts k text there in
     let least : length (get_or texts k text) ≤ sum_by length texts = get_or-le-sum_by length texts k text within in
@@ -49,29 +53,36 @@ among texts k text there =
     omega arith
 
 -- a text has no more items than a document may have
-pub few_items : (document : Document) (story : Story) (text : List Item) → IsRightDocument document → text_at document story ≡ Some text → length text ≤ 499998
+pub few_items : (document : Document) (story : Story) (text : List Item) → IsRightDocument document → text_at document
+    story ≡ Some text → length text ≤ 499998
 few_items document Main text right there =
-    let few : length document.main + (sum_by length document.notes + sum_by length document.heads) ≤ 499998 = right.few in
+    let few : length document.main + (sum_by length document.notes + sum_by length document.heads) ≤ 499998 =
+    right.few in
     let same : length document.main ≡ length text = ap length (same_Some document.main text there) in
     omega arith
 few_items document (Note k) text right there =
-    let few : length document.main + (sum_by length document.notes + sum_by length document.heads) ≤ 499998 = right.few in
+    let few : length document.main + (sum_by length document.notes + sum_by length document.heads) ≤ 499998 =
+    right.few in
     let one = among document.notes k text there in
     omega arith
 few_items document (Head k) text right there =
-    let few : length document.main + (sum_by length document.notes + sum_by length document.heads) ≤ 499998 = right.few in
+    let few : length document.main + (sum_by length document.notes + sum_by length document.heads) ≤ 499998 =
+    right.few in
     let one = among document.heads k text there in
     omega arith
 
 -- ---- the first entry that passes
 
-pub first_upto : {A : Type 0} (p : A → Bool) (entries : List A) (at k : ℕ) (d : A) → at ≤ k → p (get_or entries k d) ≡ true → at + position_or_len p (drop at entries) ≤ k
+pub first_upto : {A : Type 0} (p : A → Bool) (entries : List A) (at k : ℕ) (d : A) → at ≤ k → p (get_or entries k d) ≡
+    true → at + position_or_len p (drop at entries) ≤ k
 first_upto p entries at k d after passes =
     elim (cases_lt (k - at) (position_or_len p (drop at entries))) [
       | inl less ↦
           let n : at + (k - at) ≡ k = omega arith in
-          let fails : p (get_or (drop at entries) (k - at) d) ≡ false = fails_before_first p (drop at entries) (k - at) d less in
-          let same : get_or (drop at entries) (k - at) d ≡ get_or entries k d = get_or-drop at entries (k - at) d ∙ ap (λ i. get_or entries i d) n in
+          let fails : p (get_or (drop at entries) (k - at) d) ≡ false = fails_before_first p (drop at entries)
+          (k - at) d less in
+          let same : get_or (drop at entries) (k - at) d ≡ get_or entries k d = get_or-drop at entries (k - at) d ∙ ap
+          (λ i. get_or entries i d) n in
           absurd (grind (arith, sym fails ∙ (ap p same ∙ passes)))
       | inr not_less ↦ omega (arith, not_less)
     ]
@@ -99,23 +110,28 @@ last_mark part text ends some = elim ends [
   | inr head ↦ absurd (let none = ap length head.1 in omega (arith, none, some))
 ]
 
-pub mark_within : (sheet : Sheet) (part : Where) (text : List Item) (at : ℕ) → IsRightText sheet part text → at < length text → mark_place text at < length text
+pub mark_within : (sheet : Sheet) (part : Where) (text : List Item) (at : ℕ) → IsRightText sheet part text →
+    at < length text → mark_place text at < length text
 mark_within sheet part text at right within =
     let last = last_mark part text right.ends (omega arith) in
     let marked = (right.placed (length text - 1) last.item last.here).mark.1 (inl last.unit) in
     let passes : is_some (get_or text (length text - 1) nothing).mark ≡ true =
-    ap (λ item. is_some item.mark) (get_or_from_slice_get text (length text - 1) last.item nothing last.here) ∙ marked in
+    ap (λ item. is_some item.mark) (get_or_from_slice_get text (length text - 1) last.item nothing last.here) ∙ marked
+    in
     let upto = first_upto (λ item. is_some item.mark) text at (length text - 1) nothing (omega arith) passes in
     omega (arith, upto, within)
 
 -- the main text's last item ends a section
-pub section_within : (document : Document) (at : ℕ) → IsRightDocument document → at < length document.main → section_place document.main at < length document.main
+pub section_within : (document : Document) (at : ℕ) → IsRightDocument document → at < length document.main →
+    section_place document.main at < length document.main
 section_within document at right within =
     let last = main_ends document right in
     let ends = ends_main document right in
     let passes : is_some (get_or document.main (length document.main - 1) nothing).sect ≡ true =
-    ap (λ item. is_some item.sect) (get_or_from_slice_get document.main (length document.main - 1) last.item nothing last.here) ∙ ends in
-    let upto = first_upto (λ item. is_some item.sect) document.main at (length document.main - 1) nothing (omega arith) passes in
+    ap (λ item. is_some item.sect) (get_or_from_slice_get document.main (length document.main - 1) last.item nothing
+    last.here) ∙ ends in
+    let upto = first_upto (λ item. is_some item.sect) document.main at (length document.main - 1) nothing
+    (omega arith) passes in
     omega (arith, upto, within)
 
 -- a mark whose unit is told is there
@@ -133,13 +149,17 @@ take_twice (suc from) zero xs ordered = absurd (omega arith)
 take_twice (suc from) (suc to) [] ordered = refl
 take_twice (suc from) (suc to) (x ∷ xs) ordered = ap (λ more. x ∷ more) (take_twice from to xs (omega arith))
 
-pub count_within : {A : Type 0} (p : A → Bool) (entries : List A) (at : ℕ) → count_by p (take at entries) ≤ count_by p entries
+pub count_within : {A : Type 0} (p : A → Bool) (entries : List A) (at : ℕ) → count_by p (take at entries) ≤ count_by p
+    entries
 count_within p entries at =
-    let whole : count_by p (take at entries) + count_by p (drop at entries) ≡ count_by p entries = sum_by-take-drop (λ x. cond (p x) 1 0) entries at in
+    let whole : count_by p (take at entries) + count_by p (drop at entries) ≡ count_by p entries = sum_by-take-drop
+    (λ x. cond (p x) 1 0) entries at in
     omega arith
 
-pub count_upto : {A : Type 0} (p : A → Bool) (entries : List A) (from to : ℕ) → from ≤ to → count_by p (take from entries) ≤ count_by p (take to entries)
+pub count_upto : {A : Type 0} (p : A → Bool) (entries : List A) (from to : ℕ) → from ≤ to →
+    count_by p (take from entries) ≤ count_by p (take to entries)
 count_upto p entries from to ordered =
     let within = count_within p (take to entries) from in
-    let same : count_by p (take from (take to entries)) ≡ count_by p (take from entries) = ap (count_by p) (take_twice from to entries ordered) in
+    let same : count_by p (take from (take to entries)) ≡ count_by p (take from entries) = ap (count_by p)
+    (take_twice from to entries ordered) in
     omega arith

@@ -1,5 +1,6 @@
 -- A map without its codes that pass a test.
-use Rattle.std.proofs.Common.{◌≡◌, ◌∙◌, refl, sym, ap, ℕ, Bool, true, false, cond, not, ◌==◌, ◌||◌, List, [], ◌∷◌, map, Option, Some, None, arith}
+use Rattle.std.proofs.Common.{◌≡◌, ◌∙◌, refl, sym, ap, ℕ, Bool, true, false, cond, not, ◌==◌, ◌||◌, List, [], ◌∷◌}
+use Rattle.std.proofs.Common.{map, Option, Some, None, arith}
 use Rattle.std.specs.List.{filter}
 use Rattle.std.specs.Ordering.{nat_cmp}
 use Rattle.std.specs.Cmp.{unsigned_tied}
@@ -16,33 +17,45 @@ abbrev pub keys : Entries → List ℕ
 keys es = map (λ entry. entry.0) es
 
 -- whether a code is among one more that may be kept
-among_one : (p : ℕ → Bool) (code k : ℕ) (ks : List ℕ) (test same : Bool) → p code ≡ false → p k ≡ test → (code == k) ≡ same → is_among code ks ≡ false → is_among code (cond test (k ∷ ks) ks) ≡ false
+among_one : (p : ℕ → Bool) (code k : ℕ) (ks : List ℕ) (test same : Bool) → p code ≡ false → p k ≡ test →
+    (code == k) ≡ same → is_among code ks ≡ false → is_among code (cond test (k ∷ ks) ks) ≡ false
 among_one p code k ks false same fails passes is rest = rest
 among_one p code k ks true false fails passes is rest = ap (λ b. b || is_among code ks) is ∙ rest
-among_one p code k ks true true fails passes is rest = absurd (grind (arith, sym fails ∙ (ap p (eqb-true code k is) ∙ passes)))
+among_one p code k ks true true fails passes is rest = absurd (grind (
+  arith,
+  sym fails ∙ (ap p (eqb-true code k is) ∙
+      passes),
+))
 
 -- a code that does not pass is not among those that do
 among_none : (p : ℕ → Bool) (code : ℕ) (ks : List ℕ) → p code ≡ false → is_among code (filter p ks) ≡ false
 among_none p code [] fails = refl
-among_none p code (k ∷ ks) fails = among_one p code k (filter p ks) (p k) (code == k) fails refl refl (among_none p code ks fails)
+among_none p code (k ∷ ks) fails = among_one p code k (filter p ks) (p k) (code == k) fails refl refl (among_none p
+    code ks fails)
 
-first_found : (p : ℕ → Bool) (code k : ℕ) (ks : List ℕ) (test : Bool) → p code ≡ true → p k ≡ test → (code == k) ≡ true → is_among code (cond test (k ∷ ks) ks) ≡ true
+first_found : (p : ℕ → Bool) (code k : ℕ) (ks : List ℕ) (test : Bool) → p code ≡ true → p k ≡ test →
+    (code == k) ≡ true → is_among code (cond test (k ∷ ks) ks) ≡ true
 first_found p code k ks true passes is same = ap (λ b. b || is_among code ks) same
 first_found p code k ks false passes is same = absurd (grind (arith, sym passes ∙ (ap p (eqb-true code k same) ∙ is)))
 
-later_found : (code k : ℕ) (ks : List ℕ) (test : Bool) → (code == k) ≡ false → is_among code ks ≡ true → is_among code (cond test (k ∷ ks) ks) ≡ true
+later_found : (code k : ℕ) (ks : List ℕ) (test : Bool) → (code == k) ≡ false → is_among code ks ≡ true →
+    is_among code (cond test (k ∷ ks) ks) ≡ true
 later_found code k ks true other rest = ap (λ b. b || is_among code ks) other ∙ rest
 later_found code k ks false other rest = rest
 
-one_found : (p : ℕ → Bool) (code k : ℕ) (ks : List ℕ) (same : Bool) → p code ≡ true → (code == k) ≡ same → ((code == k) ≡ false → is_among code ks ≡ true) → is_among code (cond (p k) (k ∷ ks) ks) ≡ true
+one_found : (p : ℕ → Bool) (code k : ℕ) (ks : List ℕ) (same : Bool) → p code ≡ true → (code == k) ≡ same →
+    ((code == k) ≡ false → is_among code ks ≡ true) → is_among code (cond (p k) (k ∷ ks) ks) ≡ true
 one_found p code k ks true passes is rest = first_found p code k ks (p k) passes refl is
 one_found p code k ks false passes is rest = later_found code k ks (p k) is (rest is)
 
-later_entry : (code : ℕ) (e : ℕ × List ℕ) (es : Entries) (value : List ℕ) → find nat_cmp code (e ∷ es) ≡ Some value → (code == e.0) ≡ false → find nat_cmp code es ≡ Some value
-later_entry code e es value there other = sym (ap (λ b. cond b (Some e.1) (find nat_cmp code es)) (unsigned_tied code e.0 ∙ other)) ∙ there
+later_entry : (code : ℕ) (e : ℕ × List ℕ) (es : Entries) (value : List ℕ) → find nat_cmp code (e ∷ es) ≡ Some value →
+    (code == e.0) ≡ false → find nat_cmp code es ≡ Some value
+later_entry code e es value there other = sym (ap (λ b. cond b (Some e.1) (find nat_cmp code es)) (unsigned_tied code
+    e.0 ∙ other)) ∙ there
 
 -- one that passes is, where an entry has it
-among_there : (p : ℕ → Bool) (code : ℕ) (es : Entries) (value : List ℕ) → p code ≡ true → find nat_cmp code es ≡ Some value → is_among code (filter p (keys es)) ≡ true
+among_there : (p : ℕ → Bool) (code : ℕ) (es : Entries) (value : List ℕ) → p code ≡ true → find nat_cmp code es ≡ Some
+    value → is_among code (filter p (keys es)) ≡ true
 among_there p code [] value passes there = absurd (cc (there))
 among_there p code (e ∷ es) value passes there =
     one_found p code e.0 (filter p (keys es)) (code == e.0) passes refl
@@ -52,17 +65,25 @@ nothing_kept : (b : Bool) (found : Option (List ℕ)) → found ≡ None → con
 nothing_kept true found is = is
 nothing_kept false found is = refl
 
-among_is : (p : ℕ → Bool) (settings : Settings) (code : ℕ) (value : List ℕ) (test : Bool) → p code ≡ test → find nat_cmp code (entries settings) ≡ Some value → is_among code (filter p (keys (entries settings))) ≡ test
+among_is : (p : ℕ → Bool) (settings : Settings) (code : ℕ) (value : List ℕ) (test : Bool) → p code ≡ test →
+    find nat_cmp code (entries settings) ≡ Some value → is_among code (filter p (keys (entries settings))) ≡ test
 among_is p settings code value true passes there = among_there p code (entries settings) value passes there
 among_is p settings code value false passes there = among_none p code (keys (entries settings)) passes
 
-by_value : (p : ℕ → Bool) (settings : Settings) (code : ℕ) (o : Option (List ℕ)) → find nat_cmp code (entries settings) ≡ o → cond (not (is_among code (filter p (keys (entries settings))))) o None ≡ cond (not (p code)) o None
-by_value p settings code None there = nothing_kept (not (is_among code (filter p (keys (entries settings))))) None refl ∙ sym (nothing_kept (not (p code)) None refl)
-by_value p settings code (Some value) there = ap (λ b. cond (not b) (Some value) None) (among_is p settings code value (p code) refl there)
+by_value : (p : ℕ → Bool) (settings : Settings) (code : ℕ) (o : Option (List ℕ)) → find nat_cmp code
+    (entries settings) ≡ o → cond (not (is_among code (filter p (keys (entries settings))))) o None ≡ cond
+    (not (p code)) o None
+by_value p settings code None there = nothing_kept (not (is_among code (filter p (keys (entries settings))))) None
+    refl ∙ sym (nothing_kept (not (p code)) None refl)
+by_value p settings code (Some value) there = ap (λ b. cond (not b) (Some value) None) (among_is p settings code value
+    (p code) refl there)
 
 -- the map without its codes that pass
-pub without_listed : (p : ℕ → Bool) (settings : Settings) → without (filter p (keys (entries settings))) settings ≡ retain_keys settings (λ code. not (p code))
+pub without_listed : (p : ℕ → Bool) (settings : Settings) → without (filter p (keys (entries settings))) settings ≡
+    retain_keys settings (λ code. not (p code))
 without_listed p settings =
-    same_settings (without (filter p (keys (entries settings))) settings) (retain_keys settings (λ code. not (p code))) (λ code.
+    same_settings (without (filter p (keys (entries settings))) settings) (retain_keys settings (λ code. not
+    (p code))) (λ code.
     get-without (filter p (keys (entries settings))) settings code
-    ∙ (by_value p settings code (get settings code) (sym (get-entries settings code)) ∙ sym (get-retained settings (λ key. not (p key)) code)))
+    ∙ (by_value p settings code (get settings code) (sym (get-entries settings code)) ∙ sym (get-retained settings
+    (λ key. not (p key)) code)))

@@ -10,12 +10,14 @@ use Rattle.prop_map.specs.Overlay.{overlay, modified_characters, modified_paragr
 use Rattle.style_sheet.specs.declared.styles.Style.{Style}
 use Rattle.style_sheet.specs.declared.styles.Kind.{Kind}
 use Rattle.style_sheet.specs.Sheet.{Sheet, style_at}
-use Rattle.style_sheet.specs.Changes.{characters_of, with_characters, paragraphs_of, with_paragraphs, with_kind, with_style}
+use Rattle.style_sheet.specs.Changes.{characters_of, with_characters, paragraphs_of, with_paragraphs, with_kind}
+use Rattle.style_sheet.specs.Changes.{with_style}
 use Rattle.plain_doc.specs.declared.item.Item.{Item}
 use Rattle.plain_doc.specs.declared.item.Mark.{Mark}
 use Rattle.plain_doc.specs.declared.document.Document.{Document}
 use Rattle.edit_ops.specs.declared.changes.Change.{Change}
-use Rattle.edit_ops.specs.declared.changes.Change.TheVariants.{SpliceText, ModifyItems, SetSection, SpliceNotes, SpliceHeads, SetStyleCharacters, SetStyleParagraphs}
+use Rattle.edit_ops.specs.declared.changes.Change.TheVariants.{SpliceText, ModifyItems, SetSection, SpliceNotes}
+use Rattle.edit_ops.specs.declared.changes.Change.TheVariants.{SpliceHeads, SetStyleCharacters, SetStyleParagraphs}
 
 -- the list with the entry at the place changed, where there is one
 abbrev pub put_changed : {A : Type 0} → List A → ℕ → (A → A) → Option A → List A
@@ -37,7 +39,11 @@ with_text change (Head number) document = record document { heads = changed_at d
 
 -- a mark and an item after a modifier
 abbrev pub modified_mark : Modifier → Mark → Mark
-modified_mark modifier mark = record { istd = mark_style modifier mark.istd; pap = modified_paragraph modifier mark.pap }
+modified_mark modifier mark = record {
+  istd = mark_style modifier mark.istd;
+  pap = modified_paragraph modifier
+      mark.pap;
+}
 
 abbrev pub modified_item : Modifier → Item → Item
 modified_item modifier item = record item {

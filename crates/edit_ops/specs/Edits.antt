@@ -10,11 +10,15 @@ use Rattle.prop_map.specs.Modifiers.{no_modifier}
 use Rattle.plain_doc.specs.declared.item.Item.{Item}
 use Rattle.plain_doc.specs.declared.document.Document.{Document}
 use Rattle.edit_script.specs.declared.commands.Command.{Command}
-use Rattle.edit_script.specs.declared.commands.Command.TheVariants.{Insert, Erase, Char, Plain, Para, Style, Field, Note, Split, Merge, Sect, Row, StyleChar, StylePara, Save}
+use Rattle.edit_script.specs.declared.commands.Command.TheVariants.{Insert, Erase, Char, Plain, Para, Style, Field}
+use Rattle.edit_script.specs.declared.commands.Command.TheVariants.{Note, Split, Merge, Sect, Row, StyleChar}
+use Rattle.edit_script.specs.declared.commands.Command.TheVariants.{StylePara, Save}
 use Rattle.edit_ops.specs.declared.changes.Change.{Change}
-use Rattle.edit_ops.specs.declared.changes.Change.TheVariants.{SpliceText, ModifyItems, SetSection, SpliceNotes, SpliceHeads, SetStyleCharacters, SetStyleParagraphs}
+use Rattle.edit_ops.specs.declared.changes.Change.TheVariants.{SpliceText, ModifyItems, SetSection, SpliceNotes}
+use Rattle.edit_ops.specs.declared.changes.Change.TheVariants.{SpliceHeads, SetStyleCharacters, SetStyleParagraphs}
 use Rattle.edit_ops.specs.Places.{items_at, mark_place, section_place, note_number, head_number}
-use Rattle.edit_ops.specs.Fresh.{base_settings, inserted_items, field_items, note_reference, note_items, split_item, section_item, row_items}
+use Rattle.edit_ops.specs.Fresh.{base_settings, inserted_items, field_items, note_reference, note_items, split_item}
+use Rattle.edit_ops.specs.Fresh.{section_item, row_items}
 use Rattle.edit_ops.specs.Changes.{all_changed}
 
 -- items put before a place of a text
@@ -34,7 +38,8 @@ erased document (HeadText number) from to = SpliceText (HeadText number) from to
 -- the modifier on the mark of the paragraph that holds the place
 abbrev pub modified_at_mark : Document → Story → ℕ → Modifier → List Change
 modified_at_mark document story at modifier =
-    ModifyItems story (mark_place (items_at document story) at) (mark_place (items_at document story) at + 1) modifier ∷ []
+    ModifyItems story (mark_place (items_at document story) at) (mark_place (items_at document story) at + 1) modifier
+    ∷ []
 
 -- the modifiers that set characters, clear them, set paragraphs, and name a style
 abbrev pub setting_characters : Settings → Modifier

@@ -5,7 +5,9 @@ use Rattle.plain_doc.specs.Sound.{IsSound}
 use Rattle.edit_script.specs.declared.commands.Command.{Command}
 use Rattle.edit_ops.specs.declared.faults.EditFault.{EditFault}
 use Rattle.edit_ops.specs.declared.faults.EditFault.TheVariants.{Range, Code, Rule, Limit, Memory}
-use Rattle.edit_script.specs.declared.commands.Command.TheVariants.{Insert, Erase, Char, Plain, Para, Style, Field, Note, Split, Merge, Sect, Row, StyleChar, StylePara, Save}
+use Rattle.edit_script.specs.declared.commands.Command.TheVariants.{Insert, Erase, Char, Plain, Para, Style, Field}
+use Rattle.edit_script.specs.declared.commands.Command.TheVariants.{Note, Split, Merge, Sect, Row, StyleChar}
+use Rattle.edit_script.specs.declared.commands.Command.TheVariants.{StylePara, Save}
 use Rattle.edit_ops.specs.Edits.{changes_of}
 use Rattle.edit_ops.specs.EditFacts.{edit_facts}
 use Rattle.edit_ops.specs.Causes.{CanBeTried, IsEditFault, IsAcceptedEdit}
@@ -21,8 +23,10 @@ IsCause Memory = ⊥
 
 -- an edit has one fault at most, and none where it is accepted
 pub record EditHasOneOutcome : Type 0 where
-  pub one : (document : Document) (command : Command) (one other : EditFault) → IsCause one → IsCause other → IsEditFault document command one → IsEditFault document command other → one ≡ other
-  pub none : (document : Document) (command : Command) (fault : EditFault) → IsCause fault → IsAcceptedEdit document command → ¬ (IsEditFault document command fault)
+  pub one : (document : Document) (command : Command) (one other : EditFault) → IsCause one → IsCause other →
+      IsEditFault document command one → IsEditFault document command other → one ≡ other
+  pub none : (document : Document) (command : Command) (fault : EditFault) → IsCause fault → IsAcceptedEdit document
+      command → ¬ (IsEditFault document command fault)
 
 -- a command makes three changes at most
 abbrev pub ChangesAreFew : Type 0
@@ -30,7 +34,8 @@ ChangesAreFew = (document : Document) (command : Command) → length (changes_of
 
 -- the changes of an edit that may be tried can be made, one after another
 abbrev pub ChangesCanBeMade : Type 0
-ChangesCanBeMade = (document : Document) (command : Command) → IsSound document → CanBeTried document command → CanMakeAll (changes_of document command) document
+ChangesCanBeMade = (document : Document) (command : Command) → IsSound document → CanBeTried document command →
+    CanMakeAll (changes_of document command) document
 
 -- a command that sets codes, clears them or names a style
 abbrev pub IsFormatting : Command → Type 0
@@ -56,4 +61,5 @@ pub record MovesNoItems (document : Document) (command : Command) : Type 0 where
   pub removed : (edit_facts document command).units_out ≡ 0
 
 abbrev pub FormattingMovesNoItems : Type 0
-FormattingMovesNoItems = (document : Document) (command : Command) → IsFormatting command → MovesNoItems document command
+FormattingMovesNoItems = (document : Document) (command : Command) → IsFormatting command → MovesNoItems document
+    command

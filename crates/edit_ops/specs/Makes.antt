@@ -5,7 +5,8 @@ use Rattle.prop_map.specs.Modifiers.{IsFormedModifier}
 use Rattle.style_sheet.specs.Chain.{kind_at}
 use Rattle.plain_doc.specs.declared.document.Document.{Document}
 use Rattle.edit_ops.specs.declared.changes.Change.{Change}
-use Rattle.edit_ops.specs.declared.changes.Change.TheVariants.{SpliceText, ModifyItems, SetSection, SpliceNotes, SpliceHeads, SetStyleCharacters, SetStyleParagraphs}
+use Rattle.edit_ops.specs.declared.changes.Change.TheVariants.{SpliceText, ModifyItems, SetSection, SpliceNotes}
+use Rattle.edit_ops.specs.declared.changes.Change.TheVariants.{SpliceHeads, SetStyleCharacters, SetStyleParagraphs}
 use Rattle.edit_ops.specs.Ranges.{HasText, HasRange}
 use Rattle.edit_ops.specs.Changes.{changed}
 
@@ -18,7 +19,8 @@ pub record CanSplice {A : Type 0} (from to : ℕ) (fresh entries : List A) : Typ
 -- what it names is there, and its settings may stand there
 abbrev pub CanMake : Document → Change → Type 0
 CanMake document (SpliceText story from to fresh) = HasText document story (CanSplice from to fresh)
-CanMake document (ModifyItems story from to modifier) = HasText document story (HasRange from to) × IsFormedModifier modifier
+CanMake document (ModifyItems story from to modifier) = HasText document story (HasRange from to) × IsFormedModifier
+    modifier
 CanMake document (SetSection at set) = (at < length document.main) × IsPropertyMap section_groups set
 CanMake document (SpliceNotes from to fresh) = CanSplice from to fresh document.notes
 CanMake document (SpliceHeads from to fresh) = CanSplice from to fresh document.heads

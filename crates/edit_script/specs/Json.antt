@@ -27,7 +27,8 @@ each_of reads (item value more) = do
   others ← each_of reads more
   Some (first ∷ others)
 
--- what a reader answers: what the value is read as, or a misfit exactly where it has not the form; want of memory is free
+-- what a reader answers: what the value is read as, or a misfit exactly where it has not the form; want of memory is
+-- free
 abbrev pub Gives : {A : Type 0} → Result A Misfit → Option A → Type 0
 Gives (Ok given) found = found ≡ Some given
 Gives (Err Shape) found = found ≡ None

@@ -63,13 +63,15 @@ IsScript bytes commands = SpellsArray bytes (λ members. IsScriptOf members comm
 -- one and no save is last
 abbrev pub IsMembersFault : List Data → ScriptFault → Type 0
 IsMembersFault members Json = ⊥
-IsMembersFault members (Shape index) = (length members ≤ most_commands) × (IsFirstMisfit members index ⊎ EndsWithoutSave members index)
+IsMembersFault members (Shape index) = (length members ≤ most_commands) × (IsFirstMisfit members index ⊎
+    EndsWithoutSave members index)
 IsMembersFault members TooLong = most_commands < length members
 IsMembersFault members Memory = ⊤
 
 -- what is wrong with the bytes first: they are no JSON; they are no array; or what is wrong with its members
 abbrev pub IsScriptFault : List ℕ → ScriptFault → Type 0
 IsScriptFault bytes Json = (value : Data) → ¬ (IsJson bytes value)
-IsScriptFault bytes (Shape index) = ((index ≡ 0) × SpellsNoArray bytes) ⊎ SpellsArray bytes (λ members. IsMembersFault members (Shape index))
+IsScriptFault bytes (Shape index) = ((index ≡ 0) × SpellsNoArray bytes) ⊎ SpellsArray bytes (λ members. IsMembersFault
+    members (Shape index))
 IsScriptFault bytes TooLong = SpellsArray bytes (λ members. IsMembersFault members TooLong)
 IsScriptFault bytes Memory = ⊤

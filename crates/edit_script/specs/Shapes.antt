@@ -3,10 +3,13 @@ use Rattle.std.specs.Prelude.{ℕ, ◌&&◌, ◌==◌, List, bytes_eq, codes, Op
 use Rattle.serde_json.specs.Data.{Data}
 use Rattle.serde_json.specs.Find.{as_bool, as_str}
 use Rattle.edit_script.specs.declared.commands.Command.{Command}
-use Rattle.edit_script.specs.declared.commands.Command.TheVariants.{Insert, Erase, Char, Plain, Para, Style, Field, Note, Split, Merge, Sect, Row, StyleChar, StylePara, Save}
+use Rattle.edit_script.specs.declared.commands.Command.TheVariants.{Insert, Erase, Char, Plain, Para, Style, Field}
+use Rattle.edit_script.specs.declared.commands.Command.TheVariants.{Note, Split, Merge, Sect, Row, StyleChar}
+use Rattle.edit_script.specs.declared.commands.Command.TheVariants.{StylePara, Save}
 use Rattle.edit_script.specs.Json.{◌>>=◌}
 use Rattle.edit_script.specs.Keys.{key, keys_in}
-use Rattle.edit_script.specs.Values.{position, short_number, byte_number, story_of, units_of, cells_of, settings_of, mode_of}
+use Rattle.edit_script.specs.Values.{position, short_number, byte_number, story_of, units_of, cells_of, settings_of}
+use Rattle.edit_script.specs.Values.{mode_of}
 
 abbrev pub insert_of : Data → Option Command
 insert_of value = do

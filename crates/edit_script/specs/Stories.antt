@@ -1,5 +1,6 @@
 -- The words that name the texts of a document.
-use Rattle.std.specs.Prelude.{ℕ, ◌^◌, nat_lt, List, length, take, drop, bytes_eq, decimal, codes, Option, Some, None, option_map, if◌then◌else◌}
+use Rattle.std.specs.Prelude.{ℕ, ◌^◌, nat_lt, List, length, take, drop, bytes_eq, decimal, codes, Option, Some, None}
+use Rattle.std.specs.Prelude.{option_map, if◌then◌else◌}
 use Rattle.std.specs.Option.{option_or}
 use Rattle.std.specs.Str.Parse.{digits_value}
 use Rattle.doc_bits.specs.declared.places.Story.{Story}
@@ -23,4 +24,5 @@ number_after prefix word =
 abbrev pub story_with_name : List ℕ → Option Story
 story_with_name word =
     if bytes_eq word (codes "main") then Some Main else
-    option_or (option_map Note (number_after (codes "note:") word)) (option_map Head (number_after (codes "head:") word))
+    option_or (option_map Note (number_after (codes "note:") word)) (option_map Head (number_after (codes "head:")
+    word))

@@ -1,5 +1,6 @@
 -- What single values are read as.
-use Rattle.std.specs.Prelude.{ℕ, ◌^◌, Bool, true, false, List, flat_map, chars, bytes_eq, codes, Option, Some, None, option_map, if◌then◌else◌}
+use Rattle.std.specs.Prelude.{ℕ, ◌^◌, Bool, true, false, List, flat_map, chars, bytes_eq, codes, Option, Some, None}
+use Rattle.std.specs.Prelude.{option_map, if◌then◌else◌}
 use Rattle.std.specs.Char.Escape.{encode_utf16}
 use Rattle.std.specs.FinMap.{empty, insert}
 use Rattle.serde_json.specs.Data.{Data, Members, no_members, member}
@@ -10,7 +11,8 @@ use Rattle.edit_script.specs.Json.{◌>>=◌, each_of}
 use Rattle.edit_script.specs.Hex.{bytes_of_digits, code_of_digits}
 use Rattle.edit_script.specs.Stories.{below, story_with_name}
 
--- a whole number below the limit; what is written with a point, an exponent or as -0, and what 64 bits do not hold, is none
+-- a whole number below the limit; what is written with a point, an exponent or as -0, and what 64 bits do not hold,
+-- is none
 abbrev pub whole_number : ℕ → Data → Option ℕ
 whole_number limit value = as_number value >>= as_u64 >>= below limit
 
@@ -45,7 +47,8 @@ cells_of value = as_array value >>= each_of units_of
 abbrev pub bytes_of : Data → Option (List ℕ)
 bytes_of value = as_str value >>= bytes_of_digits
 
--- the settings where each member in turn was put into these: its key is a code, its value the bytes of the operand's value
+-- the settings where each member in turn was put into these: its key is a code, its value the bytes of the operand's
+-- value
 abbrev pub settings_put : Members → Settings → Option Settings
 settings_put no_members set = Some set
 settings_put (member key value more) set = do

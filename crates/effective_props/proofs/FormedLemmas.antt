@@ -1,5 +1,6 @@
 -- What well-formed layers make is well formed.
-use Rattle.std.proofs.Common.{◌≡◌, ℕ, ◌==◌, ◌&&◌, slice_index, Bool, true, false, cond, List, [], ◌∷◌, length, Option, Some, None, refl, sym, ◌∙◌, subst, arith}
+use Rattle.std.proofs.Common.{◌≡◌, ℕ, ◌==◌, ◌&&◌, slice_index, Bool, true, false, cond, List, [], ◌∷◌, length, Option}
+use Rattle.std.proofs.Common.{Some, None, refl, sym, ◌∙◌, subst, arith}
 use Rattle.std.proofs.lemmas.List.Elements.{All-nil, All-cons, All-head, All-tail}
 use Rattle.std.proofs.lemmas.Bool.{eqb-true}
 use Rattle.std.specs.List.{All, cons_option, last_or, fold}
@@ -19,7 +20,8 @@ abbrev pub IfSetting : ℕ → ℕ → Option (List ℕ) → Type 0
 IfSetting groups code o = (value : List ℕ) → o ≡ Some value → IsMapEntry groups (code, value)
 
 -- other bytes of the same length may stand there too
-same_length : (groups code : ℕ) (a b : List ℕ) → length a ≡ length b → AreBytes b → IsMapEntry groups (code, a) → IsMapEntry groups (code, b)
+same_length : (groups code : ℕ) (a b : List ℕ) → length a ≡ length b → AreBytes b → IsMapEntry groups (code, a) →
+    IsMapEntry groups (code, b)
 same_length groups code a b e bytes h = record {
   setting = record {
     entry = record {
@@ -55,48 +57,66 @@ length_byte value byte e = eqb-true (length value) 1 (first_of (length value == 
     first_of true b e = refl
     first_of false b e = e
 
-setting_toggled : (groups code : ℕ) (before : Option (List ℕ)) (value : List ℕ) → IfSetting groups code before → IsMapEntry groups (code, value) → IfSetting groups code (toggled before value)
+setting_toggled : (groups code : ℕ) (before : Option (List ℕ)) (value : List ℕ) → IfSetting groups code before →
+    IsMapEntry groups (code, value) → IfSetting groups code (toggled before value)
 setting_toggled groups code before value old h =
-    elim (is_keep value) as (λ b. IfSetting groups code (cond b before (cond (is_turn value) (Some (opposite before)) (Some value)))) [
+    elim (is_keep value) as (λ b. IfSetting groups code (cond b before (cond (is_turn value) (Some (opposite before))
+    (Some value)))) [
       | true ↦ old
-      | false ↦ elim (is_turn value) as (λ b. is_turn value ≡ b → IfSetting groups code (cond b (Some (opposite before)) (Some value))) [
-        | true ↦ λ turn v e. subst (λ w. IsMapEntry groups (code, w)) (some_is (opposite before) v e) (same_length groups code value (opposite before) (length_byte value 0x81 turn ∙ sym (length_opposite before)) (opposite_bytes before) h)
-        | false ↦ λ turn v e. subst (λ w. IsMapEntry groups (code, w)) (some_is value v e) h
-      ] refl
+      | false ↦ elim (is_turn value) as (λ b. is_turn value ≡ b → IfSetting groups code
+          (cond b (Some (opposite before)) (Some value))) [
+            | true ↦ λ turn v e. subst (λ w. IsMapEntry groups (code, w)) (some_is (opposite before) v e) (same_length
+                groups code value (opposite before) (length_byte value 0x81 turn ∙ sym (length_opposite before))
+                (opposite_bytes before) h)
+            | false ↦ λ turn v e. subst (λ w. IsMapEntry groups (code, w)) (some_is value v e) h
+          ] refl
     ]
 
-setting_fold : (groups code : ℕ) (values : List (List ℕ)) (before : Option (List ℕ)) → IfSetting groups code before → All (λ v. IsMapEntry groups (code, v)) values → IfSetting groups code (fold toggled before values)
+setting_fold : (groups code : ℕ) (values : List (List ℕ)) (before : Option (List ℕ)) → IfSetting groups code before →
+    All (λ v. IsMapEntry groups (code, v)) values → IfSetting groups code (fold toggled before values)
 setting_fold groups code [] before old all = old
 setting_fold groups code (v ∷ values) before old all =
-    setting_fold groups code values (toggled before v) (setting_toggled groups code before v old (All-head (λ w. IsMapEntry groups (code, w)) v values all)) (All-tail (λ w. IsMapEntry groups (code, w)) v values all)
+    setting_fold groups code values (toggled before v) (setting_toggled groups code before v old
+    (All-head (λ w. IsMapEntry groups (code, w)) v values all)) (All-tail (λ w. IsMapEntry groups (code, w)) v
+    values all)
 
-setting_last : (groups code : ℕ) (values : List (List ℕ)) (before : Option (List ℕ)) → IfSetting groups code before → All (λ v. IsMapEntry groups (code, v)) values → IfSetting groups code (last_or before values)
+setting_last : (groups code : ℕ) (values : List (List ℕ)) (before : Option (List ℕ)) → IfSetting groups code before →
+    All (λ v. IsMapEntry groups (code, v)) values → IfSetting groups code (last_or before values)
 setting_last groups code [] before old all = old
 setting_last groups code (v ∷ values) before old all =
-    setting_last groups code values (Some v) (λ w e. subst (λ x. IsMapEntry groups (code, x)) (some_is v w e) (All-head (λ w. IsMapEntry groups (code, w)) v values all)) (All-tail (λ w. IsMapEntry groups (code, w)) v values all)
+    setting_last groups code values (Some v) (λ w e. subst (λ x. IsMapEntry groups (code, x)) (some_is v w e)
+    (All-head (λ w. IsMapEntry groups (code, w)) v values all)) (All-tail (λ w. IsMapEntry groups (code, w)) v
+    values all)
 
 setting_none : (groups code : ℕ) → IfSetting groups code None
 setting_none groups code value e = cc
 
-settings_at : (groups code : ℕ) (layers : List Settings) → All (IsPropertyMap groups) layers → All (λ v. IsMapEntry groups (code, v)) (values_at layers code)
+settings_at : (groups code : ℕ) (layers : List Settings) → All (IsPropertyMap groups) layers →
+    All (λ v. IsMapEntry groups (code, v)) (values_at layers code)
 settings_at groups code [] all = All-nil (λ v. IsMapEntry groups (code, v))
 settings_at groups code (layer ∷ layers) all =
     let rest = settings_at groups code layers (All-tail (IsPropertyMap groups) layer layers all) in
     let here = All-head (IsPropertyMap groups) layer layers all in
-    elim (get layer code) as (λ o. get layer code ≡ o → All (λ v. IsMapEntry groups (code, v)) (cons_option o (values_at layers code))) [
+    elim (get layer code) as (λ o. get layer code ≡ o → All (λ v. IsMapEntry groups (code, v)) (cons_option o
+    (values_at layers code))) [
       | None ↦ λ e. rest
       | Some v ↦ λ e. All-cons (λ w. IsMapEntry groups (code, w)) v (values_at layers code) (here code v e) rest
     ] refl
 
-pub effective_formed : (groups : ℕ) (layers : List Settings) (map : Settings) → All (IsPropertyMap groups) layers → IsEffectiveMap layers map → IsPropertyMap groups map
+pub effective_formed : (groups : ℕ) (layers : List Settings) (map : Settings) → All (IsPropertyMap groups) layers →
+    IsEffectiveMap layers map → IsPropertyMap groups map
 effective_formed groups layers m all is code value e =
     let values = values_at layers code in
     let settings = settings_at groups code layers all in
     let there : effective_value layers code ≡ Some value = sym (is code) ∙ e in
-    elim (code == tabs_code) as (λ b. cond b None (value_of code values) ≡ Some value → IsMapEntry groups (code, value)) [
+    elim (code == tabs_code) as (λ b. cond b None (value_of code values) ≡ Some value → IsMapEntry groups (
+      code,
+      value,
+    )) [
       | true ↦ λ t. cc
-      | false ↦ elim (is_toggle (class_of code)) as (λ b. cond b (toggle_value values) (last_or None values) ≡ Some value → IsMapEntry groups (code, value)) [
-        | true ↦ setting_fold groups code values None (setting_none groups code) settings value
-        | false ↦ setting_last groups code values None (setting_none groups code) settings value
-      ]
+      | false ↦ elim (is_toggle (class_of code)) as (λ b. cond b (toggle_value values) (last_or None values) ≡ Some
+          value → IsMapEntry groups (code, value)) [
+            | true ↦ setting_fold groups code values None (setting_none groups code) settings value
+            | false ↦ setting_last groups code values None (setting_none groups code) settings value
+          ]
     ] there

@@ -1,5 +1,6 @@
 -- That there is one answer.
-use Rattle.std.proofs.Common.{◌≡◌, ◌≢◌, ℕ, ℤ, ◌==◌, true, false, cond, ◌&&◌, List, [], ◌∷◌, ◌++◌, map, Option, Some, None, refl, sym, ap, ◌∙◌, subst}
+use Rattle.std.proofs.Common.{◌≡◌, ◌≢◌, ℕ, ℤ, ◌==◌, true, false, cond, ◌&&◌, List, [], ◌∷◌, ◌++◌, map, Option, Some}
+use Rattle.std.proofs.Common.{None, refl, sym, ap, ◌∙◌, subst}
 use Rattle.std.proofs.lemmas.Bool.{eqb-true, eq-eqb}
 use Rattle.std.proofs.lemmas.Cmp.{int_cmp_total, int_eq_equiv}
 use Rattle.std.proofs.lemmas.Map.Keys.{sorted_head, sorted_tail, IsDistinct-from_sorted}
@@ -10,7 +11,8 @@ use Rattle.std.specs.Cmp.{nat_cmp_total, signed_Decides}
 use Rattle.std.specs.List.{slice_get, Contains, AllByRecursion}
 use Rattle.std.specs.List.Sorted.{IsStrictlySortedBy}
 use Rattle.std.specs.Map.{keys_of, lookup}
-use Rattle.std.specs.FinMap.{find, is_sorted, entries, from_sorted, get-from_sorted, entries-from_sorted, same_map, nat_cmp-IsAntisymmetric, int_cmp-IsAntisymmetric}
+use Rattle.std.specs.FinMap.{find, is_sorted, entries, from_sorted, get-from_sorted, entries-from_sorted, same_map}
+use Rattle.std.specs.FinMap.{nat_cmp-IsAntisymmetric, int_cmp-IsAntisymmetric}
 use Rattle.std.specs.FinMap.Entries.{below_all}
 use Rattle.prop_map.specs.Settings.{Settings}
 use Rattle.prop_map.proofs.EntriesLemmas.{of_true}
@@ -20,7 +22,8 @@ use Rattle.style_sheet.specs.Chain.{kind_at}
 use Rattle.style_sheet.proofs.OneChainLemmas.{base_chains_agree}
 use Rattle.effective_props.specs.declared.tabs.Tab.{Tab}
 use Rattle.effective_props.specs.Values.{IsEffectiveMap}
-use Rattle.effective_props.specs.Layers.{paragraph_settings, character_settings, settings_of_styles, AreChainLayers, AreNamedLayers, named_style}
+use Rattle.effective_props.specs.Layers.{paragraph_settings, character_settings, settings_of_styles, AreChainLayers}
+use Rattle.effective_props.specs.Layers.{AreNamedLayers, named_style}
 use Rattle.effective_props.specs.Stops.{AreStops}
 use Rattle.effective_props.specs.StopSteps.{tab_of}
 use Rattle.effective_props.specs.Laws.{EffectiveMapIsOne, StopsAreOne, EffectiveCharacterIsOne, EffectiveParagraphIsOne}
@@ -44,7 +47,8 @@ unfolding pair
 keys_pairs [] = refl
 keys_pairs (tab ∷ tabs) = ap (λ ps. tab.at ∷ ps) (keys_pairs tabs)
 
-below_pairs : (p : ℤ) (es : List (ℤ × ℕ)) → AllByRecursion (λ q. int_cmp p q ≡ Less) (keys_of es) → below_all int_cmp p es ≡ true
+below_pairs : (p : ℤ) (es : List (ℤ × ℕ)) → AllByRecursion (λ q. int_cmp p q ≡ Less) (keys_of es) → below_all int_cmp
+    p es ≡ true
 below_pairs p [] h = refl
 below_pairs p (e ∷ es) h = ap (λ o. is_lt o && below_all int_cmp p es) h.0 ∙ below_pairs p es h.1
 
@@ -58,23 +62,30 @@ find_tab : (p : ℤ) (es : List (ℤ × ℕ)) → find int_cmp p es ≡ lookup (
 find_tab p [] = refl
 find_tab p (e ∷ es) = ap (cond (int_eq p e.0) (Some e.1)) (find_tab p es)
 
-same_option : {X : Type 0} → (a b : Option X) → ((x : X) → a ≡ Some x → b ≡ Some x) → ((x : X) → b ≡ Some x → a ≡ Some x) → a ≡ b
+same_option : {X : Type 0} → (a b : Option X) → ((x : X) → a ≡ Some x → b ≡ Some x) → ((x : X) → b ≡ Some x →
+    a ≡ Some x) → a ≡ b
 same_option None None f g = refl
 same_option None (Some x) f g = g x refl
 same_option (Some x) b f g = sym (f x refl)
 
 -- what a look-up finds in one list, one finds in another that has its stops
-found_too : (one other : List Tab) (p : ℤ) (kind : ℕ) → IsStrictlySortedBy int_cmp (keys_of (map pair other)) → ((tab : Tab) → Contains one tab → Contains other tab) → lookup (int_eq p) (map pair one) ≡ Some kind → lookup (int_eq p) (map pair other) ≡ Some kind
+found_too : (one other : List Tab) (p : ℤ) (kind : ℕ) → IsStrictlySortedBy int_cmp (keys_of (map pair other)) →
+    ((tab : Tab) → Contains one tab → Contains other tab) → lookup (int_eq p) (map pair one) ≡ Some kind →
+    lookup (int_eq p) (map pair other) ≡ Some kind
 unfolding pair
 found_too one other p kind ascending among e =
     let place = place_from_lookup (int_eq p) (map pair one) kind e in
     let same = (signed_Decides p place.1).0 place.3 in
     let here = get-tabs (map pair one) place.0 p kind (place.2 ∙ ap (λ q. Some (q, kind)) (sym same)) in
-    let there = among (record { at = p; kind = kind }) (contains_at one place.0 (record { at = p; kind = kind }) (ap (λ l. slice_get l place.0) (sym (tabs_back one)) ∙ here)) in
-    let entry = get-tab_of (map pair other) there.0 (record { at = p; kind = kind }) (ap (λ l. slice_get l there.0) (tabs_back other) ∙ at_contains other (record { at = p; kind = kind }) there) in
-    lookup_from_place int_eq_equiv (map pair other) there.0 p kind (IsDistinct-from_sorted int_cmp (keys_of (map pair other)) ascending) entry
+    let there = among (record { at = p; kind = kind }) (contains_at one place.0 (record { at = p; kind = kind })
+    (ap (λ l. slice_get l place.0) (sym (tabs_back one)) ∙ here)) in
+    let entry = get-tab_of (map pair other) there.0 (record { at = p; kind = kind }) (ap (λ l. slice_get l there.0)
+    (tabs_back other) ∙ at_contains other (record { at = p; kind = kind }) there) in
+    lookup_from_place int_eq_equiv (map pair other) there.0 p kind (IsDistinct-from_sorted int_cmp
+    (keys_of (map pair other)) ascending) entry
 
-ascending_pairs : (layers : List Settings) (tabs : List Tab) → AreStops layers tabs → IsStrictlySortedBy int_cmp (keys_of (map pair tabs))
+ascending_pairs : (layers : List Settings) (tabs : List Tab) → AreStops layers tabs → IsStrictlySortedBy int_cmp
+    (keys_of (map pair tabs))
 ascending_pairs layers tabs h = subst (λ ps. IsStrictlySortedBy int_cmp ps) (sym (keys_pairs tabs)) h.ascending
 
 pub stops_one : StopsAreOne
@@ -86,30 +97,39 @@ stops_one layers one other h k =
     let there = λ (p : ℤ). same_option (lookup (int_eq p) (map pair one)) (lookup (int_eq p) (map pair other))
     (λ kind. found_too one other p kind b (λ tab c. (k.stops tab).1 ((h.stops tab).0 c)))
     (λ kind. found_too other one p kind a (λ tab c. (h.stops tab).1 ((k.stops tab).0 c))) in
-    let maps : from_sorted {R = int_cmp} (map pair one) ≡ from_sorted (map pair other) = same_map int_cmp_total int_cmp-IsAntisymmetric _ _ (λ p.
-    get-from_sorted int_cmp (map pair one) p first ∙ (find_tab p (map pair one) ∙ (there p ∙ (sym (find_tab p (map pair other)) ∙ sym (get-from_sorted int_cmp (map pair other) p second))))) in
-    let pairs : map pair one ≡ map pair other = sym (entries-from_sorted int_cmp (map pair one) first) ∙ (ap (λ m. entries m) maps ∙ entries-from_sorted int_cmp (map pair other) second) in
+    let maps : from_sorted {R = int_cmp} (map pair one) ≡ from_sorted (map pair other) = same_map int_cmp_total
+    int_cmp-IsAntisymmetric _ _ (λ p.
+    get-from_sorted int_cmp (map pair one) p first ∙ (find_tab p (map pair one) ∙
+    (there p ∙ (sym (find_tab p (map pair other)) ∙ sym (get-from_sorted int_cmp (map pair other) p second))))) in
+    let pairs : map pair one ≡ map pair other = sym (entries-from_sorted int_cmp (map pair one) first) ∙
+    (ap (λ m. entries m) maps ∙ entries-from_sorted int_cmp (map pair other) second) in
     sym (tabs_back one) ∙ (ap (map tab_of) pairs ∙ tabs_back other)
 
 -- ---- one list of layers
 
-chain_layers_one : (settings : Option Style → Settings) (sheet : Sheet) (istd : ℕ) (a b : List Settings) → AreChainLayers settings sheet istd a → AreChainLayers settings sheet istd b → a ≡ b
+chain_layers_one : (settings : Option Style → Settings) (sheet : Sheet) (istd : ℕ) (a b : List Settings) →
+    AreChainLayers settings sheet istd a → AreChainLayers settings sheet istd b → a ≡ b
 chain_layers_one settings sheet istd a b h k =
-    h.are ∙ (ap (settings_of_styles settings sheet) (base_chains_agree sheet istd h.chain k.chain h.bases k.bases) ∙ sym k.are)
+    h.are ∙ (ap (settings_of_styles settings sheet) (base_chains_agree sheet istd h.chain k.chain h.bases k.bases) ∙
+    sym k.are)
 
-named_layers_one : (sheet : Sheet) (named : Option ℕ) (a b : List Settings) → AreNamedLayers sheet named a → AreNamedLayers sheet named b → a ≡ b
+named_layers_one : (sheet : Sheet) (named : Option ℕ) (a b : List Settings) → AreNamedLayers sheet named a →
+    AreNamedLayers sheet named b → a ≡ b
 named_layers_one sheet None a b h k = h ∙ sym k
 named_layers_one sheet (Some istd) a b h k =
     elim (kind_at sheet istd == 2) as (λ t. (kind_at sheet istd == 2) ≡ t → a ≡ b) [
-      | true ↦ λ e. let is = eqb-true (kind_at sheet istd) 2 e in chain_layers_one character_settings sheet istd a b (h.0 is) (k.0 is)
-      | false ↦ λ e. let not_so : kind_at sheet istd ≢ 2 = (λ is. absurd (cc (eq-eqb (kind_at sheet istd) 2 is, e))) in h.1 not_so ∙ sym (k.1 not_so)
+      | true ↦ λ e. let is = eqb-true (kind_at sheet istd) 2 e in chain_layers_one character_settings sheet istd a b
+          (h.0 is) (k.0 is)
+      | false ↦ λ e. let not_so : kind_at sheet istd ≢ 2 = (λ is. absurd (cc (eq-eqb (kind_at sheet istd) 2 is, e)))
+          in h.1 not_so ∙ sym (k.1 not_so)
     ] refl
 
 pub character_one : EffectiveCharacterIsOne
 character_one sheet istd direct one other h k =
     let style = chain_layers_one character_settings sheet istd h.are.of_style k.are.of_style h.are.style k.are.style in
     let named = named_layers_one sheet (named_style direct) h.are.of_named k.are.of_named h.are.named k.are.named in
-    let layers : h.layers ≡ k.layers = h.are.are ∙ (ap (λ l. l ++ (h.are.of_named ++ direct ∷ [])) style ∙ (ap (λ l. k.are.of_style ++ (l ++ direct ∷ [])) named ∙ sym k.are.are)) in
+    let layers : h.layers ≡ k.layers = h.are.are ∙ (ap (λ l. l ++ (h.are.of_named ++ direct ∷ [])) style ∙
+    (ap (λ l. k.are.of_style ++ (l ++ direct ∷ [])) named ∙ sym k.are.are)) in
     map_one k.layers one other (subst (λ l. IsEffectiveMap l one) layers h.values) k.values
 
 pub paragraph_one : EffectiveParagraphIsOne

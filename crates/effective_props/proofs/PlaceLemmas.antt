@@ -1,5 +1,6 @@
 -- The last place where something stands, and lists with one more entry.
-use Rattle.std.proofs.Common.{◌≡◌, ◌≢◌, ◌⊎◌, inl, inr, ℕ, zero, suc, ℤ, ◌<◌, true, false, List, [], ◌∷◌, ◌++◌, length, Some, None, refl, sym, arith, subst}
+use Rattle.std.proofs.Common.{◌≡◌, ◌≢◌, ◌⊎◌, inl, inr, ℕ, zero, suc, ℤ, ◌<◌, true, false, List, [], ◌∷◌, ◌++◌, length}
+use Rattle.std.proofs.Common.{Some, None, refl, sym, arith, subst}
 use Rattle.std.proofs.lemmas.Bool.{cases_lt}
 use Rattle.std.specs.Ordering.{int_eq}
 use Rattle.std.specs.Cmp.{signed_Decides}
@@ -15,12 +16,29 @@ pub record IsLastPlace (f : ℕ → ℤ) (p : ℤ) (n place : ℕ) : Type 0 wher
 pub last_place : (f : ℕ → ℤ) (p : ℤ) (n : ℕ) → ((place : ℕ) × IsLastPlace f p n place) ⊎ ((i : ℕ) → i < n → f i ≢ p)
 last_place f p zero = inr (λ i l. absurd (omega arith))
 last_place f p (suc n) =
-    elim (int_eq (f n) p) as (λ b. int_eq (f n) p ≡ b → ((place : ℕ) × IsLastPlace f p (suc n) place) ⊎ ((i : ℕ) → i < suc n → f i ≢ p)) [
-      | true ↦ λ e. inl (n, record { within = omega arith; at = (signed_Decides (f n) p).0 e; last = λ later a b. absurd (omega arith) })
+    elim (int_eq (f n) p) as (λ b. int_eq (f n) p ≡ b → ((place : ℕ) × IsLastPlace f p (suc n) place) ⊎ ((i : ℕ) →
+    i < suc n → f i ≢ p)) [
+      | true ↦ λ e. inl (
+        n,
+        record {
+          within = omega arith;
+          at = (signed_Decides (f n) p).0 e;
+          last = λ later a b.
+              absurd (omega arith);
+        },
+      )
       | false ↦ λ e.
           let here : f n ≢ p = λ is. absurd (cc ((signed_Decides (f n) p).1 is, e)) in
           elim (last_place f p n) [
-            | inl h ↦ inl (h.0, record { within = omega (arith, h.1.within); at = h.1.at; last = λ later a b. at_or_below f p n later b here (h.1.last later a) })
+            | inl h ↦ inl (
+              h.0,
+              record {
+                within = omega (arith, h.1.within);
+                at = h.1.at;
+                last = λ later a b.
+                    at_or_below f p n later b here (h.1.last later a);
+              },
+            )
             | inr none ↦ inr (λ i l. at_or_below f p n i l here (none i))
           ]
     ] refl

@@ -1,10 +1,12 @@
 -- Stops, layer by layer.
-use Rattle.std.proofs.Common.{◌≡◌, ◌≢◌, ◌⊎◌, inl, inr, ℕ, ℤ, ◌<◌, List, [], ◌∷◌, ◌++◌, length, Some, None, refl, sym, ap, ◌∙◌, arith, subst}
+use Rattle.std.proofs.Common.{◌≡◌, ◌≢◌, ◌⊎◌, inl, inr, ℕ, ℤ, ◌<◌, List, [], ◌∷◌, ◌++◌, length, Some, None, refl, sym}
+use Rattle.std.proofs.Common.{ap, ◌∙◌, arith, subst}
 use Rattle.std.proofs.lemmas.Bool.{cases_lt}
 use Rattle.std.specs.List.{slice_get}
 use Rattle.prop_map.specs.Settings.{Settings}
 use Rattle.effective_props.specs.declared.tabs.Tab.{Tab}
-use Rattle.effective_props.specs.TabChange.{deleted_count, deleted_position, added_count, added_position, added_kind, Adds, Mentions}
+use Rattle.effective_props.specs.TabChange.{deleted_count, deleted_position, added_count, added_position, added_kind}
+use Rattle.effective_props.specs.TabChange.{Adds, Mentions}
 use Rattle.effective_props.specs.Stops.{HasTabChange, MentionsStop, HasStop}
 use Rattle.effective_props.specs.StopSteps.{StopTree, stop_at, ChangesBy, ChangesByLayer}
 use Rattle.effective_props.proofs.PlaceLemmas.{IsLastPlace, last_place, get_old, get_new, get_past, get_within, some_is}
@@ -14,9 +16,12 @@ use Rattle.effective_props.proofs.PlaceLemmas.{IsLastPlace, last_place, get_old,
 one_change : (layer : Settings) (a b : List ℕ) → HasTabChange layer a → HasTabChange layer b → a ≡ b
 one_change layer a b h k = some_is a b (sym h.there ∙ k.there)
 
-none_mentions : (layer : Settings) (value : List ℕ) (p : ℤ) → HasTabChange layer value → ((i : ℕ) → i < deleted_count value → deleted_position value i ≢ p) → ((i : ℕ) → i < added_count value → added_position value i ≢ p) → ¬ (MentionsStop layer p)
+none_mentions : (layer : Settings) (value : List ℕ) (p : ℤ) → HasTabChange layer value → ((i : ℕ) → i < deleted_count
+    value → deleted_position value i ≢ p) → ((i : ℕ) → i < added_count value → added_position value i ≢ p) →
+    ¬ (MentionsStop layer p)
 none_mentions layer value p change deletes adds m =
-    let here : Mentions value p = subst (λ v. Mentions v p) (one_change layer m.value value m.change change) m.mentions in
+    let here : Mentions value p = subst (λ v. Mentions v p) (one_change layer m.value value m.change change)
+    m.mentions in
     elim here [
       | inl d ↦ deletes d.number d.within d.at
       | inr a ↦ adds a.1.number a.1.within a.1.at
@@ -24,7 +29,8 @@ none_mentions layer value p change deletes adds m =
 
 -- ---- the stops of one more layer
 
-pub kept_stop : (layers : List Settings) (layer : Settings) (tab : Tab) → HasStop layers tab → ¬ (MentionsStop layer tab.at) → HasStop (layers ++ layer ∷ []) tab
+pub kept_stop : (layers : List Settings) (layer : Settings) (tab : Tab) → HasStop layers tab →
+    ¬ (MentionsStop layer tab.at) → HasStop (layers ++ layer ∷ []) tab
 kept_stop layers layer tab h none = record {
   number = h.number;
   layer = h.layer;
@@ -39,13 +45,15 @@ kept_stop layers layer tab h none = record {
           | inl beyond ↦ absurd (cc (get_past layers layer later beyond, is))
           | inr upto ↦
               let same : later ≡ length layers = omega arith in
-              let one : layer ≡ other = some_is layer other (sym (get_new layers layer) ∙ (ap (slice_get (layers ++ layer ∷ [])) (sym same) ∙ is)) in
+              let one : layer ≡ other = some_is layer other (sym (get_new layers layer) ∙
+              (ap (slice_get (layers ++ layer ∷ [])) (sym same) ∙ is)) in
               none (subst (λ l. MentionsStop l tab.at) (sym one) m)
         ]
       ];
 }
 
-pub new_stop : (layers : List Settings) (layer : Settings) (value : List ℕ) (tab : Tab) → HasTabChange layer value → Adds value tab → HasStop (layers ++ layer ∷ []) tab
+pub new_stop : (layers : List Settings) (layer : Settings) (value : List ℕ) (tab : Tab) → HasTabChange layer value →
+    Adds value tab → HasStop (layers ++ layer ∷ []) tab
 new_stop layers layer value tab change adds = record {
   number = length layers;
   layer = layer;
@@ -57,7 +65,9 @@ new_stop layers layer value tab change adds = record {
 }
 
 -- a stop of one more layer is one that the layer adds, or one that was there and that it does not mention
-pub which_stop : (layers : List Settings) (layer : Settings) (tab : Tab) → HasStop (layers ++ layer ∷ []) tab → ((value : List ℕ) × (HasTabChange layer value × Adds value tab)) ⊎ ((¬ (MentionsStop layer tab.at)) × HasStop layers tab)
+pub which_stop : (layers : List Settings) (layer : Settings) (tab : Tab) → HasStop (layers ++ layer ∷ []) tab →
+    ((value : List ℕ) × (HasTabChange layer value × Adds value tab)) ⊎ ((¬ (MentionsStop layer tab.at)) × HasStop
+    layers tab)
 which_stop layers layer tab h =
     elim (cases_lt h.number (length layers)) [
       | inl less ↦ inr (
@@ -69,14 +79,16 @@ which_stop layers layer tab h =
           value = h.value;
           change = h.change;
           adds = h.adds;
-          last = λ later other past is. h.last later other past (get_old layers layer later (get_within layers later other is) ∙ is);
+          last = λ later other past is. h.last later other past (get_old layers layer later (get_within layers later
+              other is) ∙ is);
         },
       )
       | inr more ↦ elim (cases_lt (length layers) h.number) [
         | inl beyond ↦ absurd (cc (get_past layers layer h.number beyond, h.there))
         | inr upto ↦
             let same : h.number ≡ length layers = omega arith in
-            let one : layer ≡ h.layer = some_is layer h.layer (sym (get_new layers layer) ∙ (ap (slice_get (layers ++ layer ∷ [])) (sym same) ∙ h.there)) in
+            let one : layer ≡ h.layer = some_is layer h.layer (sym (get_new layers layer) ∙
+            (ap (slice_get (layers ++ layer ∷ [])) (sym same) ∙ h.there)) in
             inl (h.value, (subst (λ l. HasTabChange l h.value) (sym one) h.change, h.adds))
       ]
     ]
@@ -87,45 +99,78 @@ pub record HoldsStops (layers : List Settings) (stops : StopTree) : Type 0 where
   pub found : (p : ℤ) (kind : ℕ) → stop_at stops p ≡ Some kind → HasStop layers (record { at = p; kind = kind })
   pub there : (tab : Tab) → HasStop layers tab → stop_at stops tab.at ≡ Some tab.kind
 
-added_here : (value : List ℕ) (old new : StopTree) (p : ℤ) (place : ℕ) → ChangesBy value old new → IsLastPlace (added_position value) p (added_count value) place → stop_at new p ≡ Some (added_kind value place)
+added_here : (value : List ℕ) (old new : StopTree) (p : ℤ) (place : ℕ) → ChangesBy value old new →
+    IsLastPlace (added_position value) p (added_count value) place → stop_at new p ≡ Some (added_kind value place)
 added_here value old new p place by h =
     ap (stop_at new) (sym h.at) ∙ by.adds.there place h.within (λ j past l is. h.last j past l (is ∙ h.at))
 
-kept_here : (value : List ℕ) (old new : StopTree) (p : ℤ) → ChangesBy value old new → ((i : ℕ) → i < deleted_count value → deleted_position value i ≢ p) → ((i : ℕ) → i < added_count value → added_position value i ≢ p) → stop_at new p ≡ stop_at old p
+kept_here : (value : List ℕ) (old new : StopTree) (p : ℤ) → ChangesBy value old new → ((i : ℕ) → i < deleted_count
+    value → deleted_position value i ≢ p) → ((i : ℕ) → i < added_count value → added_position value i ≢ p) →
+    stop_at new p ≡ stop_at old p
 kept_here value old new p by deletes adds = by.adds.kept p adds ∙ by.deletes.kept p deletes
 
-adds_at : (value : List ℕ) (p : ℤ) (place kind : ℕ) → IsLastPlace (added_position value) p (added_count value) place → added_kind value place ≡ kind → Adds value (record { at = p; kind = kind })
+adds_at : (value : List ℕ) (p : ℤ) (place kind : ℕ) → IsLastPlace (added_position value) p (added_count value) place →
+    added_kind value place ≡ kind → Adds value (record { at = p; kind = kind })
 adds_at value p place kind h is = record { number = place; within = h.within; at = h.at; kind = is; last = h.last }
 
-changed_found : (layers : List Settings) (layer : Settings) (value : List ℕ) (old new : StopTree) (p : ℤ) (kind : ℕ) → HoldsStops layers old → HasTabChange layer value → ChangesBy value old new → stop_at new p ≡ Some kind → HasStop (layers ++ layer ∷ []) (record { at = p; kind = kind })
+changed_found : (layers : List Settings) (layer : Settings) (value : List ℕ) (old new : StopTree) (p : ℤ) (kind : ℕ) →
+    HoldsStops layers old → HasTabChange layer value → ChangesBy value old new → stop_at new p ≡ Some kind →
+    HasStop (layers ++ layer ∷ []) (record { at = p; kind = kind })
 changed_found layers layer value old new p kind holds change by is =
     elim (last_place (added_position value) p (added_count value)) [
-      | inl h ↦ new_stop layers layer value (record { at = p; kind = kind }) change (adds_at value p h.0 kind h.1 (some_is (added_kind value h.0) kind (sym (added_here value old new p h.0 by h.1) ∙ is)))
+      | inl h ↦ new_stop layers layer value (record { at = p; kind = kind }) change (adds_at value p h.0 kind h.1
+          (some_is (added_kind value h.0) kind (sym (added_here value old new p h.0 by h.1) ∙ is)))
       | inr adds ↦ elim (last_place (deleted_position value) p (deleted_count value)) [
-        | inl h ↦ absurd (cc (sym (by.adds.kept p adds ∙ (ap (stop_at by.between) (sym h.1.at) ∙ by.deletes.gone h.0 h.1.within)), is))
-        | inr deletes ↦ kept_stop layers layer (record { at = p; kind = kind }) (holds.found p kind (sym (kept_here value old new p by deletes adds) ∙ is)) (none_mentions layer value p change deletes adds)
+        | inl h ↦ absurd (cc (
+          sym (by.adds.kept p adds ∙ (ap (stop_at by.between) (sym h.1.at) ∙ by.deletes.gone h.0
+              h.1.within)),
+          is,
+        ))
+        | inr deletes ↦ kept_stop layers layer (record { at = p; kind = kind }) (holds.found p kind
+            (sym (kept_here value old new p by deletes adds) ∙ is)) (none_mentions layer value p change deletes adds)
       ]
     ]
 
-changed_there : (layers : List Settings) (layer : Settings) (value : List ℕ) (old new : StopTree) (tab : Tab) → HoldsStops layers old → HasTabChange layer value → ChangesBy value old new → HasStop (layers ++ layer ∷ []) tab → stop_at new tab.at ≡ Some tab.kind
+changed_there : (layers : List Settings) (layer : Settings) (value : List ℕ) (old new : StopTree) (tab : Tab) →
+    HoldsStops layers old → HasTabChange layer value → ChangesBy value old new → HasStop (layers ++ layer ∷ []) tab →
+    stop_at new tab.at ≡ Some tab.kind
 changed_there layers layer value old new tab holds change by h =
     elim (which_stop layers layer tab h) [
       | inl new_one ↦
-          let adds : Adds value tab = subst (λ v. Adds v tab) (one_change layer new_one.0 value new_one.1.0 change) new_one.1.1 in
-          added_here value old new tab.at adds.number by (record { within = adds.within; at = adds.at; last = adds.last }) ∙ ap Some adds.kind
+          let adds : Adds value tab = subst (λ v. Adds v tab) (one_change layer new_one.0 value new_one.1.0 change)
+          new_one.1.1 in
+          added_here value old new tab.at adds.number by (record {
+            within = adds.within;
+            at = adds.at;
+            last = adds.last;
+          }) ∙ ap Some adds.kind
       | inr old_one ↦ elim (last_place (added_position value) tab.at (added_count value)) [
-        | inl place ↦ absurd (old_one.0 (record { value = value; change = change; mentions = inr (added_kind value place.0, adds_at value tab.at place.0 (added_kind value place.0) place.1 refl) }))
+        | inl place ↦ absurd (old_one.0 (record {
+          value = value;
+          change = change;
+          mentions = inr (
+            added_kind value
+                place.0,
+            adds_at value tab.at place.0 (added_kind value place.0) place.1 refl,
+          );
+        }))
         | inr adds ↦
-            kept_here value old new tab.at by (λ i l e. old_one.0 (record { value = value; change = change; mentions = inl (record { number = i; within = l; at = e }) })) adds
+            kept_here value old new tab.at by (λ i l e. old_one.0 (record {
+              value = value;
+              change = change;
+              mentions = inl (record { number = i; within = l; at = e });
+            })) adds
             ∙ holds.there tab old_one.1
       ]
     ]
 
-pub stops_more : (layers : List Settings) (layer : Settings) (old new : StopTree) → HoldsStops layers old → ChangesByLayer layer old new → HoldsStops (layers ++ layer ∷ []) new
+pub stops_more : (layers : List Settings) (layer : Settings) (old new : StopTree) → HoldsStops layers old →
+    ChangesByLayer layer old new → HoldsStops (layers ++ layer ∷ []) new
 stops_more layers layer old new holds changes =
     elim changes [
       | inl none ↦ record {
-        found = λ p kind is. kept_stop layers layer (record { at = p; kind = kind }) (holds.found p kind (sym (none.1 p) ∙ is)) (λ m. none.0 m.value m.change);
+        found = λ p kind is. kept_stop layers layer (record { at = p; kind = kind }) (holds.found p kind
+            (sym (none.1 p) ∙ is)) (λ m. none.0 m.value m.change);
         there = λ tab h. elim (which_stop layers layer tab h) [
           | inl new_one ↦ absurd (none.0 new_one.0 new_one.1.0)
           | inr old_one ↦ none.1 tab.at ∙ holds.there tab old_one.1

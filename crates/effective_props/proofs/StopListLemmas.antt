@@ -1,5 +1,6 @@
 -- The stops of a tree as a list.
-use Rattle.std.proofs.Common.{◌≡◌, ℕ, zero, suc, ℤ, true, List, [], ◌∷◌, map, Some, option_map, refl, sym, ap, ◌∙◌, subst}
+use Rattle.std.proofs.Common.{◌≡◌, ℕ, zero, suc, ℤ, true, List, [], ◌∷◌, map, Some, option_map, refl, sym, ap, ◌∙◌}
+use Rattle.std.proofs.Common.{subst}
 use Rattle.std.proofs.lemmas.Cmp.{int_cmp_total}
 use Rattle.std.proofs.lemmas.Option.{get_or_from_slice_get, slice_get-get_or}
 use Rattle.std.proofs.lemmas.Map.Entries.{btree_map_get_place, place_from_lookup}
@@ -25,12 +26,15 @@ ats_of : (es : List (ℤ × ℕ)) → map (λ tab. tab.at) (map tab_of es) ≡ k
 ats_of [] = refl
 ats_of (e ∷ es) = ap (λ ps. e.0 ∷ ps) (ats_of es)
 
-pub get-tab_of : (es : List (ℤ × ℕ)) (i : ℕ) (tab : Tab) → slice_get (map tab_of es) i ≡ Some tab → slice_get es i ≡ Some (tab.at, tab.kind)
+pub get-tab_of : (es : List (ℤ × ℕ)) (i : ℕ) (tab : Tab) → slice_get (map tab_of es) i ≡ Some tab → slice_get es i ≡
+    Some (tab.at, tab.kind)
 get-tab_of [] i tab e = cc
-get-tab_of (x ∷ es) zero tab e = let same : tab_of x ≡ tab = some_is (tab_of x) tab e in ap (λ t. Some (t.at, t.kind)) same
+get-tab_of (x ∷ es) zero tab e = let same : tab_of x ≡ tab = some_is (tab_of x) tab e in ap (λ t. Some (t.at, t.kind))
+    same
 get-tab_of (x ∷ es) (suc i) tab e = get-tab_of es i tab e
 
-pub get-tabs : (es : List (ℤ × ℕ)) (i : ℕ) (p : ℤ) (kind : ℕ) → slice_get es i ≡ Some (p, kind) → slice_get (map tab_of es) i ≡ Some (record { at = p; kind = kind })
+pub get-tabs : (es : List (ℤ × ℕ)) (i : ℕ) (p : ℤ) (kind : ℕ) → slice_get es i ≡ Some (p, kind) →
+    slice_get (map tab_of es) i ≡ Some (record { at = p; kind = kind })
 get-tabs [] i p kind e = cc
 get-tabs (x ∷ es) zero p kind e = ap (λ o. option_map tab_of o) e
 get-tabs (x ∷ es) (suc i) p kind e = get-tabs es i p kind e
@@ -41,9 +45,11 @@ contains_at xs i x e = (i, get_within xs i x e, get_or_from_slice_get xs i x x e
 pub at_contains : {X : Type 0} → (xs : List X) (x : X) → (h : Contains xs x) → slice_get xs h.0 ≡ Some x
 at_contains xs x h = slice_get-get_or xs h.0 x h.1 ∙ ap Some h.2
 
-pub stops_listed : (layers : List Settings) (stops : StopTree) (tabs : List Tab) → HoldsStops layers stops → IsOrdered int_cmp stops → tabs ≡ map tab_of stops.entries → AreStops layers tabs
+pub stops_listed : (layers : List Settings) (stops : StopTree) (tabs : List Tab) → HoldsStops layers stops →
+    IsOrdered int_cmp stops → tabs ≡ map tab_of stops.entries → AreStops layers tabs
 stops_listed layers stops tabs holds ordered is = record {
-  ascending = subst (λ ps. IsStrictlySortedBy int_cmp ps) (sym (ap (map (λ (tab : Tab). tab.at)) is ∙ ats_of stops.entries)) ordered;
+  ascending = subst (λ ps. IsStrictlySortedBy int_cmp ps) (sym (ap (map (λ (tab : Tab). tab.at)) is ∙ ats_of
+      stops.entries)) ordered;
   stops = λ tab. (
     (λ h.
         let here : Contains (map tab_of stops.entries) tab = subst (λ l. Contains l tab) is h in
@@ -53,6 +59,7 @@ stops_listed layers stops tabs holds ordered is = record {
         let place = place_from_lookup (is_at (int_cmp tab.at)) stops.entries tab.kind (holds.there tab h) in
         let same = is_at_same tab.at place.1 place.3 in
         let entry = place.2 ∙ ap (λ p. Some (p, tab.kind)) (sym same) in
-        subst (λ l. Contains l tab) (sym is) (contains_at (map tab_of stops.entries) place.0 tab (get-tabs stops.entries place.0 tab.at tab.kind entry))),
+        subst (λ l. Contains l tab) (sym is) (contains_at (map tab_of stops.entries) place.0 tab
+        (get-tabs stops.entries place.0 tab.at tab.kind entry))),
   );
 }

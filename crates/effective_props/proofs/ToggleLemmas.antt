@@ -1,5 +1,6 @@
 -- A toggle by its last value that goes by nothing.
-use Rattle.std.proofs.Common.{◌≡◌, ℕ, ◌+◌, ◌%◌, ◌==◌, Bool, true, false, cond, ◌&&◌, ◌||◌, List, [], ◌∷◌, length, slice_index, Option, Some, None, refl, sym, ap, ◌∙◌, arith}
+use Rattle.std.proofs.Common.{◌≡◌, ℕ, ◌+◌, ◌%◌, ◌==◌, Bool, true, false, cond, ◌&&◌, ◌||◌, List, [], ◌∷◌, length}
+use Rattle.std.proofs.Common.{slice_index, Option, Some, None, refl, sym, ap, ◌∙◌, arith}
 use Rattle.std.proofs.lemmas.Bool.{eqb-true, eq-eqb}
 use Rattle.std.proofs.lemmas.List.Elements.{All-head, All-tail}
 use Rattle.std.proofs.lemmas.List.Sums.{fold-append, sum_by-cons}
@@ -16,8 +17,11 @@ opposite_thrice (Some value) = either (is_byte value 0)
     either true = refl
     either false = refl
 
-turned_next : (n : ℕ) (zero_now odd_now odd_next : Bool) (before : Option (List ℕ)) → (zero_now ≡ true → odd_next ≡ true) → (zero_now ≡ false → odd_now ≡ true → odd_next ≡ false) → (zero_now ≡ false → odd_now ≡ false → odd_next ≡ true) →
-    cond zero_now (Some (opposite before)) (cond odd_now (Some (opposite (Some (opposite before)))) (Some (opposite (Some (opposite (Some (opposite before)))))))
+turned_next : (n : ℕ) (zero_now odd_now odd_next : Bool) (before : Option (List ℕ)) → (zero_now ≡ true →
+    odd_next ≡ true) → (zero_now ≡ false → odd_now ≡ true → odd_next ≡ false) → (zero_now ≡ false → odd_now ≡ false →
+    odd_next ≡ true) →
+    cond zero_now (Some (opposite before)) (cond odd_now (Some (opposite (Some (opposite before))))
+    (Some (opposite (Some (opposite (Some (opposite before)))))))
     ≡ cond odd_next (Some (opposite before)) (Some (opposite (Some (opposite before))))
 turned_next n true b odd_next before first second third = rw (first refl) refl
 turned_next n false true odd_next before first second third = rw (second refl refl) refl
@@ -31,13 +35,17 @@ turned_more n before =
     (λ z. let e = eqb-true n 0 z in eq-eqb ((n + 1) % 2) 1 (omega arith))
     (λ z o. let e = eqb-true (n % 2) 1 o in is_false ((n + 1) % 2) 1 (λ i. omega arith))
     (λ z o. eq-eqb ((n + 1) % 2) 1 (even_next n (not_equal (n % 2) 1 o)))
-    ∙ ap (λ b. cond b before (cond ((n + 1) % 2 == 1) (Some (opposite before)) (Some (opposite (Some (opposite before)))))) (sym next)
+    ∙ ap (λ b. cond b before (cond ((n + 1) % 2 == 1) (Some (opposite before))
+    (Some (opposite (Some (opposite before)))))) (sym next)
   where
     not_equal : (a b : ℕ) → (a == b) ≡ false → ¬ (a ≡ b)
     not_equal a b e is = absurd (cc (eq-eqb a b is, e))
 
     is_false : (a b : ℕ) → ¬ (a ≡ b) → (a == b) ≡ false
-    is_false a b h = elim (a == b) as (λ t. (a == b) ≡ t → t ≡ false) [ true ↦ λ e. absurd (h (eqb-true a b e)) | false ↦ λ e. refl ] refl
+    is_false a b h = elim (a == b) as (λ t. (a == b) ≡ t → t ≡ false) [
+      | true ↦ λ e. absurd (h (eqb-true a b e))
+      | false ↦ λ e. refl
+    ] refl
 
     even_next : (n : ℕ) → ¬ (n % 2 ≡ 1) → (n + 1) % 2 ≡ 1
     even_next n h = omega (arith, h)
@@ -55,8 +63,10 @@ keep_no_turn value e =
     apart true n e = rw e refl
     apart false n e = refl
 
-count_more : (value : List ℕ) (values : List (List ℕ)) (b : Bool) → is_turn value ≡ b → count_by is_turn (value ∷ values) ≡ cond b 1 0 + count_by is_turn values
-count_more value values b e = sum_by-cons (λ x. cond (is_turn x) 1 0) value values ∙ ap (λ t. cond t 1 0 + count_by is_turn values) e
+count_more : (value : List ℕ) (values : List (List ℕ)) (b : Bool) → is_turn value ≡ b → count_by is_turn
+    (value ∷ values) ≡ cond b 1 0 + count_by is_turn values
+count_more value values b e = sum_by-cons (λ x. cond (is_turn x) 1 0) value values ∙ ap (λ t. cond t 1 0 + count_by
+    is_turn values) e
 
 one_before : (n : ℕ) → 1 + n ≡ n + 1
 one_before n = omega arith
@@ -64,22 +74,28 @@ one_before n = omega arith
 none_before : (n : ℕ) → 0 + n ≡ n
 none_before n = omega arith
 
-pub turned_all : (values : List (List ℕ)) (before : Option (List ℕ)) → AreRelative values → fold toggled before values ≡ turned (count_by is_turn values) before
+pub turned_all : (values : List (List ℕ)) (before : Option (List ℕ)) → AreRelative values → fold toggled before values
+    ≡ turned (count_by is_turn values) before
 turned_all [] before all = refl
 turned_all (value ∷ values) before all =
     let here = All-head (λ v. is_relative v ≡ true) value values all in
     let rest = All-tail (λ v. is_relative v ≡ true) value values all in
     let n = count_by is_turn values in
-    elim (is_keep value) as (λ b. is_keep value ≡ b → fold toggled before (value ∷ values) ≡ turned (count_by is_turn (value ∷ values)) before) [
+    elim (is_keep value) as (λ b. is_keep value ≡ b → fold toggled before (value ∷ values) ≡ turned (count_by is_turn
+    (value ∷ values)) before) [
       | true ↦ λ keep.
-          ap (λ b. fold toggled (cond b before (cond (is_turn value) (Some (opposite before)) (Some value))) values) keep
-          ∙ (turned_all values before rest ∙ ap (λ m. turned m before) (sym (count_more value values false (keep_no_turn value keep) ∙ none_before n)))
+          ap (λ b. fold toggled (cond b before (cond (is_turn value) (Some (opposite before)) (Some value))) values)
+          keep
+          ∙ (turned_all values before rest ∙ ap (λ m. turned m before) (sym (count_more value values false
+          (keep_no_turn value keep) ∙ none_before n)))
       | false ↦ λ keep.
           let turn : is_turn value ≡ true = ap (λ b. b || is_turn value) (sym keep) ∙ here in
-          ap (λ b. fold toggled (cond b before (cond (is_turn value) (Some (opposite before)) (Some value))) values) keep
+          ap (λ b. fold toggled (cond b before (cond (is_turn value) (Some (opposite before)) (Some value))) values)
+          keep
           ∙ (ap (λ b. fold toggled (cond b (Some (opposite before)) (Some value)) values) turn
           ∙ (turned_all values (Some (opposite before)) rest
-          ∙ (turned_more n before ∙ ap (λ m. turned m before) (sym (count_more value values true turn ∙ one_before n)))))
+          ∙ (turned_more n before ∙ ap (λ m. turned m before) (sym (count_more value values true turn ∙ one_before
+          n)))))
     ] refl
 
 set_here : (before : Option (List ℕ)) (value : List ℕ) → is_relative value ≡ false → toggled before value ≡ Some value

@@ -1,5 +1,7 @@
 -- Values laid over one another.
-use Rattle.std.proofs.Common.{◌≡◌, ℕ, ◌+◌, ◌<◌, ◌==◌, Bool, true, false, not, cond, List, [], ◌∷◌, ◌++◌, length, take, get_or, Option, Some, None, IsTrue, refl, sym, ap, ◌∙◌, subst, arith, append_assoc, length-append, length-take}
+use Rattle.std.proofs.Common.{◌≡◌, ℕ, ◌+◌, ◌<◌, ◌==◌, Bool, true, false, not, cond, List, [], ◌∷◌, ◌++◌, length, take}
+use Rattle.std.proofs.Common.{get_or, Option, Some, None, IsTrue, refl, sym, ap, ◌∙◌, subst, arith, append_assoc}
+use Rattle.std.proofs.Common.{length-append, length-take}
 use Rattle.std.proofs.lemmas.List.{take_more, take_at, get_or-take, get_or_at, get_or_default, append-nil}
 use Rattle.std.proofs.lemmas.List.Elements.{filter_map-append}
 use Rattle.std.proofs.lemmas.List.Sums.{fold-append}
@@ -19,15 +21,19 @@ use Rattle.effective_props.specs.ValueSteps.{value_over, layer_over, IsValueOver
 
 -- ---- one value
 
-pub put_over : (code other : ℕ) (old : Settings) (value made : List ℕ) → (code == tabs_code) ≡ false → Some made ≡ value_over code (get old code) value → get (insert old code made) other ≡ cond (other == code) (layer_over code (get old code) (Some value)) (get old other)
+pub put_over : (code other : ℕ) (old : Settings) (value made : List ℕ) → (code == tabs_code) ≡ false →
+    Some made ≡ value_over code (get old code) value → get (insert old code made) other ≡ cond (other == code)
+    (layer_over code (get old code) (Some value)) (get old other)
 put_over code other old value made plain is =
     get-insert nat_cmp_total old code made other
     ∙ (ap (λ b. cond b (Some made) (get old other)) (unsigned_tied other code)
-    ∙ ap (λ o. cond (other == code) o (get old other)) (is ∙ ap (λ b. cond b (get old code) (value_over code (get old code) value)) (sym plain)))
+    ∙ ap (λ o. cond (other == code) o (get old other)) (is ∙ ap (λ b. cond b (get old code) (value_over code
+    (get old code) value)) (sym plain)))
 
 -- ---- the values of one layer, in the order of their codes
 
-pub find-before : (es : Entries) (i : ℕ) (d : ℕ × List ℕ) → IsTrue (is_sorted nat_cmp es) → i < length es → find nat_cmp (get_or es i d).0 (take i es) ≡ None
+pub find-before : (es : Entries) (i : ℕ) (d : ℕ × List ℕ) → IsTrue (is_sorted nat_cmp es) → i < length es →
+    find nat_cmp (get_or es i d).0 (take i es) ≡ None
 find-before es i d h within =
     let long : length (take i es) ≡ i = omega (arith, length-take i es) in
     find_gap i (get_or es i d).0 (take i es) (omega arith)
@@ -35,7 +41,9 @@ find-before es i d h within =
     (λ j e low l. absurd (omega arith))
 
 -- the entries so far with one more
-pub find-more : (es : Entries) (i : ℕ) (d : ℕ × List ℕ) (code : ℕ) → IsTrue (is_sorted nat_cmp es) → i < length es → find nat_cmp code (take (i + 1) es) ≡ cond (code == (get_or es i d).0) (Some (get_or es i d).1) (find nat_cmp code (take i es))
+pub find-more : (es : Entries) (i : ℕ) (d : ℕ × List ℕ) (code : ℕ) → IsTrue (is_sorted nat_cmp es) → i < length es →
+    find nat_cmp code (take (i + 1) es) ≡ cond (code == (get_or es i d).0) (Some (get_or es i d).1) (find nat_cmp code
+    (take i es))
 find-more es i d code h within =
     let e = get_or es i d in
     ap (find nat_cmp code) (take_more es i d within)
@@ -46,10 +54,13 @@ find-more es i d code h within =
 abbrev pub LaysUpTo : Entries → Settings → Settings → Type 0
 LaysUpTo es old now = (code : ℕ) → get now code ≡ layer_over code (get old code) (find nat_cmp code es)
 
-pub lay_more : (es : Entries) (i : ℕ) (d : ℕ × List ℕ) (old now new : Settings) → IsTrue (is_sorted nat_cmp es) → i < length es → LaysUpTo (take i es) old now → IsValueOver (get_or es i d).0 (get_or es i d).1 now new → LaysUpTo (take (i + 1) es) old new
+pub lay_more : (es : Entries) (i : ℕ) (d : ℕ × List ℕ) (old now new : Settings) → IsTrue (is_sorted nat_cmp es) →
+    i < length es → LaysUpTo (take i es) old now → IsValueOver (get_or es i d).0 (get_or es i d).1 now new →
+    LaysUpTo (take (i + 1) es) old new
 lay_more es i d old now new h within upto step code =
     let e = get_or es i d in
-    step code ∙ (elim (code == e.0) as (λ b. (code == e.0) ≡ b → cond b (layer_over e.0 (get now e.0) (Some e.1)) (get now code) ≡ layer_over code (get old code) (cond b (Some e.1) (find nat_cmp code (take i es)))) [
+    step code ∙ (elim (code == e.0) as (λ b. (code == e.0) ≡ b → cond b (layer_over e.0 (get now e.0) (Some e.1))
+    (get now code) ≡ layer_over code (get old code) (cond b (Some e.1) (find nat_cmp code (take i es)))) [
       | true ↦ λ is.
           let key = eqb-true code e.0 is in
           let here = upto e.0 ∙ ap (layer_over e.0 (get old e.0)) (find-before es i d h within) in
@@ -66,7 +77,9 @@ pub record HasLaidUpTo (all : Entries) (old : Settings) (left : Entries) (now : 
 pub none_laid : (all left : Entries) (old : Settings) → all ≡ left → HasLaidUpTo all old left old
 none_laid all left old e = record { done = []; joined = e; laid = λ code. refl }
 
-pub laid_next : (all left : Entries) (old now new : Settings) (code : ℕ) (value : List ℕ) → IsTrue (is_sorted nat_cmp all) → HasLaidUpTo all old ((code, value) ∷ left) now → IsValueOver code value now new → HasLaidUpTo all old left new
+pub laid_next : (all left : Entries) (old now new : Settings) (code : ℕ) (value : List ℕ) →
+    IsTrue (is_sorted nat_cmp all) → HasLaidUpTo all old ((code, value) ∷ left) now → IsValueOver code value now new →
+    HasLaidUpTo all old left new
 laid_next all left old now new code value sorted h step =
     let entry : ℕ × List ℕ = (code, value) in
     let es : Entries = h.done ++ entry ∷ left in
@@ -75,13 +88,15 @@ laid_next all left old now new code value sorted h step =
     let within : i < length es = omega arith in
     let front : take i es ≡ h.done = take_at h.done (entry ∷ left) i refl in
     let here : get_or es i entry ≡ entry = get_or_at h.done entry left entry i refl in
-    let more : take (i + 1) es ≡ h.done ++ entry ∷ [] = take_more es i entry within ∙ (ap (λ l. l ++ get_or es i entry ∷ []) front ∙ ap (λ (x : ℕ × List ℕ). h.done ++ x ∷ []) here) in
+    let more : take (i + 1) es ≡ h.done ++ entry ∷ [] = take_more es i entry within ∙ (ap (λ l. l ++ get_or es i entry
+    ∷ []) front ∙ ap (λ (x : ℕ × List ℕ). h.done ++ x ∷ []) here) in
     let sorted_whole = subst (λ l. IsTrue (is_sorted nat_cmp l)) h.joined sorted in
     record {
       done = h.done ++ entry ∷ [];
       joined = h.joined ∙ sym (append_assoc h.done (entry ∷ []) left);
       laid = subst (λ l. LaysUpTo l old new) more
-          (lay_more es i entry old now new sorted_whole within (subst (λ l. LaysUpTo l old now) (sym front) h.laid) (subst (λ (x : ℕ × List ℕ). IsValueOver x.0 x.1 now new) (sym here) step));
+          (lay_more es i entry old now new sorted_whole within (subst (λ l. LaysUpTo l old now) (sym front) h.laid)
+          (subst (λ (x : ℕ × List ℕ). IsValueOver x.0 x.1 now new) (sym here) step));
     }
 
 pub laid_whole : (all : Entries) (old now : Settings) → HasLaidUpTo all old [] now → LaysUpTo all old now
@@ -89,13 +104,16 @@ laid_whole all old now h = subst (λ l. LaysUpTo l old now) (sym (h.joined ∙ a
 
 -- ---- one more layer
 
-pub last_of_more : (before : Option (List ℕ)) (values : List (List ℕ)) (value : List ℕ) → last_or before (values ++ value ∷ []) ≡ Some value
+pub last_of_more : (before : Option (List ℕ)) (values : List (List ℕ)) (value : List ℕ) →
+    last_or before (values ++ value ∷ []) ≡ Some value
 last_of_more before [] value = refl
 last_of_more before (v ∷ values) value = last_of_more (Some v) values value
 
-value_of_more : (code : ℕ) (values : List (List ℕ)) (value : List ℕ) → value_of code (values ++ value ∷ []) ≡ value_over code (value_of code values) value
+value_of_more : (code : ℕ) (values : List (List ℕ)) (value : List ℕ) → value_of code (values ++ value ∷ []) ≡
+    value_over code (value_of code values) value
 value_of_more code values value =
-    elim (is_toggle (class_of code)) as (λ b. cond b (toggle_of (values ++ value ∷ [])) (last_or None (values ++ value ∷ [])) ≡ cond b (toggled (cond b (toggle_of values) (last_or None values)) value) (Some value)) [
+    elim (is_toggle (class_of code)) as (λ b. cond b (toggle_of (values ++ value ∷ [])) (last_or None (values ++ value
+    ∷ [])) ≡ cond b (toggled (cond b (toggle_of values) (last_or None values)) value) (Some value)) [
       | true ↦ fold-append toggled None values (value ∷ [])
       | false ↦ last_of_more None values value
     ]
@@ -103,17 +121,20 @@ value_of_more code values value =
     toggle_of : List (List ℕ) → Option (List ℕ)
     toggle_of vs = value_of 0x0835 vs
 
-pub effective_more : (layers : List Settings) (layer : Settings) (code : ℕ) → effective_value (layers ++ layer ∷ []) code ≡ layer_over code (effective_value layers code) (get layer code)
+pub effective_more : (layers : List Settings) (layer : Settings) (code : ℕ) → effective_value (layers ++ layer ∷ [])
+    code ≡ layer_over code (effective_value layers code) (get layer code)
 effective_more layers layer code =
     let f : Settings → Option (List ℕ) = λ m. get m code in
     let values = values_at layers code in
     ap (λ vs. cond (code == tabs_code) None (value_of code vs)) (filter_map-append f layers (layer ∷ []))
-    ∙ elim (get layer code) as (λ o. cond (code == tabs_code) None (value_of code (values ++ cons o)) ≡ layer_over code (cond (code == tabs_code) None (value_of code values)) o) [
+    ∙ elim (get layer code) as (λ o. cond (code == tabs_code) None (value_of code (values ++ cons o)) ≡ layer_over
+    code (cond (code == tabs_code) None (value_of code values)) o) [
       | None ↦ ap (λ vs. cond (code == tabs_code) None (value_of code vs)) (append-nil values)
-      | Some value ↦ elim (code == tabs_code) as (λ b. cond b None (value_of code (values ++ value ∷ [])) ≡ cond b (cond b None (value_of code values)) (value_over code (cond b None (value_of code values)) value)) [
-        | true ↦ refl
-        | false ↦ value_of_more code values value
-      ]
+      | Some value ↦ elim (code == tabs_code) as (λ b. cond b None (value_of code (values ++ value ∷ [])) ≡ cond b
+          (cond b None (value_of code values)) (value_over code (cond b None (value_of code values)) value)) [
+            | true ↦ refl
+            | false ↦ value_of_more code values value
+          ]
     ]
   where
     cons : Option (List ℕ) → List (List ℕ)

@@ -1,5 +1,6 @@
 -- What the definitions imply.
-use Rattle.std.specs.Prelude.{◌≡◌, ◌≢◌, ℕ, ◌%◌, ◌==◌, Bool, true, false, ◌||◌, List, ◌∷◌, ◌++◌, Option, Some, None, if◌then◌else◌}
+use Rattle.std.specs.Prelude.{◌≡◌, ◌≢◌, ℕ, ◌%◌, ◌==◌, Bool, true, false, ◌||◌, List, ◌∷◌, ◌++◌, Option, Some, None}
+use Rattle.std.specs.Prelude.{if◌then◌else◌}
 use Rattle.std.specs.List.{All, count_by}
 use Rattle.std.specs.FinMap.{get}
 use Rattle.sprm_table.specs.Codes.{class_of}
@@ -37,7 +38,8 @@ pub record IsSaidByLastValue (values : List (List ℕ)) : Type 0 where
 abbrev pub ToggleIsSaidByLastValue : Type 0
 ToggleIsSaidByLastValue = (values : List (List ℕ)) → IsSaidByLastValue values
 
--- the effective value at a code that is no toggle is that of the last layer that has it; where none has it there is none
+-- the effective value at a code that is no toggle is that of the last layer that has it; where none has it there is
+-- none
 pub record IsDecidedByLastLayer (layers : List Settings) (code : ℕ) : Type 0 where
   pub set :
       (front back : List Settings) (layer : Settings) (value : List ℕ) → layers ≡ front ++ layer ∷ back →
@@ -52,7 +54,8 @@ LastLayerDecides =
 -- layers make one map
 abbrev pub EffectiveMapIsOne : Type 0
 EffectiveMapIsOne =
-    (layers : List Settings) (one other : Settings) → IsEffectiveMap layers one → IsEffectiveMap layers other → one ≡ other
+    (layers : List Settings) (one other : Settings) → IsEffectiveMap layers one → IsEffectiveMap layers other →
+    one ≡ other
 
 -- layers make one list of tab stops
 abbrev pub StopsAreOne : Type 0

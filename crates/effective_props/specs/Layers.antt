@@ -1,4 +1,5 @@
--- The layers of settings of a character and of a paragraph mark, from the root of the paragraph's style to the direct ones.
+-- The layers of settings of a character and of a paragraph mark, from the root of the paragraph's style to the direct
+-- ones.
 use Rattle.std.specs.Prelude.{◌≡◌, ◌≢◌, ℕ, List, [], ◌∷◌, ◌++◌, map, Option, Some, None, option_map}
 use Rattle.std.specs.FinMap.{get, empty}
 use Rattle.doc_bits.specs.Number.{u16_at}
@@ -23,7 +24,8 @@ abbrev pub settings_of_styles : (Option Style → Settings) → Sheet → List �
 settings_of_styles settings sheet chain = map (λ number. settings (style_at sheet number)) chain
 
 -- the layers are such settings of the styles of a chain of bases, from its root to the style
-pub record AreChainLayers (settings : Option Style → Settings) (sheet : Sheet) (istd : ℕ) (layers : List Settings) : Type 0 where
+pub record AreChainLayers (settings : Option Style → Settings) (sheet : Sheet) (istd : ℕ) (layers : List Settings) :
+    Type 0 where
   pub chain : List ℕ
   pub bases : IsBaseChain sheet istd chain
   pub are : layers ≡ settings_of_styles settings sheet chain
@@ -40,7 +42,8 @@ named_style direct = option_map (λ value. u16_at value 0) (get direct character
 abbrev pub AreNamedLayers : Sheet → Option ℕ → List Settings → Type 0
 AreNamedLayers sheet None layers = layers ≡ []
 AreNamedLayers sheet (Some istd) layers =
-    (kind_at sheet istd ≡ 2 → AreChainLayers character_settings sheet istd layers) × (kind_at sheet istd ≢ 2 → layers ≡ [])
+    (kind_at sheet istd ≡ 2 → AreChainLayers character_settings sheet istd layers) × (kind_at sheet istd ≢ 2 →
+    layers ≡ [])
 
 -- the character settings of the paragraph's style, those of the named character style, and the direct ones
 pub record AreCharacterLayers (sheet : Sheet) (istd : ℕ) (direct : Settings) (layers : List Settings) : Type 0 where

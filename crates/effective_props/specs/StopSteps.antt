@@ -39,7 +39,8 @@ pub record ChangesBy (value : List ℕ) (old new : StopTree) : Type 0 where
 -- the layer has no change, or its change is done
 abbrev pub ChangesByLayer : Settings → StopTree → StopTree → Type 0
 ChangesByLayer layer old new =
-    (((value : List ℕ) → ¬ (HasTabChange layer value)) × ((position : ℤ) → stop_at new position ≡ stop_at old position)) ⊎
+    (((value : List ℕ) → ¬ (HasTabChange layer value)) × ((position : ℤ) → stop_at new position ≡ stop_at old
+    position)) ⊎
     ((value : List ℕ) × (HasTabChange layer value × ChangesBy value old new))
 
 -- a stop of the tree

@@ -1,6 +1,7 @@
 -- [MS-DOC] ToggleOperand: 0x80 keeps what the style has, 0x81 turns it round.
 -- Profile: turning round makes 01 of nothing and of 00, and 00 of all else; any other value sets itself.
-use Rattle.std.specs.Prelude.{ℕ, Bool, ◌==◌, ◌&&◌, List, [], ◌∷◌, length, slice_index, Option, Some, None, if◌then◌else◌}
+use Rattle.std.specs.Prelude.{ℕ, Bool, ◌==◌, ◌&&◌, List, [], ◌∷◌, length, slice_index, Option, Some, None}
+use Rattle.std.specs.Prelude.{if◌then◌else◌}
 use Rattle.std.specs.List.{fold}
 
 -- the value is this one byte

@@ -1,9 +1,12 @@
--- What the text that a command adds takes in a fast save: two bytes a unit, and a page a run, where equal marks in a row
--- are one run. It is no more than is reckoned for the command: where marks behind a story come, a reckoned run is missing.
+-- What the text that a command adds takes in a fast save: two bytes a unit, and a page a run, where equal marks in a
+-- row
+-- are one run. It is no more than is reckoned for the command: where marks behind a story come, a reckoned run is
+-- missing.
 use Rattle.std.specs.Prelude.{ℕ, List, Option, ◌⊎◌, MatchOption, slice_get}
 use Rattle.std.specs.List.{sum_by, filter_map}
 use Rattle.std.specs.FinMap.{empty}
-use Rattle.std.proofs.Common.{◌≡◌, ◌∙◌, ◌∷◌, ◌++◌, ◌+◌, ◌*◌, ◌<◌, ◌≤◌, [], refl, sym, ap, subst, inl, inr, zero, suc, Bool, true, false, Some, None, length, replicate, arith, All}
+use Rattle.std.proofs.Common.{◌≡◌, ◌∙◌, ◌∷◌, ◌++◌, ◌+◌, ◌*◌, ◌<◌, ◌≤◌, [], refl, sym, ap, subst, inl, inr, zero, suc}
+use Rattle.std.proofs.Common.{Bool, true, false, Some, None, length, replicate, arith, All}
 use Rattle.std.specs.Option.{unwrap_or}
 use Rattle.std.proofs.lemmas.Bool.{cases_lt}
 use Rattle.std.proofs.lemmas.Option.{none-some, same_Some}
@@ -23,9 +26,12 @@ use Rattle.plain_doc.specs.Settings.{is_alike}
 use Rattle.plain_doc.proofs.TextListLemmas.{empty_joined, length-joined}
 use Rattle.full_save.specs.Text.{extra_mark}
 use Rattle.edit_script.specs.declared.commands.Command.{Command}
-use Rattle.edit_script.specs.declared.commands.Command.TheVariants.{Insert, Erase, Char, Plain, Para, Style, Field, Note, Split, Merge, Sect, Row, StyleChar, StylePara, Save}
+use Rattle.edit_script.specs.declared.commands.Command.TheVariants.{Insert, Erase, Char, Plain, Para, Style, Field}
+use Rattle.edit_script.specs.declared.commands.Command.TheVariants.{Note, Split, Merge, Sect, Row, StyleChar}
+use Rattle.edit_script.specs.declared.commands.Command.TheVariants.{StylePara, Save}
 use Rattle.edit_ops.specs.declared.changes.Change.{Change}
-use Rattle.edit_ops.specs.declared.changes.Change.TheVariants.{SpliceText, ModifyItems, SetSection, SpliceNotes, SpliceHeads, SetStyleCharacters, SetStyleParagraphs}
+use Rattle.edit_ops.specs.declared.changes.Change.TheVariants.{SpliceText, ModifyItems, SetSection, SpliceNotes}
+use Rattle.edit_ops.specs.declared.changes.Change.TheVariants.{SpliceHeads, SetStyleCharacters, SetStyleParagraphs}
 use Rattle.edit_ops.specs.Places.{items_at, mark_place, section_place, note_number, head_number}
 use Rattle.edit_ops.specs.Ranges.{IsInRange, HasText, HasPlace, BeginsParagraph}
 use Rattle.edit_ops.specs.Fresh.{unit_item, unit_items, plain_end, special, mark_with, note_reference, note_items}
@@ -245,7 +251,8 @@ block_ended front document change block put is =
     omega (arith, ap bytes_of same, bytes)
 
 first_bytes : (document : Document) (story : Story) (at : ℕ) (units : List ℕ) (items : List Item) (block : List Item) →
-    items ≡ unit_items empty units ++ plain_end ∷ plain_end ∷ [] → IsBlockOf document (SpliceText story at at items) block →
+    items ≡ unit_items empty units ++ plain_end ∷ plain_end ∷ [] → IsBlockOf document (SpliceText story at at items)
+    block →
     bytes_of block ≤ 2 * length items + 1028
 first_bytes document story at units items block are is =
     let front = unit_items empty units ++ plain_end ∷ [] in
@@ -263,7 +270,8 @@ note_bytes document number units block is =
     let first = unit_item (special empty) 0x02 in
     let front = first ∷ unit_items empty units in
     let bytes =
-    block_ended front document (SpliceNotes number number (note_items units ∷ [])) block (append-nil (note_items units)) is in
+    block_ended front document (SpliceNotes number number (note_items units ∷ [])) block
+    (append-nil (note_items units)) is in
     let both = joined_run_counts_add (first ∷ []) (unit_items empty units ++ plain_end ∷ []) in
     let one = one_unit first refl in
     let runs = plain_text units in
@@ -283,7 +291,8 @@ two_blocks : (document : Document) (change next : Change) (blocks : List (List I
     ((block : List Item) → IsBlockOf document change block → bytes_of block ≤ most) →
     ((block : List Item) → IsBlockOf document next block → bytes_of block ≤ rest) →
     AreTogether (IsBlockOf document) (change ∷ next ∷ []) blocks → bytes_of (joined_texts blocks) ≤ most + rest
-two_blocks document change next [] most rest within later together = let len = together.len in absurd (omega (arith, len))
+two_blocks document change next [] most rest within later together = let len = together.len in
+    absurd (omega (arith, len))
 two_blocks document change next (block ∷ blocks) most rest within later together =
     let first = within block (together.each 0 change block refl refl) in
     let more =
@@ -351,7 +360,8 @@ pub added_within : (document : Document) (command : Command) → IsInRange docum
     IsWithin document command blocks
 added_within document (Insert Main at text) range blocks together =
     by_unmarked document (Insert Main at text) blocks together
-    (put_unmarked document Main at (inserted_items document.main at text) (λ other. at < length other) (λ other is. is) range)
+    (put_unmarked document Main at (inserted_items document.main at text) (λ other. at < length other) (λ other is.
+    is) range)
 added_within document (Insert (NoteText k) at text) range blocks together =
     by_unmarked document (Insert (NoteText k) at text) blocks together
     (put_unmarked document (NoteText k) at (inserted_items (items_at document (NoteText k)) at text)

@@ -1,4 +1,5 @@
--- A session whose counts do not refuse a fast save can be saved behind its file: there is room, and the table stream has
+-- A session whose counts do not refuse a fast save can be saved behind its file: there is room, and the table stream
+-- has
 -- places of 32 bits.
 use Rattle.std.specs.Prelude.{slice_range, min, filter, nat_lt}
 use Rattle.std.specs.List.{range_with_len}
@@ -179,7 +180,8 @@ module _ (document : Document) (parts : SessionParts) (can : CanSaveFast documen
       let start : old_table the_save ≡ bytes_named held.parts.contents.streams (table_stream_name held.parts.text.wd) =
       (λ i. bytes_named (can.session.contents i).streams (table_name (can.session.fib i).which_table)) in
       start
-      ∙ named_is can.file held.parts.contents (table_stream_name held.parts.text.wd) held.parts.text.table has.has_contents
+      ∙ named_is can.file held.parts.contents (table_stream_name held.parts.text.wd) held.parts.text.table
+      has.has_contents
       has.has_text.has_table
 
   pub wd_is : old_wd the_save ≡ can.session.held.parts.text.wd
@@ -254,7 +256,8 @@ module _ (document : Document) (parts : SessionParts) (can : CanSaveFast documen
       let most = mul-le-mul_left (12 + modifier_bytes can.counts) can.counted.pieces in
       omega (arith, least, most, small.clx)
 
-  settings_of : AreTogether (λ place section. ForSome place (λ fc. HasSettingsAt can.session.held.parts.text.wd fc section.1))
+  settings_of : AreTogether (λ place section. ForSome place (λ fc. HasSettingsAt can.session.held.parts.text.wd fc
+      section.1))
       parts.text.sections.items (sections_of document.main)
   settings_of =
       let wd = can.session.held.parts.text.wd in
@@ -269,10 +272,12 @@ module _ (document : Document) (parts : SessionParts) (can : CanSaveFast documen
             together.each k place section.1 here (get-map second sections k section there);
       }
 
-  pub table_small : (clx : List ℕ) → IsPrintedClx parts.text.pieces.pieces clx → length (fast_table the_save clx) < 2 ^ 32
+  pub table_small : (clx : List ℕ) → IsPrintedClx parts.text.pieces.pieces clx → length (fast_table the_save clx) < 2
+      ^ 32
   unfolding fast_table
   table_small clx printed =
-      let seds = length-seds 0 (pages_end the_save) parts.text.sections.items (sections_of document.main) settings_of.len in
+      let seds = length-seds 0 (pages_end the_save) parts.text.sections.items (sections_of document.main)
+      settings_of.len in
       let short = tables_are_short document (fast_text the_save clx) seds in
       let few = few_runs in
       let text = small.text in

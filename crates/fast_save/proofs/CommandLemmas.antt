@@ -3,7 +3,8 @@ use Rattle.std.specs.Prelude.{ℕ, List, Option, ◌==◌, if◌then◌else◌, 
 use Rattle.std.specs.List.{flat_map, sum_by, filter_map}
 use Rattle.std.specs.FinMap.{empty, entries}
 use Rattle.std.proofs.lemmas.Grind.{flat_map-append}
-use Rattle.std.proofs.Common.{◌≡◌, ◌∙◌, ◌∷◌, ◌++◌, ◌+◌, ◌*◌, ◌<◌, ◌≤◌, [], refl, sym, ap, subst, Bool, true, false, None, Some, length, map, replicate, arith, All}
+use Rattle.std.proofs.Common.{◌≡◌, ◌∙◌, ◌∷◌, ◌++◌, ◌+◌, ◌*◌, ◌<◌, ◌≤◌, [], refl, sym, ap, subst, Bool, true, false}
+use Rattle.std.proofs.Common.{None, Some, length, map, replicate, arith, All}
 use Rattle.std.proofs.lemmas.List.Elements.{filter_map-append, All-cons, All-nil}
 use Rattle.std.proofs.lemmas.List.{length-append}
 use Rattle.doc_bits.specs.declared.places.Story.{Story}
@@ -20,12 +21,18 @@ use Rattle.prop_map.proofs.PrintedLengths.{modifier_parts}
 use Rattle.plain_doc.specs.declared.item.Item.{Item}
 use Rattle.plain_doc.specs.declared.document.Document.{Document}
 use Rattle.edit_script.specs.declared.commands.Command.{Command}
-use Rattle.edit_script.specs.declared.commands.Command.TheVariants.{Insert, Erase, Char, Plain, Para, Style, Field, Note, Split, Merge, Sect, Row, StyleChar, StylePara, Save}
+use Rattle.edit_script.specs.declared.commands.Command.TheVariants.{Insert, Erase, Char, Plain, Para, Style, Field}
+use Rattle.edit_script.specs.declared.commands.Command.TheVariants.{Note, Split, Merge, Sect, Row, StyleChar}
+use Rattle.edit_script.specs.declared.commands.Command.TheVariants.{StylePara, Save}
 use Rattle.edit_ops.specs.declared.changes.Change.{Change}
-use Rattle.edit_ops.specs.declared.changes.Change.TheVariants.{SpliceText, SetSection, SpliceNotes, SpliceHeads, SetStyleCharacters, SetStyleParagraphs}
+use Rattle.edit_ops.specs.declared.changes.Change.TheVariants.{SpliceText, SetSection, SpliceNotes, SpliceHeads}
+use Rattle.edit_ops.specs.declared.changes.Change.TheVariants.{SetStyleCharacters, SetStyleParagraphs}
 use Rattle.edit_ops.specs.Places.{items_at, mark_place, section_place, note_number, head_number}
-use Rattle.edit_ops.specs.Fresh.{unit_items, mark_item, mark_with, plain_end, cell_items, row_items, row_settings, cell_settings, field_items, field_mark, base_settings, note_items, note_reference, split_item, section_item, inserted_items}
-use Rattle.edit_ops.specs.Edits.{erased, section_changes, changes_of, setting_characters, setting_paragraphs, clearing, naming_style}
+use Rattle.edit_ops.specs.Fresh.{unit_items, mark_item, mark_with, plain_end, cell_items, row_items, row_settings}
+use Rattle.edit_ops.specs.Fresh.{cell_settings, field_items, field_mark, base_settings, note_items, note_reference}
+use Rattle.edit_ops.specs.Fresh.{split_item, section_item, inserted_items}
+use Rattle.edit_ops.specs.Edits.{erased, section_changes, changes_of, setting_characters, setting_paragraphs}
+use Rattle.edit_ops.specs.Edits.{clearing, naming_style}
 use Rattle.edit_ops.specs.Codes.{HasRightCodes}
 use Rattle.edit_ops.specs.Runs.{most_runs, most_runs_of_section}
 use Rattle.edited_text.specs.SessionText.{section_settings}
@@ -34,7 +41,8 @@ use Rattle.fast_save.specs.Ledgers.{is_formatting, modifier_growth, sections_set
 
 -- ---- settings of sections
 
-sections-append : (one other : List Item) → section_settings (one ++ other) ≡ section_settings one ++ section_settings other
+sections-append : (one other : List Item) → section_settings (one ++ other) ≡ section_settings one ++ section_settings
+    other
 sections-append one other = filter_map-append (λ (item : Item). item.sect) one other
 
 in_units : (chp : Settings) (units : List ℕ) → section_settings (unit_items chp units) ≡ []
@@ -44,7 +52,8 @@ in_units chp (unit ∷ units) = in_units chp units
 behind_units : (chp : Settings) (units : List ℕ) (rest : List Item) → section_settings rest ≡ [] →
     section_settings (unit_items chp units ++ rest) ≡ []
 behind_units chp units rest none =
-    sections-append (unit_items chp units) rest ∙ (ap (λ (s : List Settings). s ++ section_settings rest) (in_units chp units) ∙ none)
+    sections-append (unit_items chp units) rest ∙ (ap (λ (s : List Settings). s ++ section_settings rest)
+    (in_units chp units) ∙ none)
 
 in_inserted : (none : Bool) (base : Settings) (units : List ℕ) →
     section_settings (if none then unit_items empty units ++ plain_end ∷ plain_end ∷ [] else unit_items base units) ≡ []
@@ -61,7 +70,8 @@ in_cells : (cells : List (List ℕ)) → section_settings (flat_map cell_items c
 in_cells [] = refl
 in_cells (cell ∷ cells) =
     sections-append (cell_items cell) (flat_map cell_items cells)
-    ∙ (ap (λ (s : List Settings). s ++ section_settings (flat_map cell_items cells)) (behind_units empty cell (mark_item empty cell_mark (mark_with cell_settings) ∷ []) refl)
+    ∙ (ap (λ (s : List Settings). s ++ section_settings (flat_map cell_items cells)) (behind_units empty cell
+    (mark_item empty cell_mark (mark_with cell_settings) ∷ []) refl)
     ∙ in_cells cells)
 
 in_row : (width : ℕ) (cells : List (List ℕ)) → section_settings (row_items width cells) ≡ []
@@ -73,7 +83,8 @@ in_row width cells =
 none_in : (items : List Item) → section_settings items ≡ [] → length (section_settings items) ≤ 0
 none_in items none = omega (arith, ap length none)
 
-erased_sections : (document : Document) (story : Story) (from to : ℕ) → sum_by sections_put (erased document story from to) ≤ 0
+erased_sections : (document : Document) (story : Story) (from to : ℕ) → sum_by sections_put (erased document story
+    from to) ≤ 0
 erased_sections document Main from to = omega arith
 erased_sections document (NoteText number) from to = omega arith
 erased_sections document (HeadText number) from to = omega arith
@@ -130,7 +141,8 @@ style_printed istd = omega (arith, modifier_parts (naming_style istd), none_prin
 pub no_modifier_printed : length (printed_modifier no_modifier) ≡ 0
 no_modifier_printed = omega (arith, modifier_parts no_modifier, none_printed)
 
-erased_growth : (document : Document) (story : Story) (from to : ℕ) → sum_by growth_of (erased document story from to) ≤ 0
+erased_growth : (document : Document) (story : Story) (from to : ℕ) → sum_by growth_of (erased document story from to)
+    ≤ 0
 erased_growth document Main from to = omega arith
 erased_growth document (NoteText number) from to = omega arith
 erased_growth document (HeadText number) from to = omega arith
@@ -174,7 +186,8 @@ erased_acts document Main from to =
 erased_acts document (NoteText number) from to = one_acts (SpliceText (NoteText number) from to []) tt
 erased_acts document (HeadText number) from to = one_acts (SpliceText (HeadText number) from to []) tt
 
-section_acts : (main : List Item) (at : ℕ) (new : Bool) (set : Settings) → All ActsOnNone (section_changes main at new set)
+section_acts : (main : List Item) (at : ℕ) (new : Bool) (set : Settings) → All ActsOnNone (section_changes main at new
+    set)
 section_acts main at false set = one_acts (SetSection (section_place main at) set) tt
 section_acts main at true set =
     two_act (SpliceText Main at at (section_item main at set ∷ []))
@@ -182,7 +195,8 @@ section_acts main at true set =
 
 note_acts : (main : List Item) (notes at : ℕ) (text : List ℕ) →
     All ActsOnNone
-    (SpliceText Main at at (note_reference (base_settings main at) ∷ []) ∷ SpliceNotes notes notes (note_items text ∷ []) ∷ [])
+    (SpliceText Main at at (note_reference (base_settings main at) ∷ []) ∷ SpliceNotes notes notes (note_items text ∷
+    []) ∷ [])
 note_acts main notes at text =
     two_act (SpliceText Main at at (note_reference (base_settings main at) ∷ []))
     (SpliceNotes notes notes (note_items text ∷ [])) tt tt

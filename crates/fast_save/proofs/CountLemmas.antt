@@ -8,7 +8,8 @@ use Rattle.std.proofs.lemmas.Option.{none-some, same_Some, slice_get_within, get
 use Rattle.std.proofs.Common.{inl, inr}
 use Rattle.std.proofs.lemmas.Bool.{cases_lt}
 use Rattle.doc_bits.proofs.ListLemmas.{get-map, All_at, All-from_slice_get}
-use Rattle.std.proofs.Common.{◌≡◌, ◌∙◌, ◌∷◌, ◌+◌, ◌*◌, ◌-◌, ◌/◌, ◌^◌, ◌<◌, ◌≤◌, ◌||◌, [], refl, sym, ap, subst, Bool, true, false, Some, length, map, arith, All}
+use Rattle.std.proofs.Common.{◌≡◌, ◌∙◌, ◌∷◌, ◌+◌, ◌*◌, ◌-◌, ◌/◌, ◌^◌, ◌<◌, ◌≤◌, ◌||◌, [], refl, sym, ap, subst, Bool}
+use Rattle.std.proofs.Common.{true, false, Some, length, map, arith, All}
 use Rattle.std.proofs.lemmas.List.Elements.{All-nil, All-cons, All-head, All-tail}
 use Rattle.cfb_sectors.specs.Opening.{IsWhole}
 use Rattle.prop_map.specs.declared.modifiers.Modifier.{Modifier}
@@ -29,7 +30,8 @@ use Rattle.edited_text.specs.EditSteps.{growth_of, sections_put, pieces_added}
 use Rattle.edited_text.specs.TextEdits.{IsTextEdit, IsSectionsEdit}
 use Rattle.fast_save.specs.declared.ledgers.Counts.{Counts}
 use Rattle.fast_save.specs.declared.parts.SessionParts.{SessionParts}
-use Rattle.fast_save.specs.Ledgers.{AreCountsOf, AreUnmodified, most_printed, is_formatting, modifier_growth, sections_set, after_edit}
+use Rattle.fast_save.specs.Ledgers.{AreCountsOf, AreUnmodified, most_printed, is_formatting, modifier_growth}
+use Rattle.fast_save.specs.Ledgers.{sections_set, after_edit}
 use Rattle.cfb_sectors.specs.Header.{sector_count}
 use Rattle.fast_save.specs.Session.{IsCounted, bin_length}
 use Rattle.fast_save.specs.Edited.{HasRoom}
@@ -137,7 +139,8 @@ printed_step pieces i piece there =
     let step = fold_more max 0 lens i 0 (omega (arith, within, len)) in
     let first : most_printed (take (i + 1) pieces) ≡ fold max 0 (take (i + 1) lens) =
     λ j. fold max 0 (sym (take-map printed_at (i + 1) pieces) j) in
-    let last : max (fold max 0 (take i lens)) (get_or lens i 0) ≡ max (most_printed (take i pieces)) (printed_at piece) =
+    let last : max (fold max 0 (take i lens)) (get_or lens i 0) ≡ max (most_printed (take i pieces))
+    (printed_at piece) =
     λ j. max (fold max 0 (take-map printed_at i pieces j)) (got j) in
     first ∙ (step ∙ last)
 

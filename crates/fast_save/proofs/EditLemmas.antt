@@ -9,7 +9,8 @@ use Rattle.plain_doc.specs.declared.item.Item.{Item}
 use Rattle.plain_doc.specs.declared.document.Document.{Document}
 use Rattle.edit_script.specs.declared.commands.Command.{Command}
 use Rattle.edit_ops.specs.declared.changes.Change.{Change}
-use Rattle.edit_ops.specs.declared.changes.Change.TheVariants.{SpliceText, ModifyItems, SetSection, SpliceNotes, SpliceHeads, SetStyleCharacters, SetStyleParagraphs}
+use Rattle.edit_ops.specs.declared.changes.Change.TheVariants.{SpliceText, ModifyItems, SetSection, SpliceNotes}
+use Rattle.edit_ops.specs.declared.changes.Change.TheVariants.{SpliceHeads, SetStyleCharacters, SetStyleParagraphs}
 use Rattle.edit_ops.specs.Changes.{changed, all_changed, with_text, map_range, modified_item}
 use Rattle.edit_ops.specs.Causes.{IsAcceptedEdit}
 use Rattle.edit_ops.specs.Edits.{changes_of, document_after}
@@ -23,7 +24,8 @@ use Rattle.save_bounds.specs.RunCounts.{joined_run_count}
 use Rattle.edited_text.specs.declared.added.Added.{Added}
 use Rattle.edited_text.specs.declared.session_text.SessionText.{SessionText}
 use Rattle.edited_text.specs.AddedText.{plan_of}
-use Rattle.edited_text.specs.SessionText.{IsSessionText, IsSameText, HaveFitModifiers, HaveNoModifiers, HaveModifiersWithin, ArePlannedSections, unwritten_count}
+use Rattle.edited_text.specs.SessionText.{IsSessionText, IsSameText, HaveFitModifiers, HaveNoModifiers}
+use Rattle.edited_text.specs.SessionText.{HaveModifiersWithin, ArePlannedSections, unwritten_count}
 use Rattle.fast_save.specs.declared.ledgers.Counts.{Counts}
 use Rattle.edited_text.specs.TextEdits.{IsTextEdit, IsSectionsEdit}
 use Rattle.cfb_streams.specs.Names.{wd_name}
@@ -53,7 +55,8 @@ change_carried (SpliceHeads from to fresh) document = refl
 change_carried (SetStyleCharacters istd set) document = refl
 change_carried (SetStyleParagraphs istd set) document = refl
 
-carried_stays : (changes : List Change) (document : Document) → (all_changed changes document).carried ≡ document.carried
+carried_stays : (changes : List Change) (document : Document) → (all_changed changes document).carried ≡
+    document.carried
 carried_stays [] document = refl
 carried_stays (change ∷ changes) document =
     carried_stays changes (changed change document) ∙ change_carried change document
@@ -115,7 +118,8 @@ module _ (file : List ℕ) (document : Document) (old new : SessionParts) (same 
   same_text : (stream : PagedStream) → IsSessionText stream document old.text → IsSessionText stream document new.text
   same_text stream is = record {
     places =
-        subst (λ (a : Added). StandsInSession stream (plan_of a) new.text.pieces.pieces document (ends_of new.text.ends))
+        subst (λ (a : Added). StandsInSession stream (plan_of a) new.text.pieces.pieces document
+        (ends_of new.text.ends))
         (sym same.added)
         (subst
         (λ (p : List TextPiece). StandsInSession stream (plan_of old.text.added) p document (ends_of new.text.ends))

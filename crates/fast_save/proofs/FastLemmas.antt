@@ -1,6 +1,7 @@
 -- The file of a fast save, and the session after it.
 use Rattle.std.specs.Prelude.{ℕ, List, min}
-use Rattle.std.proofs.Common.{◌≡◌, ◌∙◌, ◌+◌, ◌-◌, ◌*◌, ◌/◌, ◌^◌, ◌<◌, ◌≤◌, [], refl, sym, ap, subst, true, length, arith, All}
+use Rattle.std.proofs.Common.{◌≡◌, ◌∙◌, ◌+◌, ◌-◌, ◌*◌, ◌/◌, ◌^◌, ◌<◌, ◌≤◌, [], refl, sym, ap, subst, true, length}
+use Rattle.std.proofs.Common.{arith, All}
 use Rattle.cfb_sectors.specs.Header.{sector_count}
 use Rattle.fib_form.specs.FibFields.{FibFields, fib_fields}
 use Rattle.piece_table.specs.Piece.{TextPiece, ArePieces}
@@ -20,7 +21,8 @@ use Rattle.save_laws.proofs.HeldLemmas.{files_hold}
 use Rattle.save_bounds.specs.RunCounts.{joined_run_count}
 use Rattle.append_save.specs.declared.fault.AppendFault.TheVariants.{Sixteenth, TooLarge}
 use Rattle.append_save.specs.Saves.{FastSave, plan_of}
-use Rattle.append_save.specs.Appended.{old_wd, old_stream, fast_fib, fast_wd, fast_table, fast_contents, fast_saved_text}
+use Rattle.append_save.specs.Appended.{old_wd, old_stream, fast_fib, fast_wd, fast_table, fast_contents}
+use Rattle.append_save.specs.Appended.{fast_saved_text}
 use Rattle.append_save.specs.Answers.{IsAppended, IsAppendFault}
 use Rattle.append_save.proofs.ShortLemmas.{appended_saves_are_short, appended_files_are_short, counted_saves_fit}
 use Rattle.edited_text.specs.SessionText.{HaveNoModifiers, HaveModifiersWithin, unwritten_count}
@@ -30,7 +32,8 @@ use Rattle.fast_save.specs.declared.parts.SessionParts.{SessionParts}
 use Rattle.fast_save.specs.Ledgers.{modifier_bytes, sector_bound, after_fast}
 use Rattle.fast_save.specs.Session.{SessionView, IsSession, IsCounted, text_base, bin_length}
 use Rattle.fast_save.specs.Started.{IsOpenFile, written_places}
-use Rattle.fast_save.specs.Fast.{CanSaveFast, IsFastFile, AreFastParts, IsSavedFast, IsBehind, IsWithin, counts_over, save_in, save_counts}
+use Rattle.fast_save.specs.Fast.{CanSaveFast, IsFastFile, AreFastParts, IsSavedFast, IsBehind, IsWithin, counts_over}
+use Rattle.fast_save.specs.Fast.{save_in, save_counts}
 use Rattle.fast_save.proofs.CanLemmas.{small, wd_is, counted}
 use Rattle.fast_save.proofs.CountLemmas.{no_runs}
 use Rattle.fast_save.proofs.StartLemmas.{opened_stand, AreFileParts, begun, all_written}
@@ -112,9 +115,11 @@ module _ (document : Document) (parts : SessionParts) (can : CanSaveFast documen
       (omega (arith, (small document parts can formed items pieces).exact, can.judged.sectors))
 
   module _ (file : List ℕ) (made : IsAppended save file) where
-    read : IsSavedIn file document (fast_saved_text save made.clx) (fast_table save made.clx) (fast_contents save made.clx)
+    read : IsSavedIn file document (fast_saved_text save made.clx) (fast_table save made.clx) (fast_contents save
+        made.clx)
     read =
-        files_hold file document (fast_saved_text save made.clx) (fast_table save made.clx) (fast_contents save made.clx)
+        files_hold file document (fast_saved_text save made.clx) (fast_table save made.clx) (fast_contents save
+        made.clx)
         formed can.session.sound
         (fast_saves_are_saves document (old_stream save) (plan_of save) (fast_saved_text save made.clx)
         (fast_table save made.clx) (fast_contents save made.clx) made.saved)

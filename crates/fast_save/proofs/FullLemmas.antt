@@ -1,6 +1,7 @@
 -- The file of a full save is opened as what it was made of.
 use Rattle.std.specs.Prelude.{ℕ, List, slice_index, max}
-use Rattle.std.proofs.Common.{◌≡◌, ◌∙◌, ◌∷◌, ◌+◌, ◌*◌, ◌^◌, ◌<◌, ◌≤◌, [], refl, sym, ap, subst, true, false, length, arith, All}
+use Rattle.std.proofs.Common.{◌≡◌, ◌∙◌, ◌∷◌, ◌+◌, ◌*◌, ◌^◌, ◌<◌, ◌≤◌, [], refl, sym, ap, subst, true, false, length}
+use Rattle.std.proofs.Common.{arith, All}
 use Rattle.std.proofs.lemmas.List.Elements.{All-nil, All-cons}
 use Rattle.doc_bits.specs.Number.{AreBytes}
 use Rattle.doc_bits.specs.Rules.{Hold, IsFirst}
@@ -37,7 +38,8 @@ use Rattle.fast_save.proofs.CommandLemmas.{no_modifier_printed}
 -- a FIB that breaks no rule has no fault
 pub no_fib_fault : (wd : List ℕ) (rule place : ℕ) → Hold (fib_rules wd) → IsFirst (fib_rules wd) rule place → ⊥
 no_fib_fault wd rule place holds first =
-    hold_or_first (λ a b. a ≤ b) (fib_rules wd) rule place (tt, (tt, (tt, (tt, (tt, (tt, (tt, (tt, tt)))))))) holds first
+    hold_or_first (λ a b. a ≤ b) (fib_rules wd) rule place (tt, (tt, (tt, (tt, (tt, (tt, (tt, (tt, tt)))))))) holds
+    first
 
 short_table : (document : Document) → IsSavable document → length (table_stream document) < 2 ^ 32
 short_table document is = let most = within document is in omega (arith, most.table)
@@ -111,7 +113,8 @@ module _ (document : Document) (is : IsSavable document) (bytes : AreBytes (full
   image_some = (few_items document (sound_is_right document is.sound)).some
 
   -- it is opened as the streams that it has, the FIB of the layout, and one piece
-  abbrev pub full_open : (fib : FibFields) (contents : Contents) (pieces : List TextPiece) → HasContents image contents →
+  abbrev pub full_open : (fib : FibFields) (contents : Contents) (pieces : List TextPiece) → HasContents image
+      contents →
       fib ≡ fib_fields (wd_stream document) → pieces ≡ one_piece text_at (length (text_items document)) →
       IsOpenFile (record { document = document; fib = fib; contents = contents; pieces = pieces })
   full_open fib contents pieces has fib_is pieces_are =

@@ -2,7 +2,8 @@
 -- reckoned for it.
 use Rattle.std.specs.Prelude.{ℕ, List, slice_get}
 use Rattle.std.specs.List.{sum_by}
-use Rattle.std.proofs.Common.{◌≡◌, ◌∙◌, ◌∷◌, ◌++◌, ◌+◌, ◌*◌, ◌<◌, ◌≤◌, [], refl, sym, ap, subst, zero, suc, Some, length, replicate, arith, Bool, true, false}
+use Rattle.std.proofs.Common.{◌≡◌, ◌∙◌, ◌∷◌, ◌++◌, ◌+◌, ◌*◌, ◌<◌, ◌≤◌, [], refl, sym, ap, subst, zero, suc, Some}
+use Rattle.std.proofs.Common.{length, replicate, arith, Bool, true, false}
 use Rattle.std.proofs.lemmas.List.{length-append, length-replicate}
 use Rattle.std.proofs.lemmas.List.Sums.{sum_by-cons}
 use Rattle.doc_bits.specs.Together.{AreTogether}
@@ -15,12 +16,16 @@ use Rattle.plain_doc.proofs.TextListLemmas.{length-joined}
 use Rattle.full_save.specs.Text.{extra_mark}
 use Rattle.prop_map.specs.Settings.{Settings}
 use Rattle.edit_script.specs.declared.commands.Command.{Command}
-use Rattle.edit_script.specs.declared.commands.Command.TheVariants.{Insert, Erase, Char, Plain, Para, Style, Field, Note, Split, Merge, Sect, Row, StyleChar, StylePara, Save}
+use Rattle.edit_script.specs.declared.commands.Command.TheVariants.{Insert, Erase, Char, Plain, Para, Style, Field}
+use Rattle.edit_script.specs.declared.commands.Command.TheVariants.{Note, Split, Merge, Sect, Row, StyleChar}
+use Rattle.edit_script.specs.declared.commands.Command.TheVariants.{StylePara, Save}
 use Rattle.edit_ops.specs.declared.changes.Change.{Change}
-use Rattle.edit_ops.specs.declared.changes.Change.TheVariants.{SpliceText, ModifyItems, SetSection, SpliceNotes, SpliceHeads, SetStyleCharacters, SetStyleParagraphs}
+use Rattle.edit_ops.specs.declared.changes.Change.TheVariants.{SpliceText, ModifyItems, SetSection, SpliceNotes}
+use Rattle.edit_ops.specs.declared.changes.Change.TheVariants.{SpliceHeads, SetStyleCharacters, SetStyleParagraphs}
 use Rattle.edit_ops.specs.EditFacts.{edit_facts, items_added}
 use Rattle.edit_ops.specs.Places.{items_at, mark_place, note_number}
-use Rattle.edit_ops.specs.Fresh.{inserted_items, field_items, base_settings, note_reference, note_items, split_item, row_items}
+use Rattle.edit_ops.specs.Fresh.{inserted_items, field_items, base_settings, note_reference, note_items, split_item}
+use Rattle.edit_ops.specs.Fresh.{row_items}
 use Rattle.edit_ops.specs.Edits.{erased, section_changes, changes_of}
 use Rattle.edit_ops.specs.Runs.{most_runs, most_runs_of_section}
 use Rattle.edited_text.specs.AddedText.{marked_block}
@@ -103,7 +108,8 @@ note_block : (from to : ℕ) (fresh : List (List Item)) →
     block_most (SpliceNotes from to fresh) ≤ sum_by length fresh + 2
 note_block from to fresh = omega (arith, joined_sum fresh, most_marks (joined_texts fresh))
 
-erased_blocks : (document : Document) (story : Story) (from to : ℕ) → sum_by block_most (erased document story from to) ≤ 0
+erased_blocks : (document : Document) (story : Story) (from to : ℕ) → sum_by block_most (erased document story from
+    to) ≤ 0
 erased_blocks document Main from to = omega arith
 erased_blocks document (NoteText number) from to = omega arith
 erased_blocks document (HeadText number) from to = omega arith

@@ -1,7 +1,8 @@
 -- What is known of the streams, the FIB and the pieces of a file that was read.
 use Rattle.std.specs.Prelude.{slice_get, slice_index, slice_range, ℕ, List}
 use Rattle.std.specs.List.{flat_map, range_with_len}
-use Rattle.std.proofs.Common.{◌≡◌, ◌∙◌, ◌∷◌, ◌+◌, ◌*◌, ◌<◌, ◌≤◌, [], refl, sym, ap, subst, Some, length, map, arith, All}
+use Rattle.std.proofs.Common.{◌≡◌, ◌∙◌, ◌∷◌, ◌+◌, ◌*◌, ◌<◌, ◌≤◌, [], refl, sym, ap, subst, Some, length, map, arith}
+use Rattle.std.proofs.Common.{All}
 use Rattle.std.proofs.lemmas.List.Elements.{All-nil, All-append, All-map, All-head, All-tail}
 use Rattle.doc_bits.specs.declared.places.Where.TheVariants.{File, Wd, Table}
 use Rattle.doc_bits.specs.Rules.{Hold, Nowhere, Among}
@@ -24,13 +25,15 @@ use Rattle.doc_load.specs.SectionRules.{HasSections}
 use Rattle.doc_load.proofs.PartLemmas.{pair-read}
 use Rattle.doc_load.proofs.OneLemmas.{sections_one}
 use Rattle.prop_map.specs.declared.modifiers.Modifier.{Modifier}
-use Rattle.piece_table.specs.Piece.{TextPiece, UnitPlace, unit_bytes, unit_places, bare_piece, flat_pieces, total_length}
+use Rattle.piece_table.specs.Piece.{TextPiece, UnitPlace, unit_bytes, unit_places, bare_piece, flat_pieces}
+use Rattle.piece_table.specs.Piece.{total_length}
 use Rattle.piece_table.specs.Clx.{ClxParts, clx_pieces, plc_place, HaveModifiers}
 use Rattle.piece_table.specs.ClxRules.{clx_rules, early_bounds, IsLongPrc, FitsPages}
 use Rattle.piece_table.proofs.ClxLemmas.{parts_unique}
 use Rattle.piece_table.proofs.FitLemmas.{pieces_fit}
 use Rattle.plain_doc.specs.declared.document.Document.{Document}
-use Rattle.doc_load.specs.FileRules.{HasText, source_of, clx_of, wd_rules, table_rules, table_stream_name, loading_rules, file_rules}
+use Rattle.doc_load.specs.FileRules.{HasText, source_of, clx_of, wd_rules, table_rules, table_stream_name}
+use Rattle.doc_load.specs.FileRules.{loading_rules, file_rules}
 use Rattle.doc_load.proofs.NameLemmas.{named_one}
 use Rattle.doc_load.proofs.RightPlaces.{hold_out}
 use Rattle.doc_read.specs.CarriedParts.{AreWithinBounds}
@@ -100,7 +103,8 @@ module _ (contents : Contents) (fib : FibFields) (file : IsReadFile contents fib
       let wd = file.parts.text.wd in
       let source = source_of file.parts.text in
       let t : table ≡ file.parts.text.table = table_is table named in
-      let p : pair ≡ fib_pair wd (pair_of PlcfSed) = pair_is ∙ pair-read wd fib (pair_of PlcfSed) (omega arith) file.fib_is in
+      let p : pair ≡ fib_pair wd (pair_of PlcfSed) = pair_is ∙ pair-read wd fib (pair_of PlcfSed) (omega arith)
+      file.fib_is in
       let range : slice_range table pair.0 (pair.0 + pair.1) ≡ part_bytes source PlcfSed =
       λ i. slice_range (t i) (p i).0 ((p i).0 + (p i).1) in
       let bytes : plc ≡ part_bytes source PlcfSed = plc_is ∙ range in
@@ -129,7 +133,8 @@ flat_units P (piece ∷ pieces) all =
     (all_units P piece (All-head Has piece pieces all)) (flat_units P pieces (All-tail Has piece pieces all))
 
 pub flat_modifiers : (P : Modifier → Type 0) (pieces : List TextPiece) →
-    All (λ (piece : TextPiece). P piece.modifier) pieces → All (λ (place : UnitPlace). P place.modifier) (flat_pieces pieces)
+    All (λ (piece : TextPiece). P piece.modifier) pieces → All (λ (place : UnitPlace). P place.modifier) (flat_pieces
+    pieces)
 unfolding flat_pieces
 flat_modifiers P pieces all = flat_units P pieces all
 
@@ -149,7 +154,8 @@ fib_holds file parts h has =
     let contents : h.1.0 ≡ parts.contents = contents_unique file h.1.0 parts.contents h.1.1.0 has.has_contents in
     let loading : Hold (loading_rules parts.contents) = subst (λ c. Hold (loading_rules c)) contents h.1.1.1.0 in
     let wd : loading.1.0 ≡ parts.text.wd =
-    named_one file parts.contents wd_name loading.1.0 parts.text.wd has.has_contents loading.1.1.0 has.has_text.has_wd in
+    named_one file parts.contents wd_name loading.1.0 parts.text.wd has.has_contents loading.1.1.0 has.has_text.has_wd
+    in
     let held : Hold (wd_rules parts.contents parts.text.wd) =
     subst (λ (w : List ℕ). Hold (wd_rules parts.contents w)) wd loading.1.1.1 in
     hold_out Wd (fib_rules parts.text.wd) held.0

@@ -1,7 +1,8 @@
 -- An accepted edit adds no more items than a sound document has, and one.
 use Rattle.std.specs.Prelude.{ℕ, List, Option, MatchOption, slice_get, slice_set, ⊤}
 use Rattle.std.specs.List.{sum_by, splice}
-use Rattle.std.proofs.Common.{◌≡◌, ◌∙◌, ◌∷◌, ◌++◌, ◌+◌, ◌*◌, ◌<◌, ◌≤◌, [], refl, sym, ap, subst, zero, suc, Bool, true, false, Some, None, length, take, drop, replicate, arith}
+use Rattle.std.proofs.Common.{◌≡◌, ◌∙◌, ◌∷◌, ◌++◌, ◌+◌, ◌*◌, ◌<◌, ◌≤◌, [], refl, sym, ap, subst, zero, suc, Bool}
+use Rattle.std.proofs.Common.{true, false, Some, None, length, take, drop, replicate, arith}
 use Rattle.std.proofs.lemmas.List.{length-append}
 use Rattle.std.proofs.lemmas.List.{set_split}
 use Rattle.std.proofs.lemmas.List.Sums.{sum_by-append, sum_by-cons}
@@ -14,12 +15,15 @@ use Rattle.plain_doc.specs.declared.document.Document.{Document}
 use Rattle.plain_doc.specs.RulesOfSheet.{item_count, most_items}
 use Rattle.plain_doc.proofs.RightLemmas.{sound_is_right}
 use Rattle.edit_script.specs.declared.commands.Command.{Command}
-use Rattle.edit_script.specs.declared.commands.Command.TheVariants.{Insert, Erase, Char, Plain, Para, Style, Field, Note, Split, Merge, Sect, Row, StyleChar, StylePara, Save}
+use Rattle.edit_script.specs.declared.commands.Command.TheVariants.{Insert, Erase, Char, Plain, Para, Style, Field}
+use Rattle.edit_script.specs.declared.commands.Command.TheVariants.{Note, Split, Merge, Sect, Row, StyleChar}
+use Rattle.edit_script.specs.declared.commands.Command.TheVariants.{StylePara, Save}
 use Rattle.edit_ops.specs.Places.{text_at, items_at, mark_place, note_number}
 use Rattle.edit_ops.specs.Ranges.{HasText, IsInRange}
 use Rattle.edit_ops.specs.Changes.{with_text, put_changed, changed_at}
 use Rattle.edit_ops.specs.Causes.{IsAcceptedEdit}
-use Rattle.edit_ops.specs.Fresh.{inserted_items, field_items, base_settings, note_reference, note_items, split_item, row_items}
+use Rattle.edit_ops.specs.Fresh.{inserted_items, field_items, base_settings, note_reference, note_items, split_item}
+use Rattle.edit_ops.specs.Fresh.{row_items}
 use Rattle.edit_ops.specs.Edits.{erased, section_changes, changes_of, document_after}
 use Rattle.edit_ops.specs.EditFacts.{edit_facts, items_added}
 use Rattle.edit_ops.specs.Codes.{HasRightCodes}
@@ -80,7 +84,8 @@ put_in_text document (HeadText k) from to fresh such has =
 
 -- ---- the changes of a command
 
-erased_adds : (document : Document) (story : Story) (from to : ℕ) → sum_by items_added (erased document story from to) ≤ 0
+erased_adds : (document : Document) (story : Story) (from to : ℕ) → sum_by items_added (erased document story from to)
+    ≤ 0
 erased_adds document Main from to = omega arith
 erased_adds document (NoteText number) from to = omega arith
 erased_adds document (HeadText number) from to = omega arith
@@ -109,7 +114,8 @@ units_within document (Note at text) range =
     let put = sum_put document.notes number number (note_items text ∷ []) in
     omega (arith, put)
 units_within document (Split story at) range =
-    let put = put_in_text document story at at (split_item (items_at document story) at ∷ []) _ range in omega (arith, put)
+    let put = put_in_text document story at at (split_item (items_at document story) at ∷ []) _ range in
+    omega (arith, put)
 units_within document (Merge story at) range =
     let mark = mark_place (items_at document story) at in
     let none = erased_adds document story mark (mark + 1) in

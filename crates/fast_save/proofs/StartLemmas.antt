@@ -1,7 +1,8 @@
 -- What a session begins with is a session.
 use Rattle.std.specs.Prelude.{ℕ, List, Option}
 use Rattle.std.specs.List.{count_by}
-use Rattle.std.proofs.Common.{◌≡◌, ◌∙◌, ◌∷◌, ◌+◌, ◌*◌, ◌<◌, ◌≤◌, [], refl, sym, ap, subst, Some, length, map, arith, All, not, is_some}
+use Rattle.std.proofs.Common.{◌≡◌, ◌∙◌, ◌∷◌, ◌+◌, ◌*◌, ◌<◌, ◌≤◌, [], refl, sym, ap, subst, Some, length, map, arith}
+use Rattle.std.proofs.Common.{All, not, is_some}
 use Rattle.std.specs.Prelude.{slice_get}
 use Rattle.std.proofs.Common.{◌++◌, take}
 use Rattle.std.proofs.lemmas.List.{take_more}
@@ -54,18 +55,21 @@ map_push f (y ∷ ys) x = ap (λ rest. f y ∷ rest) (map_push f ys x)
 base_behind : (len : ℕ) → len ≤ text_base len
 base_behind len = omega arith
 
-module _ (opened : OpenedFile) (opening : IsOpenFile opened) (parts : SessionParts) (are : AreFileParts opened opening parts) where
+module _ (opened : OpenedFile) (opening : IsOpenFile opened) (parts : SessionParts) (are : AreFileParts opened opening
+    parts) where
   begun_places : StandsInSession (saved_stream opening.is.holds) (plan_of parts.text.added) parts.text.pieces.pieces
       opened.document (ends_of parts.text.ends)
   begun_places =
       let held = opening.is.holds in
       let stand = opened_stand opened opening in
       let plan = plan_of parts.text.added in
-      let stands = saved_texts_stand (saved_stream held) plan held.parts.text.pieces opened.document stand.ends stand.together in
+      let stands = saved_texts_stand (saved_stream held) plan held.parts.text.pieces opened.document stand.ends
+      stand.together in
       let ended =
       subst (λ (e : StoryEnds). StandsInSession (saved_stream held) plan held.parts.text.pieces opened.document e)
       (sym are.ends) stands in
-      subst (λ (p : List TextPiece). StandsInSession (saved_stream held) plan p opened.document (ends_of parts.text.ends))
+      subst (λ (p : List TextPiece). StandsInSession (saved_stream held) plan p opened.document
+      (ends_of parts.text.ends))
       (sym are.pieces) ended
 
   begun_text : IsSessionText (saved_stream opening.is.holds) opened.document parts.text
@@ -123,7 +127,8 @@ pub record IsHandedOut (file : List ℕ) (opened : OpenedFile) : Type 0 where
 handed_out : (file : List ℕ) (opened : OpenedFile) → AreBytes file → IsOpened file opened → IsHandedOut file opened
 handed_out file opened bytes is = record { opening = record { file = file; bytes = bytes; is = is }; file_is = refl }
 
-pub parts_handed_out : (file : List ℕ) (opened : OpenedFile) (document : Document) (fib : FibFields) (contents : Contents)
+pub parts_handed_out : (file : List ℕ) (opened : OpenedFile) (document : Document) (fib : FibFields)
+    (contents : Contents)
     (pieces : List TextPiece) → AreBytes file → IsOpened file opened → document ≡ opened.document → fib ≡ opened.fib →
     contents ≡ opened.contents → pieces ≡ opened.pieces →
     IsHandedOut file (record { document = document; fib = fib; contents = contents; pieces = pieces })
@@ -150,7 +155,8 @@ started file opened pieces fib counts is pieces_are fib_is are =
       bytes = refl;
       holds = is.holds;
       counts =
-          subst (λ (p : List TextPiece). AreCountsOf p (sector_count file) (bin_length (fib_fields is.holds.parts.text.wd)) counts) ps
+          subst (λ (p : List TextPiece). AreCountsOf p (sector_count file)
+          (bin_length (fib_fields is.holds.parts.text.wd)) counts) ps
           (subst (λ (g : FibFields). AreCountsOf pieces (sector_count file) (bin_length g) counts) f are);
       quick_saves = ap (λ (g : FibFields). g.quick_saves) f;
     }

@@ -103,9 +103,11 @@ pub record IsHeldFile (file : List ℕ) (document : Document) : Type 0 where
   pub holds : HoldsDocument file document
   pub sound : IsSound document
 
--- where text may be added, whether marks stand behind the stories, where the settings of sections stand, the FIB and the
+-- where text may be added, whether marks stand behind the stories, where the settings of sections stand, the FIB and
+-- the
 -- streams
-pub record AreFastParts {file : List ℕ} {document : Document} (holds : HoldsDocument file document) (parts : FastParts) :
+pub record AreFastParts {file : List ℕ} {document : Document} (holds : HoldsDocument file document)
+    (parts : FastParts) :
     Type 0 where
   pub bytes : AreBytes file
   pub base : parts.base ≡ text_base (length holds.parts.text.wd)
@@ -123,7 +125,8 @@ pub record IsBehind (counts : Counts) (old new : List ℕ) : Type 0 where
   pub grown : length new ≤ length old + 2048 + 2 * counts.units + 512 * counts.runs + 512 * counts.sections
   pub complex : (fib_fields new).complex ≡ true
 
--- the counts with the sectors of the file itself and the bytes of its own bin tables, in place of what they come to at most
+-- the counts with the sectors of the file itself and the bytes of its own bin tables, in place of what they come to
+-- at most
 abbrev pub counts_over : (file wd : List ℕ) → Counts → Counts
 counts_over file wd counts = record counts { sectors = sector_count file; bin_bytes = bin_length (fib_fields wd) }
 
@@ -135,7 +138,8 @@ pub record IsWithin (counts : Counts) (table_bytes : ℕ) (file wd stream : List
   pub bins : bin_length (fib_fields wd) ≤ counts.bin_bytes + 16 * counts.runs + 256
   pub sectors : sector_count file ≤ sector_bound counts table_bytes
 
--- the file of a fast save: the document is saved behind the old WordDocument, by the pieces that are there, with one quick
+-- the file of a fast save: the document is saved behind the old WordDocument, by the pieces that are there, with one
+-- quick
 -- save more, and within what is reckoned over the old file
 pub record IsFastFile {document : Document} {parts : SessionParts} (can : CanSaveFast document parts) (file : List ℕ) :
     Type 0 where

@@ -1,11 +1,14 @@
 -- The ledgers of a session: numbers that the file and the commands determine, with one function an event. A count that
 -- would pass 64 bits stands still.
-use Rattle.std.specs.Prelude.{◌≡◌, ◌↔◌, ℕ, ◌+◌, ◌*◌, ◌/◌, ◌-◌, ◌^◌, ◌||◌, min, max, Bool, true, false, List, length, map, fold, All, if◌then◌else◌}
+use Rattle.std.specs.Prelude.{◌≡◌, ◌↔◌, ℕ, ◌+◌, ◌*◌, ◌/◌, ◌-◌, ◌^◌, ◌||◌, min, max, Bool, true, false, List, length}
+use Rattle.std.specs.Prelude.{map, fold, All, if◌then◌else◌}
 use Rattle.prop_map.specs.Modifiers.{no_modifier, printed_modifier}
 use Rattle.prop_map.specs.Printing.{printed_list}
 use Rattle.piece_table.specs.Piece.{TextPiece}
 use Rattle.edit_script.specs.declared.commands.Command.{Command}
-use Rattle.edit_script.specs.declared.commands.Command.TheVariants.{Insert, Erase, Char, Plain, Para, Style, Field, Note, Split, Merge, Sect, Row, StyleChar, StylePara, Save}
+use Rattle.edit_script.specs.declared.commands.Command.TheVariants.{Insert, Erase, Char, Plain, Para, Style, Field}
+use Rattle.edit_script.specs.declared.commands.Command.TheVariants.{Note, Split, Merge, Sect, Row, StyleChar}
+use Rattle.edit_script.specs.declared.commands.Command.TheVariants.{StylePara, Save}
 use Rattle.edit_ops.specs.Runs.{most_runs}
 use Rattle.fast_save.specs.declared.ledgers.Counts.{Counts}
 use Rattle.fast_save.specs.declared.ledgers.Ledgers.{Ledgers}
@@ -101,7 +104,8 @@ most_printed pieces = fold max 0 (map (λ piece. length (printed_modifier piece.
 abbrev pub AreUnmodified : List TextPiece → Type 0
 AreUnmodified pieces = All (λ piece. piece.modifier ≡ no_modifier) pieces
 
--- the counts of a file of these pieces, of so many sectors, whose bin tables have so many bytes: nothing was added since
+-- the counts of a file of these pieces, of so many sectors, whose bin tables have so many bytes: nothing was added
+-- since
 pub record AreCountsOf (pieces : List TextPiece) (sectors bin_bytes : ℕ) (counts : Counts) : Type 0 where
   pub pieces_are : counts.pieces ≡ length pieces
   pub modified : counts.modified ≡ false ↔ AreUnmodified pieces

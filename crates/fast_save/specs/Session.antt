@@ -14,7 +14,8 @@ use Rattle.doc_read.specs.Holds.{HoldsDocument, IsAccepted}
 use Rattle.save_laws.specs.Places.{PagedStream}
 use Rattle.save_laws.specs.GivenFiles.{stream_of}
 use Rattle.save_bounds.specs.RunCounts.{joined_run_count}
-use Rattle.edited_text.specs.SessionText.{IsSessionText, HaveFitModifiers, HaveNoModifiers, HaveModifiersWithin, ArePlannedSections, unwritten_count}
+use Rattle.edited_text.specs.SessionText.{IsSessionText, HaveFitModifiers, HaveNoModifiers, HaveModifiersWithin}
+use Rattle.edited_text.specs.SessionText.{ArePlannedSections, unwritten_count}
 use Rattle.fast_save.specs.declared.ledgers.Counts.{Counts}
 use Rattle.fast_save.specs.declared.parts.SessionParts.{SessionParts}
 
@@ -56,7 +57,8 @@ pub record IsSession (file : List ℕ) (document : Document) (parts : SessionPar
   pub contents : parts.container ≡ held.parts.contents
 
 -- none of the counts is less than what it counts: the pieces and their modifiers, the sectors of the file, the bytes of
--- its bin tables, the items that were added, their runs and the bytes of both, with a page for each run, and the sections
+-- its bin tables, the items that were added, their runs and the bytes of both, with a page for each run, and the
+-- sections
 -- whose settings are still to be written
 pub record IsCounted (file : List ℕ) (parts : SessionParts) (counts : Counts) : Type 0 where
   pub pieces : length parts.text.pieces.pieces ≤ counts.pieces

@@ -1,10 +1,14 @@
 -- What was written is read again.
-use Rattle.std.proofs.Common.{◌≡◌, ℕ, ◌+◌, ◌*◌, ◌^◌, ◌<◌, ◌≤◌, ◌==◌, Bool, List, [], ◌∷◌, ◌++◌, length, sum, slice_index, flat_map, All, refl, sym, ap, subst, zero-add, inl, inr, ◌∙◌, arith, append_assoc, length-append, lit<, lit≤}
+use Rattle.std.proofs.Common.{◌≡◌, ℕ, ◌+◌, ◌*◌, ◌^◌, ◌<◌, ◌≤◌, ◌==◌, Bool, List, [], ◌∷◌, ◌++◌, length, sum}
+use Rattle.std.proofs.Common.{slice_index, flat_map, All, refl, sym, ap, subst, zero-add, inl, inr, ◌∙◌, arith}
+use Rattle.std.proofs.Common.{append_assoc, length-append, lit<, lit≤}
 use Rattle.doc_bits.specs.Number.{number_at, number_bytes, u16_at, u32_at}
 use Rattle.doc_bits.specs.Rules.{Hold}
 use Rattle.doc_bits.proofs.NumberLemmas.{length-number_bytes}
 use Rattle.fib_form.specs.Fib.{WIdent, NFib, Lid, Flags, Csw, LidFE, Cslw, CbMac, CcpText, CcpFtn, CcpHdd, CbRgFcLcb}
-use Rattle.fib_form.specs.Fib.{fib_pair, fib_pairs, fib_flags, fib_lid, fib_lid_fe, fib_quick_saves, fib_complex, fib_which_table, fib_cb_mac, fib_ccp_text, fib_ccp_ftn, fib_ccp_hdd, kept_flags, early_form}
+use Rattle.fib_form.specs.Fib.{fib_pair, fib_pairs, fib_flags, fib_lid, fib_lid_fe, fib_quick_saves, fib_complex}
+use Rattle.fib_form.specs.Fib.{fib_which_table, fib_cb_mac, fib_ccp_text, fib_ccp_ftn, fib_ccp_hdd, kept_flags}
+use Rattle.fib_form.specs.Fib.{early_form}
 use Rattle.fib_form.specs.FibFields.{FibFields, IsWidePair, fib_fields, pair_at, IsFib}
 use Rattle.fib_form.specs.FibRules.{fib_rules}
 use Rattle.fib_form.specs.FibBytes.{written_fib, written_fields, written_flags, spelled, pair_bytes, field, Field}
@@ -45,17 +49,31 @@ pub record IsWritten (fib : FibFields) (wd : List ℕ) : Type 0 where
 
 -- the fields are in order
 pub followed : (fib : FibFields) → Follow 0 (written_fields fib) 154
-followed fib = (lit≤ tt, (lit≤ tt, (lit≤ tt, (lit≤ tt, (lit≤ tt, (lit≤ tt, (lit≤ tt, (lit≤ tt, (lit≤ tt, (lit≤ tt, (lit≤ tt, (lit≤ tt, (lit≤ tt, lit≤ tt)))))))))))))
+followed fib = (
+  lit≤ tt,
+  (
+    lit≤ tt,
+    (
+      lit≤ tt,
+      (
+        lit≤ tt,
+        (lit≤ tt, (lit≤ tt, (lit≤ tt, (lit≤ tt, (lit≤ tt, (lit≤ tt, (lit≤ tt, (lit≤ tt, (lit≤ tt, lit≤ tt))))))))),
+      ),
+    ),
+  ),
+)
 
 -- a sum of three counts
-pub sum-three : (ccps : List ℕ) → length ccps ≡ 3 → sum ccps ≡ slice_index ccps 0 + slice_index ccps 1 + slice_index ccps 2
+pub sum-three : (ccps : List ℕ) → length ccps ≡ 3 → sum ccps ≡ slice_index ccps 0 + slice_index ccps 1 + slice_index
+    ccps 2
 sum-three [] e = absurd (omega arith)
 sum-three (a ∷ []) e = absurd (omega arith)
 sum-three (a ∷ b ∷ []) e = absurd (omega arith)
 sum-three (a ∷ b ∷ c ∷ []) e = omega arith
 sum-three (a ∷ b ∷ c ∷ d ∷ more) e = absurd (omega arith)
 
-pub three_of : (ccps : List ℕ) → length ccps ≡ 3 → ccps ≡ slice_index ccps 0 ∷ slice_index ccps 1 ∷ slice_index ccps 2 ∷ []
+pub three_of : (ccps : List ℕ) → length ccps ≡ 3 → ccps ≡ slice_index ccps 0 ∷ slice_index ccps 1 ∷ slice_index ccps 2
+    ∷ []
 three_of [] e = absurd (omega arith)
 three_of (a ∷ []) e = absurd (omega arith)
 three_of (a ∷ b ∷ []) e = absurd (omega arith)
@@ -63,16 +81,21 @@ three_of (a ∷ b ∷ c ∷ []) e = refl
 three_of (a ∷ b ∷ c ∷ d ∷ more) e = absurd (omega arith)
 
 -- the flags of a FIB
-pub flags_of : (fib : FibFields) → IsFib fib → ReadsFlags fib.kept.flags fib.quick_saves fib.which_table fib.complex (written_flags fib)
-flags_of fib is = reads_flags fib.kept.flags fib.quick_saves fib.which_table fib.complex is.flags is.quick_saves is.which_table
+pub flags_of : (fib : FibFields) → IsFib fib → ReadsFlags fib.kept.flags fib.quick_saves fib.which_table fib.complex
+    (written_flags fib)
+flags_of fib is = reads_flags fib.kept.flags fib.quick_saves fib.which_table fib.complex is.flags is.quick_saves
+    is.which_table
 
 -- a pair of a written FIB
-pair_written : (pairs : List (ℕ × ℕ)) (n : ℕ) (front tail : List ℕ) → length front ≡ 154 → length pairs ≡ 93 → n < 93 → All IsWidePair pairs → fib_pair (front ++ (flat_map pair_bytes pairs ++ tail)) n ≡ pair_at pairs n
+pair_written : (pairs : List (ℕ × ℕ)) (n : ℕ) (front tail : List ℕ) → length front ≡ 154 → length pairs ≡ 93 →
+    n < 93 → All IsWidePair pairs → fib_pair (front ++ (flat_map pair_bytes pairs ++ tail)) n ≡ pair_at pairs n
 pair_written pairs n front tail size count h wide =
     let wd = front ++ (flat_map pair_bytes pairs ++ tail) in
     let read = read_pair pairs n front tail (omega arith) wide in
-    let fc : number_at wd (154 + 8 * n) 4 ≡ (pair_at pairs n).0 = subst (λ l. number_at wd (l + 8 * n) 4 ≡ (pair_at pairs n).0) size read.0 in
-    let lcb : number_at wd (154 + 8 * n + 4) 4 ≡ (pair_at pairs n).1 = subst (λ l. number_at wd (l + 8 * n + 4) 4 ≡ (pair_at pairs n).1) size read.1 in
+    let fc : number_at wd (154 + 8 * n) 4 ≡ (pair_at pairs n).0 = subst (λ l. number_at wd (l + 8 * n) 4 ≡
+    (pair_at pairs n).0) size read.0 in
+    let lcb : number_at wd (154 + 8 * n + 4) 4 ≡ (pair_at pairs n).1 = subst (λ l. number_at wd (l + 8 * n + 4) 4 ≡
+    (pair_at pairs n).1) size read.1 in
     rw (fc, lcb) refl
 
 pub is_written : (fib : FibFields) (more : List ℕ) → IsFib fib → IsWritten fib (written_fib fib ++ more)
@@ -81,17 +104,29 @@ is_written fib more is =
     let fields = written_fields fib in
     let pairs = flat_map pair_bytes fib.pairs in
     let tail = pairs ++ (number_bytes 2 0 ++ more) in
-    let whole : (spelled 0 fields ++ (pairs ++ number_bytes 2 0)) ++ more ≡ spelled 0 fields ++ tail = simp append_assoc in
+    let whole : (spelled 0 fields ++ (pairs ++ number_bytes 2 0)) ++ more ≡ spelled 0 fields ++ tail = simp
+    append_assoc in
     let follow = followed fib in
-    let front : length (spelled 0 fields) ≡ 154 = sym (zero-add (length (spelled 0 fields))) ∙ length-spelled fields 0 154 follow in
+    let front : length (spelled 0 fields) ≡ 154 = sym (zero-add (length (spelled 0 fields))) ∙ length-spelled fields 0
+    154 follow in
     let size : length pairs ≡ 744 = omega (arith, length-flat_map-pair_bytes fib.pairs, is.pairs.count) in
     let size_new : length (number_bytes 2 0) ≡ 2 = length-number_bytes 2 0 in
     let counts = is.counts in
-    let all : slice_index fib.ccps 0 + slice_index fib.ccps 1 + slice_index fib.ccps 2 ≤ 500000 = omega (arith, sum-three fib.ccps counts.three, counts.all) in
-    let read : (k : ℕ) (f : Field) → Has k fields f → f.number < 256 ^ f.width → number_at (spelled 0 fields ++ tail) f.place f.width ≡ f.number =
+    let all : slice_index fib.ccps 0 + slice_index fib.ccps 1 + slice_index fib.ccps 2 ≤ 500000 = omega (
+      arith,
+      sum-three fib.ccps counts.three,
+      counts.all,
+    ) in
+    let read : (k : ℕ) (f : Field) → Has k fields f → f.number < 256 ^ f.width → number_at (spelled 0 fields ++ tail)
+    f.place f.width ≡ f.number =
     λ k f has fits. read_field k fields f 0 154 [] tail refl follow has fits in
     rw whole (record {
-      long = omega (arith, length-append (spelled 0 fields) tail, length-append pairs (number_bytes 2 0 ++ more), length-append (number_bytes 2 0) more);
+      long = omega (
+        arith,
+        length-append (spelled 0 fields) tail,
+        length-append pairs (number_bytes 2 0 ++ more),
+        length-append (number_bytes 2 0) more,
+      );
       ident = read 0 (field WIdent 0xA5EC) refl (lit< tt);
       nfib = read 1 (field NFib 0x00C1) refl (lit< tt);
       lid = read 2 (field Lid fib.kept.lid) refl is.languages.0;
@@ -103,26 +138,50 @@ is_written fib more is =
       text = read 9 (field CcpText (slice_index fib.ccps 0)) refl (omega arith);
       notes = read 10 (field CcpFtn (slice_index fib.ccps 1)) refl (omega arith);
       heads = read 11 (field CcpHdd (slice_index fib.ccps 2)) refl (omega arith);
-      others = λ k h. read_gap 12 fields (field CbRgFcLcb 93) 0 154 (92 + 4 * k) 4 [] tail refl follow refl (omega arith) (omega arith);
+      others = λ k h. read_gap 12 fields (field CbRgFcLcb 93) 0 154 (92 + 4 * k) 4 [] tail refl follow refl
+          (omega arith) (omega arith);
       sizes = read 12 (field CbRgFcLcb 93) refl (lit< tt);
-      pairs = λ n h. pair_written fib.pairs n (spelled 0 fields) (number_bytes 2 0 ++ more) front is.pairs.count h is.wide;
-      csw_new = read_here (spelled 0 fields ++ pairs) more (spelled 0 fields ++ tail) 898 2 0 (omega (arith, length-append (spelled 0 fields) pairs)) (simp append_assoc) (lit< tt);
+      pairs = λ n h. pair_written fib.pairs n (spelled 0 fields) (number_bytes 2 0 ++ more) front is.pairs.count h
+          is.wide;
+      csw_new = read_here (spelled 0 fields ++ pairs) more (spelled 0 fields ++ tail) 898 2 0 (omega (
+        arith,
+        length-append (spelled 0 fields) pairs,
+      )) (simp append_assoc) (lit< tt);
     })
 
 -- fields that are equal one by one
-pub same_fields : (lid lid_fe flags quick_saves table mac : ℕ) (complex : Bool) (ccps : List ℕ) (pairs : List (ℕ × ℕ)) (fib : FibFields) → lid ≡ fib.kept.lid → lid_fe ≡ fib.kept.lid_fe → flags ≡ fib.kept.flags → quick_saves ≡ fib.quick_saves → table ≡ fib.which_table → mac ≡ fib.cb_mac → complex ≡ fib.complex → ccps ≡ fib.ccps → pairs ≡ fib.pairs → fields_of lid lid_fe flags quick_saves table mac complex ccps pairs ≡ fib
-same_fields lid lid_fe flags quick_saves table mac complex ccps pairs fib e1 e2 e3 e4 e5 e6 e7 e8 e9 = rw (e1, e2, e3, e4, e5, e6, e7, e8, e9) refl
+pub same_fields : (lid lid_fe flags quick_saves table mac : ℕ) (complex : Bool) (ccps : List ℕ) (pairs : List (ℕ × ℕ))
+    (fib : FibFields) → lid ≡ fib.kept.lid → lid_fe ≡ fib.kept.lid_fe → flags ≡ fib.kept.flags →
+    quick_saves ≡ fib.quick_saves → table ≡ fib.which_table → mac ≡ fib.cb_mac → complex ≡ fib.complex →
+    ccps ≡ fib.ccps → pairs ≡ fib.pairs → fields_of lid lid_fe flags quick_saves table mac complex ccps pairs ≡ fib
+same_fields lid lid_fe flags quick_saves table mac complex ccps pairs fib e1 e2 e3 e4 e5 e6 e7 e8 e9 = rw (
+  e1,
+  e2,
+  e3,
+  e4,
+  e5,
+  e6,
+  e7,
+  e8,
+  e9,
+) refl
 
 pub hold_written : (fib : FibFields) (wd : List ℕ) → IsFib fib → IsWritten fib wd → Hold (fib_rules wd)
 hold_written fib wd is w =
-    let flags = subst (λ n. ReadsFlags fib.kept.flags fib.quick_saves fib.which_table fib.complex n) (sym w.flags) (flags_of fib is) in
+    let flags = subst (λ n. ReadsFlags fib.kept.flags fib.quick_saves fib.which_table fib.complex n) (sym w.flags)
+    (flags_of fib is) in
     let fits = is.pairs in
     let counts = is.counts in
-    let all : slice_index fib.ccps 0 + slice_index fib.ccps 1 + slice_index fib.ccps 2 ≤ 500000 = omega (arith, sum-three fib.ccps counts.three, counts.all) in
+    let all : slice_index fib.ccps 0 + slice_index fib.ccps 1 + slice_index fib.ccps 2 ≤ 500000 = omega (
+      arith,
+      sum-three fib.ccps counts.three,
+      counts.all,
+    ) in
     let text = w.text in
     let notes = w.notes in
     let heads = w.heads in
-    let lcb : (n : ℕ) → n < 93 → (fib_pair wd n).1 ≡ (pair_at fib.pairs n).1 = λ n h. ap (λ pair. pair.1) (w.pairs n h) in (
+    let lcb : (n : ℕ) → n < 93 → (fib_pair wd n).1 ≡ (pair_at fib.pairs n).1 = λ n h. ap (λ pair. pair.1)
+    (w.pairs n h) in (
       λ p h. let short = h.1 in let long = w.long in omega arith,
       (
         λ p h. h.1 w.ident,
@@ -133,7 +192,17 @@ hold_written fib wd is w =
             (
               λ p h. let x = h.1 in omega (arith, x, flags.glossary),
               (
-                λ p h. elim h [ inl x ↦ x.1 w.csw | inr y ↦ elim y [ inl x ↦ x.1 w.cslw | inr z ↦ elim z [ inl x ↦ x.1 w.sizes | inr x ↦ x.1 w.csw_new ] ] ],
+                λ p h. elim h [
+                  | inl x ↦ x.1 w.csw
+                  | inr y ↦ elim y [
+                    | inl x ↦ x.1 w.cslw
+                    | inr z ↦ elim z [
+                      | inl x ↦ x.1
+                          w.sizes
+                      | inr x ↦ x.1 w.csw_new
+                    ]
+                  ]
+                ],
                 (
                   λ p h. h.broken.1 (w.others h.entry h.below),
                   (
@@ -159,12 +228,18 @@ hold_written fib wd is w =
 
 pub fields_written : (fib : FibFields) (wd : List ℕ) → IsFib fib → IsWritten fib wd → fib_fields wd ≡ fib
 fields_written fib wd is w =
-    let flags = subst (λ n. ReadsFlags fib.kept.flags fib.quick_saves fib.which_table fib.complex n) (sym w.flags) (flags_of fib is) in
-    let pairs : fib_pairs wd ≡ fib.pairs = sym (fib_pairs-by_place wd fib.pairs is.pairs.count (λ n h. sym (w.pairs n h))) in
-    let three : fib_ccp_text wd ∷ fib_ccp_ftn wd ∷ fib_ccp_hdd wd ∷ [] ≡ fib.ccps = rw (w.text, w.notes, w.heads) (sym (three_of fib.ccps is.counts.three)) in
-    same_fields (fib_lid wd) (fib_lid_fe wd) (kept_flags (fib_flags wd)) (fib_quick_saves wd) (fib_which_table wd) (fib_cb_mac wd) (fib_complex wd == 1) (fib_ccp_text wd ∷ fib_ccp_ftn wd ∷ fib_ccp_hdd wd ∷ []) (fib_pairs wd) fib w.lid w.lid_fe flags.keeps flags.count flags.table w.cb_mac flags.is_complex three pairs
+    let flags = subst (λ n. ReadsFlags fib.kept.flags fib.quick_saves fib.which_table fib.complex n) (sym w.flags)
+    (flags_of fib is) in
+    let pairs : fib_pairs wd ≡ fib.pairs = sym (fib_pairs-by_place wd fib.pairs is.pairs.count
+    (λ n h. sym (w.pairs n h))) in
+    let three : fib_ccp_text wd ∷ fib_ccp_ftn wd ∷ fib_ccp_hdd wd ∷ [] ≡ fib.ccps = rw (w.text, w.notes, w.heads)
+    (sym (three_of fib.ccps is.counts.three)) in
+    same_fields (fib_lid wd) (fib_lid_fe wd) (kept_flags (fib_flags wd)) (fib_quick_saves wd) (fib_which_table wd)
+    (fib_cb_mac wd) (fib_complex wd == 1) (fib_ccp_text wd ∷ fib_ccp_ftn wd ∷ fib_ccp_hdd wd ∷ []) (fib_pairs wd)
+    fib w.lid w.lid_fe flags.keeps flags.count flags.table w.cb_mac flags.is_complex three pairs
 
-pub read_back : (fib : FibFields) (more : List ℕ) → IsFib fib → Hold (fib_rules (written_fib fib ++ more)) × (fib_fields (written_fib fib ++ more) ≡ fib)
+pub read_back : (fib : FibFields) (more : List ℕ) → IsFib fib → Hold (fib_rules (written_fib fib ++ more)) ×
+    (fib_fields (written_fib fib ++ more) ≡ fib)
 read_back fib more is =
     let w = is_written fib more is in
     (hold_written fib (written_fib fib ++ more) is w, fields_written fib (written_fib fib ++ more) is w)

@@ -14,14 +14,97 @@ pub fib_rules-IsSingle : (wd : List ℕ) → IsSingle (fib_rules wd)
 fib_rules-IsSingle wd = search rules
 
 pub fib_rules-Ascends : (wd : List ℕ) → Ascends (fib_rules wd) 16 25
-fib_rules-Ascends wd = (17, ((lit≤ tt, lit< tt), (lit≤ tt, lit≤ tt, (18, ((lit≤ tt, lit< tt), (lit≤ tt, lit≤ tt, (19, ((lit≤ tt, lit< tt), (lit≤ tt, lit≤ tt, (20, ((lit≤ tt, lit< tt), (lit≤ tt, lit≤ tt, (21, ((lit≤ tt, lit< tt), (lit≤ tt, lit≤ tt, (22, ((lit≤ tt, lit< tt), (lit≤ tt, lit≤ tt, (23, ((lit≤ tt, lit< tt), (lit≤ tt, lit≤ tt, (24, ((lit≤ tt, lit< tt), (lit≤ tt, lit≤ tt, (lit≤ tt, lit< tt)))))))))))))))))))))))))
+fib_rules-Ascends wd = (
+  17,
+  (
+    (lit≤ tt, lit< tt),
+    (
+      lit≤ tt,
+      lit≤ tt,
+      (
+        18,
+        (
+          (lit≤ tt, lit< tt),
+          (
+            lit≤ tt,
+            lit≤ tt,
+            (
+              19,
+              (
+                (lit≤ tt, lit< tt),
+                (
+                  lit≤ tt,
+                  lit≤ tt,
+                  (
+                    20,
+                    (
+                      (lit≤ tt, lit< tt),
+                      (
+                        lit≤ tt,
+                        lit≤ tt,
+                        (
+                          21,
+                          (
+                            (lit≤ tt, lit< tt),
+                            (
+                              lit≤ tt,
+                              lit≤ tt,
+                              (
+                                22,
+                                (
+                                  (lit≤ tt, lit< tt),
+                                  (
+                                    lit≤ tt,
+                                    lit≤ tt,
+                                    (
+                                      23,
+                                      (
+                                        (lit≤ tt, lit< tt),
+                                        (
+                                          lit≤ tt,
+                                          lit≤ tt,
+                                          (
+                                            24,
+                                            (
+                                              (lit≤ tt, lit< tt),
+                                              (
+                                                lit≤ tt,
+                                                lit≤ tt,
+                                                (lit≤ tt, lit< tt),
+                                              ),
+                                            ),
+                                          ),
+                                        ),
+                                      ),
+                                    ),
+                                  ),
+                                ),
+                              ),
+                            ),
+                          ),
+                        ),
+                      ),
+                    ),
+                  ),
+                ),
+              ),
+            ),
+          ),
+        ),
+      ),
+    ),
+  ),
+)
 
 -- the fields of a stream that breaks no rule are those of a FIB
 pub is_fib : (wd : List ℕ) → ((i : ℕ) → slice_index wd i < 256) → Hold (fib_rules wd) → IsFib (fib_fields wd)
 is_fib wd bytes (_, (_, (_, (_, (_, (_, (_, (lengths, parts)))))))) =
     let pair : (n : ℕ) → n < 93 → pair_at (fib_pairs wd) n ≡ fib_pair wd n = λ n h. pair_at-fib_pairs wd n h in
     let most : (n limit : ℕ) → n < 93 → (limit < (fib_pair wd n).1 → ⊥) → (pair_at (fib_pairs wd) n).1 ≤ limit =
-    λ n limit h not_over. rw (pair n h) (elim (cases_lt limit (fib_pair wd n).1) [ inl over ↦ absurd (not_over over) | inr at_most ↦ at_most ]) in
+    λ n limit h not_over. rw (pair n h) (elim (cases_lt limit (fib_pair wd n).1) [
+      | inl over ↦ absurd (not_over over)
+      | inr at_most ↦ at_most
+    ]) in
     record {
       languages = (number_at-bound wd 6 2 bytes, number_at-bound wd 60 2 bytes);
       flags = kept_flags-kept (fib_flags wd);
@@ -30,8 +113,18 @@ is_fib wd bytes (_, (_, (_, (_, (_, (_, (_, (lengths, parts)))))))) =
       cb_mac = number_at-bound wd 64 4 bytes;
       counts = record {
         three = refl;
-        main = elim (cases_lt 0 (fib_ccp_text wd)) [ inl some ↦ some | inr none ↦ absurd (lengths 76 (refl, inl (omega arith))) ];
-        all = elim (cases_lt 500000 (fib_ccp_text wd + fib_ccp_ftn wd + fib_ccp_hdd wd)) [ inl over ↦ absurd (lengths 76 (refl, inr over)) | inr most ↦ omega arith ];
+        main = elim (cases_lt 0 (fib_ccp_text wd)) [
+          | inl some ↦ some
+          | inr none ↦ absurd (lengths 76 (
+            refl,
+            inl (omega arith),
+          ))
+        ];
+        all = elim (cases_lt 500000 (fib_ccp_text wd + fib_ccp_ftn wd + fib_ccp_hdd wd)) [
+          | inl over ↦ absurd (lengths
+              76 (refl, inr over))
+          | inr most ↦ omega arith
+        ];
       };
       pairs = record {
         count = length-fib_pairs wd;
@@ -40,5 +133,12 @@ is_fib wd bytes (_, (_, (_, (_, (_, (_, (_, (lengths, parts)))))))) =
         header_drawings = most 41 4 (lit< tt) (λ over. parts (pair_place 41) (inr (inr (inl (refl, over)))));
         endnotes = most 46 4 (lit< tt) (λ over. parts (pair_place 46) (inr (inr (inr (refl, over)))));
       };
-      wide = All-from_get_or IsWidePair (fib_pairs wd) (0, 0) (λ n h. let low : n < 93 = omega (arith, length-fib_pairs wd) in rw (pair n low) (number_at-bound wd (pair_place n) 4 bytes, number_at-bound wd (pair_place n + 4) 4 bytes));
+      wide = All-from_get_or IsWidePair (fib_pairs wd) (0, 0) (λ n h. let low : n < 93 = omega (
+        arith,
+        length-fib_pairs wd,
+      ) in rw (pair n low) (
+        number_at-bound wd (pair_place n) 4 bytes,
+        number_at-bound wd
+            (pair_place n + 4) 4 bytes,
+      ));
     }

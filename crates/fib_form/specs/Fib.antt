@@ -1,4 +1,5 @@
--- [MS-DOC] FIB, the file information block that WordDocument begins with. One table has the fields with their offsets and
+-- [MS-DOC] FIB, the file information block that WordDocument begins with. One table has the fields with their offsets
+-- and
 -- widths; each field's number is read by it. `wd` is the bytes of WordDocument.
 use Rattle.std.specs.Prelude.{ℕ, ◌+◌, ◌*◌, ◌/◌, ◌%◌, ◌^◌, List, map, slice_range}
 use Rattle.std.specs.List.{range_with_len}

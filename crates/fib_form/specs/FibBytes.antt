@@ -4,7 +4,8 @@ use Rattle.std.specs.Prelude.{◌≡◌, ℕ, ◌+◌, ◌-◌, ◌*◌, List, [
 use Rattle.doc_bits.specs.Number.{number_bytes}
 unfoldable pub use Rattle.doc_bits.specs.Number.{zeros}
 use Rattle.doc_bits.specs.Rules.{Hold}
-use Rattle.fib_form.specs.Fib.{FibField, WIdent, NFib, Lid, Flags, NFibBack, Csw, LidFE, Cslw, CbMac, CcpText, CcpFtn, CcpHdd, CbRgFcLcb, field_place, early_form}
+use Rattle.fib_form.specs.Fib.{FibField, WIdent, NFib, Lid, Flags, NFibBack, Csw, LidFE, Cslw, CbMac, CcpText, CcpFtn}
+use Rattle.fib_form.specs.Fib.{CcpHdd, CbRgFcLcb, field_place, early_form}
 use Rattle.fib_form.specs.FibFields.{FibFields, fib_fields, IsFib}
 use Rattle.fib_form.specs.FibRules.{fib_rules}
 
@@ -20,7 +21,8 @@ field name number = record { place = (field_place name).0; width = (field_place 
 -- ascending fields from an offset on, with zero bytes before each
 abbrev pub spelled : ℕ → List Field → List ℕ
 spelled from [] = []
-spelled from (f ∷ fields) = zeros (f.place - from) ++ (number_bytes f.width f.number ++ spelled (f.place + f.width) fields)
+spelled from (f ∷ fields) = zeros (f.place - from) ++ (number_bytes f.width f.number ++ spelled (f.place + f.width)
+    fields)
 
 -- the flags: those that are kept, fComplex, cQuickSaves, fWhichTblStm and fExtChar
 abbrev pub written_flags : FibFields → ℕ
@@ -56,4 +58,5 @@ written_fib fib = spelled 0 (written_fields fib) ++ (flat_map pair_bytes fib.pai
 -- a stream that begins with a written FIB breaks no rule on the FIB, and has the fields that were written
 abbrev pub FibIsReadBack : Type 0
 FibIsReadBack =
-    (fib : FibFields) (more : List ℕ) → IsFib fib → Hold (fib_rules (written_fib fib ++ more)) × (fib_fields (written_fib fib ++ more) ≡ fib)
+    (fib : FibFields) (more : List ℕ) → IsFib fib → Hold (fib_rules (written_fib fib ++ more)) ×
+    (fib_fields (written_fib fib ++ more) ≡ fib)

@@ -1,7 +1,9 @@
 -- The fields of a FIB as one value, and the values that it may have.
-use Rattle.std.specs.Prelude.{◌≡◌, ℕ, ◌+◌, ◌^◌, ◌<◌, ◌≤◌, ◌==◌, min, List, [], ◌∷◌, replicate, sum, take, length, slice_index, slice_index_or, Bool, All}
+use Rattle.std.specs.Prelude.{◌≡◌, ℕ, ◌+◌, ◌^◌, ◌<◌, ◌≤◌, ◌==◌, min, List, [], ◌∷◌, replicate, sum, take, length}
+use Rattle.std.specs.Prelude.{slice_index, slice_index_or, Bool, All}
 use Rattle.fib_form.specs.declared.fib.KeptFib.{KeptFib}
-use Rattle.fib_form.specs.Fib.{early_form, kept_flags, fib_flags, fib_lid, fib_lid_fe, fib_quick_saves, fib_complex, fib_which_table, fib_cb_mac, fib_ccp_text, fib_ccp_ftn, fib_ccp_hdd, fib_pairs}
+use Rattle.fib_form.specs.Fib.{early_form, kept_flags, fib_flags, fib_lid, fib_lid_fe, fib_quick_saves, fib_complex}
+use Rattle.fib_form.specs.Fib.{fib_which_table, fib_cb_mac, fib_ccp_text, fib_ccp_ftn, fib_ccp_hdd, fib_pairs}
 
 -- what this profile keeps of a FIB; `ccps` are those of the main text, the notes and the header texts
 pub record FibFields : Type 0 where

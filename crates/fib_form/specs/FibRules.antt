@@ -2,8 +2,10 @@
 use Rattle.std.specs.Prelude.{◌≡◌, ◌≢◌, ◌⊎◌, ℕ, ◌+◌, ◌*◌, ◌<◌, ◌≤◌, List, length}
 use Rattle.doc_bits.specs.Number.{u32_at}
 use Rattle.doc_bits.specs.Rules.{Rules, rule, ◌then◌, IsFirst, Among, Breaks, IsLeastOfAll}
-use Rattle.fib_form.specs.Fib.{FibField, WIdent, NFib, Flags, Csw, Cslw, CcpText, CcpAtn, CbRgFcLcb, CswNew, field_offset, fib_number}
-use Rattle.fib_form.specs.Fib.{early_form, fib_encrypted, fib_obfuscated, fib_glossary, fib_ccp_text, fib_ccp_ftn, fib_ccp_hdd, fib_pair, pair_place}
+use Rattle.fib_form.specs.Fib.{FibField, WIdent, NFib, Flags, Csw, Cslw, CcpText, CcpAtn, CbRgFcLcb, CswNew}
+use Rattle.fib_form.specs.Fib.{field_offset, fib_number}
+use Rattle.fib_form.specs.Fib.{early_form, fib_encrypted, fib_obfuscated, fib_glossary, fib_ccp_text, fib_ccp_ftn}
+use Rattle.fib_form.specs.Fib.{fib_ccp_hdd, fib_pair, pair_place}
 
 -- the field has another number than the wanted one
 abbrev pub IsOther : List ℕ → FibField → ℕ → ℕ → Type 0
@@ -24,7 +26,8 @@ IsGlossary wd p = (p ≡ field_offset Flags) × (fib_glossary wd ≡ 1)
 -- csw, cslw, cbRgFcLcb or cswNew is not that of the form
 abbrev pub IsWrongSize : List ℕ → ℕ → Type 0
 IsWrongSize wd p =
-    IsOther wd Csw 14 p ⊎ (IsOther wd Cslw 22 p ⊎ (IsOther wd CbRgFcLcb early_form.pair_count p ⊎ IsOther wd CswNew 0 p))
+    IsOther wd Csw 14 p ⊎ (IsOther wd Cslw 22 p ⊎ (IsOther wd CbRgFcLcb early_form.pair_count p ⊎ IsOther wd CswNew 0
+    p))
 
 -- Profile: comments, endnotes and text boxes are refused. One of their four counts, which stand
 -- from ccpAtn on, is not 0
@@ -59,4 +62,5 @@ fib_rules wd =
 
 -- the first broken rule is the least of all broken ones, at its least place
 abbrev pub FirstIsLeast : Type 0
-FirstIsLeast = (wd : List ℕ) (r p : ℕ) → IsFirst (fib_rules wd) r p → IsLeastOfAll (λ a b. a ≤ b) (Breaks (fib_rules wd)) r p
+FirstIsLeast = (wd : List ℕ) (r p : ℕ) → IsFirst (fib_rules wd) r p → IsLeastOfAll (λ a b. a ≤ b)
+    (Breaks (fib_rules wd)) r p

@@ -1,7 +1,10 @@
 -- [MS-DOC] FibRgFcLcb97: the parts of the table stream, by the numbers of their pairs.
 use Rattle.std.specs.Prelude.{ℕ}
 use Rattle.fib_form.specs.declared.table_parts.TablePart.{TablePart}
-use Rattle.fib_form.specs.declared.table_parts.TablePart.TheVariants.{Stshf, PlcffndRef, PlcffndTxt, PlcfSed, PlcfHdd, PlcfBteChpx, PlcfBtePapx, SttbfFfn, PlcfFldMom, PlcfFldHdr, PlcfFldFtn, Dop, SttbfAssoc, Clx, PlfLst, PlfLfo}
+use Rattle.fib_form.specs.declared.table_parts.TablePart.TheVariants.{Stshf, PlcffndRef, PlcffndTxt, PlcfSed, PlcfHdd}
+use Rattle.fib_form.specs.declared.table_parts.TablePart.TheVariants.{PlcfBteChpx, PlcfBtePapx, SttbfFfn, PlcfFldMom}
+use Rattle.fib_form.specs.declared.table_parts.TablePart.TheVariants.{PlcfFldHdr, PlcfFldFtn, Dop, SttbfAssoc, Clx}
+use Rattle.fib_form.specs.declared.table_parts.TablePart.TheVariants.{PlfLst, PlfLfo}
 
 -- the number of the pair of a part
 abbrev pub pair_of : TablePart → ℕ

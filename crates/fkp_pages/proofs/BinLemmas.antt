@@ -22,14 +22,17 @@ bin_fcs_ascend bin i j table h w =
 pub bin_range_is_one : (bin : List ℕ) (fc i j : ℕ) → IsBinTable bin → IsBinRange bin fc i → IsBinRange bin fc j → i ≡ j
 bin_range_is_one bin fc i j table one other =
     elim (cases_lt i j) [
-      | inl h ↦ (let apart = bin_fcs_ascend bin (i + 1) j table (omega arith) (omega (arith, other.below)) in absurd (omega (arith, one.to, other.from)))
+      | inl h ↦ (let apart = bin_fcs_ascend bin (i + 1) j table (omega arith) (omega (arith, other.below)) in
+          absurd (omega (arith, one.to, other.from)))
       | inr h ↦ elim (cases_lt j i) [
-        | inl g ↦ (let apart = bin_fcs_ascend bin (j + 1) i table (omega arith) (omega (arith, one.below)) in absurd (omega (arith, other.to, one.from)))
+        | inl g ↦ (let apart = bin_fcs_ascend bin (j + 1) i table (omega arith) (omega (arith, one.below)) in
+            absurd (omega (arith, other.to, one.from)))
         | inr g ↦ omega arith
       ]
     ]
 
 -- the table names one page at a place
-pub bin_page_one : (bin : List ℕ) (fc one other : ℕ) → IsBinTable bin → IsBinPage bin fc one → IsBinPage bin fc other → one ≡ other
+pub bin_page_one : (bin : List ℕ) (fc one other : ℕ) → IsBinTable bin → IsBinPage bin fc one → IsBinPage bin fc
+    other → one ≡ other
 bin_page_one bin fc one other table a b =
     a.page ∙ ap (page_number bin) (bin_range_is_one bin fc a.entry b.entry table a.range b.range) ∙ sym b.page

@@ -1,5 +1,6 @@
 -- The bin table that is printed.
-use Rattle.std.proofs.Common.{◌≡◌, ℕ, zero, suc, ◌+◌, ◌-◌, ◌*◌, ◌^◌, ◌<◌, ◌≤◌, List, [], ◌∷◌, ◌++◌, length, map, take, slice_index, refl, sym, ap, ◌∙◌, subst, arith, length-append, lit<}
+use Rattle.std.proofs.Common.{◌≡◌, ℕ, zero, suc, ◌+◌, ◌-◌, ◌*◌, ◌^◌, ◌<◌, ◌≤◌, List, [], ◌∷◌, ◌++◌, length, map, take}
+use Rattle.std.proofs.Common.{slice_index, refl, sym, ap, ◌∙◌, subst, arith, length-append, lit<}
 use Rattle.std.proofs.lemmas.List.{append-nil, take_all}
 use Rattle.std.proofs.lemmas.List.Elements.{All-head, All-tail}
 use Rattle.std.specs.Prelude.{All}
@@ -26,7 +27,8 @@ last_fc [] end = refl
 last_fc (bin ∷ bins) end = last_fc bins end
 
 -- no fc is beyond the end
-pub fc_upto_end : (bins : List Bin) (end k n : ℕ) → ArePrintableBins bins end → k + n ≡ length bins → slice_index (bin_fcs bins end) k ≤ end
+pub fc_upto_end : (bins : List Bin) (end k n : ℕ) → ArePrintableBins bins end → k + n ≡ length bins →
+    slice_index (bin_fcs bins end) k ≤ end
 fc_upto_end bins end k zero are h =
     let place : k ≡ length bins = omega arith in
     rw place (omega (arith, last_fc bins end))
@@ -53,12 +55,14 @@ printed_count bins end =
     let e = length-printed_bin bins end in
     omega arith
 
-pub printed_fc : (bins : List Bin) (end k : ℕ) → ArePrintableBins bins end → end < 2 ^ 32 → k ≤ length bins → plc_cp (printed_bin bins end) k ≡ slice_index (bin_fcs bins end) k
+pub printed_fc : (bins : List Bin) (end k : ℕ) → ArePrintableBins bins end → end < 2 ^ 32 → k ≤ length bins →
+    plc_cp (printed_bin bins end) k ≡ slice_index (bin_fcs bins end) k
 printed_fc bins end k are fits h =
     let small = fc_upto_end bins end k (length bins - k) are (omega arith) in
     number_at-numbers (bin_fcs bins end) (numbers (pages bins)) k (omega (arith, length-fcs bins end)) (omega arith)
 
-pub printed_page : (bins : List Bin) (end k : ℕ) → ArePrintableBins bins end → k < length bins → page_number (printed_bin bins end) k ≡ slice_index (pages bins) k
+pub printed_page : (bins : List Bin) (end k : ℕ) → ArePrintableBins bins end → k < length bins →
+    page_number (printed_bin bins end) k ≡ slice_index (pages bins) k
 printed_page bins end k are h =
     let small = page_small bins k are.pages in
     let place : 4 * (bin_count (printed_bin bins end) + 1) + 4 * k ≡ length (numbers (bin_fcs bins end)) + 4 * k =
@@ -66,13 +70,16 @@ printed_page bins end k are h =
     let stands : number_at (numbers (pages bins) ++ []) (4 * k) 4 ≡ slice_index (pages bins) k =
     number_at-numbers (pages bins) [] k (omega (arith, length-pages bins)) (omega arith) in
     let here : number_at (numbers (pages bins)) (4 * k) 4 ≡ slice_index (pages bins) k =
-    subst (λ bytes. number_at bytes (4 * k) 4 ≡ slice_index (pages bins) k) (append-nil (numbers (pages bins))) stands in
-    let whole : number_at (printed_bin bins end) (4 * (bin_count (printed_bin bins end) + 1) + 4 * k) 4 ≡ slice_index (pages bins) k =
+    subst (λ bytes. number_at bytes (4 * k) 4 ≡ slice_index (pages bins) k) (append-nil (numbers (pages bins))) stands
+    in
+    let whole : number_at (printed_bin bins end) (4 * (bin_count (printed_bin bins end) + 1) + 4 * k) 4 ≡ slice_index
+    (pages bins) k =
     rw place (number_at-after (numbers (bin_fcs bins end)) (numbers (pages bins)) (4 * k) 4 ∙ here) in
     rw whole (omega arith)
 
 -- the printed table has the ranges and their pages
-pub printed_table : (bins : List Bin) (end : ℕ) → ArePrintableBins bins end → end < 2 ^ 32 → IsBinTableOf bins end (printed_bin bins end)
+pub printed_table : (bins : List Bin) (end : ℕ) → ArePrintableBins bins end → end < 2 ^ 32 → IsBinTableOf bins end
+    (printed_bin bins end)
 printed_table bins end are fits =
     let count = printed_count bins end in
     record {
@@ -96,7 +103,8 @@ printed_table bins end are fits =
     }
 
 -- the bytes after the last page
-pub printed_all : (bins items : List Bin) (end i : ℕ) (bytes : List ℕ) → items ≡ bins → length items ≤ i → bytes ≡ numbers (bin_fcs bins end) ++ numbers (pages (take i bins)) → bytes ≡ printed_bin bins end
+pub printed_all : (bins items : List Bin) (end i : ℕ) (bytes : List ℕ) → items ≡ bins → length items ≤ i →
+    bytes ≡ numbers (bin_fcs bins end) ++ numbers (pages (take i bins)) → bytes ≡ printed_bin bins end
 printed_all bins items end i bytes same h so_far =
     let reach : length bins ≤ i = subst (λ list. length list ≤ i) same h in
     so_far ∙ ap (λ list. numbers (bin_fcs bins end) ++ numbers (pages list)) (take_all i bins reach)

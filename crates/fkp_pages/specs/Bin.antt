@@ -1,5 +1,6 @@
 -- [MS-DOC] PlcBteChpx, PlcBtePapx: a Plc of fcs, whose entries name the pages. Its fcs ascend.
-use Rattle.std.specs.Prelude.{◌≡◌, ℕ, ◌+◌, ◌-◌, ◌*◌, ◌/◌, ◌%◌, ◌<◌, ◌≤◌, ◌^◌, List, [], ◌∷◌, ◌++◌, length, map, slice_index, slice_range}
+use Rattle.std.specs.Prelude.{◌≡◌, ℕ, ◌+◌, ◌-◌, ◌*◌, ◌/◌, ◌%◌, ◌<◌, ◌≤◌, ◌^◌, List, [], ◌∷◌, ◌++◌, length, map}
+use Rattle.std.specs.Prelude.{slice_index, slice_range}
 use Rattle.std.specs.List.{All, flat_map}
 use Rattle.doc_bits.specs.Number.{u32_at, number_bytes}
 use Rattle.doc_bits.specs.Plc.{IsPlcOf, plc_cp}

@@ -1,6 +1,7 @@
 -- [MS-DOC] ChpxFkp, PapxFkp: a page of 512 bytes has the properties of runs of byte places.
 -- The fcs of a page need not ascend: of several runs that hold a place the first counts.
-use Rattle.std.specs.Prelude.{◌≡◌, ◌≢◌, ℕ, ◌+◌, ◌*◌, ◌/◌, ◌%◌, ◌<◌, ◌≤◌, ◌==◌, if◌then◌else◌, List, ◌∷◌, length, slice_index}
+use Rattle.std.specs.Prelude.{◌≡◌, ◌≢◌, ℕ, ◌+◌, ◌*◌, ◌/◌, ◌%◌, ◌<◌, ◌≤◌, ◌==◌, if◌then◌else◌, List, ◌∷◌, length}
+use Rattle.std.specs.Prelude.{slice_index}
 use Rattle.doc_bits.specs.Number.{u32_at}
 use Rattle.fkp_pages.specs.declared.kind.PageKind.{PageKind}
 use Rattle.fkp_pages.specs.declared.kind.PageKind.TheVariants.{Chpx, Papx}
@@ -109,7 +110,8 @@ pub record HasAnswerOfRun (kind : PageKind) (page : List ℕ) (fc : ℕ) (answer
   pub first : IsFirstRun page fc run
   pub answers : IsAnswerOf kind page run answer
 
--- what a page answers at a place: whether its count is one, then whether a run holds the place, then what that run answers
+-- what a page answers at a place: whether its count is one, then whether a run holds the place, then what that run
+-- answers
 abbrev pub HasRunAnswer : PageKind → List ℕ → ℕ → RunAnswer → Type 0
 HasRunAnswer kind page fc (Found from to) = HasRunCount kind page × HasAnswerOfRun kind page fc (Found from to)
 HasRunAnswer kind page fc Empty = HasRunCount kind page × HasAnswerOfRun kind page fc Empty

@@ -1,5 +1,7 @@
--- Each run is found again at each of its places, in the pages that are written and through the bin table that names them.
-use Rattle.std.specs.Prelude.{◌≡◌, ℕ, ◌+◌, ◌*◌, ◌<◌, ◌≤◌, ◌^◌, List, length, map, drop, All, Some, slice_get, slice_index}
+-- Each run is found again at each of its places, in the pages that are written and through the bin table that names
+-- them.
+use Rattle.std.specs.Prelude.{◌≡◌, ℕ, ◌+◌, ◌*◌, ◌<◌, ◌≤◌, ◌^◌, List, length, map, drop, All, Some, slice_get}
+use Rattle.std.specs.Prelude.{slice_index}
 use Rattle.doc_bits.specs.Number.{u16_at}
 use Rattle.prop_map.specs.Printing.{IsPrintOf}
 use Rattle.fkp_pages.specs.declared.kind.PageKind.{PageKind}
@@ -22,12 +24,14 @@ abbrev pub sprms_of : PageKind → List ℕ → List ℕ
 sprms_of Chpx list = list
 sprms_of Papx list = drop 2 list
 
--- the list has the style number of a paragraph, and acting with its sprms on the empty map gives the settings of the run
+-- the list has the style number of a paragraph, and acting with its sprms on the empty map gives the settings of the
+-- run
 pub record IsListOfRun (kind : PageKind) (run : Run) (list : List ℕ) : Type 0 where
   pub istd : kind ≡ Papx → u16_at list 0 ≡ run.istd
   pub settings : IsPrintOf run.map (sprms_of kind list)
 
--- a page answers with the list of the run: with none where the run has no settings and a paragraph the style 0, else with its range
+-- a page answers with the list of the run: with none where the run has no settings and a paragraph the style 0, else
+-- with its range
 pub record FindsRun (kind : PageKind) (page : List ℕ) (fc : ℕ) (run : Run) : Type 0 where
   pub size : length page ≡ 512
   pub answer : RunAnswer
@@ -50,7 +54,8 @@ RunsAreFound =
     slice_get runs i ≡ Some run → run.from ≤ fc → fc < run.to →
     IsFoundIn kind pages fc run
 
--- where pages stand: `WordDocument`, the ranges of a bin table with its end, and the range of the first one of the pages
+-- where pages stand: `WordDocument`, the ranges of a bin table with its end, and the range of the first one of the
+-- pages
 pub record Placement : Type 0 where
   pub wd : List ℕ
   pub bins : List Bin
@@ -65,7 +70,8 @@ range_fc placement k = slice_index (bin_fcs placement.bins placement.end) (place
 abbrev pub range_page : Placement → ℕ → ℕ
 range_page placement k = slice_index (map (λ bin. bin.page) placement.bins) (placement.first + k)
 
--- the table names the pages one after the other, by their first fcs, and they stand where it says; what it names after them
+-- the table names the pages one after the other, by their first fcs, and they stand where it says; what it names
+-- after them
 -- begins where the last run ends, or later
 pub record ArePlaced (runs : List Run) (pages : Pages) (placement : Placement) : Type 0 where
   pub within : placement.first + length pages.starts ≤ length placement.bins
@@ -77,7 +83,8 @@ pub record ArePlaced (runs : List Run) (pages : Pages) (placement : Placement) :
 -- each place of a run has the list of the run, through the bin table
 abbrev pub PlacesHaveLists : Type 0
 PlacesHaveLists =
-    (kind : PageKind) (runs : List Run) (pages : Pages) (placement : Placement) (table : List ℕ) (i : ℕ) (run : Run) (fc : ℕ) →
+    (kind : PageKind) (runs : List Run) (pages : Pages) (placement : Placement) (table : List ℕ) (i : ℕ) (run : Run)
+    (fc : ℕ) →
     AreRuns kind runs → All HasFileNumbers runs → ArePagesOf kind runs pages →
     ArePlaced runs pages placement → IsBinTableOf placement.bins placement.end table →
     slice_get runs i ≡ Some run → run.from ≤ fc → fc < run.to →
@@ -86,4 +93,5 @@ PlacesHaveLists =
 -- the list of a run has its style number and its settings
 abbrev pub ListsHaveSettings : Type 0
 ListsHaveSettings =
-    (kind : PageKind) (run : Run) → IsWritableRun kind run → run.istd < 2 ^ 16 → IsListOfRun kind run (run_list kind run)
+    (kind : PageKind) (run : Run) → IsWritableRun kind run → run.istd < 2 ^ 16 → IsListOfRun kind run (run_list kind
+    run)

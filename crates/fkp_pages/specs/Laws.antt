@@ -13,7 +13,8 @@ RunAnswerIsOne =
 
 -- a bin table names one page at a place
 abbrev pub BinPageIsOne : Type 0
-BinPageIsOne = (bin : List ℕ) (fc one other : ℕ) → IsBinTable bin → IsBinPage bin fc one → IsBinPage bin fc other → one ≡ other
+BinPageIsOne = (bin : List ℕ) (fc one other : ℕ) → IsBinTable bin → IsBinPage bin fc one → IsBinPage bin fc other →
+    one ≡ other
 
 -- the list stands at the place as it is spelled, before the count
 pub record StandsAt (kind : PageKind) (page : List ℕ) (at : ℕ) (list : List ℕ) : Type 0 where

@@ -1,4 +1,5 @@
--- Profile: how items are put onto pages in their order. No item is gone through: a page is right where it has some items, they
+-- Profile: how items are put onto pages in their order. No item is gone through: a page is right where it has some
+-- items, they
 -- fit, and the first item of the next page would not fit with them.
 use Rattle.std.specs.Prelude.{◌≡◌, ℕ, ◌+◌, ◌<◌, List, [], ◌++◌, length, take, slice_index_or}
 use Rattle.std.specs.List.{flat_map}

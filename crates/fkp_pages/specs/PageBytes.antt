@@ -1,5 +1,6 @@
 -- [MS-DOC] ChpxFkp, PapxFkp: the 512 bytes of a page, as its runs give them.
--- Profile: what is written for a run stands at the greatest even offset that leaves room for it below that of the earlier runs.
+-- Profile: what is written for a run stands at the greatest even offset that leaves room for it below that of the
+-- earlier runs.
 use Rattle.std.specs.Prelude.{ℕ, ◌+◌, ◌-◌, ◌*◌, ◌/◌, ◌≤◌, List, [], ◌∷◌, ◌++◌, length, map, replicate, slice_index}
 use Rattle.std.specs.List.{flat_map}
 use Rattle.doc_bits.specs.Number.{number_bytes}
@@ -52,7 +53,8 @@ half_offset limit (byte ∷ bytes) = lowered limit (byte ∷ bytes) / 2
 unfoldable pub page_entries : PageKind → ℕ → List Run → List ℕ
 page_entries kind limit [] = []
 page_entries kind limit (run ∷ runs) =
-    (half_offset limit (written kind run) ∷ zeros (entry_size kind - 1)) ++ page_entries kind (lowered limit (written kind run)) runs
+    (half_offset limit (written kind run) ∷ zeros (entry_size kind - 1)) ++ page_entries kind (lowered limit
+    (written kind run)) runs
 
 -- what is written, from the last run's to the first run's, each with a zero behind it where a byte stays free
 unfoldable pub page_lists : PageKind → ℕ → List Run → List ℕ
@@ -65,4 +67,5 @@ page_lists kind limit (run ∷ runs) =
 abbrev pub page_bytes : PageKind → List Run → List ℕ
 page_bytes kind runs =
     let free = limit_after kind first_limit runs - entries_end kind (length runs) in
-    page_fcs runs ++ (page_entries kind first_limit runs ++ (zeros free ++ (page_lists kind first_limit runs ++ length runs ∷ [])))
+    page_fcs runs ++ (page_entries kind first_limit runs ++ (zeros free ++ (page_lists kind first_limit runs ++ length
+    runs ∷ [])))

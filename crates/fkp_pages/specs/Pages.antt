@@ -28,13 +28,15 @@ PackingIsOne =
 -- so runs have one list of pages
 abbrev pub PagesAreOne : Type 0
 PagesAreOne =
-    (kind : PageKind) (runs : List Run) (one other : Pages) → ArePagesOf kind runs one → ArePagesOf kind runs other → one ≡ other
+    (kind : PageKind) (runs : List Run) (one other : Pages) → ArePagesOf kind runs one → ArePagesOf kind runs other →
+    one ≡ other
 
 -- a run alone fits into a page
 abbrev pub RunFitsAlone : Type 0
 RunFitsAlone = (kind : PageKind) (run : Run) → IsWritableRun kind run → FitsPage kind (run ∷ [])
 
--- pages have 512 bytes each, begin with the first run, and the first fc of each is below that of the next one, or below the
+-- pages have 512 bytes each, begin with the first run, and the first fc of each is below that of the next one, or
+-- below the
 -- end of the last run
 pub record AreWholePages (runs : List Run) (pages : Pages) : Type 0 where
   pub size : length pages.bytes ≡ 512 * length pages.starts
@@ -46,4 +48,5 @@ pub record AreWholePages (runs : List Run) (pages : Pages) : Type 0 where
       slice_index (pages.starts ++ last_fc runs ∷ []) k < slice_index (pages.starts ++ last_fc runs ∷ []) (k + 1)
 
 abbrev pub PagesAreWhole : Type 0
-PagesAreWhole = (kind : PageKind) (runs : List Run) (pages : Pages) → AreRuns kind runs → ArePagesOf kind runs pages → AreWholePages runs pages
+PagesAreWhole = (kind : PageKind) (runs : List Run) (pages : Pages) → AreRuns kind runs → ArePagesOf kind runs pages →
+    AreWholePages runs pages

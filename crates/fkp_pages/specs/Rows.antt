@@ -1,6 +1,8 @@
--- Runs whose pages stand one after the other in a WordDocument, and the bin tables that name these pages: the row's own,
+-- Runs whose pages stand one after the other in a WordDocument, and the bin tables that name these pages: the row's
+-- own,
 -- and ones that keep ranges of an older table before them.
-use Rattle.std.specs.Prelude.{◌≡◌, ◌⊎◌, ℕ, ◌+◌, ◌*◌, ◌^◌, ◌<◌, ◌≤◌, List, ◌++◌, length, Some, All, slice_get, slice_index}
+use Rattle.std.specs.Prelude.{◌≡◌, ◌⊎◌, ℕ, ◌+◌, ◌*◌, ◌^◌, ◌<◌, ◌≤◌, List, ◌++◌, length, Some, All, slice_get}
+use Rattle.std.specs.Prelude.{slice_index}
 use Rattle.doc_bits.specs.Plc.{plc_cp}
 use Rattle.fkp_pages.specs.declared.kind.PageKind.{PageKind}
 use Rattle.fkp_pages.specs.declared.lists.Bin.{Bin}

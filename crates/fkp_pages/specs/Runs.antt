@@ -38,7 +38,8 @@ pub record IsWritableRun (kind : PageKind) (run : Run) : Type 0 where
 -- the runs touch, so they ascend
 pub record AreRuns (kind : PageKind) (runs : List Run) : Type 0 where
   pub writable : All (IsWritableRun kind) runs
-  pub touch : (k : ℕ) (run next : Run) → slice_get runs k ≡ Some run → slice_get runs (k + 1) ≡ Some next → run.to ≡ next.from
+  pub touch : (k : ℕ) (run next : Run) → slice_get runs k ≡ Some run → slice_get runs (k + 1) ≡ Some next →
+      run.to ≡ next.from
 
 -- the numbers of a run have the bits that a file has for them
 pub record HasFileNumbers (run : Run) : Type 0 where

@@ -10,7 +10,8 @@ use Rattle.prop_map.proofs.EntriesLemmas.{entries-empty}
 use Rattle.piece_table.specs.Piece.{TextPiece, bare_piece, one_piece}
 use Rattle.piece_table.specs.Clx.{pcdt_bytes}
 use Rattle.piece_table.specs.ClxRules.{FitsPages}
-use Rattle.piece_table.specs.Printing.{IsPrintable, IsPrintedPrc, IsPrintedPcd, IsPrintedClx, printed_prcs, plc_bytes, pcd_bytes}
+use Rattle.piece_table.specs.Printing.{IsPrintable, IsPrintedPrc, IsPrintedPcd, IsPrintedClx, printed_prcs, plc_bytes}
+use Rattle.piece_table.specs.Printing.{pcd_bytes}
 use Rattle.full_save.specs.WordDocument.{text_at, one_piece_clx}
 
 abbrev the_piece : ℕ → TextPiece
@@ -48,9 +49,11 @@ none_printed = rw entries-empty refl
 pub one_printable : (len : ℕ) → IsPrintable (one_piece text_at len)
 one_printable len = record {
   few = omega arith;
-  places = All-cons (λ (piece : TextPiece). piece.at < 2 ^ 29) (the_piece len) [] (omega arith) (All-nil (λ (piece : TextPiece). piece.at < 2 ^ 29));
+  places = All-cons (λ (piece : TextPiece). piece.at < 2 ^ 29) (the_piece len) [] (omega arith)
+      (All-nil (λ (piece : TextPiece). piece.at < 2 ^ 29));
   fit =
       let fits : FitsPages no_modifier =
       record { chp = let e = none_printed in omega (arith, e); pap = let e = none_printed in omega (arith, e) } in
-      All-cons (λ (piece : TextPiece). FitsPages piece.modifier) (the_piece len) [] fits (All-nil (λ (piece : TextPiece). FitsPages piece.modifier));
+      All-cons (λ (piece : TextPiece). FitsPages piece.modifier) (the_piece len) [] fits
+      (All-nil (λ (piece : TextPiece). FitsPages piece.modifier));
 }

@@ -17,7 +17,8 @@ use Rattle.plain_doc.specs.RightDocument.{IsRightDocument}
 use Rattle.full_save.specs.Streams.{put_stream, saved_streams}
 use Rattle.full_save.specs.WordDocument.{text_at, least_length, wd_body, full_fib, wd_stream, table_stream}
 use Rattle.full_save.specs.Layout.{layout_streams, FitsCompoundFile}
-use Rattle.full_save.proofs.PutStreams.{IsPutAmong, put_among, put_are_streams, total-put, each_put, length-put, put_there}
+use Rattle.full_save.proofs.PutStreams.{IsPutAmong, put_among, put_are_streams, total-put, each_put, length-put}
+use Rattle.full_save.proofs.PutStreams.{put_there}
 use Rattle.full_save.proofs.StreamLengths.{short_body, short_table}
 use Rattle.full_save.proofs.LaidOut.{length-front}
 use Rattle.full_save.proofs.FitLemmas.{stream_short}
@@ -55,7 +56,8 @@ are_put table wd others ordered carried short_table short_wd =
     record {
       first = first;
       second = second;
-      are = put_are_streams (the_table table) with_wd (saved_streams table wd others) second are (omega arith) (omega arith)
+      are = put_are_streams (the_table table) with_wd (saved_streams table wd others) second are (omega arith)
+          (omega arith)
           (omega (arith, sum));
       count = omega (arith, one, two);
     }
@@ -68,7 +70,8 @@ abbrev pub wd_of : FibFields → List ℕ → List ℕ
 wd_of fib body = filled least_length 0 (filled text_at 0 (written_fib fib) ++ body)
 
 -- WordDocument is as long as what it has, but not shorter than it may be
-pub length-wd_stream : (document : Document) → length (wd_stream document) ≡ max (text_at + length (wd_body document)) least_length
+pub length-wd_stream : (document : Document) → length (wd_stream document) ≡ max (text_at + length (wd_body document))
+    least_length
 unfolding wd_stream filled
 length-wd_stream document =
     let front = filled text_at 0 (written_fib (full_fib document)) in

@@ -1,5 +1,6 @@
 -- Lists that are made as items and texts are gone through.
-use Rattle.std.proofs.Common.{◌≡◌, ◌<◌, ◌≤◌, ◌+◌, ◌∙◌, ap, refl, sym, ℕ, suc, List, [], ◌∷◌, ◌++◌, length, map, drop, get_or, Option, Some, None, arith}
+use Rattle.std.proofs.Common.{◌≡◌, ◌<◌, ◌≤◌, ◌+◌, ◌∙◌, ap, refl, sym, ℕ, suc, List, [], ◌∷◌, ◌++◌, length, map, drop}
+use Rattle.std.proofs.Common.{get_or, Option, Some, None, arith}
 use Rattle.std.proofs.lemmas.List.{append_assoc, length-append, append-nil, drop_all}
 use Rattle.std.proofs.Math.Seq.{drop-cons}
 use Rattle.doc_parts.specs.declared.lists.Fld.{Fld}
@@ -11,7 +12,8 @@ use Rattle.full_save.specs.Lists.{fields_from}
 
 -- what is left of a list begins with what stands there
 pub drop_here : {A : Type 0} (xs : List A) (i : ℕ) (d : A) → i < length xs → drop i xs ≡ get_or xs i d ∷ drop (i + 1) xs
-drop_here xs i d h = let e : suc i ≡ i + 1 = omega arith in drop-cons xs i d h ∙ ap (λ (n : ℕ). get_or xs i d ∷ drop n xs) e
+drop_here xs i d h = let e : suc i ≡ i + 1 = omega arith in drop-cons xs i d h ∙ ap (λ (n : ℕ). get_or xs i d ∷ drop n
+    xs) e
 
 -- a list has what the items before a place have, which stand from a CP on, behind what it had
 pub record IsListedUpTo {A B : Type 0} (what : Item → Option A) (entry : ℕ × A → B) (from : ℕ) (items : List Item)
@@ -97,7 +99,8 @@ text_fits texts k cp h is =
     let place = is.place in
     omega (arith, e, place, length-append (get_or texts k []) (joined_texts (drop (k + 1) texts)))
 
-pub at_last : (texts : List (List Item)) (k cp : ℕ) → length texts ≤ k → IsAtText texts k cp → cp ≡ length (joined_texts texts)
+pub at_last : (texts : List (List Item)) (k cp : ℕ) → length texts ≤ k → IsAtText texts k cp →
+    cp ≡ length (joined_texts texts)
 at_last texts k cp h is =
     let e = ap (λ (more : List (List Item)). length (joined_texts more)) (drop_all k texts h) in
     let place = is.place in
@@ -135,7 +138,8 @@ pub none_cut : (items : List Item) (texts : List (List Item)) → length items �
 none_cut [] texts none = refl
 none_cut (item ∷ items) texts none = absurd (omega arith)
 
-pub some_cut : (items : List Item) (texts : List (List Item)) → 1 ≤ length items → cuts_of items texts ≡ cuts_from 0 texts
+pub some_cut : (items : List Item) (texts : List (List Item)) → 1 ≤ length items → cuts_of items texts ≡ cuts_from 0
+    texts
 some_cut [] texts some = absurd (omega arith)
 some_cut (item ∷ items) texts some = refl
 
@@ -150,7 +154,8 @@ map-append : {A B : Type 0} (f : A → B) (xs ys : List A) → map f (xs ++ ys) 
 map-append f [] ys = refl
 map-append f (x ∷ xs) ys = ap (λ (zs : List _). f x ∷ zs) (map-append f xs ys)
 
-fields-append : (cp : ℕ) (xs ys : List Item) → fields_from cp (xs ++ ys) ≡ fields_from cp xs ++ fields_from (cp + length xs) ys
+fields-append : (cp : ℕ) (xs ys : List Item) → fields_from cp (xs ++ ys) ≡ fields_from cp xs ++ fields_from
+    (cp + length xs) ys
 fields-append cp xs ys =
     let entry : ℕ × (ℕ × ℕ) → Fld = λ e. record { cp = e.0; unit = e.1.0; byte = e.1.1 } in
     ap (λ (entries : List (ℕ × (ℕ × ℕ))). map entry entries) (collected-append field_of cp xs ys)
@@ -168,7 +173,8 @@ fields_next texts k cp fields more h is has =
           ap (λ (xs : List Fld). xs ++ fields_from (cp + length text) rest) is
           ∙ (append_assoc fields (fields_from cp text) (fields_from (cp + length text) rest)
           ∙ (ap (λ (xs : List Fld). fields ++ xs) (sym (fields-append cp text rest))
-          ∙ (ap (λ (xs : List (List Item)). fields ++ fields_from cp (joined_texts xs)) (sym (drop_here texts k [] h)) ∙ has.rest)));
+          ∙ (ap (λ (xs : List (List Item)). fields ++ fields_from cp (joined_texts xs)) (sym (drop_here texts k [] h))
+          ∙ has.rest)));
     }
 
 pub fields_last :

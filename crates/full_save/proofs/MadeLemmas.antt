@@ -59,7 +59,8 @@ made_are document text made are = λ i.
 -- how long they are
 pub table_length : (document : Document) (text : TableText) (made : MadeParts) → AreMadeOf document text made →
     length (entries_bytes (table_entries document text))
-    ≡ made_length made + (length text.characters + length text.paragraphs + length text.clx) + carried_length document.carried
+    ≡ made_length made + (length text.characters + length text.paragraphs + length text.clx) + carried_length
+    document.carried
 table_length document text made are =
     ap (λ (parts : List TableEntry). length (entries_bytes parts)) (sym (made_are document text made are))
     ∙ (length-entries (made_entries document text made) ∙ omega arith)

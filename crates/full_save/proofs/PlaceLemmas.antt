@@ -1,5 +1,6 @@
 -- Going through streams: parts of a list, and the place of a name.
-use Rattle.std.proofs.Common.{◌≡◌, ◌≤◌, ◌<◌, ◌+◌, ◌-◌, ◌∙◌, ap, refl, sym, subst, inl, inr, ℕ, zero, suc, true, List, [], ◌∷◌, ◌++◌, length, take, drop, get_or, Some, slice_get, arith}
+use Rattle.std.proofs.Common.{◌≡◌, ◌≤◌, ◌<◌, ◌+◌, ◌-◌, ◌∙◌, ap, refl, sym, subst, inl, inr, ℕ, zero, suc, true, List}
+use Rattle.std.proofs.Common.{[], ◌∷◌, ◌++◌, length, take, drop, get_or, Some, slice_get, arith}
 use Rattle.std.specs.Prelude.{slice_range, option_map}
 use Rattle.std.proofs.Common.{length-drop}
 use Rattle.std.proofs.lemmas.List.{append_assoc, take_more, get_or-drop, drop-drop}
@@ -20,7 +21,8 @@ take_none (suc b) = refl
 take_split : {A : Type 0} (a b : ℕ) (xs : List A) → take (a + b) xs ≡ take a xs ++ take b (drop a xs)
 take_split zero b xs = let e : 0 + b ≡ b = omega arith in ap (λ (n : ℕ). take n xs) e
 take_split {A = A} (suc a) b [] =
-    let none : List A = [] in let whole : take (suc a + b) none ≡ none = take_none (suc a + b) in whole ∙ sym (take_none b)
+    let none : List A = [] in let whole : take (suc a + b) none ≡ none = take_none (suc a + b) in
+    whole ∙ sym (take_none b)
 take_split (suc a) b (x ∷ xs) =
     let e : suc a + b ≡ suc (a + b) = omega arith in
     ap (λ (n : ℕ). take n (x ∷ xs)) e ∙ ap (λ (ys : List _). x ∷ ys) (take_split a b xs)
@@ -33,7 +35,8 @@ range_split xs from i to low high =
     let at : from + (i - from) ≡ i = omega arith in
     ap (λ (n : ℕ). take n (drop from xs)) e
     ∙ (take_split (i - from) (to - i) (drop from xs)
-    ∙ ap (λ (ys : List _). slice_range xs from i ++ take (to - i) ys) (drop-drop (i - from) from xs ∙ ap (λ (n : ℕ). drop n xs) at))
+    ∙ ap (λ (ys : List _). slice_range xs from i ++ take (to - i) ys) (drop-drop (i - from) from xs ∙ ap
+    (λ (n : ℕ). drop n xs) at))
 
 -- a part with one element more
 pub range_next : {A : Type 0} (xs : List A) (from i : ℕ) (d : A) → from ≤ i → i < length xs →
@@ -44,7 +47,8 @@ range_next xs from i d low high =
     let within : i - from < length (drop from xs) = omega (arith, length-drop from xs) in
     ap (λ (n : ℕ). take n (drop from xs)) e
     ∙ (take_more (drop from xs) (i - from) d within
-    ∙ ap (λ (x : _). slice_range xs from i ++ x ∷ []) (get_or-drop from xs (i - from) d ∙ ap (λ (n : ℕ). get_or xs n d) at))
+    ∙ ap (λ (x : _). slice_range xs from i ++ x ∷ []) (get_or-drop from xs (i - from) d ∙ ap (λ (n : ℕ). get_or xs n
+    d) at))
 
 -- a stream by its name and its bytes
 pub stream_is : (streams : List NamedBytes) (i : ℕ) (d : NamedBytes) (name bytes : List ℕ) → i < length streams →
@@ -53,20 +57,25 @@ pub stream_is : (streams : List NamedBytes) (i : ℕ) (d : NamedBytes) (name byt
     record { name = name; bytes = bytes } ≡ get_or streams i d
 stream_is streams i d name bytes low has_name has_bytes =
     let here = slice_get-get_or streams i d low in
-    let n : (get_or streams i d).name ≡ name = same_Some _ _ (ap (option_map (λ (s : NamedBytes). s.name)) (sym here) ∙ has_name) in
-    let b : (get_or streams i d).bytes ≡ bytes = same_Some _ _ (ap (option_map (λ (s : NamedBytes). s.bytes)) (sym here) ∙ has_bytes) in
+    let n : (get_or streams i d).name ≡ name = same_Some _ _ (ap (option_map (λ (s : NamedBytes). s.name)) (sym here)
+    ∙ has_name) in
+    let b : (get_or streams i d).bytes ≡ bytes = same_Some _ _ (ap (option_map (λ (s : NamedBytes). s.bytes))
+    (sym here) ∙ has_bytes) in
     sym (λ k. record { name = n k; bytes = b k })
 
 -- a stream more of a part that stands behind others
-pub add_next : (old others : List NamedBytes) (from i to : ℕ) (d : NamedBytes) → from ≤ i → i < to → to ≤ length others →
-    AreStreams (old ++ slice_range others from to) → AreStreams ((old ++ slice_range others from i) ++ get_or others i d ∷ [])
+pub add_next : (old others : List NamedBytes) (from i to : ℕ) (d : NamedBytes) → from ≤ i → i < to →
+    to ≤ length others →
+    AreStreams (old ++ slice_range others from to) → AreStreams ((old ++ slice_range others from i) ++ get_or others i
+    d ∷ [])
 add_next old others from i to d low high within are =
     let below : i < length others = omega arith in
     let split = range_split others from (i + 1) to (omega arith) (omega arith) in
     let whole : AreStreams (old ++ (slice_range others from (i + 1) ++ slice_range others (i + 1) to)) =
     subst (λ (part : List NamedBytes). AreStreams (old ++ part)) split are in
     let front = streams_front (old ++ slice_range others from (i + 1)) (slice_range others (i + 1) to)
-    (subst AreStreams (sym (append_assoc old (slice_range others from (i + 1)) (slice_range others (i + 1) to))) whole) in
+    (subst AreStreams (sym (append_assoc old (slice_range others from (i + 1)) (slice_range others (i + 1) to)))
+    whole) in
     subst AreStreams
     (ap (λ (part : List NamedBytes). old ++ part) (range_next others from i d low below)
     ∙ sym (append_assoc old (slice_range others from i) (get_or others i d ∷ []))) front

@@ -1,5 +1,6 @@
 -- Runs that are closed as a text is gone through.
-use Rattle.std.proofs.Common.{◌≡◌, ◌≤◌, ◌<◌, ◌+◌, ◌-◌, ◌*◌, ◌∙◌, ap, refl, sym, inl, inr, ℕ, suc, Bool, true, false, List, [], ◌∷◌, ◌++◌, length, slice_get, Option, Some, None, arith}
+use Rattle.std.proofs.Common.{◌≡◌, ◌≤◌, ◌<◌, ◌+◌, ◌-◌, ◌*◌, ◌∙◌, ap, refl, sym, inl, inr, ℕ, suc, Bool, true, false}
+use Rattle.std.proofs.Common.{List, [], ◌∷◌, ◌++◌, length, slice_get, Option, Some, None, arith}
 use Rattle.std.proofs.lemmas.List.{append_assoc, length-append, append-nil, nil_from_length}
 use Rattle.std.proofs.lemmas.Bool.{cases_lt}
 use Rattle.std.proofs.Math.Seq.{take-append_seam, drop-append_seam}
@@ -81,7 +82,8 @@ pub close_part :
 unfolding runs_from
 close_part kind closed from part more some joined ends =
     rw (first_cut (joins_run kind) part more some joined ends)
-    (append_assoc closed (run_at kind from part ∷ []) (runs_from kind (from + 2 * length part) (stretches (joins_run kind) more)))
+    (append_assoc closed (run_at kind from part ∷ []) (runs_from kind (from + 2 * length part)
+    (stretches (joins_run kind) more)))
 
 -- before an item that begins the next run
 pub close_before :
@@ -114,7 +116,8 @@ close_behind kind at done closed from end part some ends here runs =
     record {
       joined = λ k h. absurd (omega arith);
       stands = omega arith;
-      goes_on = λ more. rw (place, close_part kind closed from part more some runs.joined (ends more)) (runs.goes_on more);
+      goes_on = λ more. rw (place, close_part kind closed from part more some runs.joined (ends more)) (runs.goes_on
+          more);
     }
 
 -- all runs are closed at the end of a text
@@ -141,5 +144,6 @@ last_closed kind at done closed from part some runs =
     let cut = close_part kind closed from part [] some runs.joined none in
     let nothing = stretches-nil (joins_run kind) in
     sym (append-nil (closed ++ run_at kind from part ∷ []))
-    ∙ (ap (λ parts. (closed ++ run_at kind from part ∷ []) ++ runs_from kind (from + 2 * length part) parts) (sym nothing)
+    ∙ (ap (λ parts. (closed ++ run_at kind from part ∷ []) ++ runs_from kind (from + 2 * length part) parts)
+    (sym nothing)
     ∙ (cut ∙ (runs.goes_on [] ∙ ap (λ items. text_runs kind at items) (append-nil done))))

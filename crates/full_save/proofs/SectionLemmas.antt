@@ -1,5 +1,6 @@
 -- Sepxes and Seds that are made as the items of a main text are gone through.
-use Rattle.std.proofs.Common.{◌≡◌, ◌<◌, ◌≤◌, ◌+◌, ◌*◌, ◌∙◌, ap, refl, sym, ℕ, List, [], ◌∷◌, ◌++◌, length, drop, get_or, Option, Some, None, arith}
+use Rattle.std.proofs.Common.{◌≡◌, ◌<◌, ◌≤◌, ◌+◌, ◌*◌, ◌∙◌, ap, refl, sym, ℕ, List, [], ◌∷◌, ◌++◌, length, drop}
+use Rattle.std.proofs.Common.{get_or, Option, Some, None, arith}
 use Rattle.std.proofs.lemmas.List.{append_assoc, length-append, append-nil, drop_all}
 use Rattle.prop_map.specs.Settings.{Settings}
 use Rattle.doc_parts.specs.declared.lists.Sed.{Sed}
@@ -20,10 +21,15 @@ left main cp = collected (λ item. item.sect) cp (drop cp main)
 -- the sections that end before a CP are done, and those that are left go on from here
 pub record AreSepxesUpTo (main : List Item) (base : ℕ) (old : List ℕ) (cp : ℕ) (so : SectionsSoFar) : Type 0 where
   pub bytes : so.out ++ sepxes (left main cp) ≡ old ++ sepxes (sections_of main)
-  pub places : so.seds ++ seds_from so.start (base + length so.out) (left main cp) ≡ seds_from 0 (base + length old) (sections_of main)
+  pub places : so.seds ++ seds_from so.start (base + length so.out) (left main cp) ≡ seds_from 0 (base + length old)
+      (sections_of main)
   pub few : length so.out ≤ length old + 504 * cp
 
-pub sepxes_start : (main : List Item) (base : ℕ) (old : List ℕ) → AreSepxesUpTo main base old 0 (record { start = 0; out = old; seds = [] })
+pub sepxes_start : (main : List Item) (base : ℕ) (old : List ℕ) → AreSepxesUpTo main base old 0 (record {
+  start = 0;
+  out = old;
+  seds = [];
+})
 sepxes_start main base old = record { bytes = refl; places = refl; few = omega arith }
 
 left_here : (main : List Item) (cp : ℕ) (d : Item) → cp < length main →
@@ -35,11 +41,13 @@ pub sepxes_skip :
     (main : List Item) (base : ℕ) (old : List ℕ) (cp : ℕ) (d : Item) (so : SectionsSoFar) → cp < length main →
     (get_or main cp d).sect ≡ None → AreSepxesUpTo main base old cp so → AreSepxesUpTo main base old (cp + 1) so
 sepxes_skip main base old cp d so h none are =
-    let same = sym (left_here main cp d h ∙ ap (λ (o : Option Settings). entry_before o cp (left main (cp + 1))) none) in
+    let same = sym (left_here main cp d h ∙ ap (λ (o : Option Settings). entry_before o cp (left main (cp + 1))) none)
+    in
     let few = are.few in
     record {
       bytes = ap (λ (rest : List (ℕ × Settings)). so.out ++ sepxes rest) same ∙ are.bytes;
-      places = ap (λ (rest : List (ℕ × Settings)). so.seds ++ seds_from so.start (base + length so.out) rest) same ∙ are.places;
+      places = ap (λ (rest : List (ℕ × Settings)). so.seds ++ seds_from so.start (base + length so.out) rest) same ∙
+          are.places;
       few = omega arith;
     }
 
@@ -67,7 +75,8 @@ sepxes_more main base old cp d settings so new h has short out seds start are =
           ∙ (append_assoc so.seds (sed ∷ []) (seds_from new.start (base + length new.out) rest)
           ∙ (ap (λ (n : ℕ). so.seds ++ (sed ∷ seds_from n (base + length new.out) rest)) start
           ∙ (ap (λ (n : ℕ). so.seds ++ (sed ∷ seds_from (cp + 1) n rest)) place
-          ∙ (ap (λ (all : List (ℕ × Settings)). so.seds ++ seds_from so.start (base + length so.out) all) same ∙ are.places))));
+          ∙ (ap (λ (all : List (ℕ × Settings)). so.seds ++ seds_from so.start (base + length so.out) all) same ∙
+          are.places))));
       few = omega arith;
     }
 
@@ -81,5 +90,6 @@ sepxes_all main base old cp so h are =
     let nothing = ap (λ (items : List Item). collected (λ item. item.sect) cp items) none in (
       sym (append-nil so.out) ∙ (ap (λ (all : List (ℕ × Settings)). so.out ++ sepxes all) (sym nothing) ∙ are.bytes),
       sym (append-nil so.seds)
-          ∙ (ap (λ (all : List (ℕ × Settings)). so.seds ++ seds_from so.start (base + length so.out) all) (sym nothing) ∙ are.places),
+          ∙ (ap (λ (all : List (ℕ × Settings)). so.seds ++ seds_from so.start (base + length so.out) all)
+          (sym nothing) ∙ are.places),
     )

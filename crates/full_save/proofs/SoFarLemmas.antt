@@ -1,5 +1,6 @@
 -- The runs of characters and of paragraphs, one item further and at the end.
-use Rattle.std.proofs.Common.{◌≡◌, ◌≢◌, ◌≤◌, ◌+◌, ◌-◌, ◌*◌, ◌∙◌, ap, refl, sym, subst, ℕ, Bool, true, false, not, List, [], ◌∷◌, ◌++◌, length, slice_get, Option, Some, None, arith}
+use Rattle.std.proofs.Common.{◌≡◌, ◌≢◌, ◌≤◌, ◌+◌, ◌-◌, ◌*◌, ◌∙◌, ap, refl, sym, subst, ℕ, Bool, true, false, not}
+use Rattle.std.proofs.Common.{List, [], ◌∷◌, ◌++◌, length, slice_get, Option, Some, None, arith}
 use Rattle.std.specs.Prelude.{is_some}
 use Rattle.std.specs.FinMap.{empty}
 use Rattle.std.proofs.lemmas.List.{length-append}
@@ -59,9 +60,17 @@ characters_begin at done item old new here closed from chp so =
     (joined_more is_alike so.part item so.are.joined (λ some. absurd (omega arith))) so.are in
     record {
       part = so.part ++ item ∷ [];
-      are = subst (λ (runs : List Run). AreRunsSoFar Chpx at (done ++ item ∷ []) (record { closed = runs; from = new.from; part = so.part ++ item ∷ [] }))
+      are = subst (λ (runs : List Run). AreRunsSoFar Chpx at (done ++ item ∷ []) (record {
+        closed = runs;
+        from = new.from;
+        part = so.part ++ item ∷ [];
+      }))
           (sym closed)
-          (subst (λ (place : ℕ). AreRunsSoFar Chpx at (done ++ item ∷ []) (record { closed = old.closed; from = place; part = so.part ++ item ∷ [] }))
+          (subst (λ (place : ℕ). AreRunsSoFar Chpx at (done ++ item ∷ []) (record {
+            closed = old.closed;
+            from = place;
+            part = so.part ++ item ∷ [];
+          }))
           (sym from) grown);
       last = ends_push (λ (x : Item). x.chp ≡ new.chp) so.part item (sym chp);
     }
@@ -78,7 +87,8 @@ characters_go_on at done item runs same so =
     ∙ (same_settings-Decides last.0.chp item.chp).1 chp in
     record {
       part = so.part ++ item ∷ [];
-      are = grow_part Chpx at done runs.closed runs.from so.part item (joined_more is_alike so.part item so.are.joined alike) so.are;
+      are = grow_part Chpx at done runs.closed runs.from so.part item (joined_more is_alike so.part item so.are.joined
+          alike) so.are;
       last = ends_push (λ (x : Item). x.chp ≡ runs.chp) so.part item (sym same);
     }
 
@@ -111,7 +121,8 @@ characters_change at end done item old new here apart other closed from chp so =
     let not_alike : ¬ (same_settings last.0.chp item.chp ≡ true) = λ same.
     other (sym has ∙ (same_settings-Decides last.0.chp item.chp).0 same) in
     let ends : goes_over is_alike so.part (item ∷ []) ≡ false =
-    ap (λ (o : Option Item). joins_next is_alike o (Some item)) last.1 ∙ false_from (same_settings last.0.chp item.chp) not_alike in
+    ap (λ (o : Option Item). joins_next is_alike o (Some item)) last.1 ∙ false_from (same_settings last.0.chp
+    item.chp) not_alike in
     let run = run_is Chpx old.from end so.part (0, old.chp)
     (ap (item_settings Chpx) last.1 ∙ ap (λ (s : Settings). (0, s)) has) (omega arith) in
     let before = close_before Chpx at done old.closed old.from end so.part item some ends here so.are in
@@ -119,9 +130,18 @@ characters_change at end done item old new here apart other closed from chp so =
     closed ∙ ap (λ (r : Run). old.closed ++ r ∷ []) (sym run) in
     record {
       part = item ∷ [];
-      are = subst (λ (rs : List Run). AreRunsSoFar Chpx at (done ++ item ∷ []) (record { closed = rs; from = new.from; part = item ∷ [] }))
+      are = subst (λ (rs : List Run). AreRunsSoFar Chpx at (done ++ item ∷ []) (record {
+        closed = rs;
+        from = new.from;
+        part = item ∷ [];
+      }))
           (sym closed_is)
-          (subst (λ (place : ℕ). AreRunsSoFar Chpx at (done ++ item ∷ []) (record { closed = old.closed ++ run_at Chpx old.from so.part ∷ []; from = place; part = item ∷ [] }))
+          (subst (λ (place : ℕ). AreRunsSoFar Chpx at (done ++ item ∷ []) (record {
+            closed = old.closed ++ run_at Chpx
+                old.from so.part ∷ [];
+            from = place;
+            part = item ∷ [];
+          }))
           (sym from) before);
       last = λ x here_x. ap (λ (i : Item). i.chp) (sym (same_Some item x here_x)) ∙ sym chp;
     }
@@ -145,7 +165,8 @@ characters_left at end done runs closed here apart is so =
     let has : last.0.chp ≡ runs.chp = so.last last.0 last.1 in
     let run = run_is Chpx runs.from end so.part (0, runs.chp)
     (ap (item_settings Chpx) last.1 ∙ ap (λ (s : Settings). (0, s)) has) (omega arith) in
-    is ∙ (ap (λ (r : Run). runs.closed ++ r ∷ []) (sym run) ∙ last_closed Chpx at done runs.closed runs.from so.part some so.are)
+    is ∙ (ap (λ (r : Run). runs.closed ++ r ∷ []) (sym run) ∙ last_closed Chpx at done runs.closed runs.from so.part
+    some so.are)
 
 -- ---- paragraphs
 
@@ -168,7 +189,8 @@ paragraphs_go_on at done item runs unmarked so = record {
   last = ends_push (λ (x : Item). x.mark ≡ None) so.part item unmarked;
 }
 
-joins_not : (item : Item) (mark : Mark) → item.mark ≡ Some mark → (next : Option Item) → joins_next is_inside (Some item) next ≡ false
+joins_not : (item : Item) (mark : Mark) → item.mark ≡ Some mark → (next : Option Item) → joins_next is_inside
+    (Some item) next ≡ false
 joins_not item mark has None = refl
 joins_not item mark has (Some next) = ap (λ (o : Option Mark). not (is_some o)) has
 
@@ -176,7 +198,8 @@ joins_not item mark has (Some next) = ap (λ (o : Option Mark). not (is_some o))
 marked : (part more : List Item) (item : Item) (mark : Mark) → item.mark ≡ Some mark →
     goes_over is_inside (part ++ item ∷ []) more ≡ false
 marked part more item mark has =
-    ap (λ (o : Option Item). joins_next is_inside o (slice_get more 0)) (last_push part item) ∙ joins_not item mark has (slice_get more 0)
+    ap (λ (o : Option Item). joins_next is_inside o (slice_get more 0)) (last_push part item) ∙ joins_not item mark
+    has (slice_get more 0)
 
 pub paragraphs_end :
     (at end : ℕ) (done : List Item) (item : Item) (mark : Mark) (old new : ParagraphRuns) →
@@ -198,9 +221,18 @@ paragraphs_end at end done item mark old new here has closed from so =
     closed ∙ ap (λ (r : Run). old.closed ++ r ∷ []) (sym run) in
     record {
       part = [];
-      are = subst (λ (rs : List Run). AreRunsSoFar Papx at (done ++ item ∷ []) (record { closed = rs; from = new.from; part = [] }))
+      are = subst (λ (rs : List Run). AreRunsSoFar Papx at (done ++ item ∷ []) (record {
+        closed = rs;
+        from = new.from;
+        part = [];
+      }))
           (sym closed_is)
-          (subst (λ (place : ℕ). AreRunsSoFar Papx at (done ++ item ∷ []) (record { closed = old.closed ++ run_at Papx old.from part ∷ []; from = place; part = [] }))
+          (subst (λ (place : ℕ). AreRunsSoFar Papx at (done ++ item ∷ []) (record {
+            closed = old.closed ++ run_at Papx
+                old.from part ∷ [];
+            from = place;
+            part = [];
+          }))
           (sym from) behind);
       last = λ x none. absurd (cc);
     }
@@ -223,4 +255,5 @@ paragraphs_left at end done runs closed here apart is so =
     let last = last_is so.part some in
     let run = run_is Papx runs.from end so.part (0, empty)
     (ap (item_settings Papx) last.1 ∙ ap mark_settings (so.last last.0 last.1)) (omega arith) in
-    is ∙ (ap (λ (r : Run). runs.closed ++ r ∷ []) (sym run) ∙ last_closed Papx at done runs.closed runs.from so.part some so.are)
+    is ∙ (ap (λ (r : Run). runs.closed ++ r ∷ []) (sym run) ∙ last_closed Papx at done runs.closed runs.from so.part
+    some so.are)

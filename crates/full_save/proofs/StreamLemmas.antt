@@ -1,5 +1,7 @@
 -- The streams of a full save, by the places of the two that it makes.
-use Rattle.std.proofs.Common.{◌≡◌, ◌≢◌, ◌<◌, ◌≤◌, ◌+◌, ◌-◌, ◌∙◌, ap, refl, sym, subst, inl, inr, ℕ, zero, suc, true, false, cond, ltb, List, [], ◌∷◌, ◌++◌, length, take, drop, Some, slice_get, arith, lt-ltb}
+use Rattle.std.proofs.Common.{◌≡◌, ◌≢◌, ◌<◌, ◌≤◌, ◌+◌, ◌-◌, ◌∙◌, ap, refl, sym, subst, inl, inr, ℕ, zero, suc, true}
+use Rattle.std.proofs.Common.{false, cond, ltb, List, [], ◌∷◌, ◌++◌, length, take, drop, Some, slice_get, arith}
+use Rattle.std.proofs.Common.{lt-ltb}
 use Rattle.std.specs.Prelude.{slice_range}
 use Rattle.std.proofs.lemmas.List.{take_all}
 use Rattle.std.proofs.Common.{length-drop}
@@ -35,12 +37,14 @@ shorter_before name before =
       | inl e ↦ omega (arith, e)
       | inr ne ↦
           let less : ltb (length name) 6 ≡ true =
-          subst (λ b. cond b (has_less_unit name second_table_name) (ltb (length name) 6) ≡ true) (ne_eqb (length name) 6 ne) before in
+          subst (λ b. cond b (has_less_unit name second_table_name) (ltb (length name) 6) ≡ true)
+          (ne_eqb (length name) 6 ne) before in
           let lt = ltb-true (length name) 6 less in omega (arith, lt)
     ] in
     let apart : length name ≢ 12 = λ e. omega (arith, e, low) in
     let lt : length name < 12 = omega (arith, low) in
-    ap (λ b. cond b (has_less_unit name wd_name) (ltb (length name) 12)) (ne_eqb (length name) 12 apart) ∙ lt-ltb (length name) 12 lt
+    ap (λ b. cond b (has_less_unit name wd_name) (ltb (length name) 12)) (ne_eqb (length name) 12 apart) ∙ lt-ltb
+    (length name) 12 lt
 
 -- so its place is not behind that of `WordDocument`
 pub places_ordered : (others : List NamedBytes) (first second : ℕ) → IsPlaceFor second_table_name others first →
@@ -60,10 +64,12 @@ take_more [] ys zero n h low = refl
 take_more [] ys (suc k) n h low = absurd (omega arith)
 take_more (x ∷ xs) ys zero n h low = refl
 take_more (x ∷ xs) ys (suc k) zero h low = absurd (omega arith)
-take_more (x ∷ xs) ys (suc k) (suc n) h low = ap (λ (zs : List _). x ∷ zs) (take_more xs ys k n (omega arith) (omega arith))
+take_more (x ∷ xs) ys (suc k) (suc n) h low = ap (λ (zs : List _). x ∷ zs) (take_more xs ys k n (omega arith)
+    (omega arith))
 
 -- and behind it
-drop_more : {A : Type 0} (xs ys : List A) (k n : ℕ) → k ≤ n → n ≤ length xs → drop k (take n xs ++ ys) ≡ take (n - k) (drop k xs) ++ ys
+drop_more : {A : Type 0} (xs ys : List A) (k n : ℕ) → k ≤ n → n ≤ length xs → drop k (take n xs ++ ys) ≡ take (n - k)
+    (drop k xs) ++ ys
 drop_more xs ys zero n h low = let e : n - 0 ≡ n = omega arith in ap (λ (m : ℕ). take m xs ++ ys) (sym e)
 drop_more [] ys (suc k) n h low = absurd (omega arith)
 drop_more (x ∷ xs) ys (suc k) zero h low = absurd (omega arith)
@@ -71,7 +77,8 @@ drop_more (x ∷ xs) ys (suc k) (suc n) h low =
     let e : suc n - suc k ≡ n - k = omega arith in
     drop_more xs ys k n (omega arith) (omega arith) ∙ ap (λ (m : ℕ). take m (drop k xs) ++ ys) (sym e)
 
-get_more : {A : Type 0} (xs ys : List A) (k n : ℕ) → k < n → n ≤ length xs → slice_get (take n xs ++ ys) k ≡ slice_get xs k
+get_more : {A : Type 0} (xs ys : List A) (k n : ℕ) → k < n → n ≤ length xs → slice_get (take n xs ++ ys) k ≡ slice_get
+    xs k
 get_more [] ys k n h low = absurd (omega arith)
 get_more (x ∷ xs) ys zero zero h low = absurd (omega arith)
 get_more (x ∷ xs) ys zero (suc n) h low = refl
@@ -83,20 +90,24 @@ get_put xs ys y zero low = refl
 get_put [] ys y (suc n) low = absurd (omega arith)
 get_put (x ∷ xs) ys y (suc n) low = get_put xs ys y n (omega arith)
 
-length-put : {A : Type 0} (xs : List A) (y : A) (n : ℕ) → n ≤ length xs → length (take n xs ++ (y ∷ drop n xs)) ≡ length xs + 1
+length-put : {A : Type 0} (xs : List A) (y : A) (n : ℕ) → n ≤ length xs → length (take n xs ++ (y ∷ drop n xs)) ≡
+    length xs + 1
 length-put xs y zero low = omega arith
 length-put [] y (suc n) low = absurd (omega arith)
 length-put (x ∷ xs) y (suc n) low = let rest = length-put xs y n (omega arith) in omega arith
 
 -- the place of `1Table` among the others is its place among them and `WordDocument`
-place_kept : (others : List NamedBytes) (wd : List ℕ) (first second : ℕ) → first ≤ second → IsPlaceFor second_table_name others first →
+place_kept : (others : List NamedBytes) (wd : List ℕ) (first second : ℕ) → first ≤ second →
+    IsPlaceFor second_table_name others first →
     second ≤ length others →
-    IsPlaceFor second_table_name (take second others ++ ((record { name = wd_name; bytes = wd }) ∷ drop second others)) first
+    IsPlaceFor second_table_name (take second others ++ ((record { name = wd_name; bytes = wd }) ∷ drop second
+    others)) first
 place_kept others wd first second order is low =
     let it : NamedBytes = record { name = wd_name; bytes = wd } in
     record {
       within = omega (arith, length-put others it second low);
-      before = λ i s below here. is.before i s below (sym (get_more others (it ∷ drop second others) i second (omega (arith, below, order)) low) ∙ here);
+      before = λ i s below here. is.before i s below (sym (get_more others (it ∷ drop second others) i second
+          (omega (arith, below, order)) low) ∙ here);
       after = λ s here. elim (cases_lt first second) [
         | inl less ↦ is.after s (sym (get_more others (it ∷ drop second others) first second less low) ∙ here)
         | inr end ↦
@@ -134,9 +145,11 @@ saved_in_parts table wd others first second is other =
     ∙ (put
     ∙ (ap (λ (streams : List NamedBytes). streams ++ (that ∷ drop first with_wd)) (front ∙ zero_front)
     ∙ (ap (λ (streams : List NamedBytes). slice_range others 0 first ++ (that ∷ streams)) back
-    ∙ ap (λ (streams : List NamedBytes). slice_range others 0 first ++ (that ∷ (slice_range others first second ++ (it ∷ streams)))) rest)))
+    ∙ ap (λ (streams : List NamedBytes). slice_range others 0 first ++ (that ∷ (slice_range others first second ++
+    (it ∷ streams)))) rest)))
 
-kept : {A : Type 0} (front back : List A) (i : ℕ) (x : A) → slice_get front i ≡ Some x → slice_get (front ++ back) i ≡ Some x
+kept : {A : Type 0} (front back : List A) (i : ℕ) (x : A) → slice_get front i ≡ Some x → slice_get (front ++ back) i ≡
+    Some x
 kept front back i x here = slice_get_before front back i (slice_get_within front i x here) ∙ here
 
 -- the front of streams that are in order
@@ -144,6 +157,8 @@ pub streams_front : (front back : List NamedBytes) → AreStreams (front ++ back
 streams_front front back are = record {
   some = λ i s here. are.some i s (kept front back i s here);
   short = λ i s here. are.short i s (kept front back i s here);
-  order = λ i j s later low here there. are.order i j s later low (kept front back i s here) (kept front back j later there);
-  total = let all = sum_by-append (λ (s : NamedBytes). length s.bytes) front back in let total = are.total in omega (arith, all, total);
+  order = λ i j s later low here there. are.order i j s later low (kept front back i s here) (kept front back j later
+      there);
+  total = let all = sum_by-append (λ (s : NamedBytes). length s.bytes) front back in let total = are.total in
+      omega (arith, all, total);
 }

@@ -9,7 +9,8 @@ use Rattle.full_save.specs.TableStream.{entry_bytes, entries_bytes, put_pair, pa
 -- the pairs with one part more
 pairs_more :
     (at : ℕ) (pairs : List (ℕ × ℕ)) (parts : List TableEntry) (part : TableEntry) →
-    pairs_from at pairs (parts ++ part ∷ []) ≡ put_pair (at + length (entries_bytes parts)) part (pairs_from at pairs parts)
+    pairs_from at pairs (parts ++ part ∷ []) ≡ put_pair (at + length (entries_bytes parts)) part (pairs_from at pairs
+    parts)
 unfolding pairs_from
 pairs_more at pairs [] part = let e : at ≡ at + 0 = omega arith in ap (λ (n : ℕ). put_pair n part pairs) e
 pairs_more at pairs (first ∷ parts) part =
@@ -20,7 +21,8 @@ pairs_more at pairs (first ∷ parts) part =
     pairs_more next put parts part ∙ ap (λ (n : ℕ). put_pair n part (pairs_from next put parts)) e
 
 -- the bytes with one part more
-bytes_more : (parts : List TableEntry) (part : TableEntry) → entries_bytes (parts ++ part ∷ []) ≡ entries_bytes parts ++ entry_bytes part
+bytes_more : (parts : List TableEntry) (part : TableEntry) → entries_bytes (parts ++ part ∷ []) ≡ entries_bytes parts
+    ++ entry_bytes part
 bytes_more [] part = append-nil (entry_bytes part)
 bytes_more (first ∷ parts) part =
     ap (λ (bytes : List ℕ). entry_bytes first ++ bytes) (bytes_more parts part)
@@ -32,9 +34,11 @@ pub written_more :
     new.bytes ≡ old.bytes ++ entry_bytes part → new.pairs ≡ put_pair (length old.bytes) part old.pairs →
     AreWritten parts old → AreWritten (parts ++ part ∷ []) new
 written_more parts part old new bytes pairs written = record {
-  bytes_are = bytes ∙ (ap (λ (front : List ℕ). front ++ entry_bytes part) written.bytes_are ∙ sym (bytes_more parts part));
+  bytes_are = bytes ∙ (ap (λ (front : List ℕ). front ++ entry_bytes part) written.bytes_are ∙ sym (bytes_more parts
+      part));
   pairs_are =
-      let at : length old.bytes ≡ 0 + length (entries_bytes parts) = let e = ap length written.bytes_are in omega (arith, e) in
+      let at : length old.bytes ≡ 0 + length (entries_bytes parts) = let e = ap length written.bytes_are in
+      omega (arith, e) in
       pairs
       ∙ (ap (λ (n : ℕ). put_pair n part old.pairs) at
       ∙ (ap (λ (front : List (ℕ × ℕ)). put_pair (0 + length (entries_bytes parts)) part front) written.pairs_are

@@ -1,5 +1,6 @@
 -- A text that goes on by items, and the marks behind stories.
-use Rattle.std.proofs.Common.{◌≡◌, ◌≤◌, ◌<◌, ◌+◌, ◌∙◌, ap, refl, sym, subst, inl, inr, ℕ, Bool, true, false, List, [], ◌∷◌, ◌++◌, length, take, drop, get_or, arith, lt-ltb}
+use Rattle.std.proofs.Common.{◌≡◌, ◌≤◌, ◌<◌, ◌+◌, ◌∙◌, ap, refl, sym, subst, inl, inr, ℕ, Bool, true, false, List, []}
+use Rattle.std.proofs.Common.{◌∷◌, ◌++◌, length, take, drop, get_or, arith, lt-ltb}
 use Rattle.std.specs.Prelude.{nat_lt}
 use Rattle.std.proofs.lemmas.List.{append_assoc, length-append, append-nil, take_more, take-append-drop}
 use Rattle.std.proofs.lemmas.Grind.{flat_map-append}
@@ -17,7 +18,8 @@ goes_on_none text done so = subst (λ (items : List Item). IsTextSoFar items tex
 pub goes_on_both : (xs ys : List Item) (one other last : TextSoFar) → GoesOnBy xs one other → GoesOnBy ys other last →
     GoesOnBy (xs ++ ys) one last
 goes_on_both xs ys one other last first second done so =
-    subst (λ (items : List Item). IsTextSoFar items last) (append_assoc done xs ys) (second (done ++ xs) (first done so))
+    subst (λ (items : List Item). IsTextSoFar items last) (append_assoc done xs ys) (second (done ++ xs)
+    (first done so))
 
 pub goes_on_by : (xs ys : List Item) (one other : TextSoFar) → xs ≡ ys → GoesOnBy xs one other → GoesOnBy ys one other
 goes_on_by xs ys one other same goes = subst (λ (items : List Item). GoesOnBy items one other) same goes
@@ -56,7 +58,8 @@ joined_next texts k low =
     ∙ (flat_map-append (λ (text : List Item). text) (take k texts) (get_or texts k [] ∷ [])
     ∙ ap (λ (more : List Item). joined_texts (take k texts) ++ more) (append-nil (get_or texts k [])))
 
-pub joined_front : (texts : List (List Item)) (k : ℕ) → length (joined_texts (take k texts)) ≤ length (joined_texts texts)
+pub joined_front : (texts : List (List Item)) (k : ℕ) → length (joined_texts (take k texts)) ≤ length (joined_texts
+    texts)
 joined_front texts k =
     let whole = ap joined_texts (sym (take-append-drop k texts))
     ∙ flat_map-append (λ (text : List Item). text) (take k texts) (drop k texts) in
@@ -66,7 +69,8 @@ joined_front texts k =
 -- ---- the text of a document
 
 pub text_is : (d : Document) →
-    text_items d ≡ ((d.main ++ note_story d) ++ head_story d) ++ mark_if (nat_lt 0 (length (note_story d ++ head_story d)))
+    text_items d ≡ ((d.main ++ note_story d) ++ head_story d) ++ mark_if (nat_lt 0 (length (note_story d ++ head_story
+    d)))
 unfolding text_items
 text_is d =
     let notes = note_story d in
@@ -94,7 +98,14 @@ text_sizes d =
     let mark = mark_if (nat_lt 0 (length (notes ++ heads))) in
     let len = ap length (text_is d) in
     record {
-      stories = omega (arith, len, length-append ((d.main ++ notes) ++ heads) mark, length-append (d.main ++ notes) heads, length-append d.main notes);
+      stories = omega (
+        arith,
+        len,
+        length-append ((d.main ++ notes) ++ heads) mark,
+        length-append (d.main ++ notes)
+            heads,
+        length-append d.main notes,
+      );
       notes = with_mark_more (joined_texts d.notes);
       heads = with_mark_more (joined_texts d.heads);
     }

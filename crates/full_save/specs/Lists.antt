@@ -6,4 +6,5 @@ use Rattle.plain_doc.specs.Collected.{collected, field_of}
 
 -- those of items that stand from a CP on
 abbrev pub fields_from : ℕ → List Item → List Fld
-fields_from cp items = map (λ entry. record { cp = entry.0; unit = entry.1.0; byte = entry.1.1 }) (collected field_of cp items)
+fields_from cp items = map (λ entry. record { cp = entry.0; unit = entry.1.0; byte = entry.1.1 }) (collected field_of
+    cp items)

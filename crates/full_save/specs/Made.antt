@@ -17,12 +17,16 @@ use Rattle.full_save.specs.WordDocument.{wd_body, full_text}
 pub record AreMadeOf (document : Document) (text : TableText) (made : MadeParts) : Type 0 where
   pub sheet : made.sheet ≡ written_sheet document.sheet
   pub refs : made.refs ≡ printed_refs (refs_of document.main) (slice_index text.counts 0)
-  pub note_cuts : made.note_cuts ≡ printed_texts (cuts_of (joined_texts document.notes) document.notes) (slice_index text.counts 1)
+  pub note_cuts : made.note_cuts ≡ printed_texts (cuts_of (joined_texts document.notes) document.notes) (slice_index
+      text.counts 1)
   pub sections : made.sections ≡ printed_sections text.seds (slice_index text.counts 0)
-  pub head_cuts : made.head_cuts ≡ printed_texts (cuts_of (joined_texts document.heads) document.heads) (slice_index text.counts 2)
+  pub head_cuts : made.head_cuts ≡ printed_texts (cuts_of (joined_texts document.heads) document.heads) (slice_index
+      text.counts 2)
   pub main_fields : made.main_fields ≡ printed_fields (fields_of document.main) (slice_index text.counts 0)
-  pub head_fields : made.head_fields ≡ printed_fields (fields_of (joined_texts document.heads)) (slice_index text.counts 2)
-  pub note_fields : made.note_fields ≡ printed_fields (fields_of (joined_texts document.notes)) (slice_index text.counts 1)
+  pub head_fields : made.head_fields ≡ printed_fields (fields_of (joined_texts document.heads)) (slice_index
+      text.counts 2)
+  pub note_fields : made.note_fields ≡ printed_fields (fields_of (joined_texts document.notes)) (slice_index
+      text.counts 1)
 
 -- the number of their bytes
 abbrev pub made_length : MadeParts → ℕ

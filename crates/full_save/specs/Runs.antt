@@ -20,7 +20,8 @@ abbrev pub mark_settings : Option Mark → ℕ × Settings
 mark_settings None = (0, empty)
 mark_settings (Some mark) = (mark.istd, mark.pap)
 
--- what a run has of one of its items: of characters the settings of any one, of a paragraph those of the last one's mark
+-- what a run has of one of its items: of characters the settings of any one, of a paragraph those of the last one's
+-- mark
 abbrev pub item_settings : PageKind → Option Item → ℕ × Settings
 item_settings kind None = (0, empty)
 item_settings Chpx (Some item) = (0, item.chp)

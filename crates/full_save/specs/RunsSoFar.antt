@@ -20,7 +20,8 @@ pub record RunsSoFar : Type 0 where
   pub from : ℕ
   pub part : List Item
 
--- the runs of a text that begins at a place: whatever items follow, they are the closed ones and those from the last one on
+-- the runs of a text that begins at a place: whatever items follow, they are the closed ones and those from the last
+-- one on
 pub record AreRunsSoFar (kind : PageKind) (at : ℕ) (done : List Item) (runs : RunsSoFar) : Type 0 where
   pub joined : IsJoined (joins_run kind) runs.part
   pub stands : runs.from + 2 * length runs.part ≡ at + 2 * length done

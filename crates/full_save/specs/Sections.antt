@@ -29,7 +29,8 @@ no_sepx = 0xFFFFFFFF
 abbrev pub fc_sepx : ℕ → Settings → ℕ
 fc_sepx place settings = if is_plain_section settings then no_sepx else place
 
--- the Seds of sections, which are given by their last CPs: the first one begins at a CP, and the Sepxes stand from a place on
+-- the Seds of sections, which are given by their last CPs: the first one begins at a CP, and the Sepxes stand from a
+-- place on
 unfoldable pub seds_from : ℕ → ℕ → List (ℕ × Settings) → List Sed
 seds_from start place [] = []
 seds_from start place (section ∷ sections) =

@@ -48,7 +48,8 @@ document_runs kind document = text_runs kind text_at (text_items document)
 abbrev pub document_pages : PageKind → Document → Pages
 document_pages kind document = pages_of kind (document_runs kind document)
 
--- the number of the first page of characters, and of the first page of paragraphs: a page stands at 512 times its number
+-- the number of the first page of characters, and of the first page of paragraphs: a page stands at 512 times its
+-- number
 abbrev pub first_character_page : Document → ℕ
 first_character_page document = units_for 512 (text_end document)
 
@@ -63,7 +64,8 @@ pages_end document = 512 * (first_paragraph_page document + length (document_pag
 unfoldable pub wd_body : Document → List ℕ
 wd_body document =
     padded 512 0 (text_bytes document)
-    ++ ((document_pages Chpx document).bytes ++ ((document_pages Papx document).bytes ++ sepxes (sections_of document.main)))
+    ++ ((document_pages Chpx document).bytes ++ ((document_pages Papx document).bytes ++ sepxes (sections_of
+    document.main)))
 
 -- [MS-DOC] PlcBteChpx, PlcBtePapx: the pages of runs, the first one with this number
 abbrev pub bin_table : PageKind → List Run → ℕ → List ℕ
@@ -71,7 +73,8 @@ bin_table kind runs number = printed_bin (numbered_bins number (pages_of kind ru
 
 -- [MS-DOC] Clx: one Pcdt with one piece of so many units, and no modifier
 abbrev pub one_piece_clx : ℕ → List ℕ
-one_piece_clx len = pcdt_bytes (plc_bytes (len ∷ []) (pcd_bytes (record { at = text_at; wide = true; len = len }) 0 ∷ []))
+one_piece_clx len = pcdt_bytes (plc_bytes (len ∷ []) (pcd_bytes (record { at = text_at; wide = true; len = len }) 0 ∷
+    []))
 
 -- what the table stream has beside the document
 abbrev pub full_text : Document → TableText

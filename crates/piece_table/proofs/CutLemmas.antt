@@ -1,7 +1,10 @@
 -- Entries that are cut are seen as before.
-use Rattle.std.proofs.Common.{◌≡◌, ℕ, zero, suc, ◌+◌, ◌-◌, ◌*◌, ◌<◌, ◌≤◌, List, [], ◌∷◌, ◌++◌, length, map, take, drop, All, get_or, slice_get, slice_set, Bool, true, false, Some, refl, inl, inr, sym, ap, subst, ◌∙◌, arith, append_assoc, length-append, length-drop}
+use Rattle.std.proofs.Common.{◌≡◌, ℕ, zero, suc, ◌+◌, ◌-◌, ◌*◌, ◌<◌, ◌≤◌, List, [], ◌∷◌, ◌++◌, length, map, take}
+use Rattle.std.proofs.Common.{drop, All, get_or, slice_get, slice_set, Bool, true, false, Some, refl, inl, inr, sym}
+use Rattle.std.proofs.Common.{ap, subst, ◌∙◌, arith, append_assoc, length-append, length-drop}
 use Rattle.std.proofs.lemmas.Bool.{cases_lt}
-use Rattle.std.proofs.lemmas.List.{take-append-drop, take-append-le, take-take, take_at, take_all, take-map, take-set, drop-set, drop_more, length-take-le}
+use Rattle.std.proofs.lemmas.List.{take-append-drop, take-append-le, take-take, take_at, take_all, take-map, take-set}
+use Rattle.std.proofs.lemmas.List.{drop-set, drop_more, length-take-le}
 use Rattle.std.proofs.lemmas.List.Elements.{All-get_or, All-append, All-take, All-drop, All-cons, All-map, All-weaker}
 use Rattle.std.proofs.lemmas.List.Sums.{sum_by-cons, sum_by-append, sum_by_more}
 use Rattle.std.proofs.lemmas.Option.{slice_get_within, get_or_from_slice_get, slice_get-get_or}
@@ -12,7 +15,8 @@ use Rattle.piece_table.specs.declared.pieces.Spot.{Spot}
 use Rattle.piece_table.specs.Piece.{unit_bytes, unit_places, total_length, IsPiece, IsTextPiece, ArePieces}
 use Rattle.piece_table.specs.Numbering.{text_piece}
 use Rattle.piece_table.specs.Changes.{IsSpot}
-use Rattle.piece_table.specs.Cuts.{entry_units, flat_entries, front_entry, back_entry, IsEntrySpot, IsSeam, KeepsText, IsCut, IsCutTwice}
+use Rattle.piece_table.specs.Cuts.{entry_units, flat_entries, front_entry, back_entry, IsEntrySpot, IsSeam, KeepsText}
+use Rattle.piece_table.specs.Cuts.{IsCut, IsCutTwice}
 use Rattle.piece_table.proofs.PieceLemmas.{All-seen}
 use Rattle.piece_table.proofs.FlatLemmas.{flat_entries-append, flat_pieces-cons, unit_places-cut, total_length-seen}
 
@@ -28,19 +32,31 @@ units_rise [] (suc a) zero low = absurd (omega arith)
 units_rise [] (suc a) (suc b) low = omega arith
 units_rise (entry ∷ entries) (suc a) zero low = absurd (omega arith)
 units_rise (entry ∷ entries) (suc a) (suc b) low =
-    omega (arith, units_rise entries a b (omega arith), sum_by-cons units entry (take a entries), sum_by-cons units entry (take b entries))
+    omega (
+      arith,
+      units_rise entries a b (omega arith),
+      sum_by-cons units entry (take a entries),
+      sum_by-cons units
+          entry (take b entries),
+    )
 
 -- and more where each has one
-units_climb : (entries : List Entry) (a b : ℕ) → All (λ entry. IsPiece entry.piece) entries → a < b → b ≤ length entries → entry_units (take a entries) < entry_units (take b entries)
+units_climb : (entries : List Entry) (a b : ℕ) → All (λ entry. IsPiece entry.piece) entries → a < b →
+    b ≤ length entries → entry_units (take a entries) < entry_units (take b entries)
 units_climb entries a b sound low within =
     let d : Entry = record { piece = record { at = 0; wide = true; len = 0 }; modifier = 0 } in
     let some = (All-get_or (λ (e : Entry). IsPiece e.piece) entries a d (omega arith) sound).some in
     omega (arith, sum_by_more units entries a d (omega arith), units_rise entries (a + 1) b (omega arith))
 
 -- a seam is not behind a later one
-pub seams_rise : (entries : List Entry) (from to first last : ℕ) → All (λ entry. IsPiece entry.piece) entries → IsSeam entries from first → IsSeam entries to last → from ≤ to → first ≤ last
+pub seams_rise : (entries : List Entry) (from to first last : ℕ) → All (λ entry. IsPiece entry.piece) entries →
+    IsSeam entries from first → IsSeam entries to last → from ≤ to → first ≤ last
 seams_rise entries from to first last sound begins ends low = elim (cases_lt last first) [
-  | inl less ↦ let a = begins.units in let b = ends.units in absurd (omega (arith, units_climb entries last first sound less begins.within))
+  | inl less ↦ let a = begins.units in let b = ends.units in absurd (omega (
+    arith,
+    units_climb entries last first
+        sound less begins.within,
+  ))
   | inr more ↦ more
 ]
 
@@ -54,52 +70,82 @@ pub record IsCutPlace (entries : List Entry) (cp number inside : ℕ) (entry : E
   pub less : inside < entry.piece.len
 
 abbrev pub cut_entries : List Entry → ℕ → ℕ → Entry → List Entry
-cut_entries entries number inside entry = take number entries ++ (front_entry entry inside ∷ (back_entry entry inside ∷ drop (number + 1) entries))
+cut_entries entries number inside entry = take number entries ++ (front_entry entry inside ∷ (back_entry entry inside
+    ∷ drop (number + 1) entries))
 
-parted : (entries : List Entry) (number : ℕ) (entry : Entry) → slice_get entries number ≡ Some entry → entries ≡ take number entries ++ (entry ∷ drop (number + 1) entries)
+parted : (entries : List Entry) (number : ℕ) (entry : Entry) → slice_get entries number ≡ Some entry →
+    entries ≡ take number entries ++ (entry ∷ drop (number + 1) entries)
 parted entries number entry there =
     let low = slice_get_within entries number entry there in
     sym (take-append-drop number entries) ∙ ap (λ l. take number entries ++ l)
-    (drop_more entries number entry low ∙ ap (λ e. e ∷ drop (number + 1) entries) (get_or_from_slice_get entries number entry entry there))
+    (drop_more entries number entry low ∙ ap (λ e. e ∷ drop (number + 1) entries) (get_or_from_slice_get entries
+    number entry entry there))
 
 -- what holds of each entry holds of each after the cut, where it holds of both parts
-cut_all : (P : Entry → Type 0) (entries : List Entry) (number inside : ℕ) (entry : Entry) → slice_get entries number ≡ Some entry → (P entry → P (front_entry entry inside)) → (P entry → P (back_entry entry inside)) → All P entries → All P (cut_entries entries number inside entry)
+cut_all : (P : Entry → Type 0) (entries : List Entry) (number inside : ℕ) (entry : Entry) → slice_get entries number ≡
+    Some entry → (P entry → P (front_entry entry inside)) → (P entry → P (back_entry entry inside)) → All P entries →
+    All P (cut_entries entries number inside entry)
 cut_all P entries number inside entry there front back all =
     let low = slice_get_within entries number entry there in
-    let here : P entry = subst P (get_or_from_slice_get entries number entry entry there) (All-get_or P entries number entry low all) in
+    let here : P entry = subst P (get_or_from_slice_get entries number entry entry there) (All-get_or P entries number
+    entry low all) in
     let rest = drop (number + 1) entries in
-    All-append P (take number entries) (front_entry entry inside ∷ (back_entry entry inside ∷ rest)) (All-take P number entries all)
-    (All-cons P (front_entry entry inside) (back_entry entry inside ∷ rest) (front here) (All-cons P (back_entry entry inside) rest (back here) (All-drop P (number + 1) entries all)))
+    All-append P (take number entries) (front_entry entry inside ∷ (back_entry entry inside ∷ rest))
+    (All-take P number entries all)
+    (All-cons P (front_entry entry inside) (back_entry entry inside ∷ rest) (front here) (All-cons P (back_entry entry
+    inside) rest (back here) (All-drop P (number + 1) entries all)))
 
-cut_end : (at len inside : ℕ) (wide : Bool) → inside ≤ len → (at + inside * unit_bytes wide) + (len - inside) * unit_bytes wide ≡ at + len * unit_bytes wide
+cut_end : (at len inside : ℕ) (wide : Bool) → inside ≤ len → (at + inside * unit_bytes wide) + (len - inside) *
+    unit_bytes wide ≡ at + len * unit_bytes wide
 cut_end at len inside true low = omega arith
 cut_end at len inside false low = omega arith
 
-front_end : (at len inside : ℕ) (wide : Bool) → inside ≤ len → at + inside * unit_bytes wide ≤ at + len * unit_bytes wide
+front_end : (at len inside : ℕ) (wide : Bool) → inside ≤ len → at + inside * unit_bytes wide ≤ at + len * unit_bytes
+    wide
 front_end at len inside true low = omega arith
 front_end at len inside false low = omega arith
 
 -- both parts are pieces
-pub front_piece : (entry : Entry) (inside : ℕ) → 0 < inside → inside < entry.piece.len → IsPiece entry.piece → IsPiece (front_entry entry inside).piece
+pub front_piece : (entry : Entry) (inside : ℕ) → 0 < inside → inside < entry.piece.len → IsPiece entry.piece →
+    IsPiece (front_entry entry inside).piece
 front_piece entry inside some less sound = record {
   some = omega arith;
-  end = let end = sound.end in omega (arith, front_end entry.piece.at entry.piece.len inside entry.piece.wide (omega arith));
+  end = let end = sound.end in omega (
+    arith,
+    front_end entry.piece.at entry.piece.len inside entry.piece.wide
+        (omega arith),
+  );
 }
 
-pub back_piece : (entry : Entry) (inside : ℕ) → 0 < inside → inside < entry.piece.len → IsPiece entry.piece → IsPiece (back_entry entry inside).piece
+pub back_piece : (entry : Entry) (inside : ℕ) → 0 < inside → inside < entry.piece.len → IsPiece entry.piece →
+    IsPiece (back_entry entry inside).piece
 back_piece entry inside some less sound = record {
   some = omega arith;
-  end = let end = sound.end in omega (arith, cut_end entry.piece.at entry.piece.len inside entry.piece.wide (omega arith));
+  end = let end = sound.end in omega (
+    arith,
+    cut_end entry.piece.at entry.piece.len inside entry.piece.wide
+        (omega arith),
+  );
 }
 
-pub front_sound : (modifiers : List Modifier) (entry : Entry) (inside : ℕ) → 0 < inside → inside < entry.piece.len → IsTextPiece (text_piece modifiers entry) → IsTextPiece (text_piece modifiers (front_entry entry inside))
-front_sound modifiers entry inside some less sound = record { units = front_piece entry inside some less sound.units; formed = sound.formed }
+pub front_sound : (modifiers : List Modifier) (entry : Entry) (inside : ℕ) → 0 < inside → inside < entry.piece.len →
+    IsTextPiece (text_piece modifiers entry) → IsTextPiece (text_piece modifiers (front_entry entry inside))
+front_sound modifiers entry inside some less sound = record {
+  units = front_piece entry inside some less sound.units;
+  formed = sound.formed;
+}
 
-pub back_sound : (modifiers : List Modifier) (entry : Entry) (inside : ℕ) → 0 < inside → inside < entry.piece.len → IsTextPiece (text_piece modifiers entry) → IsTextPiece (text_piece modifiers (back_entry entry inside))
-back_sound modifiers entry inside some less sound = record { units = back_piece entry inside some less sound.units; formed = sound.formed }
+pub back_sound : (modifiers : List Modifier) (entry : Entry) (inside : ℕ) → 0 < inside → inside < entry.piece.len →
+    IsTextPiece (text_piece modifiers entry) → IsTextPiece (text_piece modifiers (back_entry entry inside))
+back_sound modifiers entry inside some less sound = record {
+  units = back_piece entry inside some less sound.units;
+  formed = sound.formed;
+}
 
 -- all units are seen as before
-cut_flat : (entries : List Entry) (number inside : ℕ) (entry : Entry) → slice_get entries number ≡ Some entry → inside ≤ entry.piece.len → (modifiers : List Modifier) → flat_entries modifiers (cut_entries entries number inside entry) ≡ flat_entries modifiers entries
+cut_flat : (entries : List Entry) (number inside : ℕ) (entry : Entry) → slice_get entries number ≡ Some entry →
+    inside ≤ entry.piece.len → (modifiers : List Modifier) → flat_entries modifiers (cut_entries entries number inside
+    entry) ≡ flat_entries modifiers entries
 cut_flat entries number inside entry there low modifiers =
     let front = take number entries in
     let rest = drop (number + 1) entries in
@@ -110,12 +156,15 @@ cut_flat entries number inside entry there low modifiers =
     flat_pieces-cons (view a) (map view (b ∷ rest))
     ∙ (ap (λ l. unit_places (view a) ++ l) (flat_pieces-cons (view b) (map view rest))
     ∙ (sym (append_assoc (unit_places (view a)) (unit_places (view b)) (flat_entries modifiers rest))
-    ∙ (ap (λ l. l ++ flat_entries modifiers rest) (unit_places-cut modifiers entry inside low) ∙ sym (flat_pieces-cons (view entry) (map view rest))))) in
+    ∙ (ap (λ l. l ++ flat_entries modifiers rest) (unit_places-cut modifiers entry inside low) ∙ sym (flat_pieces-cons
+    (view entry) (map view rest))))) in
     flat_entries-append modifiers front (a ∷ (b ∷ rest))
     ∙ (ap (λ l. flat_entries modifiers front ++ l) two
-    ∙ (sym (flat_entries-append modifiers front (entry ∷ rest)) ∙ ap (flat_entries modifiers) (sym (parted entries number entry there))))
+    ∙ (sym (flat_entries-append modifiers front (entry ∷ rest)) ∙ ap (flat_entries modifiers)
+    (sym (parted entries number entry there))))
 
-cut_units : (entries : List Entry) (number inside : ℕ) (entry : Entry) → slice_get entries number ≡ Some entry → inside ≤ entry.piece.len → entry_units (cut_entries entries number inside entry) ≡ entry_units entries
+cut_units : (entries : List Entry) (number inside : ℕ) (entry : Entry) → slice_get entries number ≡ Some entry →
+    inside ≤ entry.piece.len → entry_units (cut_entries entries number inside entry) ≡ entry_units entries
 cut_units entries number inside entry there low =
     let front = take number entries in
     let rest = drop (number + 1) entries in
@@ -131,23 +180,30 @@ cut_units entries number inside entry there low =
       sum_by-cons units entry rest,
     )
 
-cut_keeps : (entries : List Entry) (cp number inside : ℕ) (entry : Entry) → IsCutPlace entries cp number inside entry → KeepsText entries (cut_entries entries number inside entry)
+cut_keeps : (entries : List Entry) (cp number inside : ℕ) (entry : Entry) → IsCutPlace entries cp number inside
+    entry → KeepsText entries (cut_entries entries number inside entry)
 cut_keeps entries cp number inside entry place =
     let some = place.some in
     let less = place.less in
     record {
       flat = cut_flat entries number inside entry place.there (omega arith);
       units = cut_units entries number inside entry place.there (omega arith);
-      pieces = λ sound. cut_all (λ (e : Entry). IsPiece e.piece) entries number inside entry place.there (front_piece entry inside some less) (back_piece entry inside some less) sound;
+      pieces = λ sound. cut_all (λ (e : Entry). IsPiece e.piece) entries number inside entry place.there (front_piece
+          entry inside some less) (back_piece entry inside some less) sound;
       sound = λ modifiers sound.
           let view = text_piece modifiers in
           All-map IsTextPiece view (cut_entries entries number inside entry)
-          (cut_all (λ (e : Entry). IsTextPiece (view e)) entries number inside entry place.there (front_sound modifiers entry inside some less) (back_sound modifiers entry inside some less) (All-seen view IsTextPiece entries sound));
-      named = λ count named. cut_all (λ (e : Entry). e.modifier < count) entries number inside entry place.there (λ low. low) (λ low. low) named;
+          (cut_all (λ (e : Entry). IsTextPiece (view e)) entries number inside entry place.there (front_sound
+          modifiers entry inside some less) (back_sound modifiers entry inside some less) (All-seen view
+          IsTextPiece entries sound));
+      named = λ count named. cut_all (λ (e : Entry). e.modifier < count) entries number inside entry place.there
+          (λ low. low) (λ low. low) named;
     }
 
 -- a seam before the cut stays
-cut_front : (entries : List Entry) (cp number inside : ℕ) (entry : Entry) → IsCutPlace entries cp number inside entry → (first begin : ℕ) → IsSeam entries begin first → begin ≤ cp → (first ≤ number) × IsSeam (cut_entries entries number inside entry) begin first
+cut_front : (entries : List Entry) (cp number inside : ℕ) (entry : Entry) → IsCutPlace entries cp number inside
+    entry → (first begin : ℕ) → IsSeam entries begin first → begin ≤ cp → (first ≤ number) × IsSeam (cut_entries
+    entries number inside entry) begin first
 cut_front entries cp number inside entry place first begin seam low =
     let within = slice_get_within entries number entry place.there in
     let before : first ≤ number = elim (cases_lt number first) [
@@ -157,15 +213,29 @@ cut_front entries cp number inside entry place first begin seam low =
           let ends = seam.units in
           let at_entry = get_or_from_slice_get entries number entry entry place.there in
           let len : units (get_or entries number entry) ≡ entry.piece.len = ap units at_entry in
-          absurd (omega (arith, len, sum_by_more units entries number entry within, units_rise entries (number + 1) first (omega arith)))
+          absurd (omega (
+            arith,
+            len,
+            sum_by_more units entries number entry within,
+            units_rise entries (number + 1)
+                first (omega arith),
+          ))
       | inr more ↦ more
     ] in
     let long = length-take-le number entries (omega arith) in
     let rest = front_entry entry inside ∷ (back_entry entry inside ∷ drop (number + 1) entries) in
-    let same : take first (cut_entries entries number inside entry) ≡ take first entries = take-append-le first (take number entries) rest (omega arith) ∙ take-take first number entries before in
-    (before, record { within = omega (arith, length-append (take number entries) rest); units = ap entry_units same ∙ seam.units })
+    let same : take first (cut_entries entries number inside entry) ≡ take first entries = take-append-le first
+    (take number entries) rest (omega arith) ∙ take-take first number entries before in (
+      before,
+      record {
+        within = omega (arith, length-append (take number entries) rest);
+        units = ap entry_units same ∙
+            seam.units;
+      },
+    )
 
-pub cut_inside : (entries : List Entry) (cp number inside : ℕ) (entry : Entry) → IsCutPlace entries cp number inside entry → IsCut entries (cut_entries entries number inside entry) cp (number + 1)
+pub cut_inside : (entries : List Entry) (cp number inside : ℕ) (entry : Entry) → IsCutPlace entries cp number inside
+    entry → IsCut entries (cut_entries entries number inside entry) cp (number + 1)
 cut_inside entries cp number inside entry place =
     let within = slice_get_within entries number entry place.there in
     let front = take number entries in
@@ -175,11 +245,21 @@ cut_inside entries cp number inside entry place =
     let all = length-append front (a ∷ rest) in
     let left = length-drop (number + 1) entries in
     let first : take (number + 1) (front ++ (a ∷ rest)) ≡ front ++ a ∷ [] =
-    ap (take (number + 1)) (sym (append_assoc front (a ∷ []) rest)) ∙ take_at (front ++ a ∷ []) rest (number + 1) (omega (arith, length-append front (a ∷ []))) in
+    ap (take (number + 1)) (sym (append_assoc front (a ∷ []) rest)) ∙ take_at (front ++ a ∷ []) rest (number + 1)
+    (omega (arith, length-append front (a ∷ []))) in
     let here = place.here in
     record {
       keeps = cut_keeps entries cp number inside entry place;
-      seam = record { within = omega arith; units = omega (arith, ap entry_units first, sum_by-append units front (a ∷ []), sum_by-cons units a []) };
+      seam = record {
+        within = omega arith;
+        units = omega (
+          arith,
+          ap entry_units first,
+          sum_by-append units front
+              (a ∷ []),
+          sum_by-cons units a [],
+        );
+      };
       count = omega arith;
       front = λ seam_number begin seam low.
           let kept = cut_front entries cp number inside entry place seam_number begin seam low in
@@ -196,9 +276,17 @@ cut_inside entries cp number inside entry place =
 -- ---- no cut, where an entry begins there
 
 pub keeps_itself : (entries : List Entry) → KeepsText entries entries
-keeps_itself entries = record { flat = λ modifiers. refl; units = refl; pieces = λ sound. sound; sound = λ modifiers sound. sound; named = λ count named. named }
+keeps_itself entries = record {
+  flat = λ modifiers. refl;
+  units = refl;
+  pieces = λ sound. sound;
+  sound = λ modifiers
+      sound. sound;
+  named = λ count named. named;
+}
 
-pub cut_nowhere : (entries : List Entry) (cp number : ℕ) → All (λ entry. IsPiece entry.piece) entries → IsSeam entries cp number → IsCut entries entries cp number
+pub cut_nowhere : (entries : List Entry) (cp number : ℕ) → All (λ entry. IsPiece entry.piece) entries →
+    IsSeam entries cp number → IsCut entries entries cp number
 cut_nowhere entries cp number sound seam = record {
   keeps = keeps_itself entries;
   seam = seam;
@@ -218,7 +306,8 @@ keeps_on a b c x y = record {
   named = λ count named. y.named count (x.named count named);
 }
 
-pub cut_twice : (a b c : List Entry) (from to first last : ℕ) → from ≤ to → IsCut a b from first → IsCut b c to last → IsCutTwice a c from to first last
+pub cut_twice : (a b c : List Entry) (from to first last : ℕ) → from ≤ to → IsCut a b from first → IsCut b c to last →
+    IsCutTwice a c from to first last
 cut_twice a b c from to first last low x y =
     let kept = y.front first from x.seam low in
     let order = kept.0 in
@@ -245,22 +334,26 @@ cut_twice a b c from to first last low x y =
 -- ---- spots
 
 -- a spot inside an entry is the place of a cut
-pub spot_place : (entries : List Entry) (cp : ℕ) (spot : Spot) (entry : Entry) → IsEntrySpot entries cp spot → 0 < spot.within → entry ≡ get_or entries spot.piece entry → IsCutPlace entries cp spot.piece spot.within entry
+pub spot_place : (entries : List Entry) (cp : ℕ) (spot : Spot) (entry : Entry) → IsEntrySpot entries cp spot →
+    0 < spot.within → entry ≡ get_or entries spot.piece entry → IsCutPlace entries cp spot.piece spot.within entry
 spot_place entries cp spot entry is some here =
     let low = is.low in
     let within : spot.piece < length entries = elim (cases_lt spot.piece (length entries)) [
       | inl less ↦ less
       | inr more ↦ let e : spot.piece ≡ length entries = omega arith in absurd (omega (arith, is.behind e))
     ] in
-    let there : slice_get entries spot.piece ≡ Some entry = slice_get-get_or entries spot.piece entry within ∙ ap (λ e. Some e) (sym here) in
+    let there : slice_get entries spot.piece ≡ Some entry = slice_get-get_or entries spot.piece entry within ∙ ap
+    (λ e. Some e) (sym here) in
     record { there = there; here = is.here; some = some; less = is.inside entry there }
 
 -- a spot at the begin of an entry is a seam
-pub spot_seam : (entries : List Entry) (cp : ℕ) (spot : Spot) → IsEntrySpot entries cp spot → spot.within ≡ 0 → IsSeam entries cp spot.piece
+pub spot_seam : (entries : List Entry) (cp : ℕ) (spot : Spot) → IsEntrySpot entries cp spot → spot.within ≡ 0 →
+    IsSeam entries cp spot.piece
 spot_seam entries cp spot is none = record { within = is.low; units = let here = is.here in omega arith }
 
 -- the spot of a CP of the text, as it is seen
-pub spot_seen : (modifiers : List Modifier) (entries : List Entry) (cp : ℕ) (spot : Spot) → IsEntrySpot entries cp spot → cp < entry_units entries → IsSpot (map (text_piece modifiers) entries) cp spot
+pub spot_seen : (modifiers : List Modifier) (entries : List Entry) (cp : ℕ) (spot : Spot) → IsEntrySpot entries cp
+    spot → cp < entry_units entries → IsSpot (map (text_piece modifiers) entries) cp spot
 spot_seen modifiers entries cp spot is less =
     let d : Entry = record { piece = record { at = 0; wide = true; len = 0 }; modifier = 0 } in
     let low = is.low in
@@ -277,17 +370,26 @@ spot_seen modifiers entries cp spot is less =
     record {
       piece = view (get_or entries spot.piece d);
       there = get-map view entries spot.piece (get_or entries spot.piece d) there;
-      here = omega (arith, ap total_length (take-map view spot.piece entries), total_length-seen modifiers (take spot.piece entries));
+      here = omega (
+        arith,
+        ap total_length (take-map view spot.piece entries),
+        total_length-seen modifiers
+            (take spot.piece entries),
+      );
       inside = is.inside (get_or entries spot.piece d) there;
     }
 
 -- an entry that is written over, with another before it
-pub inserted : (entries : List Entry) (number : ℕ) (front back : Entry) → number < length entries → take number (slice_set entries number back) ++ (front ∷ drop number (slice_set entries number back)) ≡ take number entries ++ (front ∷ (back ∷ drop (number + 1) entries))
+pub inserted : (entries : List Entry) (number : ℕ) (front back : Entry) → number < length entries →
+    take number (slice_set entries number back) ++ (front ∷ drop number (slice_set entries number back)) ≡ take number
+    entries ++ (front ∷ (back ∷ drop (number + 1) entries))
 inserted entries number front back low = rw (take-set entries number back, drop-set entries number back low) refl
 
 -- entries that are seen as pieces are pieces
-pub entries_sound : (modifiers : List Modifier) (entries : List Entry) → ArePieces (map (text_piece modifiers) entries) → All (λ entry. IsPiece entry.piece) entries
+pub entries_sound : (modifiers : List Modifier) (entries : List Entry) → ArePieces (map (text_piece modifiers)
+    entries) → All (λ entry. IsPiece entry.piece) entries
 entries_sound modifiers entries are =
     let view = text_piece modifiers in
     let seen = All-seen view IsTextPiece entries are.each in
-    All-weaker (λ (e : Entry). IsTextPiece (view e)) (λ (e : Entry). IsPiece e.piece) (λ e sound. sound.units) entries seen
+    All-weaker (λ (e : Entry). IsTextPiece (view e)) (λ (e : Entry). IsPiece e.piece) (λ e sound. sound.units) entries
+    seen

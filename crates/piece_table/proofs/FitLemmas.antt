@@ -1,5 +1,7 @@
 -- The modifiers of the pieces of a Clx that breaks no rule fit the pages.
-use Rattle.std.proofs.Common.{◌^◌, ◌≡◌, ℕ, ◌<◌, ◌≤◌, ◌==◌, Bool, true, false, cond, ◌&&◌, ◌||◌, not, List, [], ◌∷◌, length, map, flat_map, All, Some, None, refl, inl, inr, sym, ap, subst, ◌∙◌, arith, length-append}
+use Rattle.std.proofs.Common.{◌^◌, ◌≡◌, ℕ, ◌<◌, ◌≤◌, ◌==◌, Bool, true, false, cond, ◌&&◌, ◌||◌, not, List, [], ◌∷◌}
+use Rattle.std.proofs.Common.{length, map, flat_map, All, Some, None, refl, inl, inr, sym, ap, subst, ◌∙◌, arith}
+use Rattle.std.proofs.Common.{length-append}
 use Rattle.std.proofs.lemmas.Bool.{cases_lt, eqb-true}
 use Rattle.std.proofs.lemmas.Option.{slice_get_within}
 use Rattle.std.specs.List.{last_or}
@@ -37,29 +39,39 @@ use Rattle.piece_table.proofs.SprmModifierLemmas.{none_does}
 
 -- ---- one sprm
 
-concerns_same : (held same setting clear other : Bool) → setting ≡ true → clear ≡ false → ((held && (same && setting)) || (held && (clear && other))) ≡ true → same ≡ true
+concerns_same : (held same setting clear other : Bool) → setting ≡ true → clear ≡ false → ((held && (same && setting))
+    || (held && (clear && other))) ≡ true → same ≡ true
 concerns_same true true setting clear other s k e = refl
 concerns_same true false setting clear other s k e = cc
 concerns_same false same setting clear other s k e = cc
 
 -- what one sprm leaves where nothing was is its own value, at its own code
-value_one : (groups code key : ℕ) (value found : List ℕ) → value_after ((code, value) ∷ []) groups key None ≡ Some found → (key ≡ code) × (found ≡ value)
+value_one : (groups code key : ℕ) (value found : List ℕ) → value_after ((code, value) ∷ []) groups key None ≡ Some
+    found → (key ≡ code) × (found ≡ value)
 value_one groups code key value found e =
-    elim (concerns_code groups key (code, value)) as (λ b. concerns_code groups key (code, value) ≡ b → (key ≡ code) × (found ≡ value)) [
-      | false ↦ λ none. let nothing : None ≡ Some found = ap (λ b. left_by (last_or None (cond b ((code, value) ∷ []) [])) None) (sym none) ∙ e in absurd (cc (nothing))
+    elim (concerns_code groups key (code, value)) as (λ b. concerns_code groups key (code, value) ≡ b →
+    (key ≡ code) × (found ≡ value)) [
+      | false ↦ λ none. let nothing : None ≡ Some found = ap (λ b. left_by (last_or None (cond b ((code, value) ∷ [])
+          [])) None) (sym none) ∙ e in absurd (cc (nothing))
       | true ↦ λ concerns.
-          let left : left_by (Some (code, value)) None ≡ Some found = ap (λ b. left_by (last_or None (cond b ((code, value) ∷ []) [])) None) (sym concerns) ∙ e in
+          let left : left_by (Some (code, value)) None ≡ Some found = ap (λ b. left_by (last_or None
+          (cond b ((code, value) ∷ []) [])) None) (sym concerns) ∙ e in
           elim (is_setting (class_of code)) as (λ b. is_setting (class_of code) ≡ b → (key ≡ code) × (found ≡ value)) [
-            | false ↦ λ sets. let nothing : None ≡ Some found = ap (λ b. cond b (Some value) None) (sym sets) ∙ left in absurd (cc (nothing))
+            | false ↦ λ sets. let nothing : None ≡ Some found = ap (λ b. cond b (Some value) None) (sym sets) ∙ left
+                in absurd (cc (nothing))
             | true ↦ λ sets.
                 let there : Some value ≡ Some found = ap (λ b. cond b (Some value) None) (sym sets) ∙ left in
-                let same = concerns_same (is_held groups code) (key == code) (is_setting (class_of code)) (is_clear (class_of code)) (not (is_kept key)) sets (sets_not_clears (class_of code) sets) concerns in
+                let same = concerns_same (is_held groups code) (key == code) (is_setting (class_of code))
+                (is_clear (class_of code)) (not (is_kept key)) sets (sets_not_clears (class_of code) sets)
+                concerns in
                 (eqb-true key code same, cc (there))
           ] refl
     ] refl
 
 -- a map that has one code at most has one entry at most
-one_entry : (m : Settings) (code : ℕ) (value : List ℕ) (es : List Prl) → entries m ≡ es → ((key : ℕ) (found : List ℕ) → get m key ≡ Some found → (key ≡ code) × (found ≡ value)) → length (flat_map spelling es) ≤ length (spelling (code, value))
+one_entry : (m : Settings) (code : ℕ) (value : List ℕ) (es : List Prl) → entries m ≡ es →
+    ((key : ℕ) (found : List ℕ) → get m key ≡ Some found → (key ≡ code) × (found ≡ value)) →
+    length (flat_map spelling es) ≤ length (spelling (code, value))
 one_entry m code value [] is one = omega arith
 one_entry m code value (e ∷ []) is one =
     let first = get-entry m 0 e (rw is (omega arith)) in
@@ -77,20 +89,37 @@ one_entry m code value (e ∷ f ∷ es) is one =
 operand_short : (size : OperandSize) (operand : ℕ) → length (operand_bytes size (operand ∷ [])) ≤ 3
 operand_short (Fixed n) operand = omega arith
 operand_short CountedByByte operand = omega arith
-operand_short CountedByWord operand = omega (arith, length-append (number_bytes 2 2) (operand ∷ []), length-number_bytes 2 2)
+operand_short CountedByWord operand = omega (
+  arith,
+  length-append (number_bytes 2 2) (operand ∷ []),
+  length-number_bytes 2 2,
+)
 
 sprm_short : (code operand : ℕ) → length (spelling (code, operand ∷ [])) ≤ 5
 sprm_short code operand =
-    omega (arith, length-append (number_bytes 2 code) (operand_bytes (size_of code) (operand ∷ [])), length-number_bytes 2 code, operand_short (size_of code) operand)
+    omega (
+      arith,
+      length-append (number_bytes 2 code) (operand_bytes (size_of code) (operand ∷ [])),
+      length-number_bytes 2 code,
+      operand_short (size_of code) operand,
+    )
 
-map_short : (groups code operand : ℕ) (m old : Settings) → ((key : ℕ) → get old key ≡ None) → ArePropertiesAfter ((code, operand ∷ []) ∷ []) groups old m → length (printed_list m) ≤ 5
+map_short : (groups code operand : ℕ) (m old : Settings) → ((key : ℕ) → get old key ≡ None) → ArePropertiesAfter
+    ((code, operand ∷ []) ∷ []) groups old m → length (printed_list m) ≤ 5
 map_short groups code operand m old none after =
-    let short = one_entry m code (operand ∷ []) (entries m) refl (λ key found there. value_one groups code key (operand ∷ []) found (ap (value_after ((code, operand ∷ []) ∷ []) groups key) (sym (none key)) ∙ (sym (after key) ∙ there))) in
+    let short = one_entry m code (operand ∷ []) (entries m) refl (λ key found there. value_one groups code key
+    (operand ∷ []) found (ap (value_after ((code, operand ∷ []) ∷ []) groups key) (sym (none key)) ∙
+    (sym (after key) ∙ there))) in
     omega (arith, sprm_short code operand)
 
-sprm_fits : (code operand : ℕ) (modifier : Modifier) → IsModifierOf ((code, operand ∷ []) ∷ []) modifier → FitsPages modifier
+sprm_fits : (code operand : ℕ) (modifier : Modifier) → IsModifierOf ((code, operand ∷ []) ∷ []) modifier →
+    FitsPages modifier
 sprm_fits code operand modifier does = record {
-  chp = omega (arith, map_short character_groups code operand modifier.chp _ (λ key. get-empty nat_cmp key) does.characters);
+  chp = omega (
+    arith,
+    map_short character_groups code operand modifier.chp _ (λ key. get-empty nat_cmp key)
+        does.characters,
+  );
   pap = omega (arith, map_short paragraph_groups code operand modifier.pap _ (λ key. get-empty nat_cmp key) does.marks);
 }
 
@@ -109,24 +138,54 @@ fits_of modifier never = elim (cases_lt 255 (length (printed_list modifier.chp))
   ]
 ]
 
-prm_fits : (parts : ClxParts) (at k : ℕ) (prm : Prm) (modifier : Modifier) → Nowhere (Among (length parts.prcs) (IsLongPrc parts at)) → k < parts.plc.count → pcd_prm parts.plc k ≡ prm → IsPrmModifier parts.prcs prm modifier → FitsPages modifier
+prm_fits : (parts : ClxParts) (at k : ℕ) (prm : Prm) (modifier : Modifier) → Nowhere (Among (length parts.prcs)
+    (IsLongPrc parts at)) → k < parts.plc.count → pcd_prm parts.plc k ≡ prm → IsPrmModifier parts.prcs prm modifier →
+    FitsPages modifier
 prm_fits parts at k Nothing modifier none low is does =
-    subst FitsPages (modifier_one [] no_modifier modifier none_does (subst (λ s. IsModifierOf s modifier) does.named does.does)) none_fits
+    subst FitsPages (modifier_one [] no_modifier modifier none_does (subst (λ s. IsModifierOf s modifier) does.named
+    does.does)) none_fits
 prm_fits parts at k (Sprm isprm operand) modifier none low is does =
     sprm_fits does.named.0 operand modifier (subst (λ s. IsModifierOf s modifier) does.named.1.1 does.does)
 prm_fits parts at k (Prc number) modifier none low is does =
     let there = slice_get_within parts.prcs number does.named.0 does.named.1.0 in
-    fits_of modifier (λ long. none _ (record { entry = number; below = there; broken = record { named = record { piece = k; below = low; names = is }; modifier = modifier; does = does; long = long; here = refl } }))
+    fits_of modifier (λ long. none _ (record {
+      entry = number;
+      below = there;
+      broken = record {
+        named = record { piece = k; below = low; names = is };
+        modifier = modifier;
+        does = does;
+        long = long;
+        here = refl;
+      };
+    }))
 
-pub pieces_fit : (parts : ClxParts) (at : ℕ) (pieces : List TextPiece) → Nowhere (Among (length parts.prcs) (IsLongPrc parts at)) → map bare_piece pieces ≡ clx_pieces parts.plc → HaveModifiers parts pieces → All (λ piece. FitsPages piece.modifier) pieces
-pieces_fit parts at pieces none are does = All-from_slice_get (λ piece. FitsPages piece.modifier) pieces (λ k piece there.
+pub pieces_fit : (parts : ClxParts) (at : ℕ) (pieces : List TextPiece) → Nowhere (Among (length parts.prcs)
+    (IsLongPrc parts at)) → map bare_piece pieces ≡ clx_pieces parts.plc → HaveModifiers parts pieces →
+    All (λ piece. FitsPages piece.modifier) pieces
+pieces_fit parts at pieces none are does = All-from_slice_get (λ piece. FitsPages piece.modifier) pieces
+    (λ k piece there.
     let low = slice_get_within pieces k piece there in
-    prm_fits parts at k (pcd_prm parts.plc k) piece.modifier none (omega (arith, length-clx_pieces parts.plc pieces are)) refl (does k piece there))
+    prm_fits parts at k (pcd_prm parts.plc k) piece.modifier none (omega (
+      arith,
+      length-clx_pieces parts.plc pieces
+          are,
+    )) refl (does k piece there))
 
 -- one piece alone can be printed
 pub one_printable : (at len : ℕ) → at < 2 ^ 29 → IsPrintable (one_piece at len)
 one_printable at len low = record {
   few = omega arith;
-  places = All-cons (λ (piece : TextPiece). piece.at < 2 ^ 29) (record { at = at; wide = true; len = len; modifier = no_modifier }) [] low (All-nil (λ (piece : TextPiece). piece.at < 2 ^ 29));
-  fit = All-cons (λ (piece : TextPiece). FitsPages piece.modifier) (record { at = at; wide = true; len = len; modifier = no_modifier }) [] none_fits (All-nil (λ (piece : TextPiece). FitsPages piece.modifier));
+  places = All-cons (λ (piece : TextPiece). piece.at < 2 ^ 29) (record {
+    at = at;
+    wide = true;
+    len = len;
+    modifier = no_modifier;
+  }) [] low (All-nil (λ (piece : TextPiece). piece.at < 2 ^ 29));
+  fit = All-cons (λ (piece : TextPiece). FitsPages piece.modifier) (record {
+    at = at;
+    wide = true;
+    len = len;
+    modifier = no_modifier;
+  }) [] none_fits (All-nil (λ (piece : TextPiece). FitsPages piece.modifier));
 }

@@ -1,5 +1,6 @@
 -- Entries as they are seen, one a CP: joined, cut, and modified.
-use Rattle.std.proofs.Common.{◌≡◌, ℕ, ◌+◌, ◌-◌, ◌*◌, ◌<◌, ◌≤◌, List, [], ◌∷◌, ◌++◌, length, map, take, drop, All, slice_index_or, Bool, true, false, refl, inl, inr, sym, ap, ◌∙◌, arith, length-append}
+use Rattle.std.proofs.Common.{◌≡◌, ℕ, ◌+◌, ◌-◌, ◌*◌, ◌<◌, ◌≤◌, List, [], ◌∷◌, ◌++◌, length, map, take, drop, All}
+use Rattle.std.proofs.Common.{slice_index_or, Bool, true, false, refl, inl, inr, sym, ap, ◌∙◌, arith, length-append}
 use Rattle.std.proofs.Math.ListN.{get_or-append}
 use Rattle.std.proofs.lemmas.Bool.{cases_lt}
 use Rattle.std.proofs.lemmas.Grind.{flat_map-append}
@@ -19,7 +20,8 @@ pub flat_pieces-append : (xs ys : List TextPiece) → flat_pieces (xs ++ ys) ≡
 unfolding flat_pieces
 flat_pieces-append xs ys = flat_map-append unit_places xs ys
 
-pub flat_pieces-cons : (piece : TextPiece) (pieces : List TextPiece) → flat_pieces (piece ∷ pieces) ≡ unit_places piece ++ flat_pieces pieces
+pub flat_pieces-cons : (piece : TextPiece) (pieces : List TextPiece) → flat_pieces (piece ∷ pieces) ≡ unit_places
+    piece ++ flat_pieces pieces
 unfolding flat_pieces
 flat_pieces-cons piece pieces = refl
 
@@ -27,10 +29,13 @@ pub flat_pieces-nil : flat_pieces [] ≡ []
 unfolding flat_pieces
 flat_pieces-nil = refl
 
-pub flat_entries-append : (modifiers : List Modifier) (xs ys : List Entry) → flat_entries modifiers (xs ++ ys) ≡ flat_entries modifiers xs ++ flat_entries modifiers ys
-flat_entries-append modifiers xs ys = ap flat_pieces (map-append (text_piece modifiers) xs ys) ∙ flat_pieces-append (map (text_piece modifiers) xs) (map (text_piece modifiers) ys)
+pub flat_entries-append : (modifiers : List Modifier) (xs ys : List Entry) → flat_entries modifiers (xs ++ ys) ≡
+    flat_entries modifiers xs ++ flat_entries modifiers ys
+flat_entries-append modifiers xs ys = ap flat_pieces (map-append (text_piece modifiers) xs ys) ∙ flat_pieces-append
+    (map (text_piece modifiers) xs) (map (text_piece modifiers) ys)
 
-pub total_length-seen : (modifiers : List Modifier) (entries : List Entry) → total_length (map (text_piece modifiers) entries) ≡ entry_units entries
+pub total_length-seen : (modifiers : List Modifier) (entries : List Entry) → total_length (map (text_piece modifiers)
+    entries) ≡ entry_units entries
 total_length-seen modifiers [] = refl
 total_length-seen modifiers (entry ∷ entries) =
     omega (
@@ -40,29 +45,42 @@ total_length-seen modifiers (entry ∷ entries) =
       sum_by-cons (λ (e : Entry). e.piece.len) entry entries,
     )
 
-pub length-flat_entries : (modifiers : List Modifier) (entries : List Entry) → length (flat_entries modifiers entries) ≡ entry_units entries
-length-flat_entries modifiers entries = length-flat_pieces (map (text_piece modifiers) entries) ∙ total_length-seen modifiers entries
+pub length-flat_entries : (modifiers : List Modifier) (entries : List Entry) → length (flat_entries modifiers entries)
+    ≡ entry_units entries
+length-flat_entries modifiers entries = length-flat_pieces (map (text_piece modifiers) entries) ∙ total_length-seen
+    modifiers entries
 
 -- the entries before a seam, and those behind it
-pub take-flat_entries : (modifiers : List Modifier) (entries : List Entry) (cp number : ℕ) → IsSeam entries cp number → take cp (flat_entries modifiers entries) ≡ flat_entries modifiers (take number entries)
+pub take-flat_entries : (modifiers : List Modifier) (entries : List Entry) (cp number : ℕ) → IsSeam entries cp
+    number → take cp (flat_entries modifiers entries) ≡ flat_entries modifiers (take number entries)
 take-flat_entries modifiers entries cp number seam =
-    let joined : flat_entries modifiers entries ≡ flat_entries modifiers (take number entries) ++ flat_entries modifiers (drop number entries) =
-    ap (flat_entries modifiers) (sym (take-append-drop number entries)) ∙ flat_entries-append modifiers (take number entries) (drop number entries) in
-    ap (take cp) joined ∙ take_at (flat_entries modifiers (take number entries)) (flat_entries modifiers (drop number entries)) cp (length-flat_entries modifiers (take number entries) ∙ seam.units)
+    let joined : flat_entries modifiers entries ≡ flat_entries modifiers (take number entries) ++ flat_entries
+    modifiers (drop number entries) =
+    ap (flat_entries modifiers) (sym (take-append-drop number entries)) ∙ flat_entries-append modifiers (take number
+    entries) (drop number entries) in
+    ap (take cp) joined ∙ take_at (flat_entries modifiers (take number entries)) (flat_entries modifiers (drop number
+    entries)) cp (length-flat_entries modifiers (take number entries) ∙ seam.units)
 
-pub drop-flat_entries : (modifiers : List Modifier) (entries : List Entry) (cp number : ℕ) → IsSeam entries cp number → drop cp (flat_entries modifiers entries) ≡ flat_entries modifiers (drop number entries)
+pub drop-flat_entries : (modifiers : List Modifier) (entries : List Entry) (cp number : ℕ) → IsSeam entries cp
+    number → drop cp (flat_entries modifiers entries) ≡ flat_entries modifiers (drop number entries)
 drop-flat_entries modifiers entries cp number seam =
-    let joined : flat_entries modifiers entries ≡ flat_entries modifiers (take number entries) ++ flat_entries modifiers (drop number entries) =
-    ap (flat_entries modifiers) (sym (take-append-drop number entries)) ∙ flat_entries-append modifiers (take number entries) (drop number entries) in
-    ap (drop cp) joined ∙ drop_at (flat_entries modifiers (take number entries)) (flat_entries modifiers (drop number entries)) cp (length-flat_entries modifiers (take number entries) ∙ seam.units)
+    let joined : flat_entries modifiers entries ≡ flat_entries modifiers (take number entries) ++ flat_entries
+    modifiers (drop number entries) =
+    ap (flat_entries modifiers) (sym (take-append-drop number entries)) ∙ flat_entries-append modifiers (take number
+    entries) (drop number entries) in
+    ap (drop cp) joined ∙ drop_at (flat_entries modifiers (take number entries)) (flat_entries modifiers (drop number
+    entries)) cp (length-flat_entries modifiers (take number entries) ∙ seam.units)
 
 -- a unit behind some others of its piece
-unit_moved : (at units k : ℕ) (wide : Bool) → units ≤ k → at + k * unit_bytes wide ≡ (at + units * unit_bytes wide) + (k - units) * unit_bytes wide
+unit_moved : (at units k : ℕ) (wide : Bool) → units ≤ k → at + k * unit_bytes wide ≡ (at + units * unit_bytes wide) +
+    (k - units) * unit_bytes wide
 unit_moved at units k true low = omega arith
 unit_moved at units k false low = omega arith
 
 -- an entry that is cut covers the same units
-pub unit_places-cut : (modifiers : List Modifier) (entry : Entry) (units : ℕ) → units ≤ entry.piece.len → unit_places (text_piece modifiers (front_entry entry units)) ++ unit_places (text_piece modifiers (back_entry entry units)) ≡ unit_places (text_piece modifiers entry)
+pub unit_places-cut : (modifiers : List Modifier) (entry : Entry) (units : ℕ) → units ≤ entry.piece.len →
+    unit_places (text_piece modifiers (front_entry entry units)) ++ unit_places (text_piece modifiers
+    (back_entry entry units)) ≡ unit_places (text_piece modifiers entry)
 unit_places-cut modifiers entry units low =
     let whole = text_piece modifiers entry in
     let front = text_piece modifiers (front_entry entry units) in
@@ -72,21 +90,34 @@ unit_places-cut modifiers entry units low =
     let len_back = length-unit_places back in
     let len_whole = length-unit_places whole in
     let len = length-append (unit_places front) (unit_places back) in
-    ext_get_or d (unit_places front ++ unit_places back) (unit_places whole) (omega arith) (λ k within. elim (cases_lt k units) [
-      | inl less ↦ get_or-append (unit_places front) (unit_places back) d k (omega arith) ∙ (get_or-unit_places front k d less ∙ sym (get_or-unit_places whole k d (omega arith)))
+    ext_get_or d (unit_places front ++ unit_places back) (unit_places whole) (omega arith) (λ k within. elim (cases_lt
+    k units) [
+      | inl less ↦ get_or-append (unit_places front) (unit_places back) d k (omega arith) ∙ (get_or-unit_places front
+          k d less ∙ sym (get_or-unit_places whole k d (omega arith)))
       | inr more ↦
           get_or-append_right (unit_places front) (unit_places back) units k d len_front more
           ∙ (get_or-unit_places back (k - units) d (omega arith)
-          ∙ (ap (λ at. record { at = at; wide = entry.piece.wide; modifier = whole.modifier }) (sym (unit_moved entry.piece.at units k entry.piece.wide more))
+          ∙ (ap (λ at. record { at = at; wide = entry.piece.wide; modifier = whole.modifier })
+          (sym (unit_moved entry.piece.at units k entry.piece.wide more))
           ∙ sym (get_or-unit_places whole k d (omega arith))))
     ])
 
 -- the entries stay as they are seen where modifiers follow
-pub seen-extended : (old new : List Modifier) (entries : List Entry) → Extends old new → All (λ entry. entry.modifier < length old) entries → map (text_piece new) entries ≡ map (text_piece old) entries
+pub seen-extended : (old new : List Modifier) (entries : List Entry) → Extends old new → All (λ entry. entry.modifier
+    < length old) entries → map (text_piece new) entries ≡ map (text_piece old) entries
 seen-extended old new [] more named = refl
 seen-extended old new (entry ∷ entries) more named =
     let low = All-head (λ (e : Entry). e.modifier < length old) entry entries named in
     let same : slice_index_or new entry.modifier no_modifier ≡ slice_index_or old entry.modifier no_modifier =
     ap (λ l. slice_index_or l entry.modifier no_modifier) more.joined ∙ in_front old more.more entry.modifier low in
-    let head : text_piece new entry ≡ text_piece old entry = ap (λ m. record { at = entry.piece.at; wide = entry.piece.wide; len = entry.piece.len; modifier = m }) same in
-    cc (head, seen-extended old new entries more (All-tail (λ (e : Entry). e.modifier < length old) entry entries named))
+    let head : text_piece new entry ≡ text_piece old entry = ap (λ m. record {
+      at = entry.piece.at;
+      wide = entry.piece.wide;
+      len = entry.piece.len;
+      modifier = m;
+    }) same in
+    cc (
+      head,
+      seen-extended old new entries more (All-tail (λ (e : Entry). e.modifier < length old) entry entries
+          named),
+    )

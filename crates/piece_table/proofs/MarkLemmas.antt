@@ -1,5 +1,6 @@
 -- The marks of the Prcs that pieces name.
-use Rattle.std.proofs.Common.{◌≡◌, ℕ, ◌+◌, ◌<◌, ◌⊎◌, Bool, false, IsTrue, ◌↔◌, List, length, slice_index_or, refl, inl, inr, sym, ap, subst, ◌∙◌, arith}
+use Rattle.std.proofs.Common.{◌≡◌, ℕ, ◌+◌, ◌<◌, ◌⊎◌, Bool, false, IsTrue, ◌↔◌, List, length, slice_index_or, refl}
+use Rattle.std.proofs.Common.{inl, inr, sym, ap, subst, ◌∙◌, arith}
 use Rattle.std.proofs.lemmas.Bool.{cases_lt}
 use Rattle.doc_bits.specs.Plc.{PlcPart}
 use Rattle.piece_table.specs.declared.pcd.Prm.{Prm}
@@ -19,19 +20,30 @@ pub record AreMarked (plc : PlcPart) (prcs n : ℕ) (marks : List Bool) : Type 0
   pub count : length marks ≡ prcs
   pub marked : (number : ℕ) → IsTrue (slice_index_or marks number false) ↔ IsNamedBefore plc n number
 
-pub marked_none : (plc : PlcPart) (marks : List Bool) → ((number : ℕ) → slice_index_or marks number false ≡ false) → AreMarked plc (length marks) 0 marks
+pub marked_none : (plc : PlcPart) (marks : List Bool) → ((number : ℕ) → slice_index_or marks number false ≡ false) →
+    AreMarked plc (length marks) 0 marks
 marked_none plc marks none = record {
   count = refl;
-  marked = λ number. (λ is. let no = none number in absurd (cc (is, no)), λ named. let below = named.below in absurd (omega arith));
+  marked = λ number. (
+    λ is. let no = none number in absurd (cc (is, no)),
+    λ named. let below = named.below in
+        absurd (omega arith),
+  );
 }
 
 -- the Prc of one piece more
-pub marked_more : (plc : PlcPart) (prcs k : ℕ) (marks new : List Bool) (prm : Prm) → AreMarked plc prcs k marks → prm ≡ pcd_prm plc k → length new ≡ length marks → ((number : ℕ) → IsTrue (slice_index_or new number false) ↔ (IsTrue (slice_index_or marks number false) ⊎ (prm ≡ Prc number))) → AreMarked plc prcs (k + 1) new
+pub marked_more : (plc : PlcPart) (prcs k : ℕ) (marks new : List Bool) (prm : Prm) → AreMarked plc prcs k marks →
+    prm ≡ pcd_prm plc k → length new ≡ length marks → ((number : ℕ) → IsTrue (slice_index_or new number false) ↔
+    (IsTrue (slice_index_or marks number false) ⊎ (prm ≡ Prc number))) → AreMarked plc prcs (k + 1) new
 marked_more plc prcs k marks new prm before is len more = record {
   count = len ∙ before.count;
   marked = λ number. (
     λ marked. elim ((more number).0 marked) [
-      | inl old ↦ let named = (before.marked number).0 old in let below = named.below in record { piece = named.piece; below = omega arith; names = named.names }
+      | inl old ↦ let named = (before.marked number).0 old in let below = named.below in record {
+        piece = named.piece;
+        below = omega arith;
+        names = named.names;
+      }
       | inr here ↦ record { piece = k; below = omega arith; names = sym is ∙ here }
     ],
     λ named. (more number).1 (elim (cases_lt named.piece k) [
@@ -45,21 +57,33 @@ marked_more plc prcs k marks new prm before is len more = record {
 }
 
 -- all pieces
-pub marks_named : (parts : ClxParts) (k : ℕ) (marks : List Bool) → k ≡ parts.plc.count → AreMarked parts.plc (length parts.prcs) k marks → MarksNamed parts marks
+pub marks_named : (parts : ClxParts) (k : ℕ) (marks : List Bool) → k ≡ parts.plc.count → AreMarked parts.plc
+    (length parts.prcs) k marks → MarksNamed parts marks
 marks_named parts k marks all marked = record {
   count = marked.count;
   marked = λ number. (
-    λ is. let named = (marked.marked number).0 is in let below = named.below in record { piece = named.piece; below = omega arith; names = named.names },
-    λ named. let below = named.below in (marked.marked number).1 (record { piece = named.piece; below = omega arith; names = named.names }),
+    λ is. let named = (marked.marked number).0 is in let below = named.below in record {
+      piece = named.piece;
+      below = omega arith;
+      names = named.names;
+    },
+    λ named. let below = named.below in (marked.marked number).1 (record {
+      piece = named.piece;
+      below = omega arith;
+      names = named.names;
+    }),
   );
 }
 
 -- no piece names a Prc where there is none
-pub none_named : (parts : ClxParts) (marks : List Bool) → length parts.prcs ≡ 0 → AreReadPrms parts.plc (length parts.prcs) → length marks ≡ length parts.prcs → ((number : ℕ) → slice_index_or marks number false ≡ false) → MarksNamed parts marks
+pub none_named : (parts : ClxParts) (marks : List Bool) → length parts.prcs ≡ 0 → AreReadPrms parts.plc
+    (length parts.prcs) → length marks ≡ length parts.prcs → ((number : ℕ) → slice_index_or marks number false ≡
+    false) → MarksNamed parts marks
 none_named parts marks empty read len none = record {
   count = len;
   marked = λ number. (
     λ is. let no = none number in absurd (cc (is, no)),
-    λ named. let low : number < length parts.prcs = subst (IsReadPrm (length parts.prcs)) named.names (read named.piece named.below) in absurd (omega arith),
+    λ named. let low : number < length parts.prcs = subst (IsReadPrm (length parts.prcs)) named.names
+        (read named.piece named.below) in absurd (omega arith),
   );
 }

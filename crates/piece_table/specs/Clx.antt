@@ -1,5 +1,6 @@
 -- [MS-DOC] Clx: any number of Prcs and then one Pcdt. Bytes after it are ignored.
-use Rattle.std.specs.Prelude.{◌≡◌, ℕ, ◌+◌, ◌-◌, ◌*◌, ◌/◌, ◌%◌, ◌^◌, ◌<◌, ◌≤◌, ◌==◌, true, false, List, ◌∷◌, ◌++◌, length, take, map, flat_map, All, Some, slice_get, if◌then◌else◌}
+use Rattle.std.specs.Prelude.{◌≡◌, ℕ, ◌+◌, ◌-◌, ◌*◌, ◌/◌, ◌%◌, ◌^◌, ◌<◌, ◌≤◌, ◌==◌, true, false, List, ◌∷◌, ◌++◌}
+use Rattle.std.specs.Prelude.{length, take, map, flat_map, All, Some, slice_get, if◌then◌else◌}
 use Rattle.std.specs.List.{range_with_len}
 use Rattle.doc_bits.specs.Number.{u16_at, u32_at, number_bytes}
 use Rattle.doc_bits.specs.Plc.{PlcPart, IsPlcOf, plc_cp}
@@ -79,12 +80,18 @@ plc_place parts = length (flat_map prc_bytes parts.prcs) + 5
 -- [MS-DOC] FcCompressed: fc in bits 0 to 29, fCompressed in bit 30. Bit 31 is ignored
 abbrev pub fc_compressed : ℕ → FcCompressed
 fc_compressed number =
-    if number / 2 ^ 30 % 2 == 1 then record { at = number % 2 ^ 30 / 2; wide = false } else record { at = number % 2 ^ 30; wide = true }
+    if number / 2 ^ 30 % 2 == 1 then record { at = number % 2 ^ 30 / 2; wide = false } else record {
+      at = number % 2 ^
+          30;
+      wide = true;
+    }
 
--- [MS-DOC] Prm: Prm1 where bit 0 is 1, the number of a Prc; else Prm0, an isprm and its operand. Profile: isprm 0 is no modifier
+-- [MS-DOC] Prm: Prm1 where bit 0 is 1, the number of a Prc; else Prm0, an isprm and its operand. Profile: isprm 0 is
+-- no modifier
 abbrev pub prm_of : ℕ → Prm
 prm_of number =
-    if number % 2 == 1 then Prc (number / 2) else (if number / 2 % 128 == 0 then Nothing else Sprm (number / 2 % 128) (number / 256))
+    if number % 2 == 1 then Prc (number / 2) else (if number / 2 % 128 == 0 then Nothing else Sprm (number / 2 % 128)
+    (number / 256))
 
 -- where the Pcd of a piece stands in its Plc
 abbrev pub pcd_place : PlcPart → ℕ → ℕ
@@ -102,7 +109,12 @@ pcd_prm plc k = prm_of (prm_word plc k)
 
 -- a piece of a Clx, without its modifier
 abbrev pub clx_piece : PlcPart → ℕ → Piece
-clx_piece plc k = record { at = (pcd_fc plc k).at; wide = (pcd_fc plc k).wide; len = plc_cp plc.bytes (k + 1) - plc_cp plc.bytes k }
+clx_piece plc k = record {
+  at = (pcd_fc plc k).at;
+  wide = (pcd_fc plc k).wide;
+  len = plc_cp plc.bytes (k + 1) - plc_cp
+      plc.bytes k;
+}
 
 -- the pieces of a Clx, without their modifiers
 unfoldable pub clx_pieces : PlcPart → List Piece
@@ -111,7 +123,8 @@ clx_pieces plc = map (clx_piece plc) (range_with_len 0 plc.count)
 -- each piece has the modifier of its Prm
 abbrev pub HaveModifiers : ClxParts → List TextPiece → Type 0
 HaveModifiers parts pieces =
-    (k : ℕ) (piece : TextPiece) → slice_get pieces k ≡ Some piece → IsPrmModifier parts.prcs (pcd_prm parts.plc k) piece.modifier
+    (k : ℕ) (piece : TextPiece) → slice_get pieces k ≡ Some piece → IsPrmModifier parts.prcs (pcd_prm parts.plc k)
+    piece.modifier
 
 -- the bytes begin with a Clx that has these pieces
 pub record IsClx (clx : List ℕ) (pieces : List TextPiece) : Type 0 where

@@ -1,4 +1,5 @@
--- The rules on the Clx, 27 to 32, in their order. A place is an offset in the table stream, where the Clx begins at `at`.
+-- The rules on the Clx, 27 to 32, in their order. A place is an offset in the table stream, where the Clx begins at
+-- `at`.
 -- The bounds are those of text in WordDocument: the end of the FIB and the end of the stream.
 use Rattle.std.specs.Prelude.{◌≡◌, ◌≢◌, ◌⊎◌, ℕ, ◌+◌, ◌*◌, ◌<◌, ◌≤◌, List, length, IsSome, Some, slice_get}
 use Rattle.doc_bits.specs.Plc.{PlcPart, plc_cp}
@@ -31,7 +32,8 @@ abbrev pub IsWrongEnd : PlcPart → ℕ → ℕ → ℕ → Type 0
 IsWrongEnd plc base text_len p = (p ≡ base + 4 * plc.count) × (plc_cp plc.bytes plc.count ≢ text_len)
 
 abbrev pub HasWrongCp : PlcPart → ℕ → ℕ → ℕ → Type 0
-HasWrongCp plc base text_len p = IsWrongStart plc base p ⊎ (Among plc.count (IsNoAscent plc base) p ⊎ IsWrongEnd plc base text_len p)
+HasWrongCp plc base text_len p = IsWrongStart plc base p ⊎ (Among plc.count (IsNoAscent plc base) p ⊎ IsWrongEnd plc
+    base text_len p)
 
 -- bytes of a piece are in the FIB or beyond the stream
 abbrev pub LeavesStream : TextBounds → Piece → Type 0
@@ -95,7 +97,8 @@ pub record IsLongPrc (parts : ClxParts) (at number place : ℕ) : Type 0 where
 -- the rules on the Prcs
 abbrev pub prc_rules : ClxParts → ℕ → Rules ℕ
 prc_rules parts at =
-    rule 31 (Among (length parts.prcs) (IsFaultyPrc parts at)) then rule 32 (Among (length parts.prcs) (IsLongPrc parts at))
+    rule 31 (Among (length parts.prcs) (IsFaultyPrc parts at)) then rule 32 (Among (length parts.prcs)
+    (IsLongPrc parts at))
 
 abbrev pub parts_rules : ClxParts → ℕ → TextBounds → ℕ → Rules ℕ
 parts_rules parts at bounds text_len =
@@ -123,4 +126,5 @@ NamesFirst rules Memory = ⊥
 abbrev pub FirstClxFaultIsLeast : Type 0
 FirstClxFaultIsLeast =
     (clx : List ℕ) (at : ℕ) (bounds : TextBounds) (text_len r p : ℕ) →
-    IsFirst (clx_rules clx at bounds text_len) r p → IsLeastOfAll (λ a b. a ≤ b) (Breaks (clx_rules clx at bounds text_len)) r p
+    IsFirst (clx_rules clx at bounds text_len) r p → IsLeastOfAll (λ a b. a ≤ b) (Breaks (clx_rules clx at bounds
+    text_len)) r p

@@ -1,5 +1,6 @@
 -- How a list of entries is cut, and how entries are numbered anew.
-use Rattle.std.specs.Prelude.{◌≡◌, ℕ, ◌+◌, ◌-◌, ◌*◌, ◌<◌, ◌≤◌, List, [], ◌∷◌, length, take, map, sum_by, All, Some, None, Option, slice_get, slice_index}
+use Rattle.std.specs.Prelude.{◌≡◌, ℕ, ◌+◌, ◌-◌, ◌*◌, ◌<◌, ◌≤◌, List, [], ◌∷◌, length, take, map, sum_by, All, Some}
+use Rattle.std.specs.Prelude.{None, Option, slice_get, slice_index}
 use Rattle.prop_map.specs.declared.modifiers.Modifier.{Modifier}
 use Rattle.piece_table.specs.declared.pieces.Piece.{Piece}
 use Rattle.piece_table.specs.declared.pieces.Entry.{Entry}
@@ -17,11 +18,18 @@ flat_entries modifiers entries = flat_pieces (map (text_piece modifiers) entries
 
 -- the first units of an entry, and those behind them
 abbrev pub front_entry : Entry → ℕ → Entry
-front_entry entry units = record { piece = record { at = entry.piece.at; wide = entry.piece.wide; len = units }; modifier = entry.modifier }
+front_entry entry units = record {
+  piece = record { at = entry.piece.at; wide = entry.piece.wide; len = units };
+  modifier = entry.modifier;
+}
 
 abbrev pub back_entry : Entry → ℕ → Entry
 back_entry entry units = record {
-  piece = record { at = entry.piece.at + units * unit_bytes entry.piece.wide; wide = entry.piece.wide; len = entry.piece.len - units };
+  piece = record {
+    at = entry.piece.at + units * unit_bytes entry.piece.wide;
+    wide = entry.piece.wide;
+    len = entry.piece.len - units;
+  };
   modifier = entry.modifier;
 }
 

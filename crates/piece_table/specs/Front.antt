@@ -1,5 +1,6 @@
 -- What the reader of a Clx finds at the front of some bytes.
-use Rattle.std.specs.Prelude.{◌≡◌, ℕ, ◌+◌, ◌<◌, ◌≤◌, List, ◌++◌, length, drop, flat_map, All, slice_index, slice_index_or, slice_range, Bool, false, IsTrue, ◌↔◌}
+use Rattle.std.specs.Prelude.{◌≡◌, ℕ, ◌+◌, ◌<◌, ◌≤◌, List, ◌++◌, length, drop, flat_map, All, slice_index}
+use Rattle.std.specs.Prelude.{slice_index_or, slice_range, Bool, false, IsTrue, ◌↔◌}
 use Rattle.doc_bits.specs.Number.{u16_at, u32_at}
 use Rattle.doc_bits.specs.Plc.{PlcPart, plc_cp}
 use Rattle.piece_table.specs.declared.parts.Parts.{Parts}

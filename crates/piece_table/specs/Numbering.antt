@@ -31,7 +31,8 @@ pub record HasMet (prcs : List (List ℕ)) (modifiers : List Modifier) (numbers 
   pub first : slice_get modifiers 0 ≡ Some no_modifier
   pub formed : All IsFormedModifier modifiers
   pub within : (prm : ℕ) → slice_index numbers prm < length modifiers
-  pub met : (prm : ℕ) → slice_index numbers prm ≢ 0 → IsPrmModifier prcs (prm_of prm) (slice_index_or modifiers (slice_index numbers prm) no_modifier)
+  pub met : (prm : ℕ) → slice_index numbers prm ≢ 0 → IsPrmModifier prcs (prm_of prm) (slice_index_or modifiers
+      (slice_index numbers prm) no_modifier)
 
 -- later modifiers may follow
 pub record Extends (old new : List Modifier) : Type 0 where
@@ -51,10 +52,12 @@ pub record AreEntriesOf (parts : ClxParts) (modifiers : List Modifier) (n : ℕ)
 
 -- where a Prm names a Prc, the list of that Prc has no fault
 abbrev pub AreReadable : List (List ℕ) → Prm → Type 0
-AreReadable prcs prm = (number : ℕ) (grpprl : List ℕ) → prm ≡ Prc number → slice_get prcs number ≡ Some grpprl → IsAcceptedList grpprl prc_groups
+AreReadable prcs prm = (number : ℕ) (grpprl : List ℕ) → prm ≡ Prc number → slice_get prcs number ≡ Some grpprl →
+    IsAcceptedList grpprl prc_groups
 
 -- the lists of the first n Prcs have no fault, where a piece names them
 abbrev pub AreAccepted : ClxParts → ℕ → Type 0
 AreAccepted parts n =
-    (number : ℕ) (grpprl : List ℕ) → number < n → IsNamedPrc parts.plc number → slice_get parts.prcs number ≡ Some grpprl →
+    (number : ℕ) (grpprl : List ℕ) → number < n → IsNamedPrc parts.plc number → slice_get parts.prcs number ≡ Some
+    grpprl →
     IsAcceptedList grpprl prc_groups

@@ -1,5 +1,6 @@
 -- Pieces of text. The text is one list with an entry a CP, so no piece is searched for.
-use Rattle.std.specs.Prelude.{◌≡◌, ℕ, ◌+◌, ◌*◌, ◌^◌, ◌<◌, ◌≤◌, List, [], ◌∷◌, length, map, flat_map, sum_by, All, Bool, true, Option, slice_get, if◌then◌else◌}
+use Rattle.std.specs.Prelude.{◌≡◌, ℕ, ◌+◌, ◌*◌, ◌^◌, ◌<◌, ◌≤◌, List, [], ◌∷◌, length, map, flat_map, sum_by, All}
+use Rattle.std.specs.Prelude.{Bool, true, Option, slice_get, if◌then◌else◌}
 use Rattle.std.specs.List.{range_with_len}
 use Rattle.prop_map.specs.declared.modifiers.Modifier.{Modifier}
 use Rattle.prop_map.specs.Modifiers.{no_modifier, IsFormedModifier}
@@ -35,7 +36,8 @@ unit_bytes wide = if wide then 2 else 1
 -- the places of a piece's units
 abbrev pub unit_places : TextPiece → List UnitPlace
 unit_places piece =
-    map (λ j. record { at = piece.at + j * unit_bytes piece.wide; wide = piece.wide; modifier = piece.modifier }) (range_with_len 0 piece.len)
+    map (λ j. record { at = piece.at + j * unit_bytes piece.wide; wide = piece.wide; modifier = piece.modifier })
+    (range_with_len 0 piece.len)
 
 -- the places of all units, one a CP
 unfoldable pub flat_pieces : List TextPiece → List UnitPlace

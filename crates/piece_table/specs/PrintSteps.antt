@@ -1,5 +1,6 @@
 -- How far the printing of a Clx has come.
-use Rattle.std.specs.Prelude.{◌≡◌, ◌≢◌, ◌⊎◌, ℕ, ◌+◌, ◌*◌, ◌<◌, ◌≤◌, List, ◌++◌, length, map, All, Option, Some, None, slice_get, slice_index, slice_index_or}
+use Rattle.std.specs.Prelude.{◌≡◌, ◌≢◌, ◌⊎◌, ℕ, ◌+◌, ◌*◌, ◌<◌, ◌≤◌, List, ◌++◌, length, map, All, Option, Some, None}
+use Rattle.std.specs.Prelude.{slice_get, slice_index, slice_index_or}
 use Rattle.prop_map.specs.declared.modifiers.Modifier.{Modifier}
 use Rattle.prop_map.specs.Modifiers.{no_modifier, printed_modifier, IsFormedModifier}
 use Rattle.piece_table.specs.declared.pieces.Entry.{Entry}
@@ -22,7 +23,8 @@ pub record NamesPrc (prcs : List Modifier) (prm : ℕ) (modifier : Modifier) : T
   pub prm_is : prm ≡ 2 * number + 1
   pub there : slice_get prcs number ≡ Some modifier
 
--- what is printed so far: the number of Prcs, for each modifier the Prm, which is 0 where it has no Prc, the bytes, and the
+-- what is printed so far: the number of Prcs, for each modifier the Prm, which is 0 where it has no Prc, the bytes,
+-- and the
 -- Prm beside each list
 pub record PrcTable : Type 0 where
   pub count : ℕ
@@ -53,10 +55,13 @@ pub record ArePrinted (modifiers : List Modifier) (entries : List Entry) (n : �
   pub few : table.count ≤ n
   pub each : All (IsPrintedPrc (map (text_piece modifiers) entries)) prcs
   pub one_each : length table.prms ≡ length modifiers
-  pub names : (number : ℕ) → slice_index table.prms number ≢ 0 → NamesPrc prcs (slice_index table.prms number) (slice_index_or modifiers number no_modifier)
-  pub none : (k : ℕ) (entry : Entry) → k < n → slice_get entries k ≡ Some entry → slice_index table.prms entry.modifier ≡ 0 → slice_index_or modifiers entry.modifier no_modifier ≡ no_modifier
+  pub names : (number : ℕ) → slice_index table.prms number ≢ 0 → NamesPrc prcs (slice_index table.prms number)
+      (slice_index_or modifiers number no_modifier)
+  pub none : (k : ℕ) (entry : Entry) → k < n → slice_get entries k ≡ Some entry → slice_index table.prms
+      entry.modifier ≡ 0 → slice_index_or modifiers entry.modifier no_modifier ≡ no_modifier
   pub spelt : table.bytes ≡ printed_prcs prcs
-  pub known : (number : ℕ) (modifier : Modifier) → slice_get prcs number ≡ Some modifier → table.found (printed_modifier modifier) ≡ Some (2 * number + 1)
+  pub known : (number : ℕ) (modifier : Modifier) → slice_get prcs number ≡ Some modifier →
+      table.found (printed_modifier modifier) ≡ Some (2 * number + 1)
   pub lists : (list : List ℕ) (prm : ℕ) → table.found list ≡ Some prm → NamesList prcs prm list
 
 -- a list was printed for the first time, and has the Prm

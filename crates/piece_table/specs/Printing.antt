@@ -1,5 +1,6 @@
 -- The Clx as it is printed.
-use Rattle.std.specs.Prelude.{◌≡◌, ◌≢◌, ◌⊎◌, ℕ, ◌+◌, ◌*◌, ◌^◌, ◌<◌, ◌≤◌, List, [], ◌++◌, length, take, map, flat_map, sum, All, Contains, Some, slice_get, slice_index_or, if◌then◌else◌}
+use Rattle.std.specs.Prelude.{◌≡◌, ◌≢◌, ◌⊎◌, ℕ, ◌+◌, ◌*◌, ◌^◌, ◌<◌, ◌≤◌, List, [], ◌++◌, length, take, map, flat_map}
+use Rattle.std.specs.Prelude.{sum, All, Contains, Some, slice_get, slice_index_or, if◌then◌else◌}
 use Rattle.std.specs.List.{range_with_len}
 use Rattle.doc_bits.specs.Number.{number_bytes}
 use Rattle.doc_bits.specs.Rules.{Hold}
@@ -38,7 +39,8 @@ plc_bytes lens pcds = flat_map (number_bytes 4) (cps_of lens) ++ flat_map (λ pc
 -- the Prm is 0 for the modifier that does nothing, else the number of its Prc
 abbrev pub NamesModifier : List Modifier → ℕ → Modifier → Type 0
 NamesModifier prcs prm modifier =
-    ((prm ≡ 0) × (modifier ≡ no_modifier)) ⊎ ((number : ℕ) × ((prm ≡ 2 * number + 1) × (slice_get prcs number ≡ Some modifier)))
+    ((prm ≡ 0) × (modifier ≡ no_modifier)) ⊎ ((number : ℕ) × ((prm ≡ 2 * number + 1) × (slice_get prcs number ≡ Some
+    modifier)))
 
 -- a Prc is written for a modifier that does something and that a piece has, and it is read back as that modifier
 pub record IsPrintedPrc (pieces : List TextPiece) (modifier : Modifier) : Type 0 where
@@ -62,9 +64,11 @@ pub record IsPrintedClx (pieces : List TextPiece) (bytes : List ℕ) : Type 0 wh
   pub pcds : List (List ℕ)
   pub few : length prcs ≤ length pieces
   pub each : All (IsPrintedPrc pieces) prcs
-  pub once : (i j : ℕ) (modifier : Modifier) → slice_get prcs i ≡ Some modifier → slice_get prcs j ≡ Some modifier → i ≡ j
+  pub once : (i j : ℕ) (modifier : Modifier) → slice_get prcs i ≡ Some modifier → slice_get prcs j ≡ Some modifier →
+      i ≡ j
   pub count : length pcds ≡ length pieces
-  pub pcd : (k : ℕ) (piece : TextPiece) → slice_get pieces k ≡ Some piece → IsPrintedPcd prcs piece (slice_index_or pcds k [])
+  pub pcd : (k : ℕ) (piece : TextPiece) → slice_get pieces k ≡ Some piece → IsPrintedPcd prcs piece (slice_index_or
+      pcds k [])
   pub spelt : bytes ≡ printed_prcs prcs ++ pcdt_bytes (plc_bytes (map (λ piece. piece.len) pieces) pcds)
 
 -- what is printed breaks no rule and is read again as the pieces, where there is one and all are in the stream

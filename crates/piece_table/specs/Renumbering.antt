@@ -7,12 +7,14 @@ use Rattle.prop_map.specs.Modifiers.{no_modifier, IsComposed, StaysFormedModifie
 pub record IsComposedAt (by : Modifier) (modifiers : List Modifier) (number made : ℕ) : Type 0 where
   pub within : made < length modifiers
   pub composed : IsComposed (slice_index_or modifiers number no_modifier) by (slice_index_or modifiers made no_modifier)
-  pub formed : StaysFormedModifier (slice_index_or modifiers number no_modifier) by (slice_index_or modifiers made no_modifier)
+  pub formed : StaysFormedModifier (slice_index_or modifiers number no_modifier) by (slice_index_or modifiers made
+      no_modifier)
 
 -- beside a number is that of the composed modifier, or 0
 pub record HaveComposed (by : Modifier) (modifiers : List Modifier) (numbers : List ℕ) : Type 0 where
   pub short : length numbers ≤ length modifiers
-  pub each : (number : ℕ) → slice_index numbers number ≢ 0 → IsComposedAt by modifiers number (slice_index numbers number)
+  pub each : (number : ℕ) → slice_index numbers number ≢ 0 → IsComposedAt by modifiers number (slice_index numbers
+      number)
 
 -- the modifier at the one number of the old list is that at the other of the new list
 pub record IsCopiedAt (old new : List Modifier) (number copy : ℕ) : Type 0 where

@@ -1,6 +1,7 @@
 -- The parts of the blank document are well formed; lists of one entry many times.
 use Rattle.std.specs.Prelude.{slice_index}
-use Rattle.std.proofs.Common.{ℕ, inl, inr, length, refl, ap, subst, arith, ◌≡◌, ◌∙◌, ◌+◌, ◌^◌, ◌<◌, List, [], ◌∷◌, ◌++◌, true, Option, Some, None, replicate, codes}
+use Rattle.std.proofs.Common.{ℕ, inl, inr, length, refl, ap, subst, arith, ◌≡◌, ◌∙◌, ◌+◌, ◌^◌, ◌<◌, List, [], ◌∷◌}
+use Rattle.std.proofs.Common.{◌++◌, true, Option, Some, None, replicate, codes}
 use Rattle.std.specs.List.{All, list_all}
 use Rattle.std.specs.Option.{unwrap_or}
 use Rattle.std.specs.FinMap.{empty}
@@ -18,7 +19,8 @@ use Rattle.cfb_streams.specs.Contents.{AreStreams}
 use Rattle.style_sheet.specs.Formed.{IsFormedStyle, IsFormedSlot, IsFormedSheet}
 use Rattle.plain_doc.specs.Document.{HasPropertyMaps, IsFormedItem, IsFormedText}
 use Rattle.plain_doc.specs.NothingCarried.{empty_parts_are_short, no_lists, no_flags, no_streams}
-use Rattle.plain_doc.specs.Blank.{blank_item, one_setting, normal_style, heading_style, default_font_style, blank_sheet, word_clsid, blank_carried, blank_document}
+use Rattle.plain_doc.specs.Blank.{blank_item, one_setting, normal_style, heading_style, default_font_style}
+use Rattle.plain_doc.specs.Blank.{blank_sheet, word_clsid, blank_carried, blank_document}
 use Rattle.doc_bits.specs.Number.{AreBytes}
 use Rattle.doc_bits.proofs.ByteListLemmas.{no_bytes, one_byte}
 use Rattle.plain_doc.specs.Formed.{carried_parts, IsFormed}

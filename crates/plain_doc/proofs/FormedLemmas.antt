@@ -1,5 +1,7 @@
 -- Lists of well-formed entries, after a change.
-use Rattle.std.proofs.Common.{ℕ, zero, suc, refl, arith, ◌≡◌, ◌+◌, ◌-◌, ◌<◌, ◌≤◌, ◌^◌, List, [], ◌∷◌, ◌++◌, length, take, drop, set, length-append, length-take-le, length-drop, rules, ap, subst, Option, Some, None}
+use Rattle.std.proofs.Common.{ℕ, zero, suc, refl, arith, ◌≡◌, ◌+◌, ◌-◌, ◌<◌, ◌≤◌, ◌^◌, List, [], ◌∷◌, ◌++◌, length}
+use Rattle.std.proofs.Common.{take, drop, set, length-append, length-take-le, length-drop, rules, ap, subst, Option}
+use Rattle.std.proofs.Common.{Some, None}
 use Rattle.std.specs.List.{All, splice}
 use Rattle.std.proofs.lemmas.List.Elements.{All-append, All-take, All-drop, All-set}
 use Rattle.std.specs.Option.{IfSome, ForSome, unwrap_or}

@@ -1,5 +1,6 @@
 -- Items with and without marks, one after the other.
-use Rattle.std.proofs.Common.{ℕ, refl, sym, ap, subst, arith, ◌≡◌, ◌∙◌, ◌+◌, ◌<◌, ◌≤◌, List, length, get_or, true, false, inl, inr}
+use Rattle.std.proofs.Common.{ℕ, refl, sym, ap, subst, arith, ◌≡◌, ◌∙◌, ◌+◌, ◌<◌, ◌≤◌, List, length, get_or, true}
+use Rattle.std.proofs.Common.{false, inl, inr}
 use Rattle.std.specs.Prelude.{is_some}
 use Rattle.std.proofs.lemmas.Bool.{cases_lt}
 use Rattle.std.proofs.lemmas.Option.{get_or_from_slice_get, slice_get_past, slice_get_read}

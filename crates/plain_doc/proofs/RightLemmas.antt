@@ -15,7 +15,8 @@ use Rattle.plain_doc.specs.declared.item.Item.{Item}
 use Rattle.plain_doc.specs.declared.document.Document.{Document}
 use Rattle.plain_doc.specs.Nesting.{field_characters, most_open, BreaksNesting}
 use Rattle.plain_doc.specs.Rows.{FitsRow, open_cells, BreaksRows, paragraph_value, is_row_mark, is_mark_outside}
-use Rattle.plain_doc.specs.RulesOfItems.{IsWrongItem, IsPlacedRight, HasMarkRight, HasSectionRight, HasShortSettings, IsShortPap, IsShortSect, printed_length}
+use Rattle.plain_doc.specs.RulesOfItems.{IsWrongItem, IsPlacedRight, HasMarkRight, HasSectionRight, HasShortSettings}
+use Rattle.plain_doc.specs.RulesOfItems.{IsShortPap, IsShortSect, printed_length}
 use Rattle.plain_doc.specs.RulesOfTexts.{InTexts, text_of, EndsRight, HasWrongEnd, HasParagraphStyle, last_unit}
 use Rattle.plain_doc.specs.RulesOfSheet.{HasShortKind, note_count, head_count, item_count, most_items}
 use Rattle.plain_doc.specs.Sound.{IsSound}
@@ -24,7 +25,9 @@ use Rattle.style_sheet.proofs.BaseLemmas.{unbroken_bases}
 use Rattle.plain_doc.proofs.WalkLemmas.{after_all}
 use Rattle.plain_doc.proofs.NestingLemmas.{nest_passes}
 use Rattle.plain_doc.proofs.FieldLemmas.{nothing_open}
-use Rattle.plain_doc.proofs.DecisionLemmas.{IsDecided, settled, implied, at_most_or, equal_or, true_or, both_or, either_or, implies_or, some_or, empty_or, main_or, head_or, cells_or, nest_or, ForSome_settled}
+use Rattle.plain_doc.proofs.DecisionLemmas.{IsDecided, settled, implied, at_most_or, equal_or, true_or, both_or}
+use Rattle.plain_doc.proofs.DecisionLemmas.{either_or, implies_or, some_or, empty_or, main_or, head_or, cells_or}
+use Rattle.plain_doc.proofs.DecisionLemmas.{nest_or, ForSome_settled}
 
 -- ---- what an item has
 

@@ -1,5 +1,6 @@
 -- Going once through the items of a text: where each is passed and nothing is open at the end, no rule is broken.
-use Rattle.std.proofs.Common.{◌≡◌, inl, inr, ℕ, ◌+◌, ◌<◌, ◌≤◌, Bool, true, false, cond, List, [], ◌∷◌, length, take, get_or, Some, refl, sym, ◌∙◌, ap, subst, below_more, arith}
+use Rattle.std.proofs.Common.{◌≡◌, inl, inr, ℕ, ◌+◌, ◌<◌, ◌≤◌, Bool, true, false, cond, List, [], ◌∷◌, length, take}
+use Rattle.std.proofs.Common.{get_or, Some, refl, sym, ◌∙◌, ap, subst, below_more, arith}
 use Rattle.std.specs.Prelude.{is_some, slice_get, option_map, ◌-◌}
 use Rattle.std.specs.List.{count_by}
 use Rattle.std.proofs.lemmas.List.Sums.{sum_by_more}

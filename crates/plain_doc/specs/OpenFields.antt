@@ -1,5 +1,6 @@
 -- How the field characters of a text are gone through: which fields are open after each. Nesting says what it comes to.
-use Rattle.std.specs.Prelude.{ℕ, ◌==◌, nat_lt, Bool, true, false, List, [], ◌∷◌, length, Option, Some, None, if◌then◌else◌, is_some}
+use Rattle.std.specs.Prelude.{ℕ, ◌==◌, nat_lt, Bool, true, false, List, [], ◌∷◌, length, Option, Some, None}
+use Rattle.std.specs.Prelude.{if◌then◌else◌, is_some}
 use Rattle.plain_doc.specs.declared.item.Item.{Item}
 
 -- for each open field, the innermost first, whether its separator has been met

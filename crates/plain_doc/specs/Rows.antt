@@ -1,7 +1,8 @@
 -- [MS-DOC] Rows of a table: cells end with 0x07, and so does the row, whose mark has sprmPFTtp, 2417, and its cells in
 -- sprmTDefTable, D608. A paragraph of a cell has sprmPFInTable, 2416. No count is carried here: the cells of an open
 -- row are those after the last row mark.
-use Rattle.std.specs.Prelude.{◌≡◌, ◌≢◌, ◌⊎◌, ℕ, ◌+◌, ◌==◌, if◌then◌else◌, Bool, false, ◌&&◌, not, List, length, take, reverse, slice_get, slice_index, is_some, Option, Some, None, IsTrue}
+use Rattle.std.specs.Prelude.{◌≡◌, ◌≢◌, ◌⊎◌, ℕ, ◌+◌, ◌==◌, if◌then◌else◌, Bool, false, ◌&&◌, not, List, length, take}
+use Rattle.std.specs.Prelude.{reverse, slice_get, slice_index, is_some, Option, Some, None, IsTrue}
 use Rattle.std.specs.List.{count_by, take_while}
 use Rattle.std.specs.FinMap.{get}
 use Rattle.text_codes.specs.Paragraph.{cell_mark}

@@ -10,7 +10,8 @@ use Rattle.plain_doc.specs.Nesting.{BreaksNesting}
 use Rattle.plain_doc.specs.Rows.{BreaksRows}
 use Rattle.plain_doc.specs.RulesOfItems.{IsWrongItem, IsPlacedRight, HasShortSettings}
 use Rattle.plain_doc.specs.RulesOfTexts.{InTexts, HasWrongEnd, HasParagraphStyle}
-use Rattle.plain_doc.specs.RulesOfSheet.{InSheet, HasShortStyle, FitsStd, note_count, head_count, IsOtherCount, HasTooManyItems}
+use Rattle.plain_doc.specs.RulesOfSheet.{InSheet, HasShortStyle, FitsStd, note_count, head_count, IsOtherCount}
+use Rattle.plain_doc.specs.RulesOfSheet.{HasTooManyItems}
 
 -- each text ends right, its items are placed right, its fields nest, its rows are whole, its marks have styles of
 -- paragraphs

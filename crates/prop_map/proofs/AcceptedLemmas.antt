@@ -1,5 +1,6 @@
 -- A list of sprms without a fault is accepted.
-use Rattle.std.proofs.Common.{◌≡◌, ◌⊎◌, inl, inr, refl, Bool, true, false, IsTrue, ℕ, zero, suc, ◌+◌, ◌-◌, ◌<◌, ◌≤◌, List, length, drop, get_or, arith, length-drop}
+use Rattle.std.proofs.Common.{◌≡◌, ◌⊎◌, inl, inr, refl, Bool, true, false, IsTrue, ℕ, zero, suc, ◌+◌, ◌-◌, ◌<◌, ◌≤◌}
+use Rattle.std.proofs.Common.{List, length, drop, get_or, arith, length-drop}
 use Rattle.std.proofs.lemmas.Bool.{cases_lt}
 use Rattle.doc_bits.specs.Number.{u16_at}
 use Rattle.doc_bits.specs.Rules.{Nowhere}
@@ -33,14 +34,16 @@ extent_or_none (Fixed size) rest bytes = elim (cases_lt (length rest) size) [
 extent_or_none CountedByByte rest bytes =
     let byte = bytes 0 in
     elim (cases_lt (length rest) (1 + get_or rest 0 0)) [
-      | inl short ↦ inr (no_operand CountedByByte rest (λ len fits here. let e = here.0 in let h = here.1 in omega arith))
+      | inl short ↦ inr (no_operand CountedByByte rest (λ len fits here. let e = here.0 in let h = here.1 in
+          omega arith))
       | inr there ↦ inl (record { len = get_or rest 0 0; here = (refl, there); fits = omega arith })
     ]
 extent_or_none CountedByWord rest bytes =
     let bound : u16_at rest 0 < 65536 = number_at-bound rest 0 2 bytes in
     elim (cases_lt 0 (u16_at rest 0)) [
       | inl some ↦ elim (cases_lt (length rest) (2 + (u16_at rest 0 - 1))) [
-        | inl short ↦ inr (no_operand CountedByWord rest (λ len fits here. let e = here.0 in let h = here.1 in omega arith))
+        | inl short ↦ inr (no_operand CountedByWord rest (λ len fits here. let e = here.0 in let h = here.1 in
+            omega arith))
         | inr there ↦ inl (record { len = u16_at rest 0 - 1; here = (omega arith, there); fits = omega arith })
       ]
       | inr nothing ↦ inr (no_operand CountedByWord rest (λ len fits here. let e = here.0 in omega arith))
@@ -68,8 +71,10 @@ refused_in_or_not groups code = elim (held_or_not (is_held groups code)) [
 ]
 
 -- from a place that was passed without a fault on, the list is accepted
-accepted_from : (most : ℕ) (bytes : List ℕ) (groups at : ℕ) → AreBytes bytes → length bytes ≤ at + most → Passed bytes groups at → Nowhere (HasSprmFaultAt bytes groups) → IsAcceptedList bytes groups
-accepted_from zero bytes groups at are long passed none = passed_end bytes groups at passed (inl (omega (arith, length-drop at bytes)))
+accepted_from : (most : ℕ) (bytes : List ℕ) (groups at : ℕ) → AreBytes bytes → length bytes ≤ at + most →
+    Passed bytes groups at → Nowhere (HasSprmFaultAt bytes groups) → IsAcceptedList bytes groups
+accepted_from zero bytes groups at are long passed none = passed_end bytes groups at passed
+    (inl (omega (arith, length-drop at bytes)))
 accepted_from (suc most) bytes groups at are long passed none =
     let rest = drop at bytes in
     let code = u16_at rest 0 in
@@ -79,21 +84,31 @@ accepted_from (suc most) bytes groups at are long passed none =
       | inr word ↦ elim (cases_lt 0 code) [
         | inr none_left ↦ passed_end bytes groups at passed (inr (omega arith))
         | inl some ↦ elim (extent_or_none (size_of code) (drop 2 rest) (AreBytes-drop 2 rest rest_are)) [
-          | inr leaves ↦ absurd (none at (inl (record { before = passed.before; front = passed.front; here = record { word = word; some = some; leaves = leaves } })))
+          | inr leaves ↦ absurd (none at (inl (record {
+            before = passed.before;
+            front = passed.front;
+            here = record { word = word; some = some; leaves = leaves };
+          })))
           | inl there ↦
               let from = count_len (size_of code) in
               let to = from + there.len in
               let bound : u16_at rest 0 < 65536 = number_at-bound rest 0 2 rest_are in
-              let operand = operand_at (size_of code) (drop 2 rest) there.len (AreBytes-drop 2 rest rest_are) there.here there.fits in
-              let prl : IsPrlAt rest 0 code (2 + from) (2 + to) = prl_at rest (drop 2 rest) code from to rest_are word refl some (omega arith) refl operand in
+              let operand = operand_at (size_of code) (drop 2 rest) there.len (AreBytes-drop 2 rest rest_are)
+              there.here there.fits in
+              let prl : IsPrlAt rest 0 code (2 + from) (2 + to) = prl_at rest (drop 2 rest) code from to rest_are word
+              refl some (omega arith) refl operand in
               elim (refused_in_or_not groups code) [
-                | inl refused ↦ absurd (none at (inr (refused_first bytes rest groups at code (2 + from) (2 + to) refl passed prl refused).there))
-                | inr accepted ↦ accepted_from most bytes groups (at + (2 + to)) are (omega arith) (passed_step bytes rest groups at code (2 + from) (2 + to) refl passed prl accepted) none
+                | inl refused ↦ absurd (none at (inr (refused_first bytes rest groups at code (2 + from) (2 + to) refl
+                    passed prl refused).there))
+                | inr accepted ↦ accepted_from most bytes groups (at + (2 + to)) are (omega arith) (passed_step bytes
+                    rest groups at code (2 + from) (2 + to) refl passed prl accepted) none
               ]
         ]
       ]
     ]
 
 -- a list that has no fault anywhere
-pub accepted_of : (bytes : List ℕ) (groups : ℕ) → AreBytes bytes → Nowhere (HasSprmFaultAt bytes groups) → IsAcceptedList bytes groups
-accepted_of bytes groups are none = accepted_from (length bytes) bytes groups 0 are (omega arith) (passed_none bytes groups) none
+pub accepted_of : (bytes : List ℕ) (groups : ℕ) → AreBytes bytes → Nowhere (HasSprmFaultAt bytes groups) →
+    IsAcceptedList bytes groups
+accepted_of bytes groups are none = accepted_from (length bytes) bytes groups 0 are (omega arith) (passed_none bytes
+    groups) none

@@ -1,5 +1,7 @@
 -- The bytes of entries spell these entries and no others.
-use Rattle.std.proofs.Common.{◌≡◌, ◌∙◌, inl, inr, refl, sym, ap, subst, ℕ, zero, suc, ◌+◌, ◌-◌, ◌<◌, ◌≤◌, ◌==◌, true, false, List, [], ◌∷◌, ◌++◌, length, take, drop, arith, IsTrue, Some, length-append, append_assoc}
+use Rattle.std.proofs.Common.{◌≡◌, ◌∙◌, inl, inr, refl, sym, ap, subst, ℕ, zero, suc, ◌+◌, ◌-◌, ◌<◌, ◌≤◌, ◌==◌, true}
+use Rattle.std.proofs.Common.{false, List, [], ◌∷◌, ◌++◌, length, take, drop, arith, IsTrue, Some, length-append}
+use Rattle.std.proofs.Common.{append_assoc}
 use Rattle.std.specs.Prelude.{slice_range}
 use Rattle.std.specs.List.{All}
 use Rattle.std.specs.Ordering.{nat_cmp}
@@ -10,7 +12,8 @@ use Rattle.std.proofs.lemmas.List.Elements.{All-head, All-tail, All-push, All-co
 use Rattle.doc_bits.specs.Number.{number_bytes, u16_at, u32_at}
 use Rattle.doc_bits.proofs.NumberLemmas.{length-number_bytes, number_at-number_bytes, number_at-read_back}
 use Rattle.prop_map.specs.Entries.{Entries}
-use Rattle.prop_map.specs.Block.{entry_bytes, block_bytes, IsBlockEntry, AreBlockEntries, first_end, first_entry, entries_upto, entries_in, IsBlock, IsSortedBlock, IsPutBetween}
+use Rattle.prop_map.specs.Block.{entry_bytes, block_bytes, IsBlockEntry, AreBlockEntries, first_end, first_entry}
+use Rattle.prop_map.specs.Block.{entries_upto, entries_in, IsBlock, IsSortedBlock, IsPutBetween}
 use Rattle.prop_map.proofs.EntriesLemmas.{cmp_less, cmp_equal, cmp_greater, sorted-put}
 
 -- ---- one entry
@@ -44,7 +47,8 @@ module _ (code : ℕ) (value rest : List ℕ) (is : IsBlockEntry (code, value)) 
   end_at = ap (λ n. 6 + n) len_at
 
   pub rest_at : drop (first_end (entry_bytes (code, value) ++ rest)) (entry_bytes (code, value) ++ rest) ≡ rest
-  rest_at = drop_at (entry_bytes (code, value)) rest (first_end (entry_bytes (code, value) ++ rest)) (length-entry code value ∙ sym end_at)
+  rest_at = drop_at (entry_bytes (code, value)) rest (first_end (entry_bytes (code, value) ++ rest)) (length-entry
+      code value ∙ sym end_at)
 
   value_at : slice_range (entry_bytes (code, value) ++ rest) 6 (first_end (entry_bytes (code, value) ++ rest)) ≡ value
   value_at =
@@ -52,8 +56,10 @@ module _ (code : ℕ) (value rest : List ℕ) (is : IsBlockEntry (code, value)) 
       let two = length-number_bytes 2 code in
       let four = length-number_bytes 4 (length value) in
       let six : length head ≡ 6 = simp (length-append) (omega arith) in
-      let joined : entry_bytes (code, value) ++ rest ≡ head ++ (value ++ rest) = whole ∙ sym (append_assoc (number_bytes 2 code) (number_bytes 4 (length value)) (value ++ rest)) in
-      let dropped : drop 6 (entry_bytes (code, value) ++ rest) ≡ value ++ rest = ap (drop 6) joined ∙ drop_at head (value ++ rest) 6 six in
+      let joined : entry_bytes (code, value) ++ rest ≡ head ++ (value ++ rest) = whole ∙ sym (append_assoc
+      (number_bytes 2 code) (number_bytes 4 (length value)) (value ++ rest)) in
+      let dropped : drop 6 (entry_bytes (code, value) ++ rest) ≡ value ++ rest = ap (drop 6) joined ∙ drop_at head
+      (value ++ rest) 6 six in
       let width : first_end (entry_bytes (code, value) ++ rest) - 6 ≡ length value = let e = end_at in omega arith in
       ap (λ n. take n (drop 6 (entry_bytes (code, value) ++ rest))) width
       ∙ (ap (take (length value)) dropped ∙ take_at value rest (length value) refl)
@@ -65,17 +71,21 @@ module _ (code : ℕ) (value rest : List ℕ) (is : IsBlockEntry (code, value)) 
       λ i. (c i, v i)
 
 -- the bytes of one entry more
-block_more : (es : Entries) (code : ℕ) (value : List ℕ) → block_bytes (es ++ (code, value) ∷ []) ≡ block_bytes es ++ entry_bytes (code, value)
+block_more : (es : Entries) (code : ℕ) (value : List ℕ) → block_bytes (es ++ (code, value) ∷ []) ≡ block_bytes es ++
+    entry_bytes (code, value)
 block_more [] code value = append-nil (entry_bytes (code, value))
-block_more (e ∷ es) code value = ap (λ l. entry_bytes e ++ l) (block_more es code value) ∙ sym (append_assoc (entry_bytes e) (block_bytes es) (entry_bytes (code, value)))
+block_more (e ∷ es) code value = ap (λ l. entry_bytes e ++ l) (block_more es code value) ∙ sym (append_assoc
+    (entry_bytes e) (block_bytes es) (entry_bytes (code, value)))
 
 blocks_joined : (xs ys : Entries) → block_bytes (xs ++ ys) ≡ block_bytes xs ++ block_bytes ys
 blocks_joined [] ys = refl
-blocks_joined (e ∷ xs) ys = ap (λ l. entry_bytes e ++ l) (blocks_joined xs ys) ∙ sym (append_assoc (entry_bytes e) (block_bytes xs) (block_bytes ys))
+blocks_joined (e ∷ xs) ys = ap (λ l. entry_bytes e ++ l) (blocks_joined xs ys) ∙ sym (append_assoc (entry_bytes e)
+    (block_bytes xs) (block_bytes ys))
 
 -- ---- the entries of a block
 
-some_upto : (n : ℕ) (block : List ℕ) → 0 < length block → entries_upto (suc n) block ≡ first_entry block ∷ entries_upto n (drop (first_end block) block)
+some_upto : (n : ℕ) (block : List ℕ) → 0 < length block → entries_upto (suc n) block ≡ first_entry block ∷
+    entries_upto n (drop (first_end block) block)
 unfolding entries_upto
 some_upto n [] h = absurd (omega arith)
 some_upto n (byte ∷ bytes) h = refl
@@ -85,7 +95,8 @@ unfolding entries_upto
 none_upto zero = refl
 none_upto (suc n) = refl
 
-upto_block : (n : ℕ) (es : Entries) → AreBlockEntries es → length (block_bytes es) ≤ n → entries_upto n (block_bytes es) ≡ es
+upto_block : (n : ℕ) (es : Entries) → AreBlockEntries es → length (block_bytes es) ≤ n → entries_upto n (block_bytes
+    es) ≡ es
 upto_block n [] all h = none_upto n
 upto_block zero (e ∷ es) all h =
     let is = All-head IsBlockEntry e es all in
@@ -98,8 +109,10 @@ upto_block (suc n) (e ∷ es) all h =
     let long = length-entry e.0 e.1 in
     let both = length-append (entry_bytes e) rest in
     some_upto n (entry_bytes e ++ rest) (omega arith)
-    ∙ (ap (λ x. x ∷ entries_upto n (drop (first_end (entry_bytes e ++ rest)) (entry_bytes e ++ rest))) (entry_at e.0 e.1 rest is)
-    ∙ ap (λ l. e ∷ l) (ap (entries_upto n) (rest_at e.0 e.1 rest is) ∙ upto_block n es (All-tail IsBlockEntry e es all) (omega arith)))
+    ∙ (ap (λ x. x ∷ entries_upto n (drop (first_end (entry_bytes e ++ rest)) (entry_bytes e ++ rest))) (entry_at e.0
+    e.1 rest is)
+    ∙ ap (λ l. e ∷ l) (ap (entries_upto n) (rest_at e.0 e.1 rest is) ∙ upto_block n es (All-tail IsBlockEntry e es
+    all) (omega arith)))
 
 pub entries_in-block : (es : Entries) → AreBlockEntries es → entries_in (block_bytes es) ≡ es
 entries_in-block es all = upto_block (length (block_bytes es)) es all (omega arith)
@@ -112,7 +125,8 @@ block_of block es all e =
     let same : entries_in block ≡ es = ap entries_in e ∙ entries_in-block es all in
     record { entries = subst AreBlockEntries (sym same) all; is = e ∙ ap block_bytes (sym same) }
 
-pub sorted_block : (block : List ℕ) (es : Entries) → AreBlockEntries es → block ≡ block_bytes es → IsTrue (is_sorted nat_cmp es) → IsSortedBlock block
+pub sorted_block : (block : List ℕ) (es : Entries) → AreBlockEntries es → block ≡ block_bytes es →
+    IsTrue (is_sorted nat_cmp es) → IsSortedBlock block
 sorted_block block es all e sorted =
     let same : entries_in block ≡ es = ap entries_in e ∙ entries_in-block es all in
     record { block_is = block_of block es all e; sorted = subst (λ l. IsTrue (is_sorted nat_cmp l)) (sym same) sorted }
@@ -124,7 +138,8 @@ pub record HasFirst (block : List ℕ) : Type 0 where
   pub is : entries_in block ≡ first_entry block ∷ entries_in (drop (first_end block) block)
   pub rest : IsBlock (drop (first_end block) block)
 
-has_first_of : (block : List ℕ) (es : Entries) → AreBlockEntries es → block ≡ block_bytes es → 0 < length block → HasFirst block
+has_first_of : (block : List ℕ) (es : Entries) → AreBlockEntries es → block ≡ block_bytes es → 0 < length block →
+    HasFirst block
 has_first_of block [] all e some = let none : length block ≡ 0 = ap length e in absurd (omega arith)
 has_first_of block (x ∷ es) all e some =
     let is = All-head IsBlockEntry x es all in
@@ -139,7 +154,8 @@ has_first_of block (x ∷ es) all e some =
     let there : P (entry_bytes x ++ rest) = record {
       head = omega arith;
       within = omega arith;
-      is = entries_in-block (x ∷ es) all ∙ (ap (λ y. y ∷ es) (sym first) ∙ ap (λ l. first_entry (entry_bytes x ++ rest) ∷ l) (sym (ap entries_in behind_is ∙ entries_in-block es others)));
+      is = entries_in-block (x ∷ es) all ∙ (ap (λ y. y ∷ es) (sym first) ∙ ap (λ l. first_entry (entry_bytes x ++
+          rest) ∷ l) (sym (ap entries_in behind_is ∙ entries_in-block es others)));
       rest = subst IsBlock (sym behind_is) (block_of rest es others refl);
     } in
     subst P (sym e) there
@@ -158,15 +174,22 @@ no_entries block e = ap entries_in (nil_from_length block e) ∙ entries_in-none
 
 -- the first entry and the others, as they are cut off, and that bytes and entries are missing together
 pub next_is : (block : List ℕ) (code len : ℕ) → HasFirst block → code ≡ u16_at block 0 → len ≡ u32_at block 2 →
-    entries_in block ≡ (code, take (6 + len - 6) (drop 6 block)) ∷ entries_in (take (length block - (6 + len)) (drop (6 + len) block))
+    entries_in block ≡ (code, take (6 + len - 6) (drop 6 block)) ∷ entries_in (take (length block - (6 + len))
+    (drop (6 + len) block))
 next_is block code len h c l =
     let end : 6 + len ≡ first_end block = ap (λ n. 6 + n) l in
-    let first : first_entry block ≡ (code, take (6 + len - 6) (drop 6 block)) = λ i. (sym c i, take (sym end i - 6) (drop 6 block)) in
+    let first : first_entry block ≡ (code, take (6 + len - 6) (drop 6 block)) = λ i. (
+      sym c i,
+      take (sym end i - 6)
+          (drop 6 block),
+    ) in
     h.is
     ∙ (ap (λ e. e ∷ entries_in (drop (first_end block) block)) first
-    ∙ ap (λ l. (code, take (6 + len - 6) (drop 6 block)) ∷ entries_in l) (sym (take_rest block (6 + len) ∙ ap (λ n. drop n block) end)))
+    ∙ ap (λ l. (code, take (6 + len - 6) (drop 6 block)) ∷ entries_in l) (sym (take_rest block (6 + len) ∙ ap
+    (λ n. drop n block) end)))
 
-pub rest_is : (block : List ℕ) (len : ℕ) → HasFirst block → len ≡ u32_at block 2 → IsBlock (take (length block - (6 + len)) (drop (6 + len) block))
+pub rest_is : (block : List ℕ) (len : ℕ) → HasFirst block → len ≡ u32_at block 2 →
+    IsBlock (take (length block - (6 + len)) (drop (6 + len) block))
 rest_is block len h l = subst IsBlock (sym (take_rest block (6 + len) ∙ ap (λ n. drop (6 + n) block) l)) h.rest
 
 not_zero : (n : ℕ) → 0 < n → (n == 0) ≡ false
@@ -190,7 +213,8 @@ pub no_block_entries : AreBlockEntries []
 no_block_entries = λ k d within. absurd (omega arith)
 
 -- a code put into a block
-pub put_block : (entries rest : Entries) (code : ℕ) (value start bytes : List ℕ) → IsPutBetween entries code [] start rest → AreBlockEntries rest → IsBlockEntry (code, value) → IsTrue (is_sorted nat_cmp entries) →
+pub put_block : (entries rest : Entries) (code : ℕ) (value start bytes : List ℕ) → IsPutBetween entries code [] start
+    rest → AreBlockEntries rest → IsBlockEntry (code, value) → IsTrue (is_sorted nat_cmp entries) →
     bytes ≡ (start ++ entry_bytes (code, value)) ++ block_bytes rest →
     IsSortedBlock bytes × (entries_in bytes ≡ put nat_cmp code value entries)
 put_block entries rest code value start bytes h formed is sorted e =
@@ -198,13 +222,16 @@ put_block entries rest code value start bytes h formed is sorted e =
     let put_is : put nat_cmp code value entries ≡ all = h.between value in
     let spelt : bytes ≡ block_bytes all =
     e ∙ (ap (λ l. (l ++ entry_bytes (code, value)) ++ block_bytes rest) h.bytes
-    ∙ (append_assoc (block_bytes h.below) (entry_bytes (code, value)) (block_bytes rest) ∙ sym (blocks_joined h.below ((code, value) ∷ rest)))) in
-    let formed_all : AreBlockEntries all = All-append IsBlockEntry h.below ((code, value) ∷ rest) h.formed (All-cons IsBlockEntry (code, value) rest is formed) in
+    ∙ (append_assoc (block_bytes h.below) (entry_bytes (code, value)) (block_bytes rest) ∙ sym (blocks_joined h.below
+    ((code, value) ∷ rest)))) in
+    let formed_all : AreBlockEntries all = All-append IsBlockEntry h.below ((code, value) ∷ rest) h.formed
+    (All-cons IsBlockEntry (code, value) rest is formed) in
     let up = subst (λ l. IsTrue (is_sorted nat_cmp l)) put_is (sorted-put entries code value sorted) in
     (sorted_block bytes all formed_all spelt up, ap entries_in spelt ∙ (entries_in-block all formed_all ∙ sym put_is))
 
 -- blocks with the same entries are the same
-pub same_blocks : (one other : Entries) → AreBlockEntries one → AreBlockEntries other → block_bytes one ≡ block_bytes other → one ≡ other
+pub same_blocks : (one other : Entries) → AreBlockEntries one → AreBlockEntries other → block_bytes one ≡ block_bytes
+    other → one ≡ other
 same_blocks one other a b e = sym (entries_in-block one a) ∙ (ap entries_in e ∙ entries_in-block other b)
 
 -- ---- a code put between entries
@@ -216,11 +243,19 @@ pub record HasPushedBelow (entries : Entries) (code : ℕ) (old new : List ℕ) 
   pub formed : AreBlockEntries below
   pub past : (value : List ℕ) → put nat_cmp code value entries ≡ below ++ put nat_cmp code value left
 
-pub none_below : (entries : Entries) (code : ℕ) (old : List ℕ) → AreBlockEntries [] → HasPushedBelow entries code old old entries
-none_below entries code old none = record { below = []; bytes = sym (append-nil old); formed = none; past = λ value. refl }
+pub none_below : (entries : Entries) (code : ℕ) (old : List ℕ) → AreBlockEntries [] → HasPushedBelow entries code old
+    old entries
+none_below entries code old none = record {
+  below = [];
+  bytes = sym (append-nil old);
+  formed = none;
+  past = λ value.
+      refl;
+}
 
 -- the code stands before what is left, in place of its first entry, or behind all
-pub put_before : (entries rest : Entries) (code other : ℕ) (here : List ℕ) (old new : List ℕ) → HasPushedBelow entries code old new ((other, here) ∷ rest) → code < other → IsPutBetween entries code old new ((other, here) ∷ rest)
+pub put_before : (entries rest : Entries) (code other : ℕ) (here : List ℕ) (old new : List ℕ) → HasPushedBelow entries
+    code old new ((other, here) ∷ rest) → code < other → IsPutBetween entries code old new ((other, here) ∷ rest)
 put_before entries rest code other here old new h lt = record {
   below = h.below;
   bytes = h.bytes;
@@ -228,7 +263,8 @@ put_before entries rest code other here old new h lt = record {
   between = λ value. h.past value ∙ ap (λ l. h.below ++ l) (rw (cmp_less code other lt) refl);
 }
 
-pub put_at : (entries rest : Entries) (code other : ℕ) (here : List ℕ) (old new : List ℕ) → HasPushedBelow entries code old new ((other, here) ∷ rest) → code ≡ other → IsPutBetween entries code old new rest
+pub put_at : (entries rest : Entries) (code other : ℕ) (here : List ℕ) (old new : List ℕ) → HasPushedBelow entries
+    code old new ((other, here) ∷ rest) → code ≡ other → IsPutBetween entries code old new rest
 put_at entries rest code other here old new h e = record {
   below = h.below;
   bytes = h.bytes;
@@ -236,7 +272,8 @@ put_at entries rest code other here old new h e = record {
   between = λ value. h.past value ∙ ap (λ l. h.below ++ l) (rw (sym e, cmp_equal code) refl);
 }
 
-pub put_last : (entries : Entries) (code : ℕ) (old new : List ℕ) → HasPushedBelow entries code old new [] → IsPutBetween entries code old new []
+pub put_last : (entries : Entries) (code : ℕ) (old new : List ℕ) → HasPushedBelow entries code old new [] →
+    IsPutBetween entries code old new []
 put_last entries code old new h = record { below = h.below; bytes = h.bytes; formed = h.formed; between = h.past }
 
 -- ---- entries appended one after the other
@@ -251,7 +288,8 @@ pub record HasAppended (all left : Entries) (bytes : List ℕ) : Type 0 where
 pub none_appended : (all : Entries) (bytes : List ℕ) → bytes ≡ [] → HasAppended all all bytes
 none_appended all bytes e = record { done = []; joined = refl; spelt = e; formed = no_block_entries }
 
-pub one_appended : (all left : Entries) (code : ℕ) (value old new : List ℕ) → HasAppended all ((code, value) ∷ left) old → new ≡ old ++ entry_bytes (code, value) → IsBlockEntry (code, value) → HasAppended all left new
+pub one_appended : (all left : Entries) (code : ℕ) (value old new : List ℕ) → HasAppended all ((code, value) ∷ left)
+    old → new ≡ old ++ entry_bytes (code, value) → IsBlockEntry (code, value) → HasAppended all left new
 one_appended all left code value old new h e is = record {
   done = h.done ++ (code, value) ∷ [];
   joined = h.joined ∙ sym (append_assoc h.done ((code, value) ∷ []) left);
@@ -260,10 +298,13 @@ one_appended all left code value old new h e is = record {
 }
 
 -- all of them
-pub all_appended : (all : Entries) (bytes : List ℕ) → HasAppended all [] bytes → IsTrue (is_sorted nat_cmp all) → IsSortedBlock bytes × (entries_in bytes ≡ all)
+pub all_appended : (all : Entries) (bytes : List ℕ) → HasAppended all [] bytes → IsTrue (is_sorted nat_cmp all) →
+    IsSortedBlock bytes × (entries_in bytes ≡ all)
 all_appended all bytes h sorted =
-    let whole : all ≡ h.done = h.joined ∙ append-nil h.done in
-    (sorted_block bytes h.done h.formed h.spelt (subst (λ l. IsTrue (is_sorted nat_cmp l)) whole sorted), ap entries_in h.spelt ∙ (entries_in-block h.done h.formed ∙ sym whole))
+    let whole : all ≡ h.done = h.joined ∙ append-nil h.done in (
+      sorted_block bytes h.done h.formed h.spelt (subst (λ l. IsTrue (is_sorted nat_cmp l)) whole sorted),
+      ap entries_in h.spelt ∙ (entries_in-block h.done h.formed ∙ sym whole),
+    )
 
 -- a code that another is neither above nor equal to
 pub below_from : (code other : ℕ) → other ≤ code → ¬ (code ≡ other) → other < code
@@ -273,22 +314,30 @@ below_from code other least same = elim (cases_lt other code) [
 ]
 
 -- an entry below the code more
-pub below_more : (entries left : Entries) (code other : ℕ) (value old now new : List ℕ) → HasPushedBelow entries code old now ((other, value) ∷ left) → other < code → new ≡ now ++ entry_bytes (other, value) → IsBlockEntry (other, value) → HasPushedBelow entries code old new left
+pub below_more : (entries left : Entries) (code other : ℕ) (value old now new : List ℕ) → HasPushedBelow entries code
+    old now ((other, value) ∷ left) → other < code → new ≡ now ++ entry_bytes (other, value) → IsBlockEntry (
+      other,
+      value,
+    ) → HasPushedBelow entries code old new left
 below_more entries left code other value old now new h lt e is = record {
   below = h.below ++ (other, value) ∷ [];
-  bytes = e ∙ (ap (λ l. l ++ entry_bytes (other, value)) h.bytes ∙ (append_assoc old (block_bytes h.below) (entry_bytes (other, value)) ∙ ap (λ l. old ++ l) (sym (block_more h.below other value))));
+  bytes = e ∙ (ap (λ l. l ++ entry_bytes (other, value)) h.bytes ∙ (append_assoc old (block_bytes h.below)
+      (entry_bytes (other, value)) ∙ ap (λ l. old ++ l) (sym (block_more h.below other value))));
   formed = All-push IsBlockEntry h.below (other, value) h.formed is;
-  past = λ v. h.past v ∙ (ap (λ l. h.below ++ l) (rw (cmp_greater code other lt) refl) ∙ sym (append_assoc h.below ((other, value) ∷ []) (put nat_cmp code v left)));
+  past = λ v. h.past v ∙ (ap (λ l. h.below ++ l) (rw (cmp_greater code other lt) refl) ∙ sym (append_assoc h.below
+      ((other, value) ∷ []) (put nat_cmp code v left)));
 }
 
 -- ---- looking for a code
 
 -- the first entry has the code
-pub found_first : (code other : ℕ) (value : List ℕ) (rest : Entries) → code ≡ other → find nat_cmp code ((other, value) ∷ rest) ≡ Some value
+pub found_first : (code other : ℕ) (value : List ℕ) (rest : Entries) → code ≡ other → find nat_cmp code
+    ((other, value) ∷ rest) ≡ Some value
 found_first code other value rest e = rw (sym e, cmp_equal code) refl
 
 -- it has not
-pub not_first : (code other : ℕ) (value : List ℕ) (rest : Entries) → ¬ (code ≡ other) → find nat_cmp code ((other, value) ∷ rest) ≡ find nat_cmp code rest
+pub not_first : (code other : ℕ) (value : List ℕ) (rest : Entries) → ¬ (code ≡ other) → find nat_cmp code
+    ((other, value) ∷ rest) ≡ find nat_cmp code rest
 not_first code other value rest apart = elim (cases_lt code other) [
   | inl less ↦ rw (cmp_less code other less) refl
   | inr least ↦ elim (cases_lt other code) [

@@ -1,5 +1,6 @@
 -- The values of entries that bytes spell are bytes.
-use Rattle.std.proofs.Common.{◌≡◌, ap, subst, ℕ, suc, ◌+◌, ◌<◌, List, [], ◌∷◌, ◌++◌, length, Option, Some, None, option_map, refl, append_assoc}
+use Rattle.std.proofs.Common.{◌≡◌, ap, subst, ℕ, suc, ◌+◌, ◌<◌, List, [], ◌∷◌, ◌++◌, length, Option, Some, None}
+use Rattle.std.proofs.Common.{option_map, refl, append_assoc}
 use Rattle.std.specs.List.{All, flat_map, filter, last_or}
 use Rattle.std.specs.Option.{unwrap_or}
 use Rattle.std.proofs.lemmas.List.Elements.{All-nil, All-cons, All-filter}
@@ -21,7 +22,8 @@ value_bytes CountedByWord value bytes = back_bytes (number_bytes 2 (length value
 spelt_bytes : (prls : List Prl) (rest : List ℕ) → AreBytes (flat_map spelling prls ++ rest) → All HasByteValue prls
 spelt_bytes [] rest bytes = All-nil HasByteValue
 spelt_bytes (prl ∷ prls) rest bytes =
-    let apart : AreBytes (spelling prl ++ (flat_map spelling prls ++ rest)) = subst AreBytes (append_assoc (spelling prl) (flat_map spelling prls) rest) bytes in
+    let apart : AreBytes (spelling prl ++ (flat_map spelling prls ++ rest)) = subst AreBytes (append_assoc
+    (spelling prl) (flat_map spelling prls) rest) bytes in
     let front = front_bytes (spelling prl) (flat_map spelling prls ++ rest) apart in
     All-cons HasByteValue prl prls
     (value_bytes (size_of prl.0) prl.1 (back_bytes (number_bytes 2 prl.0) (operand_bytes (size_of prl.0) prl.1) front))
@@ -31,12 +33,15 @@ spelt_bytes (prl ∷ prls) rest bytes =
 pub list_bytes : (bytes : List ℕ) (prls : List Prl) → AreBytes bytes → SpellsSprmList bytes prls → All HasByteValue prls
 list_bytes bytes prls are spelt = spelt_bytes prls spelt.rest (subst AreBytes spelt.spelt are)
 
-style_from : (o : Option Prl) (n : ℕ) → ((x : Prl) → o ≡ Some x → HasByteValue x) → option_map (λ (prl : Prl). u16_at prl.1 0) o ≡ Some n → n < 65536
+style_from : (o : Option Prl) (n : ℕ) → ((x : Prl) → o ≡ Some x → HasByteValue x) → option_map (λ (prl : Prl). u16_at
+    prl.1 0) o ≡ Some n → n < 65536
 style_from None n has e = absurd (cc)
-style_from (Some prl) n has e = subst (λ k. k < 65536) (ap (λ o. unwrap_or o 0) e) (number_at-bound prl.1 0 2 (has prl refl))
+style_from (Some prl) n has e = subst (λ k. k < 65536) (ap (λ o. unwrap_or o 0) e) (number_at-bound prl.1 0 2
+    (has prl refl))
 
 -- so the style that they name has 16 bits
 pub style_small : (prls : List Prl) (groups n : ℕ) → All HasByteValue prls → style_of prls groups ≡ Some n → n < 65536
 style_small prls groups n all e =
     style_from (last_or None (filter (names_style groups) prls)) n
-    (λ x was. last_has HasByteValue (filter (names_style groups) prls) x None tt (All-filter (names_style groups) HasByteValue prls all) was) e
+    (λ x was. last_has HasByteValue (filter (names_style groups) prls) x None tt (All-filter (names_style groups)
+    HasByteValue prls all) was) e

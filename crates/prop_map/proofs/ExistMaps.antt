@@ -1,5 +1,6 @@
 -- The maps that lists and modifiers make are there.
-use Rattle.std.proofs.Common.{◌≡◌, ◌∙◌, inl, inr, refl, sym, ap, ℕ, Bool, true, false, cond, ◌&&◌, ◌||◌, ◌==◌, List, [], ◌∷◌, Option, None}
+use Rattle.std.proofs.Common.{◌≡◌, ◌∙◌, inl, inr, refl, sym, ap, ℕ, Bool, true, false, cond, ◌&&◌, ◌||◌, ◌==◌, List}
+use Rattle.std.proofs.Common.{[], ◌∷◌, Option, None}
 use Rattle.std.proofs.lemmas.Bool.{cases_Bool}
 use Rattle.std.specs.Cmp.{nat_cmp_total}
 use Rattle.std.specs.List.{last_or}
@@ -23,7 +24,8 @@ pub record ComesAfter (list : List Prl) (groups : ℕ) (old : Settings) : Type 0
   pub after : ArePropertiesAfter list groups old new
 
 -- an entry that does nothing
-nothing_said : (b kept : Bool) (prl : Prl) (before : Option (List ℕ)) → before ≡ left_by (last_or None (cond ((b && false) || false) (prl ∷ []) [])) before
+nothing_said : (b kept : Bool) (prl : Prl) (before : Option (List ℕ)) → before ≡ left_by (last_or None
+    (cond ((b && false) || false) (prl ∷ []) [])) before
 nothing_said true kept prl before = refl
 nothing_said false kept prl before = refl
 
@@ -40,9 +42,14 @@ after_one prl groups old = elim (cases_Bool (is_held groups prl.0)) [
     | inr sets ↦ elim (cases_Bool (is_clear (class_of prl.0))) [
       | inl clears ↦ record {
         new = cleared old;
-        after = λ code. get-retained old is_kept code ∙ value_after-clear groups code prl.0 prl.1 (get old code) held sets clears;
+        after = λ code. get-retained old is_kept code ∙ value_after-clear groups code prl.0 prl.1 (get old code) held
+            sets clears;
       }
-      | inr clears ↦ record { new = old; after = λ code. rw (held, sets, clears) (nothing_said (code == prl.0) (is_kept code) prl (get old code)) }
+      | inr clears ↦ record {
+        new = old;
+        after = λ code. rw (held, sets, clears) (nothing_said (code == prl.0)
+            (is_kept code) prl (get old code));
+      }
     ]
   ]
 ]
@@ -75,7 +82,11 @@ pub record HasCharacterAfter (modifier : Modifier) (old : Settings) : Type 0 whe
   pub after : IsCharacterAfter modifier old new
 
 pub character_after : (modifier : Modifier) (old : Settings) → HasCharacterAfter modifier old
-character_after modifier old = record { new = modified_characters modifier old; after = is_modified_characters modifier old }
+character_after modifier old = record {
+  new = modified_characters modifier old;
+  after = is_modified_characters
+      modifier old;
+}
 
 pub record HasMarkAfter (modifier : Modifier) (old : Settings) : Type 0 where
   pub new : Settings

@@ -24,13 +24,15 @@ sgc-bound code = omega arith
 pub character_apart : (code : ℕ) → is_held character_groups code ≡ true → is_held paragraph_groups code ≡ false
 character_apart code =
     each_group (λ g. (character_groups / 2 ^ g % 2 == 1) ≡ true → (paragraph_groups / 2 ^ g % 2 == 1) ≡ false)
-    (λ h. refl) (λ h. cc) (λ h. refl) (λ h. refl) (λ h. refl) (λ h. cc) (λ h. refl) (λ h. refl) (sgc code) (sgc-bound code)
+    (λ h. refl) (λ h. cc) (λ h. refl) (λ h. refl) (λ h. refl) (λ h. cc) (λ h. refl) (λ h. refl) (sgc code)
+    (sgc-bound code)
 
 -- a code of a mark is none of a character
 pub paragraph_apart : (code : ℕ) → is_held paragraph_groups code ≡ true → is_held character_groups code ≡ false
 paragraph_apart code =
     each_group (λ g. (paragraph_groups / 2 ^ g % 2 == 1) ≡ true → (character_groups / 2 ^ g % 2 == 1) ≡ false)
-    (λ h. refl) (λ h. refl) (λ h. cc) (λ h. refl) (λ h. refl) (λ h. refl) (λ h. refl) (λ h. refl) (sgc code) (sgc-bound code)
+    (λ h. refl) (λ h. refl) (λ h. cc) (λ h. refl) (λ h. refl) (λ h. refl) (λ h. refl) (λ h. refl) (sgc code)
+    (sgc-bound code)
 
 -- a Prc holds both
 pub character_in_prc : (code : ℕ) → is_held character_groups code ≡ true → is_held prc_groups code ≡ true
@@ -44,9 +46,11 @@ paragraph_in_prc code =
     (λ h. cc) (λ h. refl) (λ h. refl) (λ h. cc) (λ h. cc) (λ h. refl) (λ h. cc) (λ h. cc) (sgc code) (sgc-bound code)
 
 -- a list without a fault at a place has none where fewer groups are held
-pub accepted_within : (bytes : List ℕ) (few groups : ℕ) → ((code : ℕ) → is_held few code ≡ true → is_held groups code ≡ true) → IsAcceptedList bytes groups → IsAcceptedList bytes few
+pub accepted_within : (bytes : List ℕ) (few groups : ℕ) → ((code : ℕ) → is_held few code ≡ true → is_held groups code
+    ≡ true) → IsAcceptedList bytes groups → IsAcceptedList bytes few
 accepted_within bytes few groups within h = record {
   list = h.list;
   spelt = h.spelt;
-  accepted = All-weaker (λ prl. ¬ (IsRefusedIn groups prl.0)) (λ prl. ¬ (IsRefusedIn few prl.0)) (λ prl none refused. none (within prl.0 refused.0, refused.1)) h.list h.accepted;
+  accepted = All-weaker (λ prl. ¬ (IsRefusedIn groups prl.0)) (λ prl. ¬ (IsRefusedIn few prl.0)) (λ prl none refused.
+      none (within prl.0 refused.0, refused.1)) h.list h.accepted;
 }

@@ -1,5 +1,6 @@
 -- The definition of acting in other words, and that there is one map and one modifier of a list.
-use Rattle.std.proofs.Common.{◌≡◌, ℕ, ◌==◌, Bool, true, false, cond, not, ◌&&◌, ◌||◌, List, [], ◌∷◌, Option, Some, None, refl, sym, ap, ◌∙◌, subst}
+use Rattle.std.proofs.Common.{◌≡◌, ℕ, ◌==◌, Bool, true, false, cond, not, ◌&&◌, ◌||◌, List, [], ◌∷◌, Option, Some}
+use Rattle.std.proofs.Common.{None, refl, sym, ap, ◌∙◌, subst}
 use Rattle.std.proofs.lemmas.List.Elements.{All-head, All-tail}
 use Rattle.std.proofs.lemmas.Bool.{eqb-true}
 use Rattle.std.specs.Ordering.{nat_cmp, eq_by_cmp}
@@ -16,7 +17,8 @@ use Rattle.prop_map.specs.Laws.{SaidCodeByCode, ListsActInTurn, ActingIsOne, Mod
 use Rattle.prop_map.proofs.ActingLemmas.{value_after-append, style_of-append}
 
 pub acting_one : ActingIsOne
-acting_one list groups old one other h k = same_map nat_cmp_total nat_cmp-IsAntisymmetric one other (λ code. h code ∙ sym (k code))
+acting_one list groups old one other h k = same_map nat_cmp_total nat_cmp-IsAntisymmetric one other (λ code. h code ∙
+    sym (k code))
 
 pub modifier_one : ModifierIsOne
 modifier_one list one other h k =
@@ -34,24 +36,32 @@ act_in_turn first next groups = record {
 
 -- ---- a setting put into a map
 
-put_formed : (b : Bool) (here : List ℕ) (old : Option (List ℕ)) (value : List ℕ) (P : Type 0) → (b ≡ true → here ≡ value → P) → (old ≡ Some value → P) → cond b (Some here) old ≡ Some value → P
+put_formed : (b : Bool) (here : List ℕ) (old : Option (List ℕ)) (value : List ℕ) (P : Type 0) →
+    (b ≡ true → here ≡ value → P) → (old ≡ Some value → P) → cond b (Some here) old ≡ Some value → P
 put_formed true here old value P same other e = same refl (cc)
 put_formed false here old value P same other e = other e
 
 pub stay_formed : SettingsStayFormed
 stay_formed groups map prl formed setting code value e =
     put_formed (eq_by_cmp nat_cmp code prl.0) prl.1 (get map code) value (IsMapEntry groups (code, value))
-    (λ tied here. let key = eqb-true code prl.0 (sym (unsigned_tied code prl.0) ∙ tied) in subst (IsMapEntry groups) (λ i. (sym key i, here i)) setting)
+    (λ tied here. let key = eqb-true code prl.0 (sym (unsigned_tied code prl.0) ∙ tied) in subst (IsMapEntry groups)
+    (λ i. (sym key i, here i)) setting)
     (formed code value)
     (sym (get-insert nat_cmp_total map prl.0 prl.1 code) ∙ e)
 
 -- ---- acting said code by code
 
-none_concern : (groups code : ℕ) (list : List Prl) → All (λ e. sets_code groups code e ≡ false) list → All (λ e. clears_code groups code e ≡ false) list → filter (concerns_code groups code) list ≡ []
+none_concern : (groups code : ℕ) (list : List Prl) → All (λ e. sets_code groups code e ≡ false) list →
+    All (λ e. clears_code groups code e ≡ false) list → filter (concerns_code groups code) list ≡ []
 none_concern groups code [] sets clears = refl
 none_concern groups code (e ∷ es) sets clears =
-    rw (All-head (λ e. sets_code groups code e ≡ false) e es sets, All-head (λ e. clears_code groups code e ≡ false) e es clears)
-    (none_concern groups code es (All-tail (λ e. sets_code groups code e ≡ false) e es sets) (All-tail (λ e. clears_code groups code e ≡ false) e es clears))
+    rw (
+      All-head (λ e. sets_code groups code e ≡ false) e es sets,
+      All-head (λ e. clears_code groups code e ≡ false) e
+          es clears,
+    )
+    (none_concern groups code es (All-tail (λ e. sets_code groups code e ≡ false) e es sets)
+    (All-tail (λ e. clears_code groups code e ≡ false) e es clears))
 
 third : (a b c : Bool) → (a && (b && c)) ≡ true → c ≡ true
 third true true c e = e
@@ -75,40 +85,52 @@ or_true true b e = refl
 or_true false b e = e
 
 -- an entry that removes a code leaves nothing there
-one_removes : (groups code : ℕ) (prl : Prl) (before : Option (List ℕ)) → clears_code groups code prl ≡ true → value_after (prl ∷ []) groups code before ≡ None
+one_removes : (groups code : ℕ) (prl : Prl) (before : Option (List ℕ)) → clears_code groups code prl ≡ true →
+    value_after (prl ∷ []) groups code before ≡ None
 one_removes groups code prl before clears =
-    let concerns : concerns_code groups code prl ≡ true = or_true (sets_code groups code prl) (clears_code groups code prl) clears in
-    let none = clears_sets_none (class_of prl.0) (second (is_held groups prl.0) (is_clear (class_of prl.0)) (not (is_kept code)) clears) in
+    let concerns : concerns_code groups code prl ≡ true = or_true (sets_code groups code prl) (clears_code groups code
+    prl) clears in
+    let none = clears_sets_none (class_of prl.0) (second (is_held groups prl.0) (is_clear (class_of prl.0))
+    (not (is_kept code)) clears) in
     ap (λ b. left_by (last_or None (cond b (prl ∷ []) [])) before) concerns ∙ rw none refl
 
-one_leaves_none : (groups code : ℕ) (prl : Prl) → sets_code groups code prl ≡ false → value_after (prl ∷ []) groups code None ≡ None
+one_leaves_none : (groups code : ℕ) (prl : Prl) → sets_code groups code prl ≡ false → value_after (prl ∷ []) groups
+    code None ≡ None
 one_leaves_none groups code prl sets =
-    elim (clears_code groups code prl) as (λ b. clears_code groups code prl ≡ b → value_after (prl ∷ []) groups code None ≡ None) [
+    elim (clears_code groups code prl) as (λ b. clears_code groups code prl ≡ b → value_after (prl ∷ []) groups code
+    None ≡ None) [
       | true ↦ λ clears. one_removes groups code prl None clears
-      | false ↦ λ clears. ap (λ b. left_by (last_or None (cond b (prl ∷ []) [])) None) (ap (λ b. b || clears_code groups code prl) sets ∙ clears)
+      | false ↦ λ clears. ap (λ b. left_by (last_or None (cond b (prl ∷ []) [])) None) (ap (λ b. b || clears_code
+          groups code prl) sets ∙ clears)
     ] refl
 
-leaves_none : (groups code : ℕ) (list : List Prl) → All (λ e. sets_code groups code e ≡ false) list → value_after list groups code None ≡ None
+leaves_none : (groups code : ℕ) (list : List Prl) → All (λ e. sets_code groups code e ≡ false) list → value_after list
+    groups code None ≡ None
 leaves_none groups code [] sets = refl
 leaves_none groups code (e ∷ es) sets =
     value_after-append (e ∷ []) es groups code None
-    ∙ (ap (value_after es groups code) (one_leaves_none groups code e (All-head (λ e. sets_code groups code e ≡ false) e es sets))
+    ∙ (ap (value_after es groups code) (one_leaves_none groups code e (All-head (λ e. sets_code groups code e ≡ false)
+    e es sets))
     ∙ leaves_none groups code es (All-tail (λ e. sets_code groups code e ≡ false) e es sets))
 
-set_last : (groups code : ℕ) (prl : Prl) (back : List Prl) (before : Option (List ℕ)) → sets_code groups code prl ≡ true → filter (concerns_code groups code) back ≡ [] → value_after (prl ∷ back) groups code before ≡ Some prl.1
+set_last : (groups code : ℕ) (prl : Prl) (back : List Prl) (before : Option (List ℕ)) → sets_code groups code prl ≡
+    true → filter (concerns_code groups code) back ≡ [] → value_after (prl ∷ back) groups code before ≡ Some prl.1
 set_last groups code prl back before sets none =
     let setting = third (is_held groups prl.0) (code == prl.0) (is_setting (class_of prl.0)) sets in
     let concerns : concerns_code groups code prl ≡ true = ap (λ b. b || clears_code groups code prl) sets in
-    ap (λ b. left_by (last_or None (cond b (prl ∷ filter (concerns_code groups code) back) (filter (concerns_code groups code) back))) before) concerns
+    ap (λ b. left_by (last_or None (cond b (prl ∷ filter (concerns_code groups code) back)
+    (filter (concerns_code groups code) back))) before) concerns
     ∙ (ap (λ l. left_by (last_or None (prl ∷ l)) before) none ∙ rw setting refl)
 
 pub code_by_code : SaidCodeByCode
 code_by_code groups code before = record {
   set = λ front back prl sets none kept.
-      value_after-append front (prl ∷ back) groups code before ∙ set_last groups code prl back (value_after front groups code before) sets (none_concern groups code back none kept);
+      value_after-append front (prl ∷ back) groups code before ∙ set_last groups code prl back (value_after front
+      groups code before) sets (none_concern groups code back none kept);
   kept = λ list none kept. ap (λ l. left_by (last_or None l) before) (none_concern groups code list none kept);
   removed = λ front back prl clears none.
       value_after-append front (prl ∷ back) groups code before
       ∙ (value_after-append (prl ∷ []) back groups code (value_after front groups code before)
-      ∙ (ap (value_after back groups code) (one_removes groups code prl (value_after front groups code before) clears) ∙ leaves_none groups code back none));
+      ∙ (ap (value_after back groups code) (one_removes groups code prl (value_after front groups code before) clears)
+      ∙ leaves_none groups code back none));
 }

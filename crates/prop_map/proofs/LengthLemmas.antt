@@ -1,5 +1,6 @@
 -- How long the entries of a map are, as a list of sprms and in a block.
-use Rattle.std.proofs.Common.{◌≡◌, ◌∙◌, ap, ℕ, ◌+◌, ◌*◌, ◌<◌, ◌≤◌, ◌^◌, ◌/◌, ◌==◌, ◌||◌, Bool, true, false, if◌then◌else◌, List, [], ◌∷◌, length, arith, refl, length-append}
+use Rattle.std.proofs.Common.{◌≡◌, ◌∙◌, ap, ℕ, ◌+◌, ◌*◌, ◌<◌, ◌≤◌, ◌^◌, ◌/◌, ◌==◌, ◌||◌, Bool, true, false}
+use Rattle.std.proofs.Common.{if◌then◌else◌, List, [], ◌∷◌, length, arith, refl, length-append}
 use Rattle.std.specs.List.{All, flat_map}
 use Rattle.std.specs.FinMap.{entries}
 use Rattle.std.proofs.lemmas.List.Elements.{All-head, All-tail}
@@ -39,7 +40,8 @@ small_size code =
     (both_small (code / 8192 == 6) CountedByByte least (omega arith)
     (both_small (code / 8192 == 0 || code / 8192 == 1) (Fixed 1) (Fixed 3) (omega arith) (omega arith)))))
 
-small_operand : (size : OperandSize) (value : List ℕ) → fixed_size size ≤ 4 → IsSizeOf size (length value) → operand_len size value ≤ 65536
+small_operand : (size : OperandSize) (value : List ℕ) → fixed_size size ≤ 4 → IsSizeOf size (length value) →
+    operand_len size value ≤ 65536
 small_operand (Fixed size) value small is = omega arith
 small_operand CountedByByte value small is = omega arith
 small_operand CountedByWord value small is = omega arith
@@ -66,10 +68,16 @@ small_map m formed =
 
 -- ---- the first entry and the others
 
-pub list-first : (left rest : Entries) (code : ℕ) (value : List ℕ) → left ≡ (code, value) ∷ rest → length (flat_map spelling left) ≡ length (spelling (code, value)) + length (flat_map spelling rest)
-list-first left rest code value e = ap (λ es. length (flat_map spelling es)) e ∙ length-append (spelling (code, value)) (flat_map spelling rest)
+pub list-first : (left rest : Entries) (code : ℕ) (value : List ℕ) → left ≡ (code, value) ∷ rest →
+    length (flat_map spelling left) ≡ length (spelling (code, value)) + length (flat_map spelling rest)
+list-first left rest code value e = ap (λ es. length (flat_map spelling es)) e ∙ length-append (spelling (
+  code,
+  value,
+)) (flat_map spelling rest)
 
-pub block-first : (left rest : Entries) (code : ℕ) (value : List ℕ) → left ≡ (code, value) ∷ rest → length (block_bytes left) ≡ 6 + length value + length (block_bytes rest)
+pub block-first : (left rest : Entries) (code : ℕ) (value : List ℕ) → left ≡ (code, value) ∷ rest →
+    length (block_bytes left) ≡ 6 + length value + length (block_bytes rest)
 block-first left rest code value e =
     ap (λ es. length (block_bytes es)) e
-    ∙ (length-append (entry_bytes (code, value)) (block_bytes rest) ∙ ap (λ n. n + length (block_bytes rest)) (length-entry code value))
+    ∙ (length-append (entry_bytes (code, value)) (block_bytes rest) ∙ ap (λ n. n + length (block_bytes rest))
+    (length-entry code value))

@@ -1,9 +1,11 @@
 -- Maps made of maps: the functions are what the relations say, and stay well formed.
-use Rattle.std.proofs.Common.{◌≡◌, ◌∙◌, refl, sym, ap, ℕ, Bool, true, false, cond, not, ◌&&◌, List, [], ◌∷◌, ◌++◌, Option, Some, None}
+use Rattle.std.proofs.Common.{◌≡◌, ◌∙◌, refl, sym, ap, ℕ, Bool, true, false, cond, not, ◌&&◌, List, [], ◌∷◌, ◌++◌}
+use Rattle.std.proofs.Common.{Option, Some, None}
 use Rattle.std.specs.Ordering.{nat_cmp, eq_by_cmp}
 use Rattle.std.specs.Cmp.{nat_cmp_total}
 use Rattle.std.specs.Option.{option_or}
-use Rattle.std.specs.FinMap.{get, empty, insert, retain_keys, entries, entries_sorted, find, get-empty, get-insert, get-entries, get-from_entries, same_map, nat_cmp-IsAntisymmetric}
+use Rattle.std.specs.FinMap.{get, empty, insert, retain_keys, entries, entries_sorted, find, get-empty, get-insert}
+use Rattle.std.specs.FinMap.{get-entries, get-from_entries, same_map, nat_cmp-IsAntisymmetric}
 use Rattle.sprm_table.specs.Codes.{class_of, is_among}
 use Rattle.sprm_table.specs.Sprm.{IsSetting}
 use Rattle.prop_map.specs.declared.modifiers.Modifier.{Modifier}
@@ -11,8 +13,10 @@ use Rattle.prop_map.specs.Settings.{Settings}
 use Rattle.prop_map.specs.Entries.{Entries}
 use Rattle.prop_map.specs.Formed.{IsPropertyMap, character_groups, paragraph_groups}
 use Rattle.prop_map.specs.Acting.{is_kept, ArePropertiesAfter}
-use Rattle.prop_map.specs.Modifiers.{IsOver, IsClearedWhere, IsCharacterAfter, IsMarkAfter, IsComposed, IsFormedModifier}
-use Rattle.prop_map.specs.Overlay.{overlay, without, cleared, cleared_where, modified_characters, modified_paragraph, composed}
+use Rattle.prop_map.specs.Modifiers.{IsOver, IsClearedWhere, IsCharacterAfter, IsMarkAfter, IsComposed}
+use Rattle.prop_map.specs.Modifiers.{IsFormedModifier}
+use Rattle.prop_map.specs.Overlay.{overlay, without, cleared, cleared_where, modified_characters, modified_paragraph}
+use Rattle.prop_map.specs.Overlay.{composed}
 use Rattle.prop_map.proofs.ActingLemmas.{value_after-set, value_after-clear, sets_not_clears}
 use Rattle.doc_bits.proofs.TestLemmas.{either}
 use Rattle.prop_map.proofs.ChangeLemmas.{get-retained, or_none}
@@ -25,13 +29,15 @@ same_settings one other e = same_map nat_cmp_total nat_cmp-IsAntisymmetric one o
 
 -- ---- one map over another
 
-find_both : (code : ℕ) (xs ys : Entries) → find nat_cmp code (xs ++ ys) ≡ option_or (find nat_cmp code xs) (find nat_cmp code ys)
+find_both : (code : ℕ) (xs ys : Entries) → find nat_cmp code (xs ++ ys) ≡ option_or (find nat_cmp code xs)
+    (find nat_cmp code ys)
 find_both code [] ys = refl
 find_both code (x ∷ xs) ys =
     ap (λ o. cond (eq_by_cmp nat_cmp code x.0) (Some x.1) o) (find_both code xs ys)
     ∙ either (eq_by_cmp nat_cmp code x.0) x.1 (find nat_cmp code xs) (find nat_cmp code ys)
 
-pub get-overlay : (set base : Settings) (code : ℕ) → get (overlay set base) code ≡ option_or (get set code) (get base code)
+pub get-overlay : (set base : Settings) (code : ℕ) → get (overlay set base) code ≡ option_or (get set code)
+    (get base code)
 get-overlay set base code =
     get-from_entries nat_cmp_total (entries set ++ entries base) code
     ∙ (find_both code (entries set) (entries base)
@@ -42,38 +48,49 @@ unless_kept : (kept : Bool) (o : Option (List ℕ)) → cond kept o None ≡ con
 unless_kept true o = refl
 unless_kept false o = refl
 
-pub get-cleared_where : (clear : Bool) (base : Settings) (code : ℕ) → get (cleared_where clear base) code ≡ cond (clear && not (is_kept code)) None (get base code)
+pub get-cleared_where : (clear : Bool) (base : Settings) (code : ℕ) → get (cleared_where clear base) code ≡ cond
+    (clear && not (is_kept code)) None (get base code)
 get-cleared_where true base code = get-retained base is_kept code ∙ unless_kept (is_kept code) (get base code)
 get-cleared_where false base code = refl
 
-pub get-without : (codes : List ℕ) (map : Settings) (code : ℕ) → get (without codes map) code ≡ cond (not (is_among code codes)) (get map code) None
+pub get-without : (codes : List ℕ) (map : Settings) (code : ℕ) → get (without codes map) code ≡ cond
+    (not (is_among code codes)) (get map code) None
 get-without codes map code = get-retained map (λ key. not (is_among key codes)) code
 
 -- ---- the relations say the functions
 
 pub is_over : (clear : Bool) (top base : Settings) → IsOver clear top base (overlay top (cleared_where clear base))
-is_over clear top base code = get-overlay top (cleared_where clear base) code ∙ ap (option_or (get top code)) (get-cleared_where clear base code)
+is_over clear top base code = get-overlay top (cleared_where clear base) code ∙ ap (option_or (get top code))
+    (get-cleared_where clear base code)
 
-pub over_one : (clear : Bool) (top base made : Settings) → IsOver clear top base made → made ≡ overlay top (cleared_where clear base)
-over_one clear top base made is = same_settings made (overlay top (cleared_where clear base)) (λ code. is code ∙ sym (is_over clear top base code))
+pub over_one : (clear : Bool) (top base made : Settings) → IsOver clear top base made → made ≡ overlay top
+    (cleared_where clear base)
+over_one clear top base made is = same_settings made (overlay top (cleared_where clear base)) (λ code. is code ∙ sym
+    (is_over clear top base code))
 
 pub is_overlay : (top base made : Settings) → IsOver false top base made → made ≡ overlay top base
 is_overlay top base made is = over_one false top base made is
 
-pub is_cleared_where : (clear : Bool) (base made : Settings) → IsClearedWhere clear base made → made ≡ cleared_where clear base
-is_cleared_where clear base made is = same_settings made (cleared_where clear base) (λ code. is code ∙ sym (get-cleared_where clear base code))
+pub is_cleared_where : (clear : Bool) (base made : Settings) → IsClearedWhere clear base made → made ≡ cleared_where
+    clear base
+is_cleared_where clear base made is = same_settings made (cleared_where clear base) (λ code. is code ∙ sym
+    (get-cleared_where clear base code))
 
 -- a character and a mark after a modifier
-pub characters_after : (modifier : Modifier) (chp made : Settings) → IsCharacterAfter modifier chp made → made ≡ modified_characters modifier chp
+pub characters_after : (modifier : Modifier) (chp made : Settings) → IsCharacterAfter modifier chp made →
+    made ≡ modified_characters modifier chp
 characters_after modifier chp made is = over_one modifier.clear modifier.chp chp made is
 
-pub is_modified_characters : (modifier : Modifier) (chp : Settings) → IsCharacterAfter modifier chp (modified_characters modifier chp)
+pub is_modified_characters : (modifier : Modifier) (chp : Settings) → IsCharacterAfter modifier chp
+    (modified_characters modifier chp)
 is_modified_characters modifier chp = is_over modifier.clear modifier.chp chp
 
-pub paragraph_after : (modifier : Modifier) (pap made : Settings) → IsMarkAfter modifier pap made → made ≡ modified_paragraph modifier pap
+pub paragraph_after : (modifier : Modifier) (pap made : Settings) → IsMarkAfter modifier pap made →
+    made ≡ modified_paragraph modifier pap
 paragraph_after modifier pap made is = over_one false modifier.pap pap made is
 
-pub is_modified_paragraph : (modifier : Modifier) (pap : Settings) → IsMarkAfter modifier pap (modified_paragraph modifier pap)
+pub is_modified_paragraph : (modifier : Modifier) (pap : Settings) → IsMarkAfter modifier pap (modified_paragraph
+    modifier pap)
 is_modified_paragraph modifier pap = is_over false modifier.pap pap
 
 -- one modifier after another
@@ -96,49 +113,65 @@ is_composed first next = record {
 -- ---- nothing over a map, and a map over nothing
 
 pub overlay-empty : (set : Settings) → overlay set empty ≡ set
-overlay-empty set = same_settings (overlay set empty) set (λ code. get-overlay set empty code ∙ (ap (option_or (get set code)) (get-empty nat_cmp code) ∙ or_none (get set code)))
+overlay-empty set = same_settings (overlay set empty) set (λ code. get-overlay set empty code ∙
+    (ap (option_or (get set code)) (get-empty nat_cmp code) ∙ or_none (get set code)))
 
 pub empty-overlay : (base : Settings) → overlay empty base ≡ base
-empty-overlay base = same_settings (overlay empty base) base (λ code. get-overlay empty base code ∙ ap (λ o. option_or o (get base code)) (get-empty nat_cmp code))
+empty-overlay base = same_settings (overlay empty base) base (λ code. get-overlay empty base code ∙ ap (λ o. option_or
+    o (get base code)) (get-empty nat_cmp code))
 
 -- ---- acting with lists that do nothing else
 
 -- the entries of a map put all of it over another
-pub acted_entries : (groups : ℕ) (set base : Settings) → IsPropertyMap groups set → ArePropertiesAfter (entries set) groups base (overlay set base)
+pub acted_entries : (groups : ℕ) (set base : Settings) → IsPropertyMap groups set → ArePropertiesAfter (entries set)
+    groups base (overlay set base)
 acted_entries groups set base formed code =
     get-overlay set base code
     ∙ (ap (λ o. option_or o (get base code)) (get-entries set code)
-    ∙ sym (value_after-entries_over groups code (entries set) (get base code) (entries_sorted set) (settings_of groups set formed)))
+    ∙ sym (value_after-entries_over groups code (entries set) (get base code) (entries_sorted set) (settings_of groups
+    set formed)))
 
 -- an entry that sets puts its value
-pub acted_setting : (groups code : ℕ) (value : List ℕ) (base : Settings) → IsSetting groups (code, value) → ArePropertiesAfter ((code, value) ∷ []) groups base (insert base code value)
+pub acted_setting : (groups code : ℕ) (value : List ℕ) (base : Settings) → IsSetting groups (code, value) →
+    ArePropertiesAfter ((code, value) ∷ []) groups base (insert base code value)
 acted_setting groups code value base setting key =
     get-insert nat_cmp_total base code value key
-    ∙ value_after-set groups key code value (get base key) setting.held setting.sets (sets_not_clears (class_of code) setting.sets)
+    ∙ value_after-set groups key code value (get base key) setting.held setting.sets (sets_not_clears (class_of code)
+    setting.sets)
 
 -- sprmCPlain clears a character
 pub acted_clear : (base : Settings) → ArePropertiesAfter ((0x2A33, 0 ∷ []) ∷ []) character_groups base (cleared base)
-acted_clear base code = get-retained base is_kept code ∙ value_after-clear character_groups code 0x2A33 (0 ∷ []) (get base code) refl refl refl
+acted_clear base code = get-retained base is_kept code ∙ value_after-clear character_groups code 0x2A33 (0 ∷ [])
+    (get base code) refl refl refl
 
 -- ---- well formed
 
-pub overlay_formed : (groups : ℕ) (set base : Settings) → IsPropertyMap groups set → IsPropertyMap groups base → IsPropertyMap groups (overlay set base)
-overlay_formed groups set base later earlier = IsPropertyMap-over groups false set base (overlay set base) (is_over false set base) later earlier
+pub overlay_formed : (groups : ℕ) (set base : Settings) → IsPropertyMap groups set → IsPropertyMap groups base →
+    IsPropertyMap groups (overlay set base)
+overlay_formed groups set base later earlier = IsPropertyMap-over groups false set base (overlay set base)
+    (is_over false set base) later earlier
 
 where_kept : (b : Bool) (o : Option (List ℕ)) (value : List ℕ) → cond b o None ≡ Some value → o ≡ Some value
 where_kept true o value e = e
 where_kept false o value e = absurd (cc)
 
-pub retained_formed : (groups : ℕ) (p : ℕ → Bool) (map : Settings) → IsPropertyMap groups map → IsPropertyMap groups (retain_keys map p)
-retained_formed groups p map formed code value e = formed code value (where_kept (p code) (get map code) value (sym (get-retained map p code) ∙ e))
+pub retained_formed : (groups : ℕ) (p : ℕ → Bool) (map : Settings) → IsPropertyMap groups map → IsPropertyMap groups
+    (retain_keys map p)
+retained_formed groups p map formed code value e = formed code value (where_kept (p code) (get map code) value
+    (sym (get-retained map p code) ∙ e))
 
-pub without_formed : (groups : ℕ) (codes : List ℕ) (map : Settings) → IsPropertyMap groups map → IsPropertyMap groups (without codes map)
+pub without_formed : (groups : ℕ) (codes : List ℕ) (map : Settings) → IsPropertyMap groups map → IsPropertyMap groups
+    (without codes map)
 without_formed groups codes map formed = retained_formed groups (λ code. not (is_among code codes)) map formed
 
-pub modified_formed : (modifier : Modifier) (chp : Settings) → IsFormedModifier modifier → IsPropertyMap character_groups chp → IsPropertyMap character_groups (modified_characters modifier chp)
+pub modified_formed : (modifier : Modifier) (chp : Settings) → IsFormedModifier modifier →
+    IsPropertyMap character_groups chp → IsPropertyMap character_groups (modified_characters modifier chp)
 modified_formed modifier chp by formed =
-    IsPropertyMap-over character_groups modifier.clear modifier.chp chp (modified_characters modifier chp) (is_modified_characters modifier chp) by.chp formed
+    IsPropertyMap-over character_groups modifier.clear modifier.chp chp (modified_characters modifier chp)
+    (is_modified_characters modifier chp) by.chp formed
 
-pub modified_paragraph_formed : (modifier : Modifier) (pap : Settings) → IsFormedModifier modifier → IsPropertyMap paragraph_groups pap → IsPropertyMap paragraph_groups (modified_paragraph modifier pap)
+pub modified_paragraph_formed : (modifier : Modifier) (pap : Settings) → IsFormedModifier modifier →
+    IsPropertyMap paragraph_groups pap → IsPropertyMap paragraph_groups (modified_paragraph modifier pap)
 modified_paragraph_formed modifier pap by formed =
-    IsPropertyMap-over paragraph_groups false modifier.pap pap (modified_paragraph modifier pap) (is_modified_paragraph modifier pap) by.pap formed
+    IsPropertyMap-over paragraph_groups false modifier.pap pap (modified_paragraph modifier pap)
+    (is_modified_paragraph modifier pap) by.pap formed

@@ -5,7 +5,8 @@ use Rattle.std.specs.Option.{option_or}
 use Rattle.std.specs.Ordering.{nat_cmp}
 use Rattle.std.specs.FinMap.{get, retain_keys, entries, entries_sorted, from_sorted, entries-from_sorted}
 use Rattle.std.specs.FinMap.Entries.{where_key, is_sorted-where_key}
-use Rattle.std.proofs.Common.{◌≡◌, ◌∙◌, ◌++◌, ◌∷◌, ◌+◌, ◌≤◌, [], refl, sym, ap, ℕ, Bool, true, false, cond, not, ◌||◌, List, Option, Some, None, is_some, flat_map, length, arith}
+use Rattle.std.proofs.Common.{◌≡◌, ◌∙◌, ◌++◌, ◌∷◌, ◌+◌, ◌≤◌, [], refl, sym, ap, ℕ, Bool, true, false, cond, not, ◌||◌}
+use Rattle.std.proofs.Common.{List, Option, Some, None, is_some, flat_map, length, arith}
 use Rattle.std.proofs.lemmas.List.{length-append}
 use Rattle.std.proofs.lemmas.List.Concat.{flat_map-cons}
 use Rattle.std.proofs.lemmas.Grind.{flat_map-append}
@@ -16,7 +17,8 @@ use Rattle.prop_map.specs.Acting.{is_kept}
 use Rattle.prop_map.specs.declared.modifiers.Modifier.{Modifier}
 use Rattle.prop_map.specs.Settings.{Settings}
 use Rattle.prop_map.specs.Printing.{printed_list}
-use Rattle.prop_map.specs.Modifiers.{value_over, IsOver, IsCharacterAfter, IsMarkAfter, IsComposed, style_prls, clear_prls, printed_modifier}
+use Rattle.prop_map.specs.Modifiers.{value_over, IsOver, IsCharacterAfter, IsMarkAfter, IsComposed, style_prls}
+use Rattle.prop_map.specs.Modifiers.{clear_prls, printed_modifier}
 use Rattle.prop_map.proofs.ChangeLemmas.{get-retained, from_sorted-where}
 use Rattle.prop_map.proofs.EntriesLemmas.{true_of, from_sorted-entries}
 use Rattle.prop_map.proofs.MapLemmas.{same_settings}
@@ -25,7 +27,8 @@ abbrev pub spelt_length : List Prl → ℕ
 spelt_length prls = length (flat_map spelling prls)
 
 spelt-cons : (prl : Prl) (prls : List Prl) → spelt_length (prl ∷ prls) ≡ length (spelling prl) + spelt_length prls
-spelt-cons prl prls = ap length (flat_map-cons spelling prl prls) ∙ length-append (spelling prl) (flat_map spelling prls)
+spelt-cons prl prls = ap length (flat_map-cons spelling prl prls) ∙ length-append (spelling prl) (flat_map spelling
+    prls)
 
 pub spelt-append : (one other : List Prl) → spelt_length (one ++ other) ≡ spelt_length one + spelt_length other
 spelt-append one other =
@@ -152,7 +155,8 @@ pub characters_are_not_longer : (modifier : Modifier) (before after : Settings) 
 characters_are_not_longer modifier before after is =
     fewer_are_not_longer modifier.chp after (record {
       has = λ code value here.
-          over_value modifier.clear code (get modifier.chp code) (get before code) (get after code) value (is code) here;
+          over_value modifier.clear code (get modifier.chp code) (get before code) (get after code) value (is code)
+          here;
     })
 
 pub marks_are_not_longer : (modifier : Modifier) (before after : Settings) → IsMarkAfter modifier before after →

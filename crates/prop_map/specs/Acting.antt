@@ -1,7 +1,8 @@
 -- What a list of sprms does to a map of settings, said code by code.
 -- Profile: an entry of a group that the place does not hold is skipped; of several entries of one code the last counts.
 -- No list is gone through: the last entry that concerns a code decides.
-use Rattle.std.specs.Prelude.{◌≡◌, ℕ, ◌==◌, Bool, ◌&&◌, ◌||◌, not, List, [], ◌∷◌, Option, Some, None, option_map, if◌then◌else◌}
+use Rattle.std.specs.Prelude.{◌≡◌, ℕ, ◌==◌, Bool, ◌&&◌, ◌||◌, not, List, [], ◌∷◌, Option, Some, None, option_map}
+use Rattle.std.specs.Prelude.{if◌then◌else◌}
 use Rattle.std.specs.List.{filter, last_or}
 use Rattle.std.specs.FinMap.{get}
 use Rattle.doc_bits.specs.Number.{u16_at}
@@ -29,7 +30,8 @@ clears_code groups code prl = is_held groups prl.0 && (is_clear (class_of prl.0)
 abbrev pub concerns_code : ℕ → ℕ → Prl → Bool
 concerns_code groups code prl = sets_code groups code prl || clears_code groups code prl
 
--- what the last entry that concerns a code leaves there: its value where it sets, nothing where it removes, and what was
+-- what the last entry that concerns a code leaves there: its value where it sets, nothing where it removes, and what
+-- was
 -- there where no entry concerns it
 abbrev pub left_by : Option Prl → Option (List ℕ) → Option (List ℕ)
 left_by None before = before

@@ -35,7 +35,8 @@ first_entry block = (u16_at block 0, slice_range block 6 (first_end block))
 unfoldable pub entries_upto : ℕ → List ℕ → Entries
 entries_upto zero block = []
 entries_upto (suc n) [] = []
-entries_upto (suc n) (byte ∷ bytes) = first_entry (byte ∷ bytes) ∷ entries_upto n (drop (first_end (byte ∷ bytes)) (byte ∷ bytes))
+entries_upto (suc n) (byte ∷ bytes) = first_entry (byte ∷ bytes) ∷ entries_upto n (drop (first_end (byte ∷ bytes))
+    (byte ∷ bytes))
 
 -- the entries of a block: none has less than a byte
 abbrev pub entries_in : List ℕ → Entries

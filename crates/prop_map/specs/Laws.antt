@@ -17,19 +17,24 @@ NoneSets groups code list = All (λ e. sets_code groups code e ≡ false) list
 abbrev pub NoneClears : ℕ → ℕ → List Prl → Type 0
 NoneClears groups code list = All (λ e. clears_code groups code e ≡ false) list
 
--- what a list leaves at a code where `before` was: the value of the last entry that sets it, where no later entry removes
+-- what a list leaves at a code where `before` was: the value of the last entry that sets it, where no later entry
+-- removes
 -- it; what was there, where no entry sets or removes it; nothing, where an entry removes it and no later one sets it
 pub record IsSaidCodeByCode (groups code : ℕ) (before : Option (List ℕ)) : Type 0 where
-  pub set : (front back : List Prl) (prl : Prl) → sets_code groups code prl ≡ true → NoneSets groups code back → NoneClears groups code back → value_after (front ++ prl ∷ back) groups code before ≡ Some prl.1
-  pub kept : (list : List Prl) → NoneSets groups code list → NoneClears groups code list → value_after list groups code before ≡ before
-  pub removed : (front back : List Prl) (prl : Prl) → clears_code groups code prl ≡ true → NoneSets groups code back → value_after (front ++ prl ∷ back) groups code before ≡ None
+  pub set : (front back : List Prl) (prl : Prl) → sets_code groups code prl ≡ true → NoneSets groups code back →
+      NoneClears groups code back → value_after (front ++ prl ∷ back) groups code before ≡ Some prl.1
+  pub kept : (list : List Prl) → NoneSets groups code list → NoneClears groups code list → value_after list groups
+      code before ≡ before
+  pub removed : (front back : List Prl) (prl : Prl) → clears_code groups code prl ≡ true → NoneSets groups code back →
+      value_after (front ++ prl ∷ back) groups code before ≡ None
 
 abbrev pub SaidCodeByCode : Type 0
 SaidCodeByCode = (groups code : ℕ) (before : Option (List ℕ)) → IsSaidCodeByCode groups code before
 
 -- two lists joined act as the first and then the second
 pub record IsActedInTurn (first next : List Prl) (groups : ℕ) : Type 0 where
-  pub values : (code : ℕ) (before : Option (List ℕ)) → value_after (first ++ next) groups code before ≡ value_after next groups code (value_after first groups code before)
+  pub values : (code : ℕ) (before : Option (List ℕ)) → value_after (first ++ next) groups code before ≡ value_after
+      next groups code (value_after first groups code before)
   pub style : style_of (first ++ next) groups ≡ option_or (style_of next groups) (style_of first groups)
 
 abbrev pub ListsActInTurn : Type 0
@@ -37,18 +42,21 @@ ListsActInTurn = (first next : List Prl) (groups : ℕ) → IsActedInTurn first 
 
 -- no two maps are the map after a list
 abbrev pub ActingIsOne : Type 0
-ActingIsOne = (list : List Prl) (groups : ℕ) (old one other : Settings) → ArePropertiesAfter list groups old one → ArePropertiesAfter list groups old other → one ≡ other
+ActingIsOne = (list : List Prl) (groups : ℕ) (old one other : Settings) → ArePropertiesAfter list groups old one →
+    ArePropertiesAfter list groups old other → one ≡ other
 
 -- no two modifiers are that of a list
 abbrev pub ModifierIsOne : Type 0
 ModifierIsOne = (list : List Prl) (one other : Modifier) → IsModifierOf list one → IsModifierOf list other → one ≡ other
 
 abbrev pub SettingsStayFormed : Type 0
-SettingsStayFormed = (groups : ℕ) (map : Settings) (prl : Prl) → IsPropertyMap groups map → IsMapEntry groups prl → IsPropertyMap groups (insert map prl.0 prl.1)
+SettingsStayFormed = (groups : ℕ) (map : Settings) (prl : Prl) → IsPropertyMap groups map → IsMapEntry groups prl →
+    IsPropertyMap groups (insert map prl.0 prl.1)
 
 -- one map put over another is their overlay
 abbrev pub OverIsOverlay : Type 0
-OverIsOverlay = (clear : Bool) (top base made : Settings) → IsOver clear top base made ↔ made ≡ overlay top (cleared_where clear base)
+OverIsOverlay = (clear : Bool) (top base made : Settings) → IsOver clear top base made ↔ made ≡ overlay top
+    (cleared_where clear base)
 
 -- one modifier and then another are one modifier
 abbrev pub ComposedIsOne : Type 0
@@ -56,4 +64,5 @@ ComposedIsOne = (first next made : Modifier) → IsComposed first next made ↔ 
 
 -- a map is there after each list
 abbrev pub ListsMakeMaps : Type 0
-ListsMakeMaps = (list : List Prl) (groups : ℕ) (old : Settings) → (new : Settings) × ArePropertiesAfter list groups old new
+ListsMakeMaps = (list : List Prl) (groups : ℕ) (old : Settings) → (new : Settings) × ArePropertiesAfter list groups
+    old new

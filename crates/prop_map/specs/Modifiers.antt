@@ -1,5 +1,6 @@
 -- Profile: the modifier of a piece, as what it does to characters and to paragraph marks.
-use Rattle.std.specs.Prelude.{◌≡◌, ℕ, Bool, false, ◌&&◌, ◌||◌, not, List, [], ◌∷◌, ◌++◌, Option, Some, None, if◌then◌else◌}
+use Rattle.std.specs.Prelude.{◌≡◌, ℕ, Bool, false, ◌&&◌, ◌||◌, not, List, [], ◌∷◌, ◌++◌, Option, Some, None}
+use Rattle.std.specs.Prelude.{if◌then◌else◌}
 use Rattle.std.specs.Option.{option_or, unwrap_or}
 use Rattle.std.specs.List.{flat_map, list_any}
 use Rattle.std.specs.FinMap.{entries, empty, get}
@@ -43,7 +44,8 @@ mark_style modifier istd = unwrap_or modifier.istd istd
 abbrev pub clears_characters : List Prl → Bool
 clears_characters prls = list_any (λ prl. is_held character_groups prl.0 && is_clear (class_of prl.0)) prls
 
--- the modifier is that of the list: the style and the properties of marks, whether characters are cleared, and their properties
+-- the modifier is that of the list: the style and the properties of marks, whether characters are cleared, and their
+-- properties
 pub record IsModifierOf (prls : List Prl) (modifier : Modifier) : Type 0 where
   pub style : modifier.istd ≡ style_of prls paragraph_groups
   pub marks : ArePropertiesAfter prls paragraph_groups empty modifier.pap
@@ -52,8 +54,10 @@ pub record IsModifierOf (prls : List Prl) (modifier : Modifier) : Type 0 where
 
 -- the modifier does to characters and to marks what the list does
 pub record DoesAsListed (prls : List Prl) (modifier : Modifier) : Type 0 where
-  pub characters : (code : ℕ) (before : Option (List ℕ)) → character_value modifier code before ≡ value_after prls character_groups code before
-  pub marks : (code : ℕ) (before : Option (List ℕ)) → mark_value modifier code before ≡ value_after prls paragraph_groups code before
+  pub characters : (code : ℕ) (before : Option (List ℕ)) → character_value modifier code before ≡ value_after prls
+      character_groups code before
+  pub marks : (code : ℕ) (before : Option (List ℕ)) → mark_value modifier code before ≡ value_after prls
+      paragraph_groups code before
   pub style : (istd : ℕ) → mark_style modifier istd ≡ unwrap_or (style_of prls paragraph_groups) istd
 
 -- the same of the list that the bytes spell
@@ -80,8 +84,10 @@ pub record IsComposed (first next made : Modifier) : Type 0 where
 
 -- it does what the first does and then the next, to characters and to marks
 pub record ActsInTurn (first next made : Modifier) : Type 0 where
-  pub characters : (code : ℕ) (before : Option (List ℕ)) → character_value made code before ≡ character_value next code (character_value first code before)
-  pub marks : (code : ℕ) (before : Option (List ℕ)) → mark_value made code before ≡ mark_value next code (mark_value first code before)
+  pub characters : (code : ℕ) (before : Option (List ℕ)) → character_value made code before ≡ character_value next
+      code (character_value first code before)
+  pub marks : (code : ℕ) (before : Option (List ℕ)) → mark_value made code before ≡ mark_value next code
+      (mark_value first code before)
   pub style : (istd : ℕ) → mark_style made istd ≡ mark_style next (mark_style first istd)
 
 -- its maps meet the line on codes and values of a well-formed document
@@ -104,7 +110,8 @@ clear_prls clear = if clear then (0x2A33, 0 ∷ []) ∷ [] else []
 
 -- Profile: a modifier is the style, the properties of marks, the clear, the properties of characters
 abbrev pub modifier_prls : Modifier → List Prl
-modifier_prls modifier = style_prls modifier.istd ++ (entries modifier.pap ++ (clear_prls modifier.clear ++ entries modifier.chp))
+modifier_prls modifier = style_prls modifier.istd ++ (entries modifier.pap ++ (clear_prls modifier.clear ++ entries
+    modifier.chp))
 
 abbrev pub printed_modifier : Modifier → List ℕ
 printed_modifier modifier = flat_map spelling (modifier_prls modifier)

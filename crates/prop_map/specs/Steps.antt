@@ -7,7 +7,8 @@ use Rattle.prop_map.specs.Acting.{ArePropertiesAfter, style_of}
 use Rattle.prop_map.specs.Modifiers.{clears_characters}
 
 -- the first entries of the list were acted with, and the others are left
-pub record HasActedUpTo (list : List Prl) (groups : ℕ) (old : Settings) (cursor : SprmCursor) (now : Settings) (istd : Option ℕ) : Type 0 where
+pub record HasActedUpTo (list : List Prl) (groups : ℕ) (old : Settings) (cursor : SprmCursor) (now : Settings)
+    (istd : Option ℕ) : Type 0 where
   pub done : List Prl
   pub others : List Prl
   pub joined : list ≡ done ++ others

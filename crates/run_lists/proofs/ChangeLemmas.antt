@@ -1,5 +1,6 @@
 -- A range of a list of runs, run by run.
-use Rattle.std.proofs.Common.{◌≡◌, ℕ, zero, suc, refl, sym, ap, subst, ◌∙◌, ◌+◌, ◌-◌, ◌≤◌, List, [], ◌∷◌, ◌++◌, length, take, drop, arith, append_assoc, length-append, Some}
+use Rattle.std.proofs.Common.{◌≡◌, ℕ, zero, suc, refl, sym, ap, subst, ◌∙◌, ◌+◌, ◌-◌, ◌≤◌, List, [], ◌∷◌, ◌++◌}
+use Rattle.std.proofs.Common.{length, take, drop, arith, append_assoc, length-append, Some}
 use Rattle.std.specs.Prelude.{slice_get, slice_range, replicate}
 use Rattle.std.proofs.Math.Seq.{take-add}
 use Rattle.std.proofs.lemmas.List.{length-replicate, replicate-append-replicate, drop-drop}
@@ -66,7 +67,8 @@ together_copies {T = T} becomes count before after is = record {
   len = length-replicate count before ∙ sym (length-replicate count after);
   each = λ k x y here there.
       let one : before ≡ x =
-      All_at (λ (z : T). before ≡ z) (replicate count before) k x (All-replicate (λ (z : T). before ≡ z) count before refl)
+      All_at (λ (z : T). before ≡ z) (replicate count before) k x (All-replicate (λ (z : T). before ≡ z) count before
+      refl)
       here in
       let other : after ≡ y =
       All_at (λ (z : T). after ≡ z) (replicate count after) k y (All-replicate (λ (z : T). after ≡ z) count after refl)

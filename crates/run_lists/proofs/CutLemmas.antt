@@ -1,8 +1,11 @@
 -- Runs in two parts, and a run in two.
-use Rattle.std.proofs.Common.{◌≡◌, ℕ, zero, suc, refl, sym, ap, subst, ◌∙◌, ◌+◌, ◌-◌, ◌<◌, ◌≤◌, List, [], ◌∷◌, ◌++◌, length, take, drop, set, get_or, arith, append_assoc, add-one, length-append, length-take-le, drop-cons, Some}
+use Rattle.std.proofs.Common.{◌≡◌, ℕ, zero, suc, refl, sym, ap, subst, ◌∙◌, ◌+◌, ◌-◌, ◌<◌, ◌≤◌, List, [], ◌∷◌, ◌++◌}
+use Rattle.std.proofs.Common.{length, take, drop, set, get_or, arith, append_assoc, add-one, length-append}
+use Rattle.std.proofs.Common.{length-take-le, drop-cons, Some}
 use Rattle.std.specs.Prelude.{slice_get, slice_range, replicate}
 use Rattle.std.specs.List.{All, insert, splice}
-use Rattle.std.proofs.lemmas.List.{length-replicate, replicate-append-replicate, get_or-replicate, take_more, take-append-drop, take-append-le, take_at, length-set, set_split, drop_all}
+use Rattle.std.proofs.lemmas.List.{length-replicate, replicate-append-replicate, get_or-replicate, take_more}
+use Rattle.std.proofs.lemmas.List.{take-append-drop, take-append-le, take_at, length-set, set_split, drop_all}
 use Rattle.std.proofs.Math.Seq.{set-append_seam, drop-append_seam}
 use Rattle.std.proofs.lemmas.List.Edits.{length-insert}
 use Rattle.std.proofs.lemmas.List.Concat.{get_or-flat_map}
@@ -12,7 +15,8 @@ use Rattle.doc_bits.proofs.ListLemmas.{range_mid, All_at}
 use Rattle.run_lists.specs.declared.runs.Run.{Run}
 use Rattle.run_lists.specs.Spread.{spread, extent}
 use Rattle.run_lists.specs.Places.{IsCut}
-use Rattle.run_lists.proofs.SpreadLemmas.{spread-nil, spread-append, spread-cons, spread_push, length-spread, extent-nil, extent_push, extent_more, extent-take}
+use Rattle.run_lists.proofs.SpreadLemmas.{spread-nil, spread-append, spread-cons, spread_push, length-spread}
+use Rattle.run_lists.proofs.SpreadLemmas.{extent-nil, extent_push, extent_more, extent-take}
 
 -- ---- a front and the rest
 
@@ -45,7 +49,8 @@ same_front xs ys k begin le within =
 -- ---- a run in two
 
 -- a run, and those behind it
-pub run_and_rest : {A : Type 0} (xs : List A) (k : ℕ) (x : A) → slice_get xs k ≡ Some x → drop k xs ≡ x ∷ drop (k + 1) xs
+pub run_and_rest : {A : Type 0} (xs : List A) (k : ℕ) (x : A) → slice_get xs k ≡ Some x → drop k xs ≡ x ∷ drop (k + 1)
+    xs
 run_and_rest {A = A} xs k x is =
     let within = slice_get_within xs k x is in
     subst (λ (n : ℕ). drop k xs ≡ x ∷ drop n xs) (sym (add-one k))
@@ -117,7 +122,8 @@ cut_in_two {T = T} runs begin place k front back le within here =
 
 -- ---- values
 
-All-copies : {T : Type 0} (P : T → Type 0) (count : ℕ) (value : T) → (0 < count → P value) → All P (replicate count value)
+All-copies : {T : Type 0} (P : T → Type 0) (count : ℕ) (value : T) → (0 < count → P value) →
+    All P (replicate count value)
 All-copies P zero value holds = All-nil P
 All-copies P (suc count) value holds = All-replicate P (suc count) value (holds (omega arith))
 

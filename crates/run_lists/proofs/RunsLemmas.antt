@@ -1,5 +1,6 @@
 -- What the calls on runs do, in terms of the runs that they see.
-use Rattle.std.proofs.Common.{◌≡◌, inl, inr, ℕ, ◌+◌, ◌-◌, ◌<◌, ◌≤◌, ◌^◌, List, [], ◌∷◌, ◌++◌, length, take, drop, set, get_or, Some, sym, ◌∙◌, ap, subst, arith, length-append}
+use Rattle.std.proofs.Common.{◌≡◌, inl, inr, ℕ, ◌+◌, ◌-◌, ◌<◌, ◌≤◌, ◌^◌, List, [], ◌∷◌, ◌++◌, length, take, drop, set}
+use Rattle.std.proofs.Common.{get_or, Some, sym, ◌∙◌, ap, subst, arith, length-append}
 use Rattle.std.specs.Prelude.{slice_get, replicate}
 use Rattle.std.specs.List.{insert, splice}
 use Rattle.std.proofs.lemmas.Bool.{cases_lt}
@@ -79,15 +80,16 @@ found_value {T = T} runs begin place spot d found before =
 -- ---- a cut
 
 -- what a cut inside a run sees: the run, the run again, what was put behind it, and what stands before that then
-pub record CutsRun {T : Type 0} (runs inserted : List (Run T)) (k left : ℕ) (one again rest front : Run T) : Type 0 where
-  pub within : k < length runs
-  pub first : one ≡ get_or runs k one
-  pub second : again ≡ get_or runs k again
-  pub put : inserted ≡ insert runs (k + 1) rest
-  pub third : front ≡ get_or inserted k front
-  pub value : rest.value ≡ one.value
-  pub count : rest.count ≡ again.count - left
-  pub short : left ≤ again.count
+pub record CutsRun {T : Type 0} (runs inserted : List (Run T)) (k left : ℕ) (one again rest front : Run T) : Type 0
+  where
+    pub within : k < length runs
+    pub first : one ≡ get_or runs k one
+    pub second : again ≡ get_or runs k again
+    pub put : inserted ≡ insert runs (k + 1) rest
+    pub third : front ≡ get_or inserted k front
+    pub value : rest.value ≡ one.value
+    pub count : rest.count ≡ again.count - left
+    pub short : left ≤ again.count
 
 front_is : {T : Type 0} (runs inserted : List (Run T)) (k left : ℕ) (one again rest front : Run T) →
     CutsRun runs inserted k left one again rest front → front ≡ get_or runs k one

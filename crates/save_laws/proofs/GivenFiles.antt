@@ -39,7 +39,8 @@ pub record AreHeld (file : List ℕ) (parts : FileParts) : Type 0 where
   pub loading : Hold (loading_rules parts.contents)
   pub parts_hold : Hold (part_rules (source_of parts.text))
 
-pub held_rules : (file : List ℕ) (parts : FileParts) → Hold (file_rules file) → HasFileParts file parts → AreHeld file parts
+pub held_rules : (file : List ℕ) (parts : FileParts) → Hold (file_rules file) → HasFileParts file parts →
+    AreHeld file parts
 held_rules file parts h has =
     let contents : h.1.0 ≡ parts.contents = contents_unique file h.1.0 parts.contents h.1.1.0 has.has_contents in
     let rest = h.1.1.1 in

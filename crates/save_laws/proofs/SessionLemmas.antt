@@ -23,7 +23,8 @@ use Rattle.doc_bits.specs.Together.{AreTogether}
 use Rattle.save_laws.specs.Places.{PagedStream, Given, given_of, IsMarkedAfter, IsGivenAfter}
 use Rattle.save_laws.specs.Sessions.{IsSlotAfter, SplicesStayTogether}
 use Rattle.save_laws.specs.Sessions.{ModifiedStayTogether, LongerPlansKeep, MainSplices}
-use Rattle.doc_bits.proofs.TogetherLemmas.{in_front, from_behind, in_back, Beside, together_joined, together_take, together_drop}
+use Rattle.doc_bits.proofs.TogetherLemmas.{in_front, from_behind, in_back, Beside, together_joined, together_take}
+use Rattle.doc_bits.proofs.TogetherLemmas.{together_drop}
 
 pub splices_stay_together : SplicesStayTogether
 splices_stay_together old plan places fresh slots fresh_slots from to order within together more =

@@ -1,5 +1,6 @@
 -- Operands: how their bytes tell where the value ends.
-use Rattle.std.proofs.Common.{◌≡◌, ℕ, ◌+◌, ◌-◌, ◌*◌, ◌/◌, ◌%◌, ◌<◌, ◌≤◌, List, [], ◌∷◌, ◌++◌, length, take, drop, get_or, refl, sym, ap, ◌∙◌, arith, append_assoc, length-append}
+use Rattle.std.proofs.Common.{◌≡◌, ℕ, ◌+◌, ◌-◌, ◌*◌, ◌/◌, ◌%◌, ◌<◌, ◌≤◌, List, [], ◌∷◌, ◌++◌, length, take, drop}
+use Rattle.std.proofs.Common.{get_or, refl, sym, ap, ◌∙◌, arith, append_assoc, length-append}
 use Rattle.std.proofs.lemmas.List.{drop-drop, append_cancel_left}
 use Rattle.std.specs.Prelude.{slice_range}
 use Rattle.doc_bits.specs.Number.{number_at, u16_at, number_bytes}
@@ -39,14 +40,23 @@ IsExtent CountedByByte rest len = (len ≡ get_or rest 0 0) × (1 + len ≤ leng
 IsExtent CountedByWord rest len = (len + 1 ≡ u16_at rest 0) × (2 + len ≤ length rest)
 
 -- an operand's bytes have the extent that its count says
-pub extent : (size : OperandSize) (rest value more : List ℕ) → IsSizeOf size (length value) → rest ≡ operand_bytes size value ++ more → IsExtent size rest (length value)
+pub extent : (size : OperandSize) (rest value more : List ℕ) → IsSizeOf size (length value) → rest ≡ operand_bytes
+    size value ++ more → IsExtent size rest (length value)
 extent (Fixed size) rest value more fits e = (fits, omega (arith, ap length e, length-append value more))
 extent CountedByByte rest value more fits e = rw e (refl, omega (arith, length-append value more))
 extent CountedByWord rest value more fits e =
-    let whole : rest ≡ number_bytes 2 (length value + 1) ++ (value ++ more) = e ∙ append_assoc (number_bytes 2 (length value + 1)) value more in
-    let read : u16_at (number_bytes 2 (length value + 1) ++ (value ++ more)) 0 ≡ length value + 1 = number_at-number_bytes 2 (length value + 1) (value ++ more) (omega arith) in (
+    let whole : rest ≡ number_bytes 2 (length value + 1) ++ (value ++ more) = e ∙ append_assoc (number_bytes 2
+    (length value + 1)) value more in
+    let read : u16_at (number_bytes 2 (length value + 1) ++ (value ++ more)) 0 ≡ length value + 1 =
+    number_at-number_bytes 2 (length value + 1) (value ++ more) (omega arith) in (
       rw whole (sym read),
-      omega (arith, ap length whole, length-append (number_bytes 2 (length value + 1)) (value ++ more), length-append value more, length-number_bytes 2 (length value + 1)),
+      omega (
+        arith,
+        ap length whole,
+        length-append (number_bytes 2 (length value + 1)) (value ++ more),
+        length-append value more,
+        length-number_bytes 2 (length value + 1),
+      ),
     )
 
 -- the extent is the only one
@@ -56,17 +66,20 @@ extent_unique CountedByByte rest a b one other = cc
 extent_unique CountedByWord rest a b one other = let f = one.0 in let s = other.0 in omega arith
 
 -- values of one length have one count
-counted_same : (size : OperandSize) (v w x y : List ℕ) → length v ≡ length w → operand_bytes size v ++ x ≡ operand_bytes size w ++ y → (v ≡ w) × (x ≡ y)
+counted_same : (size : OperandSize) (v w x y : List ℕ) → length v ≡ length w → operand_bytes size v ++ x ≡
+    operand_bytes size w ++ y → (v ≡ w) × (x ≡ y)
 counted_same (Fixed size) v w x y same e = same_front v w x y same e
 counted_same CountedByByte v w x y same e = same_front v w x y same (let tail : v ++ x ≡ w ++ y = cc in tail)
 counted_same CountedByWord v w x y same e =
     let count = number_bytes 2 (length v + 1) in
     let left : count ++ (v ++ x) ≡ (count ++ v) ++ x = sym (append_assoc count v x) in
-    let right : (number_bytes 2 (length w + 1) ++ w) ++ y ≡ count ++ (w ++ y) = rw same (append_assoc (number_bytes 2 (length w + 1)) w y) in
+    let right : (number_bytes 2 (length w + 1) ++ w) ++ y ≡ count ++ (w ++ y) = rw same (append_assoc (number_bytes 2
+    (length w + 1)) w y) in
     same_front v w x y same (append_cancel_left count (v ++ x) (w ++ y) (left ∙ e ∙ right))
 
 -- an operand's value and the bytes after it are the only ones
-pub operand_unique : (size : OperandSize) (v w x y : List ℕ) → IsSizeOf size (length v) → IsSizeOf size (length w) → operand_bytes size v ++ x ≡ operand_bytes size w ++ y → (v ≡ w) × (x ≡ y)
+pub operand_unique : (size : OperandSize) (v w x y : List ℕ) → IsSizeOf size (length v) → IsSizeOf size (length w) →
+    operand_bytes size v ++ x ≡ operand_bytes size w ++ y → (v ≡ w) × (x ≡ y)
 operand_unique size v w x y first second e =
     let one = extent size (operand_bytes size v ++ x) v x first refl in
     let other = extent size (operand_bytes size v ++ x) w y second e in
@@ -79,7 +92,8 @@ count_len CountedByByte = 1
 count_len CountedByWord = 2
 
 -- where the extent is within the bytes the operand is there
-pub operand_at : (size : OperandSize) (rest : List ℕ) (len : ℕ) → AreBytes rest → IsExtent size rest len → IsSizeOf size len → IsOperandAt size rest (count_len size) (count_len size + len)
+pub operand_at : (size : OperandSize) (rest : List ℕ) (len : ℕ) → AreBytes rest → IsExtent size rest len →
+    IsSizeOf size len → IsOperandAt size rest (count_len size) (count_len size + len)
 operand_at (Fixed size) rest len bytes here fits =
     let e = here.0 in
     let h = here.1 in
@@ -93,7 +107,8 @@ operand_at CountedByByte rest len bytes here fits =
     let e = here.0 in
     let h = here.1 in
     let long = length-range rest 1 (1 + len) (omega arith) in
-    let count : take 1 rest ≡ length (slice_range rest 1 (1 + len)) ∷ [] = take_one rest (omega arith) ∙ ap (λ n. n ∷ []) (omega arith) in
+    let count : take 1 rest ≡ length (slice_range rest 1 (1 + len)) ∷ [] = take_one rest (omega arith) ∙ ap
+    (λ n. n ∷ []) (omega arith) in
     record {
       order = omega arith;
       within = omega arith;
@@ -105,7 +120,8 @@ operand_at CountedByWord rest len bytes here fits =
     let h = here.1 in
     let long = length-range rest 2 (2 + len) (omega arith) in
     let number : length (slice_range rest 2 (2 + len)) + 1 ≡ u16_at rest 0 = omega arith in
-    let count : take 2 rest ≡ number_bytes 2 (length (slice_range rest 2 (2 + len)) + 1) = sym (ap (number_bytes 2) number ∙ number_bytes-u16_at rest bytes (omega arith)) in
+    let count : take 2 rest ≡ number_bytes 2 (length (slice_range rest 2 (2 + len)) + 1) = sym (ap (number_bytes 2)
+    number ∙ number_bytes-u16_at rest bytes (omega arith)) in
     record {
       order = omega arith;
       within = omega arith;
@@ -113,15 +129,18 @@ operand_at CountedByWord rest len bytes here fits =
       spelt =
           three_parts rest 2 (2 + len) (omega arith)
           ∙ ap (λ front. front ++ (slice_range rest 2 (2 + len) ++ drop (2 + len) rest)) count
-          ∙ sym (append_assoc (number_bytes 2 (length (slice_range rest 2 (2 + len)) + 1)) (slice_range rest 2 (2 + len)) (drop (2 + len) rest));
+          ∙ sym (append_assoc (number_bytes 2 (length (slice_range rest 2 (2 + len)) + 1)) (slice_range rest 2
+          (2 + len)) (drop (2 + len) rest));
     }
 
 -- where no extent fits there is no operand
-pub no_operand : (size : OperandSize) (rest : List ℕ) → ((len : ℕ) → IsSizeOf size len → ¬ (IsExtent size rest len)) → HasNoOperand size rest
+pub no_operand : (size : OperandSize) (rest : List ℕ) → ((len : ℕ) → IsSizeOf size len → ¬ (IsExtent size rest len)) →
+    HasNoOperand size rest
 no_operand size rest none = λ value more fits e. none (length value) fits (extent size rest value more fits e)
 
 -- a part of what is left of a list
-pub range_moved : (bytes rest : List ℕ) (at from to : ℕ) → rest ≡ drop at bytes → slice_range bytes (at + from) (at + to) ≡ slice_range rest from to
+pub range_moved : (bytes rest : List ℕ) (at from to : ℕ) → rest ≡ drop at bytes → slice_range bytes (at + from)
+    (at + to) ≡ slice_range rest from to
 range_moved bytes rest at from to e =
     let len : at + to - (at + from) ≡ to - from = omega arith in
     let part : drop (at + from) bytes ≡ drop from rest = sym (ap (drop from) e ∙ drop-drop from at bytes) in

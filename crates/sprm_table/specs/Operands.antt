@@ -1,5 +1,6 @@
 -- [MS-DOC] Sprm, spra: the size of the operand.
-use Rattle.std.specs.Prelude.{◌≡◌, ℕ, ◌+◌, ◌-◌, ◌/◌, ◌≤◌, ◌==◌, ◌||◌, if◌then◌else◌, List, ◌∷◌, ◌++◌, length, drop, slice_range}
+use Rattle.std.specs.Prelude.{◌≡◌, ℕ, ◌+◌, ◌-◌, ◌/◌, ◌≤◌, ◌==◌, ◌||◌, if◌then◌else◌, List, ◌∷◌, ◌++◌, length, drop}
+use Rattle.std.specs.Prelude.{slice_range}
 use Rattle.doc_bits.specs.Number.{number_bytes}
 use Rattle.sprm_table.specs.declared.operands.OperandSize.{OperandSize}
 use Rattle.sprm_table.specs.declared.operands.OperandSize.TheVariants.{Fixed, CountedByByte, CountedByWord}
@@ -20,7 +21,8 @@ IsSizeOf CountedByByte len = len ≤ 255
 IsSizeOf CountedByWord len = len ≤ 65534
 
 -- the bytes of an operand: a count where there is one, and the value
--- [MS-DOC] TDefTableOperand: the 16-bit count is the size of the value and 1. Profile: a count of 0 stands before no value
+-- [MS-DOC] TDefTableOperand: the 16-bit count is the size of the value and 1. Profile: a count of 0 stands before no
+-- value
 abbrev pub operand_bytes : OperandSize → List ℕ → List ℕ
 operand_bytes (Fixed size) value = value
 operand_bytes CountedByByte value = length value ∷ value
@@ -35,4 +37,5 @@ pub record IsOperandAt (size : OperandSize) (rest : List ℕ) (from to : ℕ) : 
 
 -- the bytes begin with no operand of this size: they are too few for it
 abbrev pub HasNoOperand : OperandSize → List ℕ → Type 0
-HasNoOperand size rest = (value more : List ℕ) → IsSizeOf size (length value) → ¬ (rest ≡ operand_bytes size value ++ more)
+HasNoOperand size rest = (value more : List ℕ) → IsSizeOf size (length value) → ¬ (rest ≡ operand_bytes size value ++
+    more)

@@ -12,7 +12,8 @@ use Rattle.sprm_table.specs.Operands.{size_of, IsSizeOf, operand_bytes, HasNoOpe
 abbrev pub Prl : Type 0
 Prl = ℕ × List ℕ
 
--- a code of 16 bits that is not 0, and a value of its operand's size: at most 255 bytes where a byte counts them, at most
+-- a code of 16 bits that is not 0, and a value of its operand's size: at most 255 bytes where a byte counts them, at
+-- most
 -- 65,534 in sprmTDefTable
 pub record IsPrl (prl : Prl) : Type 0 where
   pub some : 0 < prl.0
@@ -107,4 +108,5 @@ SprmListIsOne = (bytes : List ℕ) (a b : List Prl) → SpellsSprmList bytes a �
 abbrev pub FirstFaultIsOne : Type 0
 FirstFaultIsOne =
     (bytes : List ℕ) (groups : ℕ) (a : SprmFault) →
-    IsFirstSprmFault bytes groups a → ((b : SprmFault) → IsFirstSprmFault bytes groups b → a ≡ b) × (¬ (IsAcceptedList bytes groups))
+    IsFirstSprmFault bytes groups a → ((b : SprmFault) → IsFirstSprmFault bytes groups b → a ≡ b) ×
+    (¬ (IsAcceptedList bytes groups))

@@ -8,7 +8,8 @@ use Rattle.style_sheet.proofs.OneChainLemmas.{climbed_below, next_kind, chain_sh
 
 -- a style has a chain, or it has none
 abbrev IsDecided : Sheet → ℕ → Type 0
-IsDecided sheet istd = ((chain : List ℕ) × IsBaseChain sheet istd chain) ⊎ ((chain : List ℕ) → ¬ IsBaseChain sheet istd chain)
+IsDecided sheet istd = ((chain : List ℕ) × IsBaseChain sheet istd chain) ⊎ ((chain : List ℕ) → ¬ IsBaseChain sheet
+    istd chain)
 
 next_base : (sheet : Sheet) (istd n at : ℕ) → IsClimbed sheet istd n at → (base : Option ℕ) → base_at sheet at ≡ base →
     ((next : ℕ) → IsClimbed sheet istd (suc n) next → IsDecided sheet istd) → IsDecided sheet istd
@@ -19,11 +20,14 @@ next_base sheet istd n at c (Some next) e more = elim (cases_eq (kind_at sheet n
 ]
 
 -- the bases end, or they are more than there are slots
-climb : (sheet : Sheet) (istd n at left : ℕ) → IsClimbed sheet istd n at → length sheet.styles ≤ n + left → IsDecided sheet istd
+climb : (sheet : Sheet) (istd n at left : ℕ) → IsClimbed sheet istd n at → length sheet.styles ≤ n + left →
+    IsDecided sheet istd
 climb sheet istd n at zero c h =
-    inr (λ chain b. let short = chain_short sheet istd chain b in let below = climbed_below sheet istd n at chain c b in absurd (omega arith))
+    inr (λ chain b. let short = chain_short sheet istd chain b in let below = climbed_below sheet istd n at chain c b
+    in absurd (omega arith))
 climb sheet istd n at (suc left) c h =
-    next_base sheet istd n at c (base_at sheet at) refl (λ next more. climb sheet istd (suc n) next left more (omega arith))
+    next_base sheet istd n at c (base_at sheet at) refl (λ next more. climb sheet istd (suc n) next left more
+    (omega arith))
 
 pub unbroken_bases : (sheet : Sheet) → ((istd : ℕ) → ¬ BreaksBases sheet istd) → HasSoundBases sheet
 unbroken_bases sheet none = record {

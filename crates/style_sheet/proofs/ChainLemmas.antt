@@ -1,5 +1,6 @@
 -- Chains of bases: the bases that follow each other from a style on, and that they are its chain where they end.
-use Rattle.std.proofs.Common.{◌≡◌, ◌≢◌, inl, inr, ℕ, zero, suc, ◌+◌, ◌-◌, ◌<◌, ◌≤◌, List, [], ◌∷◌, ◌++◌, length, reverse, slice_index, Some, None, refl, sym, ◌∙◌, ap, subst, arith}
+use Rattle.std.proofs.Common.{◌≡◌, ◌≢◌, inl, inr, ℕ, zero, suc, ◌+◌, ◌-◌, ◌<◌, ◌≤◌, List, [], ◌∷◌, ◌++◌, length}
+use Rattle.std.proofs.Common.{reverse, slice_index, Some, None, refl, sym, ◌∙◌, ap, subst, arith}
 use Rattle.std.specs.Option.{unwrap_or}
 use Rattle.std.proofs.lemmas.Bool.{cases_lt}
 use Rattle.std.proofs.lemmas.List.{reverse-append}
@@ -32,10 +33,12 @@ climbed_none sheet istd h = record {
 }
 
 -- the style above, where the last one has a base
-pub up_more : (sheet : Sheet) (istd n at base : ℕ) → at ≡ up sheet istd n → base_at sheet at ≡ Some base → up sheet istd (suc n) ≡ base
+pub up_more : (sheet : Sheet) (istd n at base : ℕ) → at ≡ up sheet istd n → base_at sheet at ≡ Some base →
+    up sheet istd (suc n) ≡ base
 up_more sheet istd n at base here e = ap (λ b. unwrap_or b (up sheet istd n)) (ap (base_at sheet) (sym here) ∙ e)
 
-pub climbed_more : (sheet : Sheet) (istd n at base : ℕ) → IsClimbed sheet istd n at → base_at sheet at ≡ Some base → kind_at sheet base ≡ kind_at sheet istd → IsClimbed sheet istd (suc n) base
+pub climbed_more : (sheet : Sheet) (istd n at base : ℕ) → IsClimbed sheet istd n at → base_at sheet at ≡ Some base →
+    kind_at sheet base ≡ kind_at sheet istd → IsClimbed sheet istd (suc n) base
 climbed_more sheet istd n at base c e same =
     let next = up_more sheet istd n at base c.here e in
     record {
@@ -45,7 +48,8 @@ climbed_more sheet istd n at base c e same =
         | inl lo ↦ c.links k lo
         | inr hi ↦
             let last : n ≡ k = omega arith in
-            subst (λ j. base_at sheet (up sheet istd j) ≡ Some (up sheet istd (suc j))) last (ap (base_at sheet) (sym c.here) ∙ (e ∙ ap Some (sym next)))
+            subst (λ j. base_at sheet (up sheet istd j) ≡ Some (up sheet istd (suc j))) last (ap (base_at sheet)
+            (sym c.here) ∙ (e ∙ ap Some (sym next)))
       ];
       kind = λ k below. elim (cases_lt k (suc n)) [
         | inl lo ↦ c.kind k (omega arith)
@@ -62,10 +66,12 @@ length-ups sheet istd (suc n) = ap suc (length-ups sheet istd n)
 pub ups_at : (sheet : Sheet) (istd n i : ℕ) → i ≤ n → slice_index (ups sheet istd n) i ≡ up sheet istd (n - i)
 ups_at sheet istd zero i h = let e : i ≡ 0 = omega arith in rw e refl
 ups_at sheet istd (suc n) zero h = let e : suc n - 0 ≡ suc n = omega arith in rw e refl
-ups_at sheet istd (suc n) (suc i) h = let e : suc n - suc i ≡ n - i = omega arith in rw e (ups_at sheet istd n i (omega arith))
+ups_at sheet istd (suc n) (suc i) h = let e : suc n - suc i ≡ n - i = omega arith in
+    rw e (ups_at sheet istd n i (omega arith))
 
 -- from one style on the bases are the same
-up_again : (sheet : Sheet) (istd a b k : ℕ) → up sheet istd a ≡ up sheet istd b → up sheet istd (k + a) ≡ up sheet istd (k + b)
+up_again : (sheet : Sheet) (istd a b k : ℕ) → up sheet istd a ≡ up sheet istd b → up sheet istd (k + a) ≡ up sheet
+    istd (k + b)
 up_again sheet istd a b zero e =
     let x : 0 + a ≡ a = omega arith in
     let y : 0 + b ≡ b = omega arith in
@@ -76,7 +82,8 @@ up_again sheet istd a b (suc k) e =
     rw (x, y) (ap (λ j. unwrap_or (base_at sheet j) j) (up_again sheet istd a b k e))
 
 -- no style comes twice before the bases end
-up_apart : (sheet : Sheet) (istd n at a b : ℕ) → IsClimbed sheet istd n at → base_at sheet at ≡ None → a < b → b ≤ n → up sheet istd a ≢ up sheet istd b
+up_apart : (sheet : Sheet) (istd n at a b : ℕ) → IsClimbed sheet istd n at → base_at sheet at ≡ None → a < b → b ≤ n →
+    up sheet istd a ≢ up sheet istd b
 up_apart sheet istd n at a b c root less within e =
     let end = up_again sheet istd a b (n - b) e in
     let top : n - b + b ≡ n = omega arith in
@@ -85,7 +92,8 @@ up_apart sheet istd n at a b c root less within e =
     absurd (cc (sym link ∙ (ap (base_at sheet) again ∙ root)))
 
 -- where the bases end they are the chain
-pub climbed_chain : (sheet : Sheet) (istd n at : ℕ) → IsClimbed sheet istd n at → base_at sheet at ≡ None → IsBaseChain sheet istd (ups sheet istd n)
+pub climbed_chain : (sheet : Sheet) (istd n at : ℕ) → IsClimbed sheet istd n at → base_at sheet at ≡ None →
+    IsBaseChain sheet istd (ups sheet istd n)
 climbed_chain sheet istd n at c root =
     let len = length-ups sheet istd n in
     record {
@@ -112,5 +120,7 @@ climbed_chain sheet istd n at c root =
     }
 
 -- the same styles from the first on, and one more
-pub ups_more : (sheet : Sheet) (istd n base : ℕ) (items : List ℕ) → up sheet istd (suc n) ≡ base → items ≡ reverse (ups sheet istd n) → items ++ base ∷ [] ≡ reverse (ups sheet istd (suc n))
-ups_more sheet istd n base items e old = rw (← e, old) (sym (reverse-append (up sheet istd (suc n) ∷ []) (ups sheet istd n)))
+pub ups_more : (sheet : Sheet) (istd n base : ℕ) (items : List ℕ) → up sheet istd (suc n) ≡ base → items ≡ reverse
+    (ups sheet istd n) → items ++ base ∷ [] ≡ reverse (ups sheet istd (suc n))
+ups_more sheet istd n base items e old = rw (← e, old) (sym (reverse-append (up sheet istd (suc n) ∷ [])
+    (ups sheet istd n)))

@@ -8,7 +8,8 @@ use Rattle.doc_bits.specs.Number.{u16_at, AreBytes}
 use Rattle.doc_bits.specs.Rules.{Hold}
 use Rattle.style_sheet.specs.declared.styles.Style.{Style}
 use Rattle.style_sheet.specs.Counted.{counted_end}
-use Rattle.style_sheet.specs.Stsh.{cstd, std_base, head_of, slot_place, std_of, IsSlot, table_offset, HasListFault, stsh_rules, SpellsSlot}
+use Rattle.style_sheet.specs.Stsh.{cstd, std_base, head_of, slot_place, std_of, IsSlot, table_offset, HasListFault}
+use Rattle.style_sheet.specs.Stsh.{stsh_rules, SpellsSlot}
 use Rattle.style_sheet.specs.Written.{PartsHoldSheets}
 pub use Rattle.style_sheet.specs.Written.{HasFormedSheet}
 use Rattle.style_sheet.specs.Formed.{IsFormedSlot}
@@ -24,11 +25,13 @@ record IsRightSlot (part : List ℕ) (istd : ℕ) (slot : Option Style) : Type 0
   is : SpellsSlot part istd slot
   formed : IsFormedSlot slot
 
-slot_there : (part : List ℕ) (istd : ℕ) → AreBytes part → IsSlot part istd → ((offset : ℕ) → ¬ (HasListFault (std_of part istd) (std_base part) offset)) → (slot : Option Style) × IsRightSlot part istd slot
+slot_there : (part : List ℕ) (istd : ℕ) → AreBytes part → IsSlot part istd → ((offset : ℕ) →
+    ¬ (HasListFault (std_of part istd) (std_base part) offset)) → (slot : Option Style) × IsRightSlot part istd slot
 slot_there part istd are is none = elim (cases_lt 0 (u16_at part (slot_place part istd))) [
   | inl some ↦
       let has = style_there (std_of part istd) (std_base part)
-      (AreBytes-range part (slot_place part istd + 2) (counted_end part (slot_place part istd)) are) (is.style some) none in
+      (AreBytes-range part (slot_place part istd + 2) (counted_end part (slot_place part istd)) are) (is.style some)
+      none in
       (Some has.style, record { is = (some, has.is); formed = has.formed })
   | inr empty_slot ↦ (None, record { is = omega arith; formed = tt })
 ]
@@ -57,10 +60,20 @@ sheet_there part at are hold =
     let stshif = stable_stshif part (λ no. hold.0 at (refl, no)) in
     let slot_is : (istd : ℕ) → istd < cstd part → IsSlot part istd = λ istd below.
     stable_slot part (std_base part) (slot_place part istd)
-    (λ no. hold.1.0 (table_offset at (slot_place part istd)) (record { entry = istd; below = below; broken = record { here = refl; wrong = no } })) in
-    let none : (istd : ℕ) → istd < cstd part → (offset : ℕ) → ¬ (HasListFault (std_of part istd) (std_base part) offset) = λ istd below offset fault.
-    hold.1.1 (at + (slot_place part istd + 2) + offset) (record { entry = istd; below = below; broken = record { offset = offset; here = refl; broken = fault } }) in
-    let slots = list_of (cstd part) (IsRightSlot part) (λ istd below. slot_there part istd are (slot_is istd below) (none istd below)) in
+    (λ no. hold.1.0 (table_offset at (slot_place part istd)) (record {
+      entry = istd;
+      below = below;
+      broken = record { here = refl; wrong = no };
+    })) in
+    let none : (istd : ℕ) → istd < cstd part → (offset : ℕ) → ¬ (HasListFault (std_of part istd) (std_base part)
+    offset) = λ istd below offset fault.
+    hold.1.1 (at + (slot_place part istd + 2) + offset) (record {
+      entry = istd;
+      below = below;
+      broken = record { offset = offset; here = refl; broken = fault };
+    }) in
+    let slots = list_of (cstd part) (IsRightSlot part) (λ istd below. slot_there part istd are (slot_is istd below)
+    (none istd below)) in
     let len = slots.len in
     let some = stshif.some in
     let few = stshif.few in
@@ -69,7 +82,8 @@ sheet_there part at are hold =
       has = record {
         head = refl;
         slots = len;
-        styles = λ istd below. (slots.each istd (slice_index_or slots.list istd None) (at_place slots.list istd (cstd part) None len below)).is;
+        styles = λ istd below. (slots.each istd (slice_index_or slots.list istd None) (at_place slots.list istd
+            (cstd part) None len below)).is;
       };
       formed = record {
         head = refl;

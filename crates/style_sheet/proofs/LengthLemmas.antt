@@ -1,5 +1,6 @@
 -- How long what is written is.
-use Rattle.std.proofs.Common.{◌≡◌, ℕ, zero, suc, ◌+◌, ◌*◌, ◌<◌, ◌≤◌, List, [], ◌∷◌, ◌++◌, Option, Some, None, length, slice_index_or, refl, ◌∙◌, arith, length-append, append_assoc}
+use Rattle.std.proofs.Common.{◌≡◌, ℕ, zero, suc, ◌+◌, ◌*◌, ◌<◌, ◌≤◌, List, [], ◌∷◌, ◌++◌, Option, Some, None, length}
+use Rattle.std.proofs.Common.{slice_index_or, refl, ◌∙◌, arith, length-append, append_assoc}
 use Rattle.std.specs.List.{All, flat_map}
 use Rattle.std.specs.Option.{unwrap_or}
 use Rattle.prop_map.specs.Settings.{Settings}
@@ -14,7 +15,8 @@ pub base_word : (base : Option ℕ) → unwrap_or base 4095 ≡ written_base bas
 base_word None = refl
 base_word (Some base) = refl
 
-pub para_len : (istd : ℕ) (pap chp : Settings) → length (flat_map written_counted (written_upxes istd (Para pap chp))) ≡ 2 + even_up (2 + length (printed_list pap)) + (2 + even_up (length (printed_list chp)))
+pub para_len : (istd : ℕ) (pap chp : Settings) → length (flat_map written_counted (written_upxes istd (Para pap chp)))
+    ≡ 2 + even_up (2 + length (printed_list pap)) + (2 + even_up (length (printed_list chp)))
 para_len istd pap chp =
     let first = word istd ++ printed_list pap in
     let second = printed_list chp in
@@ -26,13 +28,15 @@ para_len istd pap chp =
     let two = length-word istd in
     omega arith
 
-pub char_len : (istd : ℕ) (chp : Settings) → length (flat_map written_counted (written_upxes istd (Char chp))) ≡ 2 + even_up (length (printed_list chp))
+pub char_len : (istd : ℕ) (chp : Settings) → length (flat_map written_counted (written_upxes istd (Char chp))) ≡ 2 +
+    even_up (length (printed_list chp))
 char_len istd chp =
     let b = length-append {A = ℕ} (written_counted (printed_list chp)) [] in
     let v = length-written (printed_list chp) in
     omega arith
 
-pub rest_len : (istd : ℕ) (style : Style) → length (written_rest istd style) ≡ 4 + 2 * length style.name + length (flat_map written_counted (written_upxes istd style.kind))
+pub rest_len : (istd : ℕ) (style : Style) → length (written_rest istd style) ≡ 4 + 2 * length style.name + length
+    (flat_map written_counted (written_upxes istd style.kind))
 rest_len istd style =
     let upxes = flat_map written_counted (written_upxes istd style.kind) in
     let a = length-append (word (length style.name)) (flat_map word style.name ++ (word 0 ++ upxes)) in
@@ -64,7 +68,8 @@ style_len istd style =
     omega arith
 
 -- each of several items is no longer than all of them written
-pub item_len : (items : List (List ℕ)) (k : ℕ) (d : List ℕ) → k < length items → length (slice_index_or items k d) ≤ length (flat_map written_counted items)
+pub item_len : (items : List (List ℕ)) (k : ℕ) (d : List ℕ) → k < length items → length (slice_index_or items k d) ≤
+    length (flat_map written_counted items)
 item_len [] k d h = absurd (omega arith)
 item_len (x ∷ xs) zero d h =
     let a = length-append (written_counted x) (flat_map written_counted xs) in
@@ -75,14 +80,17 @@ item_len (x ∷ xs) (suc k) d h =
     let ih = item_len xs k d (omega arith) in
     omega arith
 
-pub items_short : (items : List (List ℕ)) → length (flat_map written_counted items) < 65536 → All (λ item. length item < 65536) items
+pub items_short : (items : List (List ℕ)) → length (flat_map written_counted items) < 65536 →
+    All (λ item. length item < 65536) items
 items_short items h = λ k d below. let le = item_len items k d below in omega arith
 
 -- the fields of an STD in their order
 pub style_pushed : (istd : ℕ) (style : Style) (first second third len : ℕ) (bytes : List ℕ) →
     first ≡ style.sti + 4096 * style.flags → second ≡ written_stk style.kind + 16 * written_base style.base →
     third ≡ length (written_upxes istd style.kind) + 16 * style.next → len ≡ length (written_style istd style) →
-    bytes ≡ (((((((word first ++ word second) ++ word third) ++ word len) ++ word style.grfstd) ++ word (length style.name)) ++ flat_map word style.name) ++ word 0) ++ flat_map written_counted (written_upxes istd style.kind) →
+    bytes ≡ (((((((word first ++ word second) ++ word third) ++ word len) ++ word style.grfstd) ++ word
+    (length style.name)) ++ flat_map word style.name) ++ word 0) ++ flat_map written_counted (written_upxes istd
+    style.kind) →
     bytes ≡ written_style istd style
 style_pushed istd style first second third len bytes a b d e pushed =
     pushed ∙ rw (a, b, d, e, style_len istd style) (simp append_assoc)

@@ -10,12 +10,18 @@ pub record HasList {A : Type 0} (n : ℕ) (Is : ℕ → A → Type 0) : Type 0 w
   pub len : length list ≡ n
   pub each : (k : ℕ) (x : A) → slice_get list k ≡ Some x → Is k x
 
-each_of : {A : Type 0} (Is : ℕ → A → Type 0) (x : A) (xs : List A) → Is 0 x → ((k : ℕ) (y : A) → slice_get xs k ≡ Some y → Is (suc k) y) → (k : ℕ) (y : A) → slice_get (x ∷ xs) k ≡ Some y → Is k y
+each_of : {A : Type 0} (Is : ℕ → A → Type 0) (x : A) (xs : List A) → Is 0 x → ((k : ℕ) (y : A) → slice_get xs k ≡ Some
+    y → Is (suc k) y) → (k : ℕ) (y : A) → slice_get (x ∷ xs) k ≡ Some y → Is k y
 each_of Is x xs first others zero y here = subst (Is 0) (ap (λ o. unwrap_or o x) here) first
 each_of Is x xs first others (suc k) y here = others k y here
 
 pub list_of : {A : Type 0} (n : ℕ) (Is : ℕ → A → Type 0) → ((k : ℕ) → k < n → (x : A) × Is k x) → HasList n Is
-list_of zero Is at = record { list = []; len = refl; each = λ k x here. absurd (let within = slice_get_within [] k x here in omega arith) }
+list_of zero Is at = record {
+  list = [];
+  len = refl;
+  each = λ k x here. absurd (let within = slice_get_within [] k x
+      here in omega arith);
+}
 list_of (suc n) Is at =
     let first = at 0 (omega arith) in
     let others = list_of n (λ k. Is (suc k)) (λ k below. at (suc k) (omega arith)) in

@@ -1,5 +1,7 @@
 -- Reading an STSH: where slots and faults stand.
-use Rattle.std.proofs.Common.{◌≡◌, inl, inr, ℕ, zero, suc, ◌+◌, ◌-◌, ◌<◌, ◌≤◌, List, [], ◌∷◌, ◌++◌, Option, Some, None, length, drop, slice_index_or, refl, sym, ◌∙◌, ap, subst, arith, length-drop, length-append, length-take}
+use Rattle.std.proofs.Common.{◌≡◌, inl, inr, ℕ, zero, suc, ◌+◌, ◌-◌, ◌<◌, ◌≤◌, List, [], ◌∷◌, ◌++◌, Option, Some}
+use Rattle.std.proofs.Common.{None, length, drop, slice_index_or, refl, sym, ◌∙◌, ap, subst, arith, length-drop}
+use Rattle.std.proofs.Common.{length-append, length-take}
 use Rattle.std.proofs.lemmas.List.{get_or_past, get_or_append_left}
 use Rattle.std.proofs.Math.Seq.{get_or-append_seam}
 use borrow.Author.Count.{below_more}
@@ -30,11 +32,13 @@ wrong_rises part at j k a b less one other =
     let e : k - j + j ≡ k = omega arith in
     let first = one.here in
     let second = other.here in
-    let rises : slot_place part j ≤ slot_place part k = subst (λ i. slot_place part j ≤ slot_place part i) e (place_rises part _ j (k - j)) in
+    let rises : slot_place part j ≤ slot_place part k = subst (λ i. slot_place part j ≤ slot_place part i) e
+    (place_rises part _ j (k - j)) in
     omega arith
 
 -- the bytes of one that is within are as many as its count says
-pub length-counted_bytes : (bytes : List ℕ) (at : ℕ) → IsCounted bytes at → length (counted_bytes bytes at) ≡ u16_at bytes at
+pub length-counted_bytes : (bytes : List ℕ) (at : ℕ) → IsCounted bytes at → length (counted_bytes bytes at) ≡ u16_at
+    bytes at
 length-counted_bytes bytes at h =
     let cut = length-take (counted_end bytes at - (at + 2)) (drop (at + 2) bytes) in
     let rest = length-drop (at + 2) bytes in
@@ -55,7 +59,8 @@ fault_within bytes groups at h =
     ]
 
 -- a fault of a list of settings is within the STD
-pub list_fault_within : (std : List ℕ) (base offset : ℕ) → IsStd std base → HasListFault std base offset → offset + 2 ≤ length std
+pub list_fault_within : (std : List ℕ) (base offset : ℕ) → IsStd std base → HasListFault std base offset →
+    offset + 2 ≤ length std
 list_fault_within std base offset h fault = elim fault [
   | inl w ↦
       let two = h.kind.para w.0 in
@@ -100,7 +105,8 @@ accepted_empty std base h =
     record { para = λ e. absurd (omega arith); char = λ e. absurd (omega arith) }
 
 -- the place after one that was reached
-pub place_step : (part : List ℕ) (k place next : ℕ) → 1 ≤ k → place ≡ slot_place part (k - 1) → next ≡ even_up (counted_end part place) → next ≡ slot_place part k
+pub place_step : (part : List ℕ) (k place next : ℕ) → 1 ≤ k → place ≡ slot_place part (k - 1) →
+    next ≡ even_up (counted_end part place) → next ≡ slot_place part k
 place_step part k place next some here e =
     let same : suc (k - 1) ≡ k = omega arith in
     e ∙ (ap (λ p. even_up (counted_end part p)) here ∙ ap (slot_place part) same)
@@ -112,8 +118,12 @@ neither (Some x) None e = absurd (cc)
 neither (Some x) (Some y) e = absurd (cc)
 
 -- one slot more that is spelt
-pub slots_more : (part : List ℕ) (styles : List (Option Style)) (slot : Option Style) (n : ℕ) → length styles ≡ n → ((k : ℕ) → k < n → SpellsSlot part k (slice_index_or styles k None)) → SpellsSlot part n slot → (k : ℕ) → k < n + 1 → SpellsSlot part k (slice_index_or (styles ++ slot ∷ []) k None)
+pub slots_more : (part : List ℕ) (styles : List (Option Style)) (slot : Option Style) (n : ℕ) → length styles ≡ n →
+    ((k : ℕ) → k < n → SpellsSlot part k (slice_index_or styles k None)) → SpellsSlot part n slot → (k : ℕ) →
+    k < n + 1 → SpellsSlot part k (slice_index_or (styles ++ slot ∷ []) k None)
 slots_more part styles slot n len old new =
     below_more (λ k. SpellsSlot part k (slice_index_or (styles ++ slot ∷ []) k None)) n
-    (λ k below. subst (SpellsSlot part k) (sym (get_or_append_left styles (slot ∷ []) None k (omega arith))) (old k below))
-    (subst (SpellsSlot part n) (sym (ap (λ i. slice_index_or (styles ++ slot ∷ []) i None) (sym len) ∙ get_or-append_seam styles slot [] None)) new)
+    (λ k below. subst (SpellsSlot part k) (sym (get_or_append_left styles (slot ∷ []) None k (omega arith)))
+    (old k below))
+    (subst (SpellsSlot part n) (sym (ap (λ i. slice_index_or (styles ++ slot ∷ []) i None) (sym len) ∙
+    get_or-append_seam styles slot [] None)) new)

@@ -3,7 +3,8 @@ use Rattle.std.proofs.Common.{◌≡◌, ◌⊎◌, inl, inr, ℕ, ◌+◌, ◌*
 use Rattle.std.proofs.lemmas.Bool.{cases_eq}
 use Rattle.doc_bits.specs.Number.{u16_at}
 use Rattle.style_sheet.specs.Counted.{counted_bytes, counted_end}
-use Rattle.style_sheet.specs.StyleDefinition.{stk, cupx, name_len, upxes_start, upx_place, HasName, HasKind, HasUpxes, IsStd}
+use Rattle.style_sheet.specs.StyleDefinition.{stk, cupx, name_len, upxes_start, upx_place, HasName, HasKind, HasUpxes}
+use Rattle.style_sheet.specs.StyleDefinition.{IsStd}
 use Rattle.style_sheet.specs.Stsh.{cstd, std_base, HasStshif, IsSlotAt}
 use Rattle.doc_bits.proofs.TestLemmas.{stable_le, stable_eq}
 
@@ -24,7 +25,8 @@ stable_kind std twice = record {
 
 stable_upxes : (std : List ℕ) (base : ℕ) → ¬ ¬ (HasUpxes std base) → HasUpxes std base
 stable_upxes std base twice = record {
-  within = λ k below. stable_le (counted_end std (upx_place std base k)) (length std) (λ no. twice (λ is. no (is.within k below)));
+  within = λ k below. stable_le (counted_end std (upx_place std base k)) (length std) (λ no. twice
+      (λ is. no (is.within k below)));
   all = stable_le (length std) (upx_place std base (cupx std)) (λ no. twice (λ is. no is.all));
 }
 
@@ -45,7 +47,13 @@ stable_slot part base place twice = record {
 ten_or_eighteen : (n : ℕ) → ¬ ¬ ((n ≡ 10) ⊎ (n ≡ 18)) → (n ≡ 10) ⊎ (n ≡ 18)
 ten_or_eighteen n twice = elim (cases_eq n 10) [
   | inl e ↦ inl e
-  | inr other ↦ elim (cases_eq n 18) [ inl e ↦ inr e | inr third ↦ absurd (twice (λ is. elim is [ inl e ↦ other e | inr e ↦ third e ])) ]
+  | inr other ↦ elim (cases_eq n 18) [
+    | inl e ↦ inr e
+    | inr third ↦ absurd (twice (λ is. elim is [
+      | inl e ↦ other e
+      | inr e ↦ third e
+    ]))
+  ]
 ]
 
 pub stable_stshif : (part : List ℕ) → ¬ ¬ (HasStshif part) → HasStshif part

@@ -1,5 +1,6 @@
 -- What is read at the offsets of an STD as it is written.
-use Rattle.std.proofs.Common.{◌≡◌, ℕ, ◌+◌, ◌*◌, ◌<◌, inl, inr, List, ◌++◌, Option, Some, None, length, slice_index, refl, ◌∙◌, ap, arith, length-append, append_assoc}
+use Rattle.std.proofs.Common.{◌≡◌, ℕ, ◌+◌, ◌*◌, ◌<◌, inl, inr, List, ◌++◌, Option, Some, None, length, slice_index}
+use Rattle.std.proofs.Common.{refl, ◌∙◌, ap, arith, length-append, append_assoc}
 use Rattle.std.specs.List.{All, flat_map}
 use Rattle.std.proofs.lemmas.Bool.{cases_lt, ne_eqb}
 use Rattle.std.proofs.lemmas.List.{get_or_past}
@@ -49,7 +50,8 @@ pub record AreFields (std : List ℕ) (first second third fifth : ℕ) (rest : L
   pub five : u16_at std 8 ≡ fifth
   pub after : (at : ℕ) → u16_at std (10 + at) ≡ u16_at rest at
 
-pub fields_at : (a b d e f : ℕ) (rest : List ℕ) → a < 65536 → b < 65536 → d < 65536 → f < 65536 → AreFields (word a ++ (word b ++ (word d ++ (word e ++ (word f ++ rest))))) a b d f rest
+pub fields_at : (a b d e f : ℕ) (rest : List ℕ) → a < 65536 → b < 65536 → d < 65536 → f < 65536 →
+    AreFields (word a ++ (word b ++ (word d ++ (word e ++ (word f ++ rest))))) a b d f rest
 fields_at a b d e f rest ha hb hd hf =
     let r5 = word f ++ rest in
     let r4 = word e ++ r5 in
@@ -77,17 +79,20 @@ pub record IsNameAt (rest name : List ℕ) : Type 0 where
   pub units : (i : ℕ) → i < length name → u16_at rest (2 + 2 * i) ≡ slice_index name i
   pub ended : u16_at rest (2 + 2 * length name) ≡ 0
 
-pub name_at : (name more : List ℕ) → length name < 65536 → ((k : ℕ) → slice_index name k < 65536) → IsNameAt (word (length name) ++ (flat_map word name ++ (word 0 ++ more))) name
+pub name_at : (name more : List ℕ) → length name < 65536 → ((k : ℕ) → slice_index name k < 65536) →
+    IsNameAt (word (length name) ++ (flat_map word name ++ (word 0 ++ more))) name
 name_at name more short small =
     let units = flat_map word name in
     record {
       count = word_front (length name) (units ++ (word 0 ++ more)) short;
-      units = λ i h. word_after (length name) (units ++ (word 0 ++ more)) (2 * i) ∙ words_at name (word 0 ++ more) i small h;
+      units = λ i h. word_after (length name) (units ++ (word 0 ++ more)) (2 * i) ∙ words_at name (word 0 ++ more) i
+          small h;
       ended =
           let len = length-words name in
           let place : 2 * length name ≡ length units + 0 = omega arith in
           word_after (length name) (units ++ (word 0 ++ more)) (2 * length name)
-          ∙ (ap (u16_at (units ++ (word 0 ++ more))) place ∙ (number_at-after units (word 0 ++ more) 0 2 ∙ word_front 0 more (omega arith)));
+          ∙ (ap (u16_at (units ++ (word 0 ++ more))) place ∙ (number_at-after units (word 0 ++ more) 0 2 ∙ word_front
+          0 more (omega arith)));
     }
 
 -- what stands before the upxes
@@ -99,7 +104,8 @@ std_front istd style =
     ++ (word (10 + length (written_rest istd style)) ++ word style.grfstd))))
     ++ (word (length style.name) ++ (flat_map word style.name ++ word 0))
 
-pub std_split : (istd : ℕ) (style : Style) → std_front istd style ++ flat_map written_counted (written_upxes istd style.kind) ≡ written_style istd style
+pub std_split : (istd : ℕ) (style : Style) → std_front istd style ++ flat_map written_counted (written_upxes istd
+    style.kind) ≡ written_style istd style
 unfolding std_front
 std_split istd style = simp append_assoc
 

@@ -18,12 +18,14 @@ use Rattle.style_sheet.specs.Written.{SheetIsOne}
 map_one : (bytes : List ℕ) (groups : ℕ) (a b : Settings) → IsMapOf bytes groups a → IsMapOf bytes groups b → a ≡ b
 map_one bytes groups a b one other =
     acting_one one.list groups empty a b one.acted
-    (subst (λ list. ArePropertiesAfter list groups empty b) (sym (spelt_unique bytes one.list other.list one.spelt other.spelt)) other.acted)
+    (subst (λ list. ArePropertiesAfter list groups empty b) (sym (spelt_unique bytes one.list other.list one.spelt
+    other.spelt)) other.acted)
 
 upxes_one : (std : List ℕ) (base : ℕ) (a b : List (List ℕ)) → AreUpxes std base a → AreUpxes std base b → a ≡ b
 upxes_one std base a b one other =
     let x = one.count in
-    ext_get_or [] a b (one.count ∙ sym other.count) (λ k h. one.each k _ (omega arith) ∙ sym (other.each k _ (omega arith)))
+    ext_get_or [] a b (one.count ∙ sym other.count) (λ k h. one.each k _ (omega arith) ∙ sym (other.each k _
+    (omega arith)))
 
 name_one : (std : List ℕ) (base : ℕ) (a b : List ℕ) → IsNameOf std base a → IsNameOf std base b → a ≡ b
 name_one std base a b one other =
@@ -31,7 +33,8 @@ name_one std base a b one other =
     ext_get_or 0 a b (one.count ∙ sym other.count) (λ k h. one.each k (omega arith) ∙ sym (other.each k (omega arith)))
 
 kind_one : (std : List ℕ) (base : ℕ) (a b : Kind) → SpellsKind std base a → SpellsKind std base b → a ≡ b
-kind_one std base (Para pap chp) (Para q d) s t = λ i. Para (map_one _ _ pap q s.1.0 t.1.0 i) (map_one _ _ chp d s.1.1 t.1.1 i)
+kind_one std base (Para pap chp) (Para q d) s t = λ i. Para (map_one _ _ pap q s.1.0 t.1.0 i) (map_one _ _ chp d s.1.1
+    t.1.1 i)
 kind_one std base (Para pap chp) (Char d) s t = let x = s.0 in let y = t.0 in absurd (omega arith)
 kind_one std base (Para pap chp) (Other n upxes) s t = let x = s.0 in let y = t.1.0 in absurd (omega arith)
 kind_one std base (Char chp) (Para q d) s t = let x = s.0 in let y = t.0 in absurd (omega arith)
@@ -39,7 +42,8 @@ kind_one std base (Char chp) (Char d) s t = ap Char (map_one _ _ chp d s.1 t.1)
 kind_one std base (Char chp) (Other n upxes) s t = let x = s.0 in let y = t.1.0 in absurd (omega arith)
 kind_one std base (Other n upxes) (Para q d) s t = let x = s.1.0 in let y = t.0 in absurd (omega arith)
 kind_one std base (Other n upxes) (Char d) s t = let x = s.1.0 in let y = t.0 in absurd (omega arith)
-kind_one std base (Other n upxes) (Other m others) s t = λ i. Other ((s.0 ∙ sym t.0) i) (upxes_one std base upxes others s.1.1 t.1.1 i)
+kind_one std base (Other n upxes) (Other m others) s t = λ i. Other ((s.0 ∙ sym t.0) i) (upxes_one std base upxes
+    others s.1.1 t.1.1 i)
 
 style_one : (std : List ℕ) (base : ℕ) (a b : Style) → SpellsStyle std base a → SpellsStyle std base b → a ≡ b
 style_one std base a b s t = λ i. record {
@@ -52,7 +56,8 @@ style_one std base a b s t = λ i. record {
   kind = kind_one std base a.kind b.kind s.kind t.kind i;
 }
 
-slot_one : (part : List ℕ) (base place : ℕ) (a b : Option Style) → SpellsSlotAt part base place a → SpellsSlotAt part base place b → a ≡ b
+slot_one : (part : List ℕ) (base place : ℕ) (a b : Option Style) → SpellsSlotAt part base place a → SpellsSlotAt part
+    base place b → a ≡ b
 slot_one part base place None None s t = refl
 slot_one part base place None (Some y) s t = let low = t.0 in absurd (omega arith)
 slot_one part base place (Some x) None s t = let low = s.0 in absurd (omega arith)
@@ -61,5 +66,7 @@ slot_one part base place (Some x) (Some y) s t = ap Some (style_one (counted_byt
 pub sheets_agree : SheetIsOne
 sheets_agree part one other a b =
     let count = a.slots in
-    let styles : one.styles ≡ other.styles = ext_get_or None one.styles other.styles (a.slots ∙ sym b.slots) (λ k h. slot_one part (std_base part) (slot_place part k) (style_at one k) (style_at other k) (a.styles k (omega arith)) (b.styles k (omega arith))) in
+    let styles : one.styles ≡ other.styles = ext_get_or None one.styles other.styles (a.slots ∙ sym b.slots)
+    (λ k h. slot_one part (std_base part) (slot_place part k) (style_at one k) (style_at other k)
+    (a.styles k (omega arith)) (b.styles k (omega arith))) in
     λ i. record { head = (a.head ∙ sym b.head) i; styles = styles i }

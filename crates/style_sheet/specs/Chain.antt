@@ -32,7 +32,8 @@ pub record AreOfOneKind (sheet : Sheet) (istd other : ℕ) : Type 0 where
   pub settings : 0 < kind_at sheet istd
   pub same : kind_at sheet other ≡ kind_at sheet istd
 
--- the style numbers from the root to the style: the first has no base, each other's base is the one before it, all are of
+-- the style numbers from the root to the style: the first has no base, each other's base is the one before it, all
+-- are of
 -- the style's kind, and no number is there twice
 pub record IsBaseChain (sheet : Sheet) (istd : ℕ) (chain : List ℕ) : Type 0 where
   pub some : 0 < length chain
@@ -63,7 +64,8 @@ pub record HasSoundBase (sheet : Sheet) (istd : ℕ) : Type 0 where
 
 -- a style has one chain of bases at most
 abbrev pub BaseChainIsOne : Type 0
-BaseChainIsOne = (sheet : Sheet) (istd : ℕ) (one other : List ℕ) → IsBaseChain sheet istd one → IsBaseChain sheet istd other → one ≡ other
+BaseChainIsOne = (sheet : Sheet) (istd : ℕ) (one other : List ℕ) → IsBaseChain sheet istd one → IsBaseChain sheet istd
+    other → one ≡ other
 
 -- where no style breaks the rule of bases, the bases are sound
 abbrev pub UnbrokenBasesAreSound : Type 0

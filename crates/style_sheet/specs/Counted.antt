@@ -1,6 +1,8 @@
--- [MS-DOC] LPStd, LPUpx: a 16-bit count and that many bytes. They follow each other, each at an even offset of what they
+-- [MS-DOC] LPStd, LPUpx: a 16-bit count and that many bytes. They follow each other, each at an even offset of what
+-- they
 -- stand in.
-use Rattle.std.specs.Prelude.{ℕ, zero, suc, ◌+◌, ◌%◌, ◌≤◌, ◌==◌, if◌then◌else◌, List, [], ◌∷◌, ◌++◌, length, slice_range}
+use Rattle.std.specs.Prelude.{ℕ, zero, suc, ◌+◌, ◌%◌, ◌≤◌, ◌==◌, if◌then◌else◌, List, [], ◌∷◌, ◌++◌, length}
+use Rattle.std.specs.Prelude.{slice_range}
 use Rattle.doc_bits.specs.Number.{u16_at, number_bytes}
 
 abbrev pub even_up : ℕ → ℕ

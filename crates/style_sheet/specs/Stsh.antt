@@ -24,7 +24,8 @@ std_base part = u16_at part 4
 
 -- the seven words after it
 abbrev pub head_of : List ℕ → List ℕ
-head_of part = u16_at part 6 ∷ u16_at part 8 ∷ u16_at part 10 ∷ u16_at part 12 ∷ u16_at part 14 ∷ u16_at part 16 ∷ u16_at part 18 ∷ []
+head_of part = u16_at part 6 ∷ u16_at part 8 ∷ u16_at part 10 ∷ u16_at part 12 ∷ u16_at part 14 ∷ u16_at part 16 ∷
+    u16_at part 18 ∷ []
 
 -- the Stshif is there, with a number of slots and a base that are read
 pub record HasStshif (part : List ℕ) : Type 0 where
@@ -63,7 +64,8 @@ pub record IsWrongSlot (part : List ℕ) (at istd place : ℕ) : Type 0 where
 
 -- the list of paragraph settings has a fault at this offset of the STD: it stands after a count and a style number
 abbrev pub IsParagraphFault : List ℕ → ℕ → ℕ → Type 0
-IsParagraphFault std base offset = From (upx_place std base 0 + 4) (HasSprmFaultAt (paragraph_list std base) paragraph_groups) offset
+IsParagraphFault std base offset = From (upx_place std base 0 + 4) (HasSprmFaultAt (paragraph_list std base)
+    paragraph_groups) offset
 
 -- the list of character settings whose count stands there has one
 abbrev pub IsCharacterFault : List ℕ → ℕ → ℕ → Type 0

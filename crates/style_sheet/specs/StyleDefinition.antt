@@ -1,6 +1,8 @@
--- [MS-DOC] STD: a style. Its fields by their offsets; `base` is cbSTDBaseInFile, where the name begins. Bits are counted
+-- [MS-DOC] STD: a style. Its fields by their offsets; `base` is cbSTDBaseInFile, where the name begins. Bits are
+-- counted
 -- from the lowest.
-use Rattle.std.specs.Prelude.{◌≡◌, ℕ, ◌+◌, ◌*◌, ◌/◌, ◌%◌, ◌<◌, ◌≤◌, ◌==◌, if◌then◌else◌, List, length, slice_index, slice_index_or, drop, Option, Some, None}
+use Rattle.std.specs.Prelude.{◌≡◌, ℕ, ◌+◌, ◌*◌, ◌/◌, ◌%◌, ◌<◌, ◌≤◌, ◌==◌, if◌then◌else◌, List, length, slice_index}
+use Rattle.std.specs.Prelude.{slice_index_or, drop, Option, Some, None}
 use Rattle.std.specs.FinMap.{empty}
 use Rattle.doc_bits.specs.Number.{u16_at}
 use Rattle.sprm_table.specs.Sprm.{Prl, SpellsSprmList, IsAcceptedList}
@@ -91,7 +93,8 @@ pub record IsNameOf (std : List ℕ) (base : ℕ) (name : List ℕ) : Type 0 whe
 -- the kind with its settings, or with its upxes as they are
 abbrev pub SpellsKind : List ℕ → ℕ → Kind → Type 0
 SpellsKind std base (Para pap chp) =
-    (stk std ≡ 1) × (IsMapOf (paragraph_list std base) paragraph_groups pap × IsMapOf (upx std base 1) character_groups chp)
+    (stk std ≡ 1) × (IsMapOf (paragraph_list std base) paragraph_groups pap × IsMapOf (upx std base 1)
+    character_groups chp)
 SpellsKind std base (Char chp) = (stk std ≡ 2) × IsMapOf (upx std base 0) character_groups chp
 SpellsKind std base (Other kind upxes) = (kind ≡ stk std) × ((3 ≤ stk std) × AreUpxes std base upxes)
 

@@ -1,4 +1,5 @@
--- [MS-DOC] STSH: the bytes that a sheet is written as. Profile: cbStshi 18, base 10, the number of the slot in the first
+-- [MS-DOC] STSH: the bytes that a sheet is written as. Profile: cbStshi 18, base 10, the number of the slot in the
+-- first
 -- upx of a style of paragraphs, bchUpe as cbStd.
 use Rattle.std.specs.Prelude.{◌≡◌, ℕ, suc, ◌+◌, ◌*◌, ◌≤◌, List, [], ◌∷◌, ◌++◌, length, Option, Some, None}
 use Rattle.std.specs.List.{flat_map}
@@ -34,7 +35,8 @@ written_upxes istd (Other stk upxes) = upxes
 
 -- the name with its count and a zero unit, and the upxes
 abbrev pub written_rest : ℕ → Style → List ℕ
-written_rest istd style = word (length style.name) ++ (flat_map word style.name ++ (word 0 ++ flat_map written_counted (written_upxes istd style.kind)))
+written_rest istd style = word (length style.name) ++ (flat_map word style.name ++ (word 0 ++ flat_map written_counted
+    (written_upxes istd style.kind)))
 
 -- the STD of a style in this slot
 abbrev pub written_style : ℕ → Style → List ℕ

@@ -1,7 +1,8 @@
 use Rattle.std.proofs.Common.{◌∙◌, ◌<◌, ◌++◌, [], ◌∷◌, List, length, take, sym, ap, subst, arith}
 use Rattle.cfb_streams.specs.Contents.{NamedBytes, AreStreams}
 use Rattle.append_save.specs.RenewedStreams.{renewed_streams}
-use Rattle.append_save.proofs.StreamSteps.{none_renewed, renewed_more, renewed_next, IsNext, next_wd, next_table, next_other}
+use Rattle.append_save.proofs.StreamSteps.{none_renewed, renewed_more, renewed_next, IsNext, next_wd, next_table}
+use Rattle.append_save.proofs.StreamSteps.{next_other}
 use Rattle.append_save.proofs.renewed.renewed_streams.Goals as goal
 use Rattle.append_save.proofs.renewed.renewed_streams.Goals.{then-equal_names, else-equal_names+then-equal_names-2}
 use Rattle.append_save.proofs.renewed.renewed_streams.Goals.{else-equal_names+else-equal_names-2}
@@ -34,7 +35,8 @@ add-requires c =
           w.if-equal_names.ensures.test w.if-equal_names-2.ensures.test w.bytes.ensures (ap (λ b. b.now) w.bytes-is)
     ] in
     let front = renewed_streams name wd table (take i streams) in
-    subst (λ (xs : List NamedBytes). AreStreams (xs ++ (record { name = own; bytes = bytes }) ∷ [])) (sym c.loop-i.invariant)
+    subst (λ (xs : List NamedBytes). AreStreams (xs ++ (record { name = own; bytes = bytes }) ∷ []))
+    (sym c.loop-i.invariant)
     (subst (λ (x : NamedBytes). AreStreams (front ++ x ∷ [])) next.is
     (renewed_next name wd table streams i next.stream next.here c.requires))
 

@@ -61,7 +61,8 @@ loop-cp-preserved c =
           has (slice_get-get_or places number _ below) (length-new _ settings savable.short)
           (w.out-is ∙ w.in_ok-place.ensures.bytes)
           (w.seds-is ∙ (w.in_ok-add.ensures.ok
-          ∙ ap (λ (fc : ℕ). c.loop-cp.seds ++ (record { start = c.loop-cp.start; sepx = fc }) ∷ []) w.in_ok-place.ensures.place))
+          ∙ ap (λ (fc : ℕ). c.loop-cp.seds ++ (record { start = c.loop-cp.start; sepx = fc }) ∷ [])
+          w.in_ok-place.ensures.place))
           w.start-is c.loop-cp.invariant)
       | in_default w ↦
           subst (λ (n : ℕ). ArePlannedUpTo main places c.args.base old (cp + 1) n

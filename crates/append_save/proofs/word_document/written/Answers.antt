@@ -22,5 +22,6 @@ returns-clause-len c =
     let is = c.in_ok-bytes.ensures
     ∙ (c.write.ensures.written
     ∙ (ap (λ (rest : List ℕ). written_fib c.args.fib.now ++ rest) none ∙ append-nil (written_fib c.args.fib.now))) in
-    let count = ap (λ (f : FibFields). length f.pairs) (sym c.write.ensures.read_back.1) ∙ length-fib_pairs c.write.new.out in
+    let count = ap (λ (f : FibFields). length f.pairs) (sym c.write.ensures.read_back.1) ∙ length-fib_pairs
+    c.write.new.out in
     ap length is ∙ length-written_fib c.args.fib.now count

@@ -6,4 +6,5 @@ use Rattle.cfb_layout.proofs.fields.push_fields.Goals as goal
 
 pub returns : goal.returns
 unfolding fields_bytes
-returns c = c.loop-field.invariant ∙ ap (λ fs. c.args.out.now ++ flat_map field_bytes fs) (take_all c.loop-field.field-index c.args.fields.now c.loop-field-test.false)
+returns c = c.loop-field.invariant ∙ ap (λ fs. c.args.out.now ++ flat_map field_bytes fs)
+    (take_all c.loop-field.field-index c.args.fields.now c.loop-field-test.false)

@@ -6,4 +6,5 @@ use Rattle.cfb_layout.proofs.plan.count_minis.Goals as goal
 
 pub returns : goal.returns
 unfolding mini_counts
-returns c = c.loop-len.invariant ∙ ap (λ lengths. map (λ len. units_for 64 (small_len len)) lengths) (take_all c.loop-len.len-index c.args.lengths.now c.loop-len-test.false)
+returns c = c.loop-len.invariant ∙ ap (λ lengths. map (λ len. units_for 64 (small_len len)) lengths)
+    (take_all c.loop-len.len-index c.args.lengths.now c.loop-len-test.false)

@@ -24,10 +24,13 @@ pub returns : goal.returns
 unfolding sector_counts large_counts
 returns c =
     let streams : c.loop-len.counts.items ≡ large_counts c.args.lengths.now =
-    c.loop-len.invariant ∙ ap (λ lengths. map (λ len. units_for 512 (large_len len)) lengths) (take_all c.loop-len.len-index c.args.lengths.now c.loop-len-test.false) in
+    c.loop-len.invariant ∙ ap (λ lengths. map (λ len. units_for 512 (large_len len)) lengths)
+    (take_all c.loop-len.len-index c.args.lengths.now c.loop-len-test.false) in
     let stored = c.requires.stored in
-    let first : c.units_for.result ≡ units_for 512 (64 * sum (mini_counts c.args.lengths.now)) = c.units_for.ensures ∙ ap (λ n. units_for 512 (64 * n)) stored in
-    let second : c.units_for-2.result ≡ units_for 128 (sum (mini_counts c.args.lengths.now)) = c.units_for-2.ensures ∙ ap (λ n. units_for 128 n) stored in
+    let first : c.units_for.result ≡ units_for 512 (64 * sum (mini_counts c.args.lengths.now)) = c.units_for.ensures ∙
+    ap (λ n. units_for 512 (64 * n)) stored in
+    let second : c.units_for-2.result ≡ units_for 128 (sum (mini_counts c.args.lengths.now)) = c.units_for-2.ensures ∙
+    ap (λ n. units_for 128 n) stored in
     let third : c.units_for-3.result ≡ units_for 4 (length c.args.lengths.now + 1) = c.units_for-3.ensures in
     four_join [] c.loop-len.counts.items c.push-2.new.self.items c.push-3.new.self.items c.push-4.new.self.items
     (large_counts c.args.lengths.now)

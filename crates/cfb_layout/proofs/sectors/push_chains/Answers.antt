@@ -14,7 +14,8 @@ loop-count-preserved c =
     let low = c.loop-count-test.true in
     let here = c.loop-count.invariant.here in
     record {
-      bytes = chains_step c.args.out.now c.loop-count.out c.push_chain.new.out c.args.counts.now c.loop-count.count-index c.loop-count.start (slice_index c.args.counts.now c.loop-count.count-index)
+      bytes = chains_step c.args.out.now c.loop-count.out c.push_chain.new.out c.args.counts.now
+          c.loop-count.count-index c.loop-count.start (slice_index c.args.counts.now c.loop-count.count-index)
           c.loop-count.invariant.bytes c.in_ok-push_chain.ensures low refl here;
       here = let next = start_next c.args.counts.now c.loop-count.count-index low in omega arith;
     }

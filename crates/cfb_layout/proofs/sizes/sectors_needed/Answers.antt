@@ -9,7 +9,13 @@ use Rattle.cfb_layout.proofs.JoinLemmas.{large_first, mini_first, large_more, mi
 use Rattle.cfb_layout.proofs.sizes.sectors_needed.Goals as goal
 
 pub loop-len-init : goal.loop-len-init
-loop-len-init c = record { large_are = sym (large_first c.args.lengths.now); minis_are = sym (mini_first c.args.lengths.now); large_few = omega arith; minis_few = omega arith }
+loop-len-init c = record {
+  large_are = sym (large_first c.args.lengths.now);
+  minis_are = sym
+      (mini_first c.args.lengths.now);
+  large_few = omega arith;
+  minis_few = omega arith;
+}
 
 pub loop-len-preserved : goal.loop-len-preserved
 loop-len-preserved c =
@@ -42,6 +48,7 @@ returns c =
     let directory = c.units_for-directory.ensures in
     let total = sum_counts lengths in
     let needed = sectors-needed lengths in
-    let same : c.loop-len.large + c.units_for-stored.result + c.units_for-table.result + c.units_for-directory.result ≡ sum (sector_counts lengths) = omega arith in
+    let same : c.loop-len.large + c.units_for-stored.result + c.units_for-table.result + c.units_for-directory.result
+    ≡ sum (sector_counts lengths) = omega arith in
     let fats = c.units_for.ensures ∙ ap (λ n. units_for 127 n) same in
     omega arith

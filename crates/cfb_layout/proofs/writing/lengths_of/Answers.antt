@@ -11,8 +11,10 @@ loop-i-preserved c =
     let len = c.count-count.ensures.len in
     let end = c.loop-i-test.true in
     let low : c.loop-i.i < length streams = omega arith in
-    map_step (λ stream. length stream.bytes) c.loop-i.lengths.items c.push.new.self.items streams c.loop-i.i (length c.bytes-bytes.result.now) no_stream
-    c.loop-i.invariant c.in_ok-push.ensures.items low (ap length (sym (bytes_are streams c.loop-i.i c.bytes-bytes.result.now low c.bytes-bytes.ensures)))
+    map_step (λ stream. length stream.bytes) c.loop-i.lengths.items c.push.new.self.items streams c.loop-i.i
+    (length c.bytes-bytes.result.now) no_stream
+    c.loop-i.invariant c.in_ok-push.ensures.items low (ap length (sym (bytes_are streams c.loop-i.i
+    c.bytes-bytes.result.now low c.bytes-bytes.ensures)))
 
 pub returns-clause-few : goal.returns-clause-few
 returns-clause-few c =

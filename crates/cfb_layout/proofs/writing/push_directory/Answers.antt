@@ -9,7 +9,8 @@ use Rattle.cfb_layout.proofs.writing.push_directory.Goals as goal
 
 pub loop-k-preserved : goal.loop-k-preserved
 loop-k-preserved c =
-    row_step (λ k. entry_bytes (directory_entry c.args.streams.now c.args.clsid.now k)) c.args.out.now c.loop-k.out c.push_directory_entry.new.out 0 c.loop-k.k c.loop-k.k (c.loop-k.k + 1)
+    row_step (λ k. entry_bytes (directory_entry c.args.streams.now c.args.clsid.now k)) c.args.out.now c.loop-k.out
+    c.push_directory_entry.new.out 0 c.loop-k.k c.loop-k.k (c.loop-k.k + 1)
     c.loop-k.invariant c.in_ok-push_directory_entry.ensures (omega arith) refl
 
 pub returns : goal.returns
@@ -22,4 +23,5 @@ returns c =
     let low = c.loop-k.auto.k-end in
     let end = c.loop-k-test.false in
     let all : c.loop-k.k ≡ 4 * units_for 4 (length streams + 1) = omega arith in
-    c.loop-k.invariant ∙ ap (λ m. c.args.out.now ++ flat_map (λ k. entry_bytes (directory_entry streams c.args.clsid.now k)) (range_with_len 0 m)) all
+    c.loop-k.invariant ∙ ap (λ m. c.args.out.now ++ flat_map (λ k. entry_bytes (directory_entry streams
+    c.args.clsid.now k)) (range_with_len 0 m)) all

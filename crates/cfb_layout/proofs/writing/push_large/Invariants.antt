@@ -5,4 +5,5 @@ use Rattle.cfb_layout.specs.Layout.{large_part}
 use Rattle.cfb_layout.proofs.writing.push_large.Given as goal
 
 abbrev pub invariant-loop-i : goal.invariant-loop-i
-invariant-loop-i l = l.out ≡ l.fn.out ++ flat_map (λ stream. padded 512 0 (large_part stream.bytes)) (take l.i l.streams)
+invariant-loop-i l = l.out ≡ l.fn.out ++ flat_map (λ stream. padded 512 0 (large_part stream.bytes))
+    (take l.i l.streams)

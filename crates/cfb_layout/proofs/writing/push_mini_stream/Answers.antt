@@ -16,7 +16,8 @@ loop-i-preserved c =
     let low : c.loop-i.i < length streams = omega arith in
     let bytes = bytes_are streams c.loop-i.i c.bytes.result.now low c.bytes.ensures in
     let part = c.small_part-part.ensures ∙ ap small_part (sym bytes) in
-    flat_step (λ stream. padded 64 0 (small_part stream.bytes)) c.args.out.now c.loop-i.out c.push_padded.new.out streams c.loop-i.i (get_or streams c.loop-i.i no_stream) no_stream
+    flat_step (λ stream. padded 64 0 (small_part stream.bytes)) c.args.out.now c.loop-i.out c.push_padded.new.out
+    streams c.loop-i.i (get_or streams c.loop-i.i no_stream) no_stream
     c.loop-i.invariant (c.in_ok-push_padded.ensures ∙ ap (λ xs. c.loop-i.out ++ padded 64 0 xs) part) low refl
 
 pub returns : goal.returns
@@ -24,8 +25,10 @@ returns c =
     let streams = c.args.streams.now in
     let len = c.count-i-end.ensures.len in
     let end = c.loop-i-test.false in
-    let all = c.loop-i.invariant ∙ ap (λ xs. c.args.out.now ++ flat_map (λ stream. padded 64 0 (small_part stream.bytes)) xs) (take_all c.loop-i.i streams (omega arith)) in
+    let all = c.loop-i.invariant ∙ ap (λ xs. c.args.out.now ++ flat_map (λ stream. padded 64 0
+    (small_part stream.bytes)) xs) (take_all c.loop-i.i streams (omega arith)) in
     let total : c.total.result ≡ sum (mini_counts (lengths_of streams)) =
     c.total.ensures ∙ (ap sum c.minis.ensures ∙ ap (λ lengths. sum (mini_counts lengths)) c.requires) in
     let rest = c.rest_of.ensures.is ∙ ap (λ n. units_for 512 (64 * n) * 512 - 64 * n) total in
-    mini_stream_join streams c.rest_of.result c.args.out.now c.loop-i.out c.push_zeros.new.out all c.in_ok-push_zeros.ensures rest
+    mini_stream_join streams c.rest_of.result c.args.out.now c.loop-i.out c.push_zeros.new.out all
+    c.in_ok-push_zeros.ensures rest

@@ -10,7 +10,13 @@ use Rattle.column_show.proofs.counts.sections_in.Goals as goal
 pub ends_in-requires : goal.ends_in-requires
 ends_in-requires c =
     let long = ap (λ (t : List Beside). length t) c.besides.ensures in
-    omega (arith, long, length-spread c.besides.result.now, length-map c.args.text.now beside_of, c.len-len.ensures.formed.few)
+    omega (
+      arith,
+      long,
+      length-spread c.besides.result.now,
+      length-map c.args.text.now beside_of,
+      c.len-len.ensures.formed.few,
+    )
 
 pub returns : goal.returns
 returns c =

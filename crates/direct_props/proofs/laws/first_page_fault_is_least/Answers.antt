@@ -6,4 +6,5 @@ use Rattle.direct_props.proofs.laws.first_page_fault_is_least.Goals as goal
 
 pub returns : goal.returns
 returns c = λ kind wd bin places r p first.
-    least_of_all (λ a b. a ≤ b) (page_rules kind wd bin places) (low_rule kind) (high_rule kind) r p (page_rules-IsSingle kind wd bin places) (page_rules-Ascends kind wd bin places) first
+    least_of_all (λ a b. a ≤ b) (page_rules kind wd bin places) (low_rule kind) (high_rule kind) r p
+    (page_rules-IsSingle kind wd bin places) (page_rules-Ascends kind wd bin places) first

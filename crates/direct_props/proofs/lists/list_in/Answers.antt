@@ -1,4 +1,5 @@
-use Rattle.std.proofs.Common.{length-take, length-drop, ◌≡◌, ◌≤◌, ◌+◌, ◌-◌, ◌∙◌, ℕ, List, ap, refl, subst, arith, take, drop, length}
+use Rattle.std.proofs.Common.{length-take, length-drop, ◌≡◌, ◌≤◌, ◌+◌, ◌-◌, ◌∙◌, ℕ, List, ap, refl, subst, arith}
+use Rattle.std.proofs.Common.{take, drop, length}
 use Rattle.doc_bits.specs.Rules.{Nowhere}
 use Rattle.sprm_table.specs.Sprm.{HasSprmFaultAt, IsAcceptedList, fault_place}
 use Rattle.fkp_pages.specs.Fkp.{least_list}
@@ -24,9 +25,14 @@ returns-in-None c =
       record {
         room = room;
         within = omega arith;
-        sprms = subst (λ l. Nowhere (HasSprmFaultAt l (run_groups kind))) (tail ∙ cut_rest page c.args.from c.args.to (least_list kind) room) first;
+        sprms = subst (λ l. Nowhere (HasSprmFaultAt l (run_groups kind))) (tail ∙ cut_rest page c.args.from c.args.to
+            (least_list kind) room) first;
       },
-      ((refl, simp (length-take, length-drop) (omega arith)), subst (λ l. IsAcceptedList l (run_groups kind)) tail accepted),
+      (
+        (refl, simp (length-take, length-drop) (omega arith)),
+        subst (λ l. IsAcceptedList l (run_groups kind)) tail
+            accepted,
+      ),
     )
 
 pub returns-in-Some : goal.returns-in-Some
@@ -36,4 +42,6 @@ returns-in-Some c = λ right.
     let list = take (c.args.to - c.args.from) (drop c.args.from page) in
     let tail = tail_of list c.style_len-2.result (least_list kind) c.style_len-2.ensures in
     let first = rw c.groups_of.ensures at c.in-Some.ensures.first in
-    right.sprms (fault_place c.in-Some.field-0) (subst (λ l. HasSprmFaultAt l (run_groups kind) (fault_place c.in-Some.field-0)) (tail ∙ cut_rest page c.args.from c.args.to (least_list kind) right.room) first.least.broken)
+    right.sprms (fault_place c.in-Some.field-0) (subst (λ l. HasSprmFaultAt l (run_groups kind) (fault_place
+    c.in-Some.field-0)) (tail ∙ cut_rest page c.args.from c.args.to (least_list kind) right.room)
+    first.least.broken)

@@ -4,4 +4,5 @@ use Rattle.direct_props.specs.Kept.{PlaceSource}
 use Rattle.direct_props.proofs.marks.read_mark.Goals as goal
 
 pub returns-clause-formed : goal.returns-clause-formed
-returns-clause-formed c = λ by. c.in_ok-mark.ensures.formed (subst (λ (s : PlaceSource). IsFormedModifier s.modifier) (sym c.in_ok-reader.ensures) by)
+returns-clause-formed c = λ by. c.in_ok-mark.ensures.formed (subst (λ (s : PlaceSource). IsFormedModifier s.modifier)
+    (sym c.in_ok-reader.ensures) by)

@@ -22,11 +22,14 @@ right_around-requires-clause-known c = c.loop-place.invariant.known
 pub loop-place-preserved : goal.loop-place-preserved
 loop-place-preserved c =
     let place = slice_index_or c.args.places.now c.loop-place.place-index 0 in
-    let right = subst (λ o. IfSome o (λ (s : RightStretch). IsRightPlace c.args.kind c.args.wd.now c.args.bin.now place × IsRightStretch c.args.kind c.args.wd.now c.args.bin.now s)) c.in-Some.is c.in_ok-right_around.ensures.right in
+    let right = subst (λ o. IfSome o (λ (s : RightStretch). IsRightPlace c.args.kind c.args.wd.now c.args.bin.now
+    place × IsRightStretch c.args.kind c.args.wd.now c.args.bin.now s)) c.in-Some.is
+    c.in_ok-right_around.ensures.right in
     record {
       known = c.in_ok-right_around.ensures.known;
       stretch = right.1;
-      done = below_more (λ k. IsRightPlace c.args.kind c.args.wd.now c.args.bin.now (slice_index_or c.args.places.now k 0)) c.loop-place.place-index c.loop-place.invariant.done right.0;
+      done = below_more (λ k. IsRightPlace c.args.kind c.args.wd.now c.args.bin.now (slice_index_or c.args.places.now
+          k 0)) c.loop-place.place-index c.loop-place.invariant.done right.0;
     }
 
 pub returns : goal.returns

@@ -5,11 +5,17 @@ use Rattle.direct_props.proofs.rules.is_right_list.Goals as goal
 
 pub returns-in-Some-clause-right : goal.returns-in-Some-clause-right
 returns-in-Some-clause-right c = λ _.
-    right_in_page c.args.kind c.args.wd.now c.args.number c.args.range.0 c.args.range.1 (omega (arith, c.style_len.ensures)) (omega arith)
-    (c.requires.known c.in-Some._met (512 * c.args.number + c.args.range.0) (512 * c.args.number + c.args.range.1) c.in-Some.ensures)
+    right_in_page c.args.kind c.args.wd.now c.args.number c.args.range.0 c.args.range.1 (omega (
+      arith,
+      c.style_len.ensures,
+    )) (omega arith)
+    (c.requires.known c.in-Some._met (512 * c.args.number + c.args.range.0) (512 * c.args.number + c.args.range.1)
+    c.in-Some.ensures)
 
 pub returns-in_ok-add-in-Some-list_in-clause-known : goal.returns-in_ok-add-in-Some-list_in-clause-known
 returns-in_ok-add-in-Some-list_in-clause-known c =
     subst (HaveNoFault c.args.kind c.args.wd.now) (sym c.in_ok-add-in-Some-list_in.ensures.ok)
-    (one_faultless c.args.kind c.args.wd.now c.args.known.now (512 * c.args.number + c.args.range.0) (512 * c.args.number + c.args.range.1) c.requires.known
-    (faultless_in_stream c.args.kind c.args.wd.now c.args.number c.args.range.0 c.args.range.1 c.in-Some-list_in.ensures.0))
+    (one_faultless c.args.kind c.args.wd.now c.args.known.now (512 * c.args.number + c.args.range.0)
+    (512 * c.args.number + c.args.range.1) c.requires.known
+    (faultless_in_stream c.args.kind c.args.wd.now c.args.number c.args.range.0 c.args.range.1
+    c.in-Some-list_in.ensures.0))

@@ -9,7 +9,9 @@ use Rattle.run_lists.specs.Spread.{spread}
 use Rattle.run_lists.proofs.SpreadLemmas.{length-spread, extent-nil, extent_more}
 use Rattle.plain_doc.specs.declared.item.Item.{Item}
 use Rattle.doc_columns.specs.declared.beside.Beside.{Beside}
-use Rattle.doc_columns.proofs.CollectLemmas.{IsCollected, start_at, none_collected, whole_text, run_inside, run_values, collected_few, run_maps, taken_collected, all_collected, whole_collected}
+use Rattle.doc_columns.proofs.CollectLemmas.{IsCollected, start_at, none_collected, whole_text, run_inside}
+use Rattle.doc_columns.proofs.CollectLemmas.{run_values, collected_few, run_maps, taken_collected, all_collected}
+use Rattle.doc_columns.proofs.CollectLemmas.{whole_collected}
 use Rattle.doc_columns.proofs.specials.collect.Goals as goal
 
 pub loop-run-init : goal.loop-run-init

@@ -3,7 +3,8 @@ use Rattle.plain_doc.specs.Blank.{blank_document}
 use Rattle.plain_doc.specs.Sound.{IsSound}
 use Rattle.full_save.specs.Layout.{full_save_image}
 use Rattle.fast_save.specs.Started.{IsStarted}
-use Rattle.doc_edit.proofs.GeneratedStartLemmas.{blank_sound, never_large, never_refused, file_is, started_blank, again_in_full}
+use Rattle.doc_edit.proofs.GeneratedStartLemmas.{blank_sound, never_large, never_refused, file_is, started_blank}
+use Rattle.doc_edit.proofs.GeneratedStartLemmas.{again_in_full}
 use Rattle.doc_edit.proofs.generating.blank_session.Goals as goal
 
 pub full-requires : goal.full-requires

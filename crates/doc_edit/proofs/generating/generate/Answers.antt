@@ -33,5 +33,6 @@ returns c =
       saves = c.generated_saves.result;
     }) c.requires c.in_ok-session.ensures
     (none_mapped _ _ (c.deref_mut.ensures.value ∙ c.new-guards.ensures.items)) c.in-Ok.ensures.ok
-    (c.in_ok-from_slice.ensures ∙ c.bytes.ensures.bytes) (subst IsAccepted c.bytes.ensures.bytes c.bytes.ensures.accepted)
+    (c.in_ok-from_slice.ensures ∙ c.bytes.ensures.bytes) (subst IsAccepted c.bytes.ensures.bytes
+    c.bytes.ensures.accepted)
     units paragraphs saves.fast saves.full

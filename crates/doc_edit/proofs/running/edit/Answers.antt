@@ -15,7 +15,8 @@ returns-in_err-edit-2-clause-err g c =
     let plan = c.in_ok-edit.ensures in
     let refused = c.in_err-edit-2.ensures in
     rw (p.1, p.2, refused.1.0)
-    (edit_guarded c.args.command.now c.args.session.now _ c.in_ok-edit.edit.facts refused.0 c.args.index c.requires.edits
+    (edit_guarded c.args.command.now c.args.session.now _ c.in_ok-edit.edit.facts refused.0 c.args.index
+    c.requires.edits
     plan.0 plan.1.1 refused.1.1)
 
 pub returns-clause-made : goal.returns-clause-made

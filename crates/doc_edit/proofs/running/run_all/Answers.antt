@@ -22,11 +22,13 @@ returns-in_err-make-clause-err g c =
     let count = c.count-index-end.ensures in
     let within : c.loop-index.index < commands.count = omega arith in
     let p = err_from_is_err_and c.from_residual.result c.from_residual.ensures.1 in
-    rw (p.1, p.2) (stopped_there _ commands c.loop-index.index c.loop-index.session _ c.loop-index.invariant fault within c.in_err-make.ensures.err)
+    rw (p.1, p.2) (stopped_there _ commands c.loop-index.index c.loop-index.session _ c.loop-index.invariant fault
+    within c.in_err-make.ensures.err)
 
 pub loop-index-preserved : goal.loop-index-preserved
 loop-index-preserved g c =
-    run_on _ (g.S.Source.commands c.args.source.now) c.loop-index.index c.loop-index.session _ c.loop-index.invariant c.make.new.session _ c.in_ok-make.ensures.made
+    run_on _ (g.S.Source.commands c.args.source.now) c.loop-index.index c.loop-index.session _ c.loop-index.invariant
+    c.make.new.session _ c.in_ok-make.ensures.made
 
 pub returns-in_err-make-clause-told : goal.returns-in_err-make-clause-told
 returns-in_err-make-clause-told g c =
@@ -36,7 +38,8 @@ returns-in_err-make-clause-told g c =
     let count = c.count-index-end.ensures in
     let within : c.loop-index.index ≤ commands.count = omega arith in
     let p = err_from_is_err_and c.from_residual.result c.from_residual.ensures.1 in
-    rw (p.1, p.2) (told_there _ commands c.loop-index.index c.loop-index.session _ c.loop-index.invariant fault _ within c.in_err-make.ensures.told c.in_err-make.ensures.err)
+    rw (p.1, p.2) (told_there _ commands c.loop-index.index c.loop-index.session _ c.loop-index.invariant fault _
+    within c.in_err-make.ensures.told c.in_err-make.ensures.err)
 
 pub returns-clause-ok : goal.returns-clause-ok
 returns-clause-ok g c =

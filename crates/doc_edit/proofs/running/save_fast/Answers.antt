@@ -5,7 +5,8 @@ use Rattle.doc_edit.proofs.running.save_fast.Goals as goal
 pub returns-in-Err-Sixteenth-clause-err : goal.returns-in-Err-Sixteenth-clause-err
 returns-in-Err-Sixteenth-clause-err c =
     sixteenth_stops c.args.session.now c.args.index c.in-Err-Sixteenth.count
-    (subst (λ fault. RefusesFast c.args.session.now fault) c.in-Err-Sixteenth.field-0-is c.in-Err-Sixteenth.ensures.err.1)
+    (subst (λ fault. RefusesFast c.args.session.now fault) c.in-Err-Sixteenth.field-0-is
+    c.in-Err-Sixteenth.ensures.err.1)
 
 pub returns-in-Err-TooManyPieces-clause-err : goal.returns-in-Err-TooManyPieces-clause-err
 returns-in-Err-TooManyPieces-clause-err c =

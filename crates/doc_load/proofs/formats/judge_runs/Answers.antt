@@ -22,27 +22,37 @@ pub judge_rows-requires-clause-table : goal.judge_rows-requires-clause-table
 judge_rows-requires-clause-table c = rw c.part-characters.ensures.bytes (bin_tables c.args.source.now c.requires.bins).0
 
 pub judge_places-requires-clause-table : goal.judge_places-requires-clause-table
-judge_places-requires-clause-table c = rw c.part-paragraphs.ensures.bytes (bin_tables c.args.source.now c.requires.bins).1
+judge_places-requires-clause-table c = rw c.part-paragraphs.ensures.bytes (bin_tables c.args.source.now
+    c.requires.bins).1
 
 pub returns-in-Some : goal.returns-in-Some
 returns-in-Some c =
     let source = c.args.source.now in
     let characters = page_rules Chpx source.wd (part_bytes source PlcfBteChpx) (judged_places source) in
-    let paragraphs = page_rules Papx source.wd (part_bytes source PlcfBtePapx) (paragraph_places source c.args.sections.now) in
-    let judged = subst (λ o. IsJudged (page_rules Chpx c.wd.result.now c.part-characters.result.now c.judged_places-all.result) o) c.in-Some.is c.in_ok-wrong.ensures.judged in
-    let first = rw (c.part-characters.ensures.bytes, c.wd.ensures.bytes, c.judged_places-all.ensures.places) at judged in
+    let paragraphs = page_rules Papx source.wd (part_bytes source PlcfBtePapx) (paragraph_places source
+    c.args.sections.now) in
+    let judged = subst (λ o. IsJudged (page_rules Chpx c.wd.result.now c.part-characters.result.now
+    c.judged_places-all.result) o) c.in-Some.is c.in_ok-wrong.ensures.judged in
+    let first = rw (c.part-characters.ensures.bytes, c.wd.ensures.bytes, c.judged_places-all.ensures.places) at judged
+    in
     rw c.refused_page.ensures
-    (refused-first (rules_in Wd characters) (rules_in Wd paragraphs) (page_refusal c.in-Some.fault) (refused-page characters c.in-Some.fault first))
+    (refused-first (rules_in Wd characters) (rules_in Wd paragraphs) (page_refusal c.in-Some.fault) (refused-page
+    characters c.in-Some.fault first))
 
 pub returns-in-None : goal.returns-in-None
 returns-in-None c =
     let source = c.args.source.now in
     let characters = page_rules Chpx source.wd (part_bytes source PlcfBteChpx) (judged_places source) in
-    let paragraphs = page_rules Papx source.wd (part_bytes source PlcfBtePapx) (paragraph_places source c.args.sections.now) in
-    let judged = subst (λ o. IsJudged (page_rules Chpx c.wd.result.now c.part-characters.result.now c.judged_places-all.result) o) c.in_default.is c.in_ok-wrong.ensures.judged in
-    let holds = rw (c.part-characters.ensures.bytes, c.wd.ensures.bytes, c.judged_places-all.ensures.places) at judged in
-    let ends : c.deref.result.now ≡ paragraph_places source c.args.sections.now = c.deref.ensures.value ∙ c.in_ok-ends.ensures in
-    let judged_too = subst (λ o. IsJudged (page_rules Papx c.wd-2.result.now c.part-paragraphs.result.now c.deref.result.now) o) c.in-None.is c.in_ok-wrong_too.ensures.judged in
+    let paragraphs = page_rules Papx source.wd (part_bytes source PlcfBtePapx) (paragraph_places source
+    c.args.sections.now) in
+    let judged = subst (λ o. IsJudged (page_rules Chpx c.wd.result.now c.part-characters.result.now
+    c.judged_places-all.result) o) c.in_default.is c.in_ok-wrong.ensures.judged in
+    let holds = rw (c.part-characters.ensures.bytes, c.wd.ensures.bytes, c.judged_places-all.ensures.places) at judged
+    in
+    let ends : c.deref.result.now ≡ paragraph_places source c.args.sections.now = c.deref.ensures.value ∙
+    c.in_ok-ends.ensures in
+    let judged_too = subst (λ o. IsJudged (page_rules Papx c.wd-2.result.now c.part-paragraphs.result.now
+    c.deref.result.now) o) c.in-None.is c.in_ok-wrong_too.ensures.judged in
     let holds_too = rw (c.part-paragraphs.ensures.bytes, c.wd-2.ensures.bytes, ends) at judged_too in
     (hold_in Wd characters holds, hold_in Wd paragraphs holds_too)
 
@@ -50,12 +60,18 @@ pub returns : goal.returns
 returns c =
     let source = c.args.source.now in
     let characters = page_rules Chpx source.wd (part_bytes source PlcfBteChpx) (judged_places source) in
-    let paragraphs = page_rules Papx source.wd (part_bytes source PlcfBtePapx) (paragraph_places source c.args.sections.now) in
+    let paragraphs = page_rules Papx source.wd (part_bytes source PlcfBtePapx) (paragraph_places source
+    c.args.sections.now) in
     let fault = c.in-Some-wrong_too.fault in
-    let judged = subst (λ o. IsJudged (page_rules Chpx c.wd.result.now c.part-characters.result.now c.judged_places-all.result) o) c.in_default.is c.in_ok-wrong.ensures.judged in
-    let holds = rw (c.part-characters.ensures.bytes, c.wd.ensures.bytes, c.judged_places-all.ensures.places) at judged in
-    let ends : c.deref.result.now ≡ paragraph_places source c.args.sections.now = c.deref.ensures.value ∙ c.in_ok-ends.ensures in
-    let judged_too = subst (λ o. IsJudged (page_rules Papx c.wd-2.result.now c.part-paragraphs.result.now c.deref.result.now) o) c.in-Some-wrong_too.is c.in_ok-wrong_too.ensures.judged in
+    let judged = subst (λ o. IsJudged (page_rules Chpx c.wd.result.now c.part-characters.result.now
+    c.judged_places-all.result) o) c.in_default.is c.in_ok-wrong.ensures.judged in
+    let holds = rw (c.part-characters.ensures.bytes, c.wd.ensures.bytes, c.judged_places-all.ensures.places) at judged
+    in
+    let ends : c.deref.result.now ≡ paragraph_places source c.args.sections.now = c.deref.ensures.value ∙
+    c.in_ok-ends.ensures in
+    let judged_too = subst (λ o. IsJudged (page_rules Papx c.wd-2.result.now c.part-paragraphs.result.now
+    c.deref.result.now) o) c.in-Some-wrong_too.is c.in_ok-wrong_too.ensures.judged in
     let first = rw (c.part-paragraphs.ensures.bytes, c.wd-2.ensures.bytes, ends) at judged_too in
     rw c.refused_page-in-Some-wrong_too.ensures
-    (refused-next (rules_in Wd characters) (rules_in Wd paragraphs) (page_refusal fault) (hold_in Wd characters holds) (refused-page paragraphs fault first))
+    (refused-next (rules_in Wd characters) (rules_in Wd paragraphs) (page_refusal fault) (hold_in Wd characters holds)
+    (refused-page paragraphs fault first))

@@ -28,26 +28,33 @@ is_head_table-formed-requires c =
     ]
 
 pub judged_cuts-requires-clause-whole : goal.judged_cuts-requires-clause-whole
-judged_cuts-requires-clause-whole c = λ formed. whole_heads c.part-plc.result.now c.len.result (c.is_head_table-formed.ensures.0 formed)
+judged_cuts-requires-clause-whole c = λ formed. whole_heads c.part-plc.result.now c.len.result
+    (c.is_head_table-formed.ensures.0 formed)
 
 pub returns-in-Some : goal.returns-in-Some
 returns-in-Some c =
     let source = c.args.source.now in
     let list = c.args.sections.now in
-    let judged : LeastOrNone (BreaksCuts (IsTrue c.is_head_table-formed.result) (part_bytes source PlcfHdd) (story_length source Heads) (part_place source PlcfHdd)) c.in_ok-judged.judged.fault =
+    let judged : LeastOrNone (BreaksCuts (IsTrue c.is_head_table-formed.result) (part_bytes source PlcfHdd)
+    (story_length source Heads) (part_place source PlcfHdd)) c.in_ok-judged.judged.fault =
     rw (c.part-plc.ensures.bytes, c.place-at.ensures.place, c.story_len.ensures.count) at c.in_ok-judged.ensures.0 in
     let formed = rw (c.part-plc.ensures.bytes, c.len.ensures) at c.is_head_table-formed.ensures in
-    let breaks = cuts_same (IsTrue c.is_head_table-formed.result) (IsHeadTable (length (part_bytes source PlcfHdd)) (length list)) (part_bytes source PlcfHdd) (story_length source Heads) (part_place source PlcfHdd) c.in_ok-judged.judged.fault formed.0 formed.1 judged in
+    let breaks = cuts_same (IsTrue c.is_head_table-formed.result) (IsHeadTable (length (part_bytes source PlcfHdd))
+    (length list)) (part_bytes source PlcfHdd) (story_length source Heads) (part_place source PlcfHdd)
+    c.in_ok-judged.judged.fault formed.0 formed.1 judged in
     (list, (c.requires, refused-rule Table 54 (BreaksHeads source list) c.in-Some.offset (rw c.in-Some.is at breaks)))
 
 pub returns : goal.returns
 returns c =
     let source = c.args.source.now in
     let list = c.args.sections.now in
-    let judged : LeastOrNone (BreaksCuts (IsTrue c.is_head_table-formed.result) (part_bytes source PlcfHdd) (story_length source Heads) (part_place source PlcfHdd)) c.in_ok-judged.judged.fault =
+    let judged : LeastOrNone (BreaksCuts (IsTrue c.is_head_table-formed.result) (part_bytes source PlcfHdd)
+    (story_length source Heads) (part_place source PlcfHdd)) c.in_ok-judged.judged.fault =
     rw (c.part-plc.ensures.bytes, c.place-at.ensures.place, c.story_len.ensures.count) at c.in_ok-judged.ensures.0 in
     let formed = rw (c.part-plc.ensures.bytes, c.len.ensures) at c.is_head_table-formed.ensures in
-    let breaks = cuts_same (IsTrue c.is_head_table-formed.result) (IsHeadTable (length (part_bytes source PlcfHdd)) (length list)) (part_bytes source PlcfHdd) (story_length source Heads) (part_place source PlcfHdd) c.in_ok-judged.judged.fault formed.0 formed.1 judged in (
+    let breaks = cuts_same (IsTrue c.is_head_table-formed.result) (IsHeadTable (length (part_bytes source PlcfHdd))
+    (length list)) (part_bytes source PlcfHdd) (story_length source Heads) (part_place source PlcfHdd)
+    c.in_ok-judged.judged.fault formed.0 formed.1 judged in (
       (list, (c.requires, holds-rule Table 54 (BreaksHeads source list) (rw c.in_default.is at breaks))),
       rw (c.part-plc.ensures.bytes, c.story_len.ensures.count) at (c.in_ok-judged.ensures.1 c.in_default.is),
     )

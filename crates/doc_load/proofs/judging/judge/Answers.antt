@@ -14,10 +14,12 @@ use Rattle.doc_load.proofs.judging.judge.Goals as goal
 pub returns-in-Err : goal.returns-in-Err
 returns-in-Err c =
     let rules = container_rules c.args.file.now in
-    rw c.refused_container.ensures (refused-first (rules_in File rules) (given (HasContents c.args.file.now) contents_rules) (cfb_refusal c.in-Err.fault) (refused-container rules c.in-Err.fault c.in-Err.ensures))
+    rw c.refused_container.ensures (refused-first (rules_in File rules) (given (HasContents c.args.file.now)
+    contents_rules) (cfb_refusal c.in-Err.fault) (refused-container rules c.in-Err.fault c.in-Err.ensures))
 
 pub judge_contents-requires : goal.judge_contents-requires
-judge_contents-requires c = streams-small c.args.file.now c.in-Ok.container (λ i. let byte = c.type_inv.file i in omega arith) c.in-Ok.ensures.1
+judge_contents-requires c = streams-small c.args.file.now c.in-Ok.container (λ i. let byte = c.type_inv.file i in
+    omega arith) c.in-Ok.ensures.1
 
 pub returns-in-Ok : goal.returns-in-Ok
 returns-in-Ok c =
@@ -27,4 +29,5 @@ returns-in-Ok c =
     let holds = hold_in File (container_rules file) c.in-Ok.ensures.0 in
     MatchResult-weaker c.judge_contents.result c.judge_contents.ensures
     (λ _ h. (holds, (contents, (has, h))))
-    (λ refusal h. refused-next (rules_in File (container_rules file)) (given (HasContents file) contents_rules) refusal holds (refused-given (HasContents file) contents_rules contents refusal has h))
+    (λ refusal h. refused-next (rules_in File (container_rules file)) (given (HasContents file) contents_rules)
+    refusal holds (refused-given (HasContents file) contents_rules contents refusal has h))

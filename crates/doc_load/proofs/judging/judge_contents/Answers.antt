@@ -17,4 +17,5 @@ returns c =
     let read = c.in_ok-text.ensures in
     let parts = λ (text : FileText). part_rules (source_of text) in
     let refused = rw c.source-source.ensures at c.in-Err.ensures in
-    refused-next (loading_rules contents) (given (HasText contents) parts) fault read.0 (refused-given (HasText contents) parts c.in_ok-text.text fault read.1 refused)
+    refused-next (loading_rules contents) (given (HasText contents) parts) fault read.0 (refused-given
+    (HasText contents) parts c.in_ok-text.text fault read.1 refused)

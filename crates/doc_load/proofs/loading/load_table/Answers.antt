@@ -18,24 +18,31 @@ use Rattle.doc_load.proofs.UnitLemmas.{length-text_units, length-text_places}
 use Rattle.doc_load.proofs.loading.load_table.Goals as goal
 
 pub returns-in-Some : goal.returns-in-Some
-returns-in-Some c = inl (refused-rule Wd 26 (BreaksPairs c.args.wd.now (length c.args.table.now)) c.in-Some.offset (c.in-Some.ensures c.args.wd.now c.requires.fields))
+returns-in-Some c = inl (refused-rule Wd 26 (BreaksPairs c.args.wd.now (length c.args.table.now)) c.in-Some.offset
+    (c.in-Some.ensures c.args.wd.now c.requires.fields))
 
 pub returns-in-Err : goal.returns-in-Err
 returns-in-Err c =
     let wd = c.args.wd.now in
     let table = c.args.table.now in
-    let len : c.text_len.result ≡ text_length (fib_fields wd).ccps = c.text_len.ensures.value ∙ ap (λ (f : FibFields). text_length f.ccps) c.requires.fields in
-    let rules = clx_rules (clx_of wd table) (fib_pair wd (pair_of Clx)).0 (early_bounds (length wd)) (text_length (fib_fields wd).ccps) in
-    let pair : c.pair-pair.result ≡ fib_pair wd (pair_of Clx) = clx_pair c.pair.result wd c.args.fib c.pair-pair.result c.pair.ensures.number c.pair-pair.ensures c.requires.fields in
+    let len : c.text_len.result ≡ text_length (fib_fields wd).ccps = c.text_len.ensures.value ∙ ap (λ (f : FibFields).
+    text_length f.ccps) c.requires.fields in
+    let rules = clx_rules (clx_of wd table) (fib_pair wd (pair_of Clx)).0 (early_bounds (length wd)) (text_length
+    (fib_fields wd).ccps) in
+    let pair : c.pair-pair.result ≡ fib_pair wd (pair_of Clx) = clx_pair c.pair.result wd c.args.fib
+    c.pair-pair.result c.pair.ensures.number c.pair-pair.ensures c.requires.fields in
     let first = rw (len, c.part_at-clx.ensures.bytes, pair) at c.in-Err.ensures.read in
     let pairs = BreaksPairs wd (length table) in
-    rw c.refused_clx.ensures (refused-next (rules_in Wd (rule 26 pairs)) (rules_in Table rules) (clx_refusal c.in-Err.fault) (holds-rule Wd 26 pairs (c.in_default.ensures wd c.requires.fields)) (refused-clx rules c.in-Err.fault first))
+    rw c.refused_clx.ensures (refused-next (rules_in Wd (rule 26 pairs)) (rules_in Table rules) (clx_refusal
+    c.in-Err.fault) (holds-rule Wd 26 pairs (c.in_default.ensures wd c.requires.fields)) (refused-clx rules
+    c.in-Err.fault first))
 
 pub invariant_of-result : goal.invariant_of-result
 invariant_of-result c =
     let wd = c.args.wd.now in
     let pieces = c.in-Ok.pieces.pieces in
-    let len : c.text_len.result ≡ text_length (fib_fields wd).ccps = c.text_len.ensures.value ∙ ap (λ (f : FibFields). text_length f.ccps) c.requires.fields in
+    let len : c.text_len.result ≡ text_length (fib_fields wd).ccps = c.text_len.ensures.value ∙ ap (λ (f : FibFields).
+    text_length f.ccps) c.requires.fields in
     let total : total_length pieces ≡ text_length (fib_fields wd).ccps = c.in-Ok.ensures.total ∙ len in
     record {
       source = record {
@@ -52,8 +59,18 @@ pub returns : goal.returns
 returns c =
     let wd = c.args.wd.now in
     let table = c.args.table.now in
-    let len : c.text_len.result ≡ text_length (fib_fields wd).ccps = c.text_len.ensures.value ∙ ap (λ (f : FibFields). text_length f.ccps) c.requires.fields in
-    let rules = clx_rules (clx_of wd table) (fib_pair wd (pair_of Clx)).0 (early_bounds (length wd)) (text_length (fib_fields wd).ccps) in
-    let pair : c.pair-pair.result ≡ fib_pair wd (pair_of Clx) = clx_pair c.pair.result wd c.args.fib c.pair-pair.result c.pair.ensures.number c.pair-pair.ensures c.requires.fields in
-    let read = rw (len, c.part_at-clx.ensures.bytes, pair) at c.in-Ok.ensures.read in
-    ((holds-rule Wd 26 (BreaksPairs wd (length table)) (c.in_default.ensures wd c.requires.fields), hold_in Table rules read.0), refl, refl, read.1)
+    let len : c.text_len.result ≡ text_length (fib_fields wd).ccps = c.text_len.ensures.value ∙ ap (λ (f : FibFields).
+    text_length f.ccps) c.requires.fields in
+    let rules = clx_rules (clx_of wd table) (fib_pair wd (pair_of Clx)).0 (early_bounds (length wd)) (text_length
+    (fib_fields wd).ccps) in
+    let pair : c.pair-pair.result ≡ fib_pair wd (pair_of Clx) = clx_pair c.pair.result wd c.args.fib
+    c.pair-pair.result c.pair.ensures.number c.pair-pair.ensures c.requires.fields in
+    let read = rw (len, c.part_at-clx.ensures.bytes, pair) at c.in-Ok.ensures.read in (
+      (
+        holds-rule Wd 26 (BreaksPairs wd (length table)) (c.in_default.ensures wd c.requires.fields),
+        hold_in Table rules read.0,
+      ),
+      refl,
+      refl,
+      read.1,
+    )

@@ -18,4 +18,5 @@ returns c =
     let is = HasNamed contents.streams wd_name in
     MatchResult-weaker c.load_wd.result c.load_wd.ensures
     (λ text h. ((there, (wd, (named, h.0))), has-text contents wd text named h.1))
-    (λ refusal h. refused-next (rules_in File (rule 15 (HasNoStream contents wd_name 0))) (given is (wd_rules contents)) refusal there (refused-given is (wd_rules contents) wd refusal named h))
+    (λ refusal h. refused-next (rules_in File (rule 15 (HasNoStream contents wd_name 0)))
+    (given is (wd_rules contents)) refusal there (refused-given is (wd_rules contents) wd refusal named h))

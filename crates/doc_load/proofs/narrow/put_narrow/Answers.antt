@@ -23,6 +23,7 @@ loop-done-preserved c =
       within = omega (arith, c.min-part.ensures, c.loop-done-test.true);
       len = c.put_part.ensures.len ∙ so_far.len;
       put =
-          ap (λ n. take n c.put_part.new.units) (omega arith) ∙ (c.put_part.ensures.put ∙ (ap (λ xs. xs ++ map next (range_with_len 0 part)) so_far.put
+          ap (λ n. take n c.put_part.new.units) (omega arith) ∙ (c.put_part.ensures.put ∙ (ap (λ xs. xs ++ map next
+          (range_with_len 0 part)) so_far.put
           ∙ (append_assoc before begun (map next (range_with_len 0 part)) ∙ ap (λ xs. before ++ xs) (sym joined))));
     }

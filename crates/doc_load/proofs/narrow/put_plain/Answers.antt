@@ -16,8 +16,10 @@ loop-j-preserved c =
     let test = c.loop-j-test.true in
     let below : c.args.cp + j < length c.loop-j.units = omega arith in
     let place : at + j ≡ at + j * 1 = omega arith in
-    let unit : c.plain_unit.result ≡ narrow_unit wd at j = c.plain_unit.ensures ∙ ap (λ n. unit_of (slice_index wd n)) place in
+    let unit : c.plain_unit.result ≡ narrow_unit wd at j = c.plain_unit.ensures ∙ ap (λ n. unit_of (slice_index wd n))
+    place in
     record {
       len = length-set c.loop-j.units (c.args.cp + j) c.plain_unit.result ∙ so_far.len;
-      put = run-put (narrow_unit wd at) c.args.cp j c.plain_unit.result c.args.units.now c.loop-j.units below unit so_far.put;
+      put = run-put (narrow_unit wd at) c.args.cp j c.plain_unit.result c.args.units.now c.loop-j.units below unit
+          so_far.put;
     }

@@ -10,9 +10,11 @@ loop-k-init c = λ wd fields. least_none (HasWrongPart wd c.args.table_len)
 pub loop-k-preserved : goal.loop-k-preserved
 loop-k-preserved c = λ wd fields.
     rw c.lesser-least.ensures
-    (least_step (HasWrongPart wd c.args.table_len) c.loop-k.k _ _ (c.loop-k.invariant wd fields) (c.wrong_read_pair.ensures wd fields))
+    (least_step (HasWrongPart wd c.args.table_len) c.loop-k.k _ _ (c.loop-k.invariant wd fields)
+    (c.wrong_read_pair.ensures wd fields))
 
 pub returns : goal.returns
 returns c = λ wd fields.
     let all : c.loop-k.k ≡ 16 = omega arith in
-    subst (λ n. LeastOrNone (Among n (HasWrongPart wd c.args.table_len)) c.loop-k.least) all (c.loop-k.invariant wd fields)
+    subst (λ n. LeastOrNone (Among n (HasWrongPart wd c.args.table_len)) c.loop-k.least) all (c.loop-k.invariant wd
+    fields)

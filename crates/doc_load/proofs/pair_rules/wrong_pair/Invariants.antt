@@ -6,4 +6,5 @@ use Rattle.doc_load.proofs.pair_rules.wrong_pair.Given as goal
 
 -- it is the least place of the pairs so far
 abbrev pub invariant-loop-k : goal.invariant-loop-k
-invariant-loop-k l = (wd : List ℕ) → l.fib ≡ fib_fields wd → LeastOrNone (Among l.k (HasWrongPart wd l.table_len)) l.least
+invariant-loop-k l = (wd : List ℕ) → l.fib ≡ fib_fields wd → LeastOrNone (Among l.k (HasWrongPart wd l.table_len))
+    l.least

@@ -20,12 +20,34 @@ below_at (n ∷ ns) (suc k) all = below_at ns k all.1
 read_pairs-below : (k : ℕ) → slice_index read_pairs k < 93
 unfolding AreBelow
 read_pairs-below k =
-    below_at read_pairs k (lit< tt, (lit< tt, (lit< tt, (lit< tt, (lit< tt, (lit< tt, (lit< tt, (lit< tt, (lit< tt, (lit< tt, (lit< tt, (lit< tt, (lit< tt, (lit< tt, (lit< tt, (lit< tt, tt))))))))))))))))
+    below_at read_pairs k (
+      lit< tt,
+      (
+        lit< tt,
+        (
+          lit< tt,
+          (
+            lit< tt,
+            (
+              lit< tt,
+              (
+                lit< tt,
+                (
+                  lit< tt,
+                  (lit< tt, (lit< tt, (lit< tt, (lit< tt, (lit< tt, (lit< tt, (lit< tt, (lit< tt, (lit< tt, tt))))))))),
+                ),
+              ),
+            ),
+          ),
+        ),
+      ),
+    )
 
 pub returns-then-is_wrong_part : goal.returns-then-is_wrong_part
 returns-then-is_wrong_part c = λ wd fields.
     let n = slice_index read_pairs c.args.k in
-    let pair : c.pair.result ≡ fib_pair wd n = c.pair.ensures ∙ pair-read wd c.args.fib.now n (read_pairs-below c.args.k) fields in
+    let pair : c.pair.result ≡ fib_pair wd n = c.pair.ensures ∙ pair-read wd c.args.fib.now n (read_pairs-below
+    c.args.k) fields in
     record {
       broken = (refl, rw pair at (c.if-is_wrong_part.ensures.0 refl));
       least = λ q b. let here = b.0 in omega arith;
@@ -34,5 +56,6 @@ returns-then-is_wrong_part c = λ wd fields.
 pub returns-else-is_wrong_part : goal.returns-else-is_wrong_part
 returns-else-is_wrong_part c = λ wd fields q b.
     let n = slice_index read_pairs c.args.k in
-    let pair : c.pair.result ≡ fib_pair wd n = c.pair.ensures ∙ pair-read wd c.args.fib.now n (read_pairs-below c.args.k) fields in
+    let pair : c.pair.result ≡ fib_pair wd n = c.pair.ensures ∙ pair-read wd c.args.fib.now n (read_pairs-below
+    c.args.k) fields in
     false≢true (c.if-is_wrong_part.ensures.1 (rw pair b.1))

@@ -14,5 +14,6 @@ returns-in_err-sheet c =
     let sheet = rules_of_sheet source in
     let after = refused-first sheet (story_rules source) fault c.in_err-sheet.ensures in
     rw (p.1, p.2)
-    (refused-next (layout_rules source) (rules_of_formats source then sheet then story_rules source) fault c.in_ok-sections.ensures.0
+    (refused-next (layout_rules source) (rules_of_formats source then sheet then story_rules source) fault
+    c.in_ok-sections.ensures.0
     (refused-next (rules_of_formats source) (sheet then story_rules source) fault c.in_ok-judge_formats.ensures after))

@@ -20,7 +20,11 @@ returns-in-Some-lost_sepx c =
     let at = part_place source PlcfSed in
     let marks = BreaksSectionMarks (story_units source Main) list at in
     let sepxs = BreaksSepxs source.wd list at in
-    inr (holds-rule Table 34 marks c.in_default.ensures, inl (refused-rule Table 35 sepxs c.in-Some-lost_sepx.offset c.in-Some-lost_sepx.ensures))
+    inr (
+      holds-rule Table 34 marks c.in_default.ensures,
+      inl (refused-rule Table 35 sepxs c.in-Some-lost_sepx.offset
+          c.in-Some-lost_sepx.ensures),
+    )
 
 pub returns-in-Some-sepx_fault : goal.returns-in-Some-sepx_fault
 returns-in-Some-sepx_fault c =
@@ -30,7 +34,15 @@ returns-in-Some-sepx_fault c =
     let marks = BreaksSectionMarks (story_units source Main) list at in
     let sepxs = BreaksSepxs source.wd list at in
     let lists = BreaksSepxLists source.wd list in
-    inr (holds-rule Table 34 marks c.in_default.ensures, inr (holds-rule Table 35 sepxs c.in_default-lost_sepx.ensures, refused-rule Wd 36 lists c.in-Some-sepx_fault.offset c.in-Some-sepx_fault.ensures))
+    inr (
+      holds-rule Table 34 marks c.in_default.ensures,
+      inr (
+        holds-rule Table 35 sepxs
+            c.in_default-lost_sepx.ensures,
+        refused-rule Wd 36 lists c.in-Some-sepx_fault.offset
+            c.in-Some-sepx_fault.ensures,
+      ),
+    )
 
 pub returns : goal.returns
 returns c =

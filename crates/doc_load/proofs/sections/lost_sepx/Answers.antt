@@ -23,15 +23,19 @@ returns-then-lacks_sepx c =
     let source = c.args.source.now in
     let list = c.args.list.now in
     let at = part_place source PlcfSed in
-    let fc : section_fc list c.loop-k.k ≡ c.get-fc.result.1 = index_of_get (λ (sed : Sed). sed.sepx) list c.loop-k.k _ c.get-fc.ensures in
-    let lacks : LacksSepx source.wd (section_fc list c.loop-k.k) = rw (fc, ← c.wd-wd.ensures.bytes) (c.if-lacks_sepx.ensures.0 refl) in
+    let fc : section_fc list c.loop-k.k ≡ c.get-fc.result.1 = index_of_get (λ (sed : Sed). sed.sepx) list c.loop-k.k _
+    c.get-fc.ensures in
+    let lacks : LacksSepx source.wd (section_fc list c.loop-k.k) = rw (fc, ← c.wd-wd.ensures.bytes)
+    (c.if-lacks_sepx.ensures.0 refl) in
     rw (c.fc_sepx_place.ensures, c.place-at.ensures.place, c.len.ensures)
-    (first_row (place_of_fc_sepx at (length list)) (λ k. LacksSepx source.wd (section_fc list k)) (length list) c.loop-k.k (λ j k less. omega arith) (omega (arith, c.len-k-end.ensures)) c.loop-k.invariant lacks)
+    (first_row (place_of_fc_sepx at (length list)) (λ k. LacksSepx source.wd (section_fc list k)) (length list)
+    c.loop-k.k (λ j k less. omega arith) (omega (arith, c.len-k-end.ensures)) c.loop-k.invariant lacks)
 
 pub loop-k-preserved : goal.loop-k-preserved
 loop-k-preserved c =
     let source = c.args.source.now in
     let list = c.args.list.now in
-    let fc : section_fc list c.loop-k.k ≡ c.get-fc.result.1 = index_of_get (λ (sed : Sed). sed.sepx) list c.loop-k.k _ c.get-fc.ensures in
+    let fc : section_fc list c.loop-k.k ≡ c.get-fc.result.1 = index_of_get (λ (sed : Sed). sed.sepx) list c.loop-k.k _
+    c.get-fc.ensures in
     below_more (λ k. ¬ (LacksSepx source.wd (section_fc list k))) c.loop-k.k c.loop-k.invariant
     (λ lacks. false≢true (c.if-lacks_sepx.ensures.1 (rw (c.wd-wd.ensures.bytes, ← fc) lacks)))

@@ -16,4 +16,5 @@ pub returns-in-Err : goal.returns-in-Err
 returns-in-Err c =
     let source = c.args.source.now in
     let first = rw (c.part-stsh.ensures.bytes, c.place.ensures.place) at c.in-Err.ensures in
-    rw c.refused_sheet.ensures (refused-sheet (stsh_rules (part_bytes source Stshf) (part_place source Stshf)) c.in-Err.fault first)
+    rw c.refused_sheet.ensures (refused-sheet (stsh_rules (part_bytes source Stshf) (part_place source Stshf))
+    c.in-Err.fault first)

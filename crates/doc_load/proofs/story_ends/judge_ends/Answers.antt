@@ -9,15 +9,20 @@ use Rattle.doc_load.proofs.RefusalLemmas.{refused-rule, holds-rule}
 use Rattle.doc_load.proofs.story_ends.judge_ends.Goals as goal
 
 -- the least place of both stories
-least_of_both : (source : DocSource) (notes heads : List ℕ) (a b found : Option ℕ) → LeastOrNone (BreaksEnd source Notes notes) a → LeastOrNone (BreaksEnd source Heads heads) b → found ≡ lesser_of a b → LeastOrNone (BreaksEnds source notes heads) found
-least_of_both source notes heads a b found ha hb e = rw e (least_either (BreaksEnd source Notes notes) (BreaksEnd source Heads heads) a b ha hb)
+least_of_both : (source : DocSource) (notes heads : List ℕ) (a b found : Option ℕ) → LeastOrNone (BreaksEnd source
+    Notes notes) a → LeastOrNone (BreaksEnd source Heads heads) b → found ≡ lesser_of a b →
+    LeastOrNone (BreaksEnds source notes heads) found
+least_of_both source notes heads a b found ha hb e = rw e (least_either (BreaksEnd source Notes notes)
+    (BreaksEnd source Heads heads) a b ha hb)
 
 pub returns-in-None-clause-judged : goal.returns-in-None-clause-judged
 returns-in-None-clause-judged c =
     let source = c.args.source.now in
     let notes = c.args.notes.now in
     let heads = c.args.heads.now in
-    let least = least_of_both source notes heads c.loose_place-after_notes.result c.loose_place-after_heads.result None c.loose_place-after_notes.ensures c.loose_place-after_heads.ensures (sym c.in-None.is ∙ c.lesser.ensures) in
+    let least = least_of_both source notes heads c.loose_place-after_notes.result c.loose_place-after_heads.result
+    None c.loose_place-after_notes.ensures c.loose_place-after_heads.ensures (sym c.in-None.is ∙ c.lesser.ensures)
+    in
     (notes, (c.requires.notes, (heads, (c.requires.heads, holds-rule Wd 55 (BreaksEnds source notes heads) least))))
 
 pub returns-in-Some-clause-judged : goal.returns-in-Some-clause-judged
@@ -25,5 +30,19 @@ returns-in-Some-clause-judged c =
     let source = c.args.source.now in
     let notes = c.args.notes.now in
     let heads = c.args.heads.now in
-    let least = least_of_both source notes heads c.loose_place-after_notes.result c.loose_place-after_heads.result (Some c.in-Some.offset) c.loose_place-after_notes.ensures c.loose_place-after_heads.ensures (sym c.in-Some.is ∙ c.lesser.ensures) in
-    (notes, (c.requires.notes, (heads, (c.requires.heads, refused-rule Wd 55 (BreaksEnds source notes heads) c.in-Some.offset least))))
+    let least = least_of_both source notes heads c.loose_place-after_notes.result c.loose_place-after_heads.result
+    (Some c.in-Some.offset) c.loose_place-after_notes.ensures c.loose_place-after_heads.ensures (sym c.in-Some.is
+    ∙ c.lesser.ensures) in (
+      notes,
+      (
+        c.requires.notes,
+        (
+          heads,
+          (
+            c.requires.heads,
+            refused-rule Wd 55 (BreaksEnds source notes heads)
+                c.in-Some.offset least,
+          ),
+        ),
+      ),
+    )

@@ -9,6 +9,7 @@ bounds-units-cp c =
     let list = c.args.list.now in
     let k = c.loop-k.k in
     let len = length-map list (λ (fld : Fld). fld.cp) in
-    let cp : slice_index (map (λ (fld : Fld). fld.cp) list) k ≡ c.get-cp.result.0 = index_of_get (λ (fld : Fld). fld.cp) list k _ c.get-cp.ensures in
+    let cp : slice_index (map (λ (fld : Fld). fld.cp) list) k ≡ c.get-cp.result.0 = index_of_get (λ (fld : Fld).
+    fld.cp) list k _ c.get-cp.ensures in
     let within = (c.requires.in_order k (omega (arith, c.len-k-end.ensures))).within in
     omega arith

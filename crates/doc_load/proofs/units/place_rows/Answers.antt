@@ -22,8 +22,10 @@ loop-i-preserved c =
     let read = piece_read (slice_get pieces i) c.piece.result c.piece.ensures.value in
     let same = ap (λ piece. map place_of (unit_places (text_piece piece))) (sym read.1.1) ∙ places-any read.0 in
     record {
-      places = ap places_of c.in_ok-push.ensures.items ∙ rows_more rows c.row_of.result pieces i read.0 read.1.0 so_far.places (c.row_of.ensures.places ∙ same);
-      each = subst AreRows (sym c.in_ok-push.ensures.items) (AreRows_push rows c.row_of.result so_far.each c.row_of.ensures.row);
+      places = ap places_of c.in_ok-push.ensures.items ∙ rows_more rows c.row_of.result pieces i read.0 read.1.0
+          so_far.places (c.row_of.ensures.places ∙ same);
+      each = subst AreRows (sym c.in_ok-push.ensures.items) (AreRows_push rows c.row_of.result so_far.each
+          c.row_of.ensures.row);
     }
 
 pub returns-clause-rows : goal.returns-clause-rows

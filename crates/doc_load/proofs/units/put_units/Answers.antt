@@ -3,7 +3,9 @@ use Rattle.doc_load.proofs.UnitLemmas.{units-wide, units-narrow}
 use Rattle.doc_load.proofs.units.put_units.Goals as goal
 
 pub returns-then-piece-clause-put : goal.returns-then-piece-clause-put
-returns-then-piece-clause-put c = rw (units-wide c.args.wd.now (text_piece c.args.piece) c.if-piece.true) c.put_wide.ensures.put
+returns-then-piece-clause-put c = rw (units-wide c.args.wd.now (text_piece c.args.piece) c.if-piece.true)
+    c.put_wide.ensures.put
 
 pub returns-else-piece-clause-put : goal.returns-else-piece-clause-put
-returns-else-piece-clause-put c = rw (units-narrow c.args.wd.now (text_piece c.args.piece) c.if-piece.false) c.put_narrow.ensures.put
+returns-else-piece-clause-put c = rw (units-narrow c.args.wd.now (text_piece c.args.piece) c.if-piece.false)
+    c.put_narrow.ensures.put

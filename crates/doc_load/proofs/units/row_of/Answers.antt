@@ -7,7 +7,8 @@ use Rattle.doc_load.proofs.units.row_of.Goals as goal
 pub returns-clause-places : goal.returns-clause-places
 returns-clause-places c =
     let piece = c.args.piece in
-    ap (λ step. map (λ j. piece.at + j * step) (range_with_len 0 piece.len)) c.unit_len.ensures ∙ sym (places-step (text_piece piece))
+    ap (λ step. map (λ j. piece.at + j * step) (range_with_len 0 piece.len)) c.unit_len.ensures ∙ sym (places-step
+    (text_piece piece))
 
 pub returns-clause-row : goal.returns-clause-row
 returns-clause-row c =

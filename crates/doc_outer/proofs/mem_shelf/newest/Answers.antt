@@ -17,9 +17,11 @@ pub returns-then-eq : goal.returns-then-eq
 returns-then-eq c =
     let same : bytes_eq c.args.name.now c.in-Some.field-0.now.0 ≡ true = cc in
     ap (λ bytes. Some bytes) c.as_slice.ensures
-    ∙ sym (c.loop-key.invariant ∙ ap (find (slice_cmp nat_cmp) c.args.name.now) c.in-Some.ensures.steps ∙ find-cons c.args.name.now c.in-Some.field-0.now (deque_iter_rest c.next.new.self) true same)
+    ∙ sym (c.loop-key.invariant ∙ ap (find (slice_cmp nat_cmp) c.args.name.now) c.in-Some.ensures.steps ∙ find-cons
+    c.args.name.now c.in-Some.field-0.now (deque_iter_rest c.next.new.self) true same)
 
 pub loop-key-preserved : goal.loop-key-preserved
 loop-key-preserved c =
     let other : bytes_eq c.args.name.now c.in-Some.field-0.now.0 ≡ false = cc in
-    c.loop-key.invariant ∙ ap (find (slice_cmp nat_cmp) c.args.name.now) c.in-Some.ensures.steps ∙ find-cons c.args.name.now c.in-Some.field-0.now (deque_iter_rest c.next.new.self) false other
+    c.loop-key.invariant ∙ ap (find (slice_cmp nat_cmp) c.args.name.now) c.in-Some.ensures.steps ∙ find-cons
+    c.args.name.now c.in-Some.field-0.now (deque_iter_rest c.next.new.self) false other

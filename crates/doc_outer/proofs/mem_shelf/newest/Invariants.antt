@@ -9,4 +9,5 @@ use Rattle.doc_outer.proofs.mem_shelf.newest.Given as goal
 
 -- the name is to be found among the entries that are left
 abbrev pub invariant-loop-key : goal.invariant-loop-key
-invariant-loop-key l = file_at (files_of l.entries.items) l.name ≡ find (slice_cmp nat_cmp) l.name (deque_iter_rest l.key-iterator)
+invariant-loop-key l = file_at (files_of l.entries.items) l.name ≡ find (slice_cmp nat_cmp) l.name (deque_iter_rest
+    l.key-iterator)

@@ -17,6 +17,7 @@ loop-taken-preserved g c =
     let next = rw (take_rest bytes taken) at c.in_ok-count.ensures.taken in
     record {
       within = search rules;
-      appended = rw (take-add taken count bytes) (Appends-append _ _ _ (take taken bytes) (take count (drop taken bytes)) c.loop-taken.invariant.appended next);
+      appended = rw (take-add taken count bytes) (Appends-append _ _ _ (take taken bytes)
+          (take count (drop taken bytes)) c.loop-taken.invariant.appended next);
       faults = search rules;
     }

@@ -6,8 +6,10 @@ loop-k-init c = levels-none c.args.table.now c.args.from c.requires.within
 
 pub returns-in-None : goal.returns-in-None
 returns-in-None c =
-    levels-stop c.args.table.now c.args.from c.args.count c.loop-k._k c.loop-k.start c.loop-k-test.true c.loop-k.invariant c.in-None.ensures
+    levels-stop c.args.table.now c.args.from c.args.count c.loop-k._k c.loop-k.start c.loop-k-test.true
+    c.loop-k.invariant c.in-None.ensures
 
 pub loop-k-preserved : goal.loop-k-preserved
 loop-k-preserved c =
-    levels-more c.args.table.now c.args.from c.loop-k._k c.loop-k.start c.in-Some.end c.loop-k.invariant c.in-Some.ensures.0 c.in-Some.ensures.1
+    levels-more c.args.table.now c.args.from c.loop-k._k c.loop-k.start c.in-Some.end c.loop-k.invariant
+    c.in-Some.ensures.0 c.in-Some.ensures.1

@@ -10,5 +10,6 @@ returns-then-not-has_lists c =
 
 pub returns-in-Err : goal.returns-in-Err
 returns-in-Err c =
-    let stops = subst (λ count. StopsAtLevel c.args.table.now (c.args.at + c.args.lcb) count c.in-Err.start) c.level_count.ensures c.in-Err.ensures in
+    let stops = subst (λ count. StopsAtLevel c.args.table.now (c.args.at + c.args.lcb) count c.in-Err.start)
+    c.level_count.ensures c.in-Err.ensures in
     level_leaves c.args.table.now c.args.at c.args.lcb c.in-Err.start (c.if-not-has_lists.ensures.0 refl) stops

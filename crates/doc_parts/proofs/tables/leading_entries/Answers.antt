@@ -11,10 +11,13 @@ read-requires g c =
 pub loop-k-preserved : goal.loop-k-preserved
 loop-k-preserved g c =
     let form = g.E.TableEntry.form in
-    let items : c.push.new.self.items ≡ c.loop-k.list.items ++ c.in-Some.entry ∷ [] = c.in_ok-push-in-Some.ensures.items in
+    let items : c.push.new.self.items ≡ c.loop-k.list.items ++ c.in-Some.entry ∷ [] =
+    c.in_ok-push-in-Some.ensures.items in
     let here : entry_at form c.args.plc.now c.loop-k.k ≡ Some c.in-Some.entry = cc in
     record {
       count = rw items (simp length-append (omega arith));
-      each = each_more c.loop-k.list.items c.push.new.self.items c.in-Some.entry c.loop-k.k (entry_at form c.args.plc.now) items c.loop-k.invariant.count here c.loop-k.invariant.each;
-      right = below_more (IsRightEntry form c.args.cps c.args.plc.now) c.loop-k.k c.loop-k.invariant.right (record { in_order = c.if-not-is_kept.ensures.0 refl; spelled = rw here refl });
+      each = each_more c.loop-k.list.items c.push.new.self.items c.in-Some.entry c.loop-k.k (entry_at form
+          c.args.plc.now) items c.loop-k.invariant.count here c.loop-k.invariant.each;
+      right = below_more (IsRightEntry form c.args.cps c.args.plc.now) c.loop-k.k c.loop-k.invariant.right
+          (record { in_order = c.if-not-is_kept.ensures.0 refl; spelled = rw here refl });
     }

@@ -12,4 +12,5 @@ invariant-loop-entry g l =
 abbrev pub invariant-loop-entry-2 : goal.invariant-loop-entry-2
 invariant-loop-entry-2 g l =
     l.bytes ≡ flat_map (number_bytes 4) (map g.E.TableEntry.form.cp_of l.entries)
-    ++ (number_bytes 4 l.end ++ flat_map (λ entry. entry) (map g.E.TableEntry.form.bytes_of (take l.entry-index l.entries)))
+    ++ (number_bytes 4 l.end ++ flat_map (λ entry. entry) (map g.E.TableEntry.form.bytes_of (take l.entry-index
+    l.entries)))

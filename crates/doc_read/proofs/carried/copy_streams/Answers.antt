@@ -8,7 +8,8 @@ pub add-requires : goal.add-requires
 add-requires c =
     let within : c.loop-i.i < length c.args.container.now.streams =
     omega (arith, c.loop-i-test.true, c.count-count.ensures) in
-    next-are_streams c.args.container.now c.loop-i.streams c.loop-i.i c.name-name.result.now c.bytes.result.now c.requires c.loop-i.invariant within c.name-name.ensures c.bytes.ensures (sym c.if-is_carried.ensures)
+    next-are_streams c.args.container.now c.loop-i.streams c.loop-i.i c.name-name.result.now c.bytes.result.now
+    c.requires c.loop-i.invariant within c.name-name.ensures c.bytes.ensures (sym c.if-is_carried.ensures)
 
 pub loop-i-preserved : goal.loop-i-preserved
 loop-i-preserved c =
@@ -20,7 +21,10 @@ loop-i-preserved c =
       | then-is_carried+in_ok-add w ↦
           w.streams-is
           ∙ (w.in_ok-add.ensures.ok
-          ∙ (ap (λ xs. xs ++ (record { name = c.name-name.result.now; bytes = w.bytes.result.now }) ∷ []) c.loop-i.invariant
-          ∙ carried-next streams c.loop-i.i name w.bytes.result.now within c.name-name.ensures w.bytes.ensures (sym w.if-is_carried.ensures)))
-      | else-is_carried w ↦ w.streams-is ∙ (c.loop-i.invariant ∙ carried-skip streams c.loop-i.i name within c.name-name.ensures (sym w.if-is_carried.ensures))
+          ∙ (ap (λ xs. xs ++ (record { name = c.name-name.result.now; bytes = w.bytes.result.now }) ∷ [])
+          c.loop-i.invariant
+          ∙ carried-next streams c.loop-i.i name w.bytes.result.now within c.name-name.ensures w.bytes.ensures
+          (sym w.if-is_carried.ensures)))
+      | else-is_carried w ↦ w.streams-is ∙ (c.loop-i.invariant ∙ carried-skip streams c.loop-i.i name within
+          c.name-name.ensures (sym w.if-is_carried.ensures))
     ]

@@ -30,9 +30,16 @@ invariant_of-result-clause-short c =
 
 pub invariant_of-result-clause-lists : goal.invariant_of-result-clause-lists
 invariant_of-result-clause-lists c =
-    rw (c.in_ok-copy_part-4.ensures.bytes, c.source-source.ensures, c.in_ok-from_slice.ensures, ap (λ (p : PartLists). p.levels) c.parts.view_is)
-    (lists-with_levels (source_of c.args.text.now) c.args.parts.now.levels c.requires.rules.1.1.1.1.1.1.1 c.requires.lists.has_levels)
+    rw (
+      c.in_ok-copy_part-4.ensures.bytes,
+      c.source-source.ensures,
+      c.in_ok-from_slice.ensures,
+      ap (λ (p : PartLists). p.levels) c.parts.view_is,
+    )
+    (lists-with_levels (source_of c.args.text.now) c.args.parts.now.levels c.requires.rules.1.1.1.1.1.1.1
+    c.requires.lists.has_levels)
 
 pub invariant_of-result-clause-others : goal.invariant_of-result-clause-others
 invariant_of-result-clause-others c =
-    subst AreCarriedStreams (sym c.in_ok-copy_streams.ensures) (carried-fit c.args.container.now c.args.text.now c.requires.bounds c.requires.text)
+    subst AreCarriedStreams (sym c.in_ok-copy_streams.ensures) (carried-fit c.args.container.now c.args.text.now
+    c.requires.bounds c.requires.text)

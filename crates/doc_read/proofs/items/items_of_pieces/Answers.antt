@@ -23,12 +23,17 @@ push_piece-requires-clause-reader c =
     let readers = c.reader_for.new.readers.items in
     let number = c.in_ok-number.number in
     let reader = c.index_mut.result.now in
-    reader_right (text_view c.args.text.now) readers number reader c.in_ok-number.ensures.readers (reader_at readers number reader c.modifier.result.now c.in_ok-number.ensures.serves c.index_mut.ensures.value).0
+    reader_right (text_view c.args.text.now) readers number reader c.in_ok-number.ensures.readers (reader_at readers
+    number reader c.modifier.result.now c.in_ok-number.ensures.serves c.index_mut.ensures.value).0
 
 pub push_piece-requires-clause-part : goal.push_piece-requires-clause-part
 push_piece-requires-clause-part c =
     let places = c.args.text.now.places in
-    let from_is : length c.loop-i.items.items ≡ c.len-in-loop-i.result = omega (arith, c.len-in-loop-i.ensures, c.loop-i.items.ok.0) in
+    let from_is : length c.loop-i.items.items ≡ c.len-in-loop-i.result = omega (
+      arith,
+      c.len-in-loop-i.ensures,
+      c.loop-i.items.ok.0,
+    ) in
     c.skip.ensures ∙ (c.loop-i.invariant.rest ∙ ap (λ n. drop n places) from_is)
 
 pub skip-rest-requires-in-loop-i : goal.skip-rest-requires-in-loop-i
@@ -55,18 +60,25 @@ loop-i-preserved c =
     ap (option_map (λ (p : TextPiece). p.modifier)) (sym here) ∙ c.modifier.ensures.value in
     let modifier_is : piece.modifier ≡ c.modifier.result.now = cc (modifier) in
     let old_is : c.len.result ≡ length old = omega (arith, c.len.ensures, c.loop-i.items.ok.0) in
-    let added_is : added ≡ min piece.len (count - length old) = c.min-len.ensures ∙ (ap (λ n. min n (count - c.len.result)) (sym len_is) ∙ ap (λ n. min piece.len (count - n)) old_is) in
+    let added_is : added ≡ min piece.len (count - length old) = c.min-len.ensures ∙
+    (ap (λ n. min n (count - c.len.result)) (sym len_is) ∙ ap (λ n. min piece.len (count - n)) old_is) in
     let readers = c.reader_for.new.readers.items in
     let number = c.in_ok-number.number in
     let reader = c.index_mut.result.now in
-    let at = reader_at readers number reader c.modifier.result.now c.in_ok-number.ensures.serves c.index_mut.ensures.value in
-    let adds = subst (λ m. AddsEach (IsReadAt view m) added old new) (at.1 ∙ sym modifier_is) c.in_ok-push_piece.ensures.items in
+    let at = reader_at readers number reader c.modifier.result.now c.in_ok-number.ensures.serves
+    c.index_mut.ensures.value in
+    let adds = subst (λ m. AddsEach (IsReadAt view m) added old new) (at.1 ∙ sym modifier_is)
+    c.in_ok-push_piece.ensures.items in
     record {
-      len = length-more pieces i added count piece (length old) (length new) here c.loop-i.invariant.len added_is adds.len;
-      placed = placed_more view pieces i added count piece old new here c.loop-i.invariant.len added_is c.loop-i.invariant.placed adds;
-      readers = readers_same view readers number reader c.push_piece.new.reader c.in_ok-number.ensures.readers at.0 c.in_ok-push_piece.ensures.same;
+      len = length-more pieces i added count piece (length old) (length new) here c.loop-i.invariant.len added_is
+          adds.len;
+      placed = placed_more view pieces i added count piece old new here c.loop-i.invariant.len added_is
+          c.loop-i.invariant.placed adds;
+      readers = readers_same view readers number reader c.push_piece.new.reader c.in_ok-number.ensures.readers at.0
+          c.in_ok-push_piece.ensures.same;
       rest =
           let len : length old + added ≡ length new = omega (arith, adds.len) in
-          c.skip-rest-in-loop-i.ensures ∙ (ap (drop added) c.loop-i.invariant.rest ∙ (drop-drop added (length old) text.places ∙ ap (λ n. drop n text.places) len));
+          c.skip-rest-in-loop-i.ensures ∙ (ap (drop added) c.loop-i.invariant.rest ∙ (drop-drop added (length old)
+          text.places ∙ ap (λ n. drop n text.places) len));
       passed = c.in_ok-push_piece.ensures.passed;
     }

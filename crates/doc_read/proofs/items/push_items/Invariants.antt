@@ -10,7 +10,8 @@ invariant-loop-chp l = record {
   whole : l.yielded ++ into_iter_items l.chp-iterator ≡ into_iter_items l.initial.chp-iterator;
   left : into_iter_len l.chp-iterator ≡ length (into_iter_items l.chp-iterator);
   same : l.reader ≡ l.fn.reader;
-  added : AddsEach (IsReadAt (text_view l.part.text.now) l.fn.reader.characters.modifier) (length l.yielded) l.fn.items.items l.items.items;
+  added : AddsEach (IsReadAt (text_view l.part.text.now) l.fn.reader.characters.modifier) (length l.yielded)
+      l.fn.items.items l.items.items;
   passed : ArePassed (mark_lists l.part.text.now.marks.now) l.passed (length l.items.items);
   bare : AreBareUntil (mark_lists l.part.text.now.marks.now) l.passed (length l.items.items);
 }

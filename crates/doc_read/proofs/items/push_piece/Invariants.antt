@@ -8,7 +8,8 @@ abbrev pub invariant-loop-done : goal.invariant-loop-done
 invariant-loop-done l = record {
   within : l.done ≤ l.len;
   same : l.reader ≡ l.fn.reader;
-  added : AddsEach (IsReadAt (text_view l.part.text.now) l.fn.reader.characters.modifier) l.done l.fn.items.items l.items.items;
+  added : AddsEach (IsReadAt (text_view l.part.text.now) l.fn.reader.characters.modifier) l.done l.fn.items.items
+      l.items.items;
   passed : ArePassed (mark_lists l.part.text.now.marks.now) l.passed (length l.items.items);
 }
 

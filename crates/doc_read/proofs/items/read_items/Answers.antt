@@ -30,12 +30,15 @@ items_of_pieces-requires-clause-readable c =
     let count : length (judged_places source) ≡ length (judged_units source) =
     ap length (sym places_are) ∙ (c.judged_places.ensures.count ∙ ap (λ s. length (judged_units s)) same) in
     let are = rw same at c.in_ok-marks.ensures in
-    let readable = readable_of source c.args.parts.now marks maps c.requires.rules c.requires.lists c.requires.sections are small few count in
-    subst IsReadable (sym (view_same source marks maps _ _ _ _ _ wd_is characters_are paragraphs_are units_are places_are)) readable
+    let readable = readable_of source c.args.parts.now marks maps c.requires.rules c.requires.lists
+    c.requires.sections are small few count in
+    subst IsReadable (sym (view_same source marks maps _ _ _ _ _ wd_is characters_are paragraphs_are units_are
+    places_are)) readable
 
 pub items_of_pieces-requires-clause-enough : goal.items_of_pieces-requires-clause-enough
 items_of_pieces-requires-clause-enough c =
-    enough_units c.args.text.now (source_of c.args.text.now) c.judged_units.result.now c.pieces.result.now.pieces (c.judged_units.ensures.units ∙ ap judged_units c.source-source.ensures) refl c.pieces.ensures
+    enough_units c.args.text.now (source_of c.args.text.now) c.judged_units.result.now c.pieces.result.now.pieces
+    (c.judged_units.ensures.units ∙ ap judged_units c.source-source.ensures) refl c.pieces.ensures
 
 pub from_vec-requires-clause-maps : goal.from_vec-requires-clause-maps
 from_vec-requires-clause-maps c = λ k d below.
@@ -66,4 +69,5 @@ returns c =
     let len : length items ≡ count = c.in_ok-items.ensures.len ∙ (ap length units_are ∙ all) in
     let are : AreMarksOf source lists marks = rw same at c.in_ok-marks.ensures in
     let parts : TextParts = record { source = source; pieces = text.pieces; lists = lists; sections = maps } in
-    subst (λ l. HoldsItems parts 0 count l) (sym c.from_vec.ensures) (held text source lists marks maps items refl are len placed)
+    subst (λ l. HoldsItems parts 0 count l) (sym c.from_vec.ensures) (held text source lists marks maps items refl are
+    len placed)

@@ -9,7 +9,8 @@ returns-in_err-judge c =
     let found = c.in_ok-found.found in
     let streams = c.in_ok-container.ensures in
     let read = c.in_ok-found.ensures in
-    let holds = holds-found file c.in_ok-container.container found.document found.fib found.pieces.pieces streams.0 streams.1 read.0 read.1 in
+    let holds = holds-found file c.in_ok-container.container found.document found.fib found.pieces.pieces streams.0
+    streams.1 read.0 read.1 in
     let p = err_from_is_err_and c.from_residual-in_err-judge.result c.from_residual-in_err-judge.ensures.1 in
     rw (p.1, p.2) (file-refused-document file found.document c.in_err-judge.field-0.0 holds c.in_err-judge.ensures)
 

@@ -13,7 +13,8 @@ returns-in_err-parts c =
     let text = c.in_ok-text.ensures in
     let parts = λ (text : FileText). part_rules (source_of text) in
     let refused = rw c.source-source.ensures at c.in_err-parts.ensures in
-    rw (p.1, p.2) (refused-next (loading_rules contents) (given (HasText contents) parts) fault text.0 (refused-given (HasText contents) parts c.in_ok-text.text fault text.1 refused))
+    rw (p.1, p.2) (refused-next (loading_rules contents) (given (HasText contents) parts) fault text.0 (refused-given
+    (HasText contents) parts c.in_ok-text.text fault text.1 refused))
 
 pub read_document-requires-clause-rules : goal.read_document-requires-clause-rules
 read_document-requires-clause-rules c = rw c.source-source.ensures at c.in_ok-parts.ensures.0

@@ -9,7 +9,10 @@ returns-then-fc-eq-NO_SEPX-clause-formed c = rw c.new-none.ensures (empty-IsProp
 
 pub returns-clause-settings : goal.returns-clause-settings
 returns-clause-settings c =
-    inr (is-made c.args.wd.now c.section_list.result.now c.args.fc c.new-none.result c.in_ok-acted.acted c.if-fc-eq-NO_SEPX.false c.section_list.ensures.list c.section_list.ensures.accepted c.new-none.ensures c.in_ok-acted.ensures.acted)
+    inr (is-made c.args.wd.now c.section_list.result.now c.args.fc c.new-none.result c.in_ok-acted.acted
+    c.if-fc-eq-NO_SEPX.false c.section_list.ensures.list c.section_list.ensures.accepted c.new-none.ensures
+    c.in_ok-acted.ensures.acted)
 
 pub returns-clause-formed : goal.returns-clause-formed
-returns-clause-formed c = stays_formed section_groups section_groups c.new-none.result c.in_ok-acted.acted.map refl c.new-none.ensures c.in_ok-acted.ensures.formed
+returns-clause-formed c = stays_formed section_groups section_groups c.new-none.result c.in_ok-acted.acted.map refl
+    c.new-none.ensures c.in_ok-acted.ensures.formed

@@ -17,25 +17,34 @@ loop-k-init c = record {
 pub settings-requires-clause-there : goal.settings-requires-clause-there
 settings-requires-clause-there c =
     let source = source_of c.args.text.now in
-    let wd : c.wd-wd.result.now ≡ source.wd = c.wd-wd.ensures.bytes ∙ ap (λ (s : DocSource). s.wd) c.source-source.ensures in
+    let wd : c.wd-wd.result.now ≡ source.wd = c.wd-wd.ensures.bytes ∙ ap (λ (s : DocSource). s.wd)
+    c.source-source.ensures in
     let list = c.args.sections.now in
     let fc : section_fc list c.loop-k.k ≡ c.get-fc.result.1 =
     index_of_get (λ (sed : Sed). sed.sepx) list c.loop-k.k _ c.get-fc.ensures in
-    rw (wd, ← fc) (sepx-there source list c.loop-k.k c.requires.rules c.requires.sections (omega (arith, c.len-k-end.ensures)))
+    rw (wd, ← fc) (sepx-there source list c.loop-k.k c.requires.rules c.requires.sections (omega (
+      arith,
+      c.len-k-end.ensures,
+    )))
 
 pub settings-requires-clause-right : goal.settings-requires-clause-right
 settings-requires-clause-right c =
     let source = source_of c.args.text.now in
-    let wd : c.wd-wd.result.now ≡ source.wd = c.wd-wd.ensures.bytes ∙ ap (λ (s : DocSource). s.wd) c.source-source.ensures in
+    let wd : c.wd-wd.result.now ≡ source.wd = c.wd-wd.ensures.bytes ∙ ap (λ (s : DocSource). s.wd)
+    c.source-source.ensures in
     let list = c.args.sections.now in
     let fc : section_fc list c.loop-k.k ≡ c.get-fc.result.1 =
     index_of_get (λ (sed : Sed). sed.sepx) list c.loop-k.k _ c.get-fc.ensures in
-    rw (wd, ← fc) (sepx-right source list c.loop-k.k c.requires.rules c.requires.sections (omega (arith, c.len-k-end.ensures)))
+    rw (wd, ← fc) (sepx-right source list c.loop-k.k c.requires.rules c.requires.sections (omega (
+      arith,
+      c.len-k-end.ensures,
+    )))
 
 pub loop-k-preserved : goal.loop-k-preserved
 loop-k-preserved c =
     let source = source_of c.args.text.now in
-    let wd : c.wd-wd.result.now ≡ source.wd = c.wd-wd.ensures.bytes ∙ ap (λ (s : DocSource). s.wd) c.source-source.ensures in
+    let wd : c.wd-wd.result.now ≡ source.wd = c.wd-wd.ensures.bytes ∙ ap (λ (s : DocSource). s.wd)
+    c.source-source.ensures in
     let list = c.args.sections.now in
     let fc : section_fc list c.loop-k.k ≡ c.get-fc.result.1 =
     index_of_get (λ (sed : Sed). sed.sepx) list c.loop-k.k _ c.get-fc.ensures in
@@ -44,6 +53,7 @@ loop-k-preserved c =
     rw (← wd) c.in_ok-settings.ensures.settings in
     record {
       so_far = rw c.in_ok-push.ensures.items
-          (maps_more source.wd list c.loop-k.k c.get-fc.result.1 c.loop-k.maps.items map c.loop-k.invariant.so_far fc settings c.in_ok-settings.ensures.formed);
+          (maps_more source.wd list c.loop-k.k c.get-fc.result.1 c.loop-k.maps.items map c.loop-k.invariant.so_far fc
+          settings c.in_ok-settings.ensures.formed);
       met = c.in_ok-settings.ensures.met;
     }

@@ -9,5 +9,11 @@ returns-in-Err c =
     rw c.refused_container.ensures (refused-container (container_rules c.args.file.now) c.in-Err.fault c.in-Err.ensures)
 
 pub returns : goal.returns
-returns c =
-    (hold_in File (container_rules c.args.file.now) c.in-Ok.ensures.0, record { contents = c.in-Ok.container; has = c.in-Ok.ensures.1; lines = c.in_ok-text.ensures })
+returns c = (
+  hold_in File (container_rules c.args.file.now) c.in-Ok.ensures.0,
+  record {
+    contents = c.in-Ok.container;
+    has = c.in-Ok.ensures.1;
+    lines = c.in_ok-text.ensures;
+  },
+)

@@ -19,4 +19,5 @@ loop-i-preserved c =
     simp append_assoc (c.as_str.ensures.value ∙ rw name_is at c.in_ok-line.ensures.ok) in
     let pushed : c.push_all.new.self ≡ c.loop-i.text ++ one =
     c.in_ok-push_all.ensures.ok ∙ ap (λ l. c.loop-i.text ++ l) text in
-    rw pushed (append_assoc c.loop-i.text one rest ∙ rw (lines-from streams i name bytes c.name.ensures c.bytes.ensures) at c.loop-i.invariant)
+    rw pushed (append_assoc c.loop-i.text one rest ∙ rw (lines-from streams i name bytes c.name.ensures
+    c.bytes.ensures) at c.loop-i.invariant)

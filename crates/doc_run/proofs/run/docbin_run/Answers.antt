@@ -19,7 +19,8 @@ returns-in-Ok-write_all-clause-complete g c command files asked told can no_faul
     let policies = map (λ b. (goal.Guard-dyn g (b.vtable, b.value)).policy b.value) c.args.guards.items in
     let words = map string_bytes c.args.words.now in
     let ending = c.in-Ok.ending in
-    let under = subst (λ guards. IsEnding (map (λ b. (goal.Guard-dyn g (b.vtable, b.value)).policy b.value) guards) words (g.S.Shelf.held c.args.shelf.now) ending) c.deref_mut.ensures.value c.in-Ok.ensures.ending in
+    let under = subst (λ guards. IsEnding (map (λ b. (goal.Guard-dyn g (b.vtable, b.value)).policy b.value) guards)
+    words (g.S.Shelf.held c.args.shelf.now) ending) c.deref_mut.ensures.value c.in-Ok.ensures.ending in
     let is = subst (λ held. IsEnding policies words held ending) told under in
     c.status.ensures ∙ complete policies words command files ending asked can is
     (λ e. no_fault (c.in-Ok.ensures.cause.shelf_fault e))

@@ -21,7 +21,14 @@ returns-in-Opened-2-clause-ends g c =
     let two = opened_of second held c.in_ok-other.field-0 other reached c.in-Opened-2.is in
     IfOk-weaker c.compare.result (λ e. Compares document other e)
     (λ e. ReadsFile first held all_rules (ReadsSecond second held) e)
-    (λ e h. goes_on first held document (ReadsSecond second held) e one (goes_on second held other (ComparesFiles one.bytes) e two (record { first = document; second = other; holds_first = one.holds; holds_second = two.holds; compares = h }))) c.compare.ensures
+    (λ e h. goes_on first held document (ReadsSecond second held) e one (goes_on second held other (ComparesFiles
+    one.bytes) e two (record {
+      first = document;
+      second = other;
+      holds_first = one.holds;
+      holds_second = two.holds;
+      compares = h;
+    }))) c.compare.ensures
 
 pub returns-clause-ends : goal.returns-clause-ends
 returns-clause-ends g c =

@@ -15,7 +15,11 @@ returns-in-Opened-clause-ends g c =
     let document = c.in-Opened.document in
     let opened = opened_of name held c.in_ok-document.field-0 document c.in_ok-document.ensures.is c.in-Opened.is in
     IfOk-weaker c.save_fully.result (λ e. Saves out document e) (λ e. ReadsFile name held all_rules (SavesFile out) e)
-    (λ e h. goes_on name held document (SavesFile out) e opened (record { document = document; holds = opened.holds; saves = h })) c.save_fully.ensures
+    (λ e h. goes_on name held document (SavesFile out) e opened (record {
+      document = document;
+      holds = opened.holds;
+      saves = h;
+    })) c.save_fully.ensures
 
 pub returns-in-Opened-clause-status : goal.returns-in-Opened-clause-status
 returns-in-Opened-clause-status g c =

@@ -40,4 +40,5 @@ returns-in-Whole-clause-cause g c =
     let now = c.take_whole.new.shelf in
     IfOk-weaker c.view_file.result (λ e. Judges (all_rules read) name (ShowsFile view read) e)
     (λ e. HasCause e.status (missed before) (missed now) (faults before) (faults now))
-    (λ e h. after_reading_caused e.status _ _ _ _ (views_status view (all_rules read) name read e h)) c.view_file.ensures
+    (λ e h. after_reading_caused e.status _ _ _ _ (views_status view (all_rules read) name read e h))
+    c.view_file.ensures

@@ -13,7 +13,11 @@ returns-in-Ok c =
     let out = c.args.out.now in
     let bytes = c.in-Ok.bytes in
     IfOk-weaker c.saved.result (λ e. e ≡ puts (full_line (length bytes)) out bytes) (λ e. Saves out document e)
-    (λ e h. inl (record { fits = c.in-Ok.ensures.1; ends = h ∙ ap (λ b. puts (full_line (length b)) out b) c.in-Ok.ensures.0 })) c.saved.ensures
+    (λ e h. inl (record {
+      fits = c.in-Ok.ensures.1;
+      ends = h ∙ ap (λ b. puts (full_line (length b)) out b)
+          c.in-Ok.ensures.0;
+    })) c.saved.ensures
 
 pub returns-in-Err-TooLarge : goal.returns-in-Err-TooLarge
 returns-in-Err-TooLarge c =

@@ -10,8 +10,10 @@ loop-code-init c = ap (λ es. c.args.text.now ++ flat_map setting_text es) c.ent
 pub loop-code-preserved : goal.loop-code-preserved
 loop-code-preserved c =
     ap (λ t. t ++ flat_map setting_text c.next.new.self) c.in_ok-push_setting.ensures
-    ∙ (append_assoc c.loop-code.text (setting_text (c.in-Some.code.0, c.in-Some.value.now)) (flat_map setting_text c.next.new.self)
+    ∙ (append_assoc c.loop-code.text (setting_text (c.in-Some.code.0, c.in-Some.value.now)) (flat_map setting_text
+    c.next.new.self)
     ∙ (ap (λ es. c.loop-code.text ++ flat_map setting_text es) (sym c.in-Some.ensures) ∙ c.loop-code.invariant))
 
 pub returns : goal.returns
-returns c = sym (append-nil c.loop-code.text) ∙ (ap (λ es. c.loop-code.text ++ flat_map setting_text es) (sym c.in_default.ensures.0) ∙ c.loop-code.invariant)
+returns c = sym (append-nil c.loop-code.text) ∙ (ap (λ es. c.loop-code.text ++ flat_map setting_text es)
+    (sym c.in_default.ensures.0) ∙ c.loop-code.invariant)

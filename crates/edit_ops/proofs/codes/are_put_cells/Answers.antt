@@ -23,7 +23,8 @@ returns-then-not-are_put_units c = (
   λ t. absurd (cc),
   λ right.
       let text = c.as_slice-text.result.now in
-      let there : slice_get c.args.cells.now c.loop-i.i ≡ Some text = c.get.ensures ∙ ap Some (sym c.as_slice-text.ensures) in
+      let there : slice_get c.args.cells.now c.loop-i.i ≡ Some text = c.get.ensures ∙ ap Some
+      (sym c.as_slice-text.ensures) in
       c.if-not-are_put_units.ensures.1 (text_there c.args.cells.now c.loop-i.i text there right.0),
 )
 

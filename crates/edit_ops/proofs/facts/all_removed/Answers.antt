@@ -7,7 +7,8 @@ use Rattle.edit_ops.proofs.facts.all_removed.Goals as goal
 
 pub removed-count-requires-clause-few : goal.removed-count-requires-clause-few
 removed-count-requires-clause-few c =
-    let within = sum_within (items_removed c.args.document.now) c.args.changes.now c.loop-i.i c.get.result.now c.get.ensures in
+    let within = sum_within (items_removed c.args.document.now) c.args.changes.now c.loop-i.i c.get.result.now
+    c.get.ensures in
     let few = c.requires.few in
     omega arith
 
@@ -17,7 +18,8 @@ removed-count-requires-clause-there c =
 
 pub overflow_add-count : goal.overflow_add-count
 overflow_add-count c =
-    let within = sum_within (items_removed c.args.document.now) c.args.changes.now c.loop-i.i c.get.result.now c.get.ensures in
+    let within = sum_within (items_removed c.args.document.now) c.args.changes.now c.loop-i.i c.get.result.now
+    c.get.ensures in
     let few = c.requires.few in
     let before = c.loop-i.invariant in
     let one = c.removed-count.ensures in
@@ -25,7 +27,8 @@ overflow_add-count c =
 
 pub loop-i-preserved : goal.loop-i-preserved
 loop-i-preserved c =
-    let more = sum_more (items_removed c.args.document.now) c.args.changes.now c.loop-i.i c.get.result.now c.get.ensures in
+    let more = sum_more (items_removed c.args.document.now) c.args.changes.now c.loop-i.i c.get.result.now
+    c.get.ensures in
     let before = c.loop-i.invariant in
     let one = c.removed-count.ensures in
     omega arith

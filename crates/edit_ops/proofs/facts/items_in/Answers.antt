@@ -4,7 +4,8 @@ use Rattle.edit_ops.proofs.facts.items_in.Goals as goal
 
 pub overflow_add-count : goal.overflow_add-count
 overflow_add-count c =
-    let within = range_within length c.args.texts.now c.args.from c.args.to c.loop-k.k c.get.result.now (omega arith) (omega arith) c.get.ensures in
+    let within = range_within length c.args.texts.now c.args.from c.args.to c.loop-k.k c.get.result.now (omega arith)
+    (omega arith) c.get.ensures in
     let few = c.requires.few in
     let before = c.loop-k.invariant in
     let len = c.len.ensures.len in

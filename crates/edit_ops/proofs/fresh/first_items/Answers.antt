@@ -4,4 +4,5 @@ use Rattle.prop_map.proofs.ActingLemmas.{IsPropertyMap-empty}
 use Rattle.edit_ops.proofs.fresh.first_items.Goals as goal
 
 pub add_units-requires-clause-maps : goal.add_units-requires-clause-maps
-add_units-requires-clause-maps c = subst (IsPropertyMap character_groups) (sym c.new-base.ensures) (IsPropertyMap-empty character_groups)
+add_units-requires-clause-maps c = subst (IsPropertyMap character_groups) (sym c.new-base.ensures)
+    (IsPropertyMap-empty character_groups)

@@ -5,4 +5,5 @@ use Rattle.edit_ops.proofs.fresh.mark_item.Goals as goal
 
 pub returns-clause-maps : goal.returns-clause-maps
 returns-clause-maps c =
-    HasPropertyMaps-from_parts _ (subst (IsPropertyMap character_groups) (sym c.in_ok-copy.ensures) c.requires.chp) c.requires.pap tt
+    HasPropertyMaps-from_parts _ (subst (IsPropertyMap character_groups) (sym c.in_ok-copy.ensures) c.requires.chp)
+    c.requires.pap tt

@@ -6,5 +6,6 @@ use Rattle.edit_ops.proofs.fresh.plain_end.Goals as goal
 
 pub returns-clause-maps : goal.returns-clause-maps
 returns-clause-maps c =
-    HasPropertyMaps-from_parts _ (subst (IsPropertyMap character_groups) (sym c.new.ensures) (IsPropertyMap-empty character_groups))
+    HasPropertyMaps-from_parts _ (subst (IsPropertyMap character_groups) (sym c.new.ensures) (IsPropertyMap-empty
+    character_groups))
     (subst (IsPropertyMap paragraph_groups) (sym c.new-2.ensures) (IsPropertyMap-empty paragraph_groups)) tt

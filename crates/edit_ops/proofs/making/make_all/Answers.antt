@@ -29,15 +29,18 @@ loop-change-preserved c =
     let gone = c.in-Some.ensures.steps.1 in
     let short = ap length steps in
     let made = c.in_ok-make.ensures.ok in
-    let can : CanMakeAll (c.in-Some.change ∷ rest) at.document = subst (λ changes. CanMakeAll changes at.document) steps at.invariant.can in
+    let can : CanMakeAll (c.in-Some.change ∷ rest) at.document = subst (λ changes. CanMakeAll changes at.document)
+    steps at.invariant.can in
     record {
       left = omega (arith, gone, short, at.invariant.left);
       can = subst (λ document. CanMakeAll rest document) (sym made) can.1;
-      gives = ap (λ document. all_changed rest document) made ∙ (sym (ap (λ changes. all_changed changes at.document) steps) ∙ at.invariant.gives);
+      gives = ap (λ document. all_changed rest document) made ∙ (sym (ap (λ changes. all_changed changes at.document)
+          steps) ∙ at.invariant.gives);
     }
 
 pub returns : goal.returns
 returns c =
     let at = c.loop-change in
-    let none : into_iter_items at.change-iterator ≡ [] = nil_from_length _ (sym at.invariant.left ∙ c.in-None.ensures.steps.0) in
+    let none : into_iter_items at.change-iterator ≡ [] = nil_from_length _ (sym at.invariant.left ∙
+    c.in-None.ensures.steps.0) in
     sym (ap (λ changes. all_changed changes at.document) none) ∙ at.invariant.gives

@@ -8,4 +8,5 @@ modified_mark-requires-clause-mark c = c.requires.mark c.in-Some.mark c.in-Some.
 
 pub returns-in_ok-modified_mark-in-Some-clause-formed : goal.returns-in_ok-modified_mark-in-Some-clause-formed
 returns-in_ok-modified_mark-in-Some-clause-formed c =
-    ForSome-from_cases (Some c.in_ok-modified_mark-in-Some.field-0) (λ mark. IsPropertyMap paragraph_groups mark.pap) c.in_ok-modified_mark-in-Some.ensures.formed
+    ForSome-from_cases (Some c.in_ok-modified_mark-in-Some.field-0) (λ mark. IsPropertyMap paragraph_groups mark.pap)
+    c.in_ok-modified_mark-in-Some.ensures.formed

@@ -4,7 +4,8 @@ use Rattle.edit_ops.proofs.making.modified_mark.Goals as goal
 pub returns-clause-mark : goal.returns-clause-mark
 returns-clause-mark c =
     let istd = c.unwrap_or.ensures in
-    let pap = paragraph_after c.args.modifier.now c.args.mark.now.pap c.in_ok-after.after.map c.in_ok-after.ensures.map in
+    let pap = paragraph_after c.args.modifier.now c.args.mark.now.pap c.in_ok-after.after.map
+    c.in_ok-after.ensures.map in
     λ i. record { istd = istd i; pap = pap i }
 
 pub returns-clause-formed : goal.returns-clause-formed

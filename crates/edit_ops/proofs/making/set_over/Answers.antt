@@ -8,4 +8,5 @@ settings_over-requires-clause-base c = c.requires.sect c.in-Some.base c.in-Some.
 
 pub returns-in_ok-settings_over-in-Some-clause-formed : goal.returns-in_ok-settings_over-in-Some-clause-formed
 returns-in_ok-settings_over-in-Some-clause-formed c =
-    ForSome-from_cases (Some c.in_ok-settings_over-in-Some.field-0) (IsPropertyMap section_groups) c.in_ok-settings_over-in-Some.ensures.formed
+    ForSome-from_cases (Some c.in_ok-settings_over-in-Some.field-0) (IsPropertyMap section_groups)
+    c.in_ok-settings_over-in-Some.ensures.formed

@@ -6,5 +6,6 @@ pub with_section-requires-clause-item : goal.with_section-requires-clause-item
 with_section-requires-clause-item c =
     let text = subst IsFormedText (sym c.as_slice-main.ensures.items) c.as_slice-main.ensures.formed in
     let len = ap length c.as_slice-main.ensures.items in
-    let formed = subst IsFormedItem (sym c.index-main-at.is) (text.each c.args.at c.index-main-at.result (omega (arith, len, c.requires.within))) in
+    let formed = subst IsFormedItem (sym c.index-main-at.is) (text.each c.args.at c.index-main-at.result
+    (omega (arith, len, c.requires.within))) in
     formed.maps

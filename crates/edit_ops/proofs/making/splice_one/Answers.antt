@@ -9,7 +9,8 @@ returns-clause-ok c =
     IfOk-weaker c.splice-done.result _ _ (λ _ made.
     c.replace.ensures.new
     ∙ (ap (λ texts. set texts c.args.number c.splice-done.new.self) c.replace-text.ensures.new
-    ∙ changed_back (λ text. splice text c.args.from c.args.to c.args.fresh) _ c.args.number _ c.replace-text.result c.splice-done.new.self c.replace-text.ensures.old made))
+    ∙ changed_back (λ text. splice text c.args.from c.args.to c.args.fresh) _ c.args.number _ c.replace-text.result
+    c.splice-done.new.self c.replace-text.ensures.old made))
     c.splice-done.ensures.ok
 
 pub returns-clause-err : goal.returns-clause-err

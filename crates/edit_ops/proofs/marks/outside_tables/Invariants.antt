@@ -7,7 +7,8 @@ use Rattle.edit_ops.proofs.marks.outside_tables.Given as goal
 
 -- the codes of tables so far, and those of what is left
 abbrev pub invariant-loop-code : goal.invariant-loop-code
-invariant-loop-code l = map (λ code. code.0) l.codes.items ++ filter is_table_code (keys l.left) ≡ filter is_table_code (keys (entries l.pap))
+invariant-loop-code l = map (λ code. code.0) l.codes.items ++ filter is_table_code (keys l.left) ≡ filter
+    is_table_code (keys (entries l.pap))
 
 abbrev pub decreases-loop-code : goal.decreases-loop-code
 decreases-loop-code l = length l.left

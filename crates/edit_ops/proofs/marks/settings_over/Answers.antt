@@ -15,4 +15,5 @@ returns-clause-formed c =
     let is : c.in_ok-made.made ≡ overlay c.args.set.now c.args.base.now =
     characters_after c.in_ok-change.change c.args.base.now c.in_ok-made.made c.in_ok-made.ensures.map
     ∙ ap (λ (modifier : Modifier). modified_characters modifier c.args.base.now) c.in_ok-change.ensures in
-    subst (IsPropertyMap section_groups) (sym is) (overlay_formed section_groups c.args.set.now c.args.base.now c.requires.set c.requires.base)
+    subst (IsPropertyMap section_groups) (sym is) (overlay_formed section_groups c.args.set.now c.args.base.now
+    c.requires.set c.requires.base)

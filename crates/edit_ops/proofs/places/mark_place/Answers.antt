@@ -11,5 +11,6 @@ returns-in-Some-clause-place c = end_is c.args.text.now c.args.at c.in-Some.end 
 
 pub returns-in-Some-clause-within : goal.returns-in-Some-clause-within
 returns-in-Some-clause-within c =
-    let within = slice_get_within c.args.text.now c.in-Some.end c.in-Some.ensures.ends.item c.in-Some.ensures.ends.here in
+    let within = slice_get_within c.args.text.now c.in-Some.end c.in-Some.ensures.ends.item
+    c.in-Some.ensures.ends.here in
     omega (arith, within)

@@ -30,6 +30,7 @@ loop-i-preserved c =
     let both = length-append c.loop-i.items (cell_items text) in
     let one = length-cell text in
     record {
-      items = c.in_ok-add_cell.ensures ∙ (ap (λ items. items ++ cell_items text) c.loop-i.invariant.items ∙ sym (cells_more cells c.loop-i.i text there));
+      items = c.in_ok-add_cell.ensures ∙ (ap (λ items. items ++ cell_items text) c.loop-i.invariant.items ∙ sym
+          (cells_more cells c.loop-i.i text there));
       few = omega arith;
     }

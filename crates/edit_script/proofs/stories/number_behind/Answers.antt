@@ -9,4 +9,5 @@ pub returns-in-Some : goal.returns-in-Some
 returns-in-Some c =
     let found = c.in-Some.ensures.cases in
     c.written_number.ensures
-    ∙ has_prefix c.args.prefix.now c.args.word.now c.in-Some.digits.now (found.1.1 ∙ ap (λ rest. c.args.prefix.now ++ rest) (sym found.2))
+    ∙ has_prefix c.args.prefix.now c.args.word.now c.in-Some.digits.now (found.1.1 ∙ ap (λ rest. c.args.prefix.now ++
+    rest) (sym found.2))

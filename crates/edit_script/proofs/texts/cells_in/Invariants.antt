@@ -6,4 +6,5 @@ use Rattle.edit_script.specs.Values.{cells_of, units_of}
 use Rattle.edit_script.proofs.texts.cells_in.Given as goal
 
 abbrev pub invariant-loop-value : goal.invariant-loop-value
-invariant-loop-value l = cells_of (view l.value) ≡ option_map (λ more. l.cells ++ more) (each_of units_of (items_view (drop l.value-index l.value-items)))
+invariant-loop-value l = cells_of (view l.value) ≡ option_map (λ more. l.cells ++ more) (each_of units_of
+    (items_view (drop l.value-index l.value-items)))

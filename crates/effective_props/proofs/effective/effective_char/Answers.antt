@@ -16,4 +16,5 @@ pub returns-clause-formed : goal.returns-clause-formed
 returns-clause-formed c =
     let layers = c.in_ok-layers.layers.items in
     let values = subst (λ l. IsEffectiveMap l c.in_ok-map.map) c.deref.ensures.value c.in_ok-map.ensures in
-    effective_formed character_groups layers c.in_ok-map.map (character_formed c.args.sheet.now c.args.istd c.args.direct.now layers c.slots-slots.ensures.formed c.requires.direct c.in_ok-layers.ensures) values
+    effective_formed character_groups layers c.in_ok-map.map (character_formed c.args.sheet.now c.args.istd
+    c.args.direct.now layers c.slots-slots.ensures.formed c.requires.direct c.in_ok-layers.ensures) values

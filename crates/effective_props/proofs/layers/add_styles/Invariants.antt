@@ -4,4 +4,5 @@ use Rattle.effective_props.specs.LayerParts.{settings_in}
 use Rattle.effective_props.proofs.layers.add_styles.Given as goal
 
 abbrev pub invariant-loop-i : goal.invariant-loop-i
-invariant-loop-i l = l.layers.items ≡ l.initial.layers.items ++ settings_of_styles (settings_in l.part) l.sheet (take l.i l.chain)
+invariant-loop-i l = l.layers.items ≡ l.initial.layers.items ++ settings_of_styles (settings_in l.part) l.sheet
+    (take l.i l.chain)

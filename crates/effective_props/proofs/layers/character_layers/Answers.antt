@@ -7,5 +7,6 @@ returns c = let chain = c.in_ok-add_chain.ensures in let named = c.in_ok-add_nam
   style = chain.layers;
   of_named = named.added;
   named = named.layers;
-  are = three_parts _ _ _ _ chain.added named.added _ c.new-layers.ensures.items chain.joined named.joined c.in_ok-add_direct.ensures;
+  are = three_parts _ _ _ _ chain.added named.added _ c.new-layers.ensures.items chain.joined named.joined
+      c.in_ok-add_direct.ensures;
 }

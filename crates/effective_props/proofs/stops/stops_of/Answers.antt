@@ -10,12 +10,15 @@ loop-layer-preserved c =
     let i = c.loop-layer.layer-index in
     let layer = c.layer-item.result in
     let within : i < length layers = omega arith in
-    let more = stops_more (take i layers) layer c.loop-layer.stops c.change_by_layer.new.stops c.loop-layer.invariant c.in_ok-change_by_layer.ensures in
-    subst (λ l. HoldsStops l c.change_by_layer.new.stops) (ap (λ m. take i layers ++ m ∷ []) c.layer-item.is ∙ sym (take_more layers i layer within)) more
+    let more = stops_more (take i layers) layer c.loop-layer.stops c.change_by_layer.new.stops c.loop-layer.invariant
+    c.in_ok-change_by_layer.ensures in
+    subst (λ l. HoldsStops l c.change_by_layer.new.stops) (ap (λ m. take i layers ++ m ∷ []) c.layer-item.is ∙ sym
+    (take_more layers i layer within)) more
 
 pub returns : goal.returns
 returns c =
     let layers = c.args.layers.now in
     let all : length layers ≤ c.loop-layer.layer-index = omega arith in
-    let holds = subst (λ l. HoldsStops l c.loop-layer.stops) (take_all c.loop-layer.layer-index layers all) c.loop-layer.invariant in
+    let holds = subst (λ l. HoldsStops l c.loop-layer.stops) (take_all c.loop-layer.layer-index layers all)
+    c.loop-layer.invariant in
     stops_listed layers c.loop-layer.stops c.in_ok-tabs.tabs holds c.tabs_of.ensures.ordered c.in_ok-tabs.ensures.tabs

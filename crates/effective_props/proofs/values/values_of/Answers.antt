@@ -18,4 +18,5 @@ loop-layer-preserved c = λ code.
     let more = effective_more (take i layers) layer code in
     c.in_ok-lay_all.ensures code
     ∙ (ap (λ o. layer_over code o (get layer code)) (c.loop-layer.invariant code)
-    ∙ (sym more ∙ ap (λ l. effective_value l code) (ap (λ m. take i layers ++ m ∷ []) c.layer-item.is ∙ sym (take_more layers i layer within))))
+    ∙ (sym more ∙ ap (λ l. effective_value l code) (ap (λ m. take i layers ++ m ∷ []) c.layer-item.is ∙ sym
+    (take_more layers i layer within))))

@@ -14,21 +14,28 @@ use Rattle.full_save.specs.WordDocument.{wd_stream, full_fib, text_at}
 use Rattle.full_save.specs.Layout.{full_save_image}
 use Rattle.fast_save.specs.Session.{IsSession}
 use Rattle.fast_save.specs.Started.{IsOpenFile}
-use Rattle.fast_save.proofs.FullLemmas.{image_holds, image_fib, image_fields, image_has_wd, image_wd_is, image_length, full_open}
+use Rattle.fast_save.proofs.FullLemmas.{image_holds, image_fib, image_fields, image_has_wd, image_wd_is, image_length}
+use Rattle.fast_save.proofs.FullLemmas.{full_open}
 use Rattle.fast_save.proofs.ResultLemmas.{ok_then}
 use Rattle.fast_save.proofs.full_parts.parts_in_full.Goals as goal
 
 pub load-requires : goal.load-requires
 load-requires c =
     let document = c.args.document.now in
-    let bytes : AreBytes (full_save_image document) = subst AreBytes c.requires.file (λ i. omega (arith, c.type_inv.file i)) in
+    let bytes : AreBytes (full_save_image document) = subst AreBytes c.requires.file (λ i. omega (
+      arith,
+      c.type_inv.file i,
+    )) in
     subst (λ (file : List ℕ). Hold (container_rules file)) (sym c.requires.file)
     (image_holds document c.requires.savable bytes)
 
 pub named-requires : goal.named-requires
 named-requires c =
     let document = c.args.document.now in
-    let bytes : AreBytes (full_save_image document) = subst AreBytes c.requires.file (λ i. omega (arith, c.type_inv.file i)) in
+    let bytes : AreBytes (full_save_image document) = subst AreBytes c.requires.file (λ i. omega (
+      arith,
+      c.type_inv.file i,
+    )) in
     let contents = c.in_ok-container.container in
     let has : HasContents (full_save_image document) contents =
     subst (λ (file : List ℕ). HasContents file contents) c.requires.file c.in_ok-container.ensures in (
@@ -40,7 +47,10 @@ named-requires c =
 pub read_fib-fib-requires : goal.read_fib-fib-requires
 read_fib-fib-requires c =
     let document = c.args.document.now in
-    let bytes : AreBytes (full_save_image document) = subst AreBytes c.requires.file (λ i. omega (arith, c.type_inv.file i)) in
+    let bytes : AreBytes (full_save_image document) = subst AreBytes c.requires.file (λ i. omega (
+      arith,
+      c.type_inv.file i,
+    )) in
     let contents = c.in_ok-container.container in
     let has : HasContents (full_save_image document) contents =
     subst (λ (file : List ℕ). HasContents file contents) c.requires.file c.in_ok-container.ensures in
@@ -53,7 +63,10 @@ read_fib-fib-requires c =
 pub of_file-requires : goal.of_file-requires
 of_file-requires c =
     let document = c.args.document.now in
-    let bytes : AreBytes (full_save_image document) = subst AreBytes c.requires.file (λ i. omega (arith, c.type_inv.file i)) in
+    let bytes : AreBytes (full_save_image document) = subst AreBytes c.requires.file (λ i. omega (
+      arith,
+      c.type_inv.file i,
+    )) in
     let contents = c.in_ok-container.container in
     let has : HasContents (full_save_image document) contents =
     subst (λ (file : List ℕ). HasContents file contents) c.requires.file c.in_ok-container.ensures in
@@ -68,12 +81,16 @@ of_file-requires c =
     ∙ (ap (λ (f : FibFields). text_length f.ccps) fib ∙ image_length document c.requires.savable bytes) in
     let pieces : c.in_ok-pieces.pieces.pieces ≡ one_piece text_at (length (text_items document)) =
     c.in_ok-pieces.ensures ∙ ap (one_piece text_at) len in
-    full_open document c.requires.savable bytes c.read_fib-fib.result contents c.in_ok-pieces.pieces.pieces has fib pieces
+    full_open document c.requires.savable bytes c.read_fib-fib.result contents c.in_ok-pieces.pieces.pieces has fib
+    pieces
 
 pub returns-clause-session : goal.returns-clause-session
 returns-clause-session c =
     let document = c.args.document.now in
-    let bytes : AreBytes (full_save_image document) = subst AreBytes c.requires.file (λ i. omega (arith, c.type_inv.file i)) in
+    let bytes : AreBytes (full_save_image document) = subst AreBytes c.requires.file (λ i. omega (
+      arith,
+      c.type_inv.file i,
+    )) in
     let contents = c.in_ok-container.container in
     let has : HasContents (full_save_image document) contents =
     subst (λ (file : List ℕ). HasContents file contents) c.requires.file c.in_ok-container.ensures in
@@ -99,13 +116,17 @@ returns-clause-session c =
     (λ parts session.
     subst (λ (file : List ℕ). IsSession file document parts) (sym c.requires.file)
     (session
-    (full_open document c.requires.savable bytes c.read_fib-fib.result contents c.in_ok-pieces.pieces.pieces has fib pieces)))
+    (full_open document c.requires.savable bytes c.read_fib-fib.result contents c.in_ok-pieces.pieces.pieces has fib
+    pieces)))
     c.of_file.ensures.session
 
 pub returns-clause-pieces : goal.returns-clause-pieces
 returns-clause-pieces c =
     let document = c.args.document.now in
-    let bytes : AreBytes (full_save_image document) = subst AreBytes c.requires.file (λ i. omega (arith, c.type_inv.file i)) in
+    let bytes : AreBytes (full_save_image document) = subst AreBytes c.requires.file (λ i. omega (
+      arith,
+      c.type_inv.file i,
+    )) in
     let contents = c.in_ok-container.container in
     let has : HasContents (full_save_image document) contents =
     subst (λ (file : List ℕ). HasContents file contents) c.requires.file c.in_ok-container.ensures in
@@ -127,7 +148,10 @@ returns-clause-pieces c =
 pub returns-clause-fib : goal.returns-clause-fib
 returns-clause-fib c =
     let document = c.args.document.now in
-    let bytes : AreBytes (full_save_image document) = subst AreBytes c.requires.file (λ i. omega (arith, c.type_inv.file i)) in
+    let bytes : AreBytes (full_save_image document) = subst AreBytes c.requires.file (λ i. omega (
+      arith,
+      c.type_inv.file i,
+    )) in
     let contents = c.in_ok-container.container in
     let has : HasContents (full_save_image document) contents =
     subst (λ (file : List ℕ). HasContents file contents) c.requires.file c.in_ok-container.ensures in

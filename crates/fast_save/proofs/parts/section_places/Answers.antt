@@ -25,7 +25,8 @@ returns-in-Ok c =
     (λ places. (file : IsReadFile contents fib) → places.items ≡ written_places file.parts.lists.sections)
     (λ places is file.
     let name : c.table_name.result.now ≡ table_stream_name file.parts.text.wd =
-    c.table_name.ensures ∙ ap table_name (c.which_table.ensures.value ∙ ap (λ (f : FibFields). f.which_table) file.fib_is) in
+    c.table_name.ensures ∙ ap table_name (c.which_table.ensures.value ∙ ap (λ (f : FibFields). f.which_table)
+    file.fib_is) in
     let named : HasNamed contents.streams (table_stream_name file.parts.text.wd) table =
     subst (λ (n : List ℕ). HasNamed contents.streams n table) name c.named-table.ensures in
     let same : c.in-Ok.seds ≡ file.parts.lists.sections =

@@ -14,5 +14,8 @@ invariant_of-result c =
     let table : c.bit_of-2.result ≡ fib_which_table wd = cc in
     let complex : (c.bit_of.result == 1) ≡ (fib_complex wd == 1) = cc in
     let ccps : c.get32-2.result ∷ c.get32-3.result ∷ c.get32-4.result ∷ [] ≡ (fib_fields wd).ccps = cc in
-    let same = same_fields c.get16.result c.get16-2.result c.kept_of.result (c.get16-flags.result / 16 % 16) c.bit_of-2.result c.get32.result (c.bit_of.result == 1) (c.get32-2.result ∷ c.get32-3.result ∷ c.get32-4.result ∷ []) c.pairs.result (fib_fields wd) c.get16.ensures c.get16-2.ensures kept quick_saves table c.get32.ensures complex ccps c.pairs.ensures in
+    let same = same_fields c.get16.result c.get16-2.result c.kept_of.result (c.get16-flags.result / 16 % 16)
+    c.bit_of-2.result c.get32.result (c.bit_of.result == 1) (c.get32-2.result ∷ c.get32-3.result ∷
+    c.get32-4.result ∷ []) c.pairs.result (fib_fields wd) c.get16.ensures c.get16-2.ensures kept quick_saves table
+    c.get32.ensures complex ccps c.pairs.ensures in
     subst (λ fib. IsFib fib) (sym same) (is_fib wd (λ i. omega (arith, c.type_inv.wd i)) c.requires)

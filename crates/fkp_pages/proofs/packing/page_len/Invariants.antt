@@ -4,4 +4,8 @@ use Rattle.fkp_pages.proofs.packing.page_len.Given as goal
 
 -- the runs so far fit, and leave this limit
 abbrev pub invariant-loop-i : goal.invariant-loop-i
-invariant-loop-i l = record { limit : l.limit ≡ limit_after l.kind first_limit (take l.i l.runs); fits : FitsPage l.kind (take l.i l.runs) }
+invariant-loop-i l = record {
+  limit : l.limit ≡ limit_after l.kind first_limit (take l.i l.runs);
+  fits : FitsPage
+      l.kind (take l.i l.runs);
+}

@@ -21,7 +21,8 @@ loop-i-preserved c =
           subst
           (λ fields. IsListedUpTo field_of (λ e. record { cp = e.0; unit = e.1.0; byte = e.1.1 }) c.args.cp items
           (c.loop-i.i + 1) c.args.fields.now fields) (sym w.fields-is)
-          (listed_nothing field_of (λ e. record { cp = e.0; unit = e.1.0; byte = e.1.1 }) c.args.cp items c.loop-i.i item
+          (listed_nothing field_of (λ e. record { cp = e.0; unit = e.1.0; byte = e.1.1 }) c.args.cp items c.loop-i.i
+          item
           c.args.fields.now c.loop-i.fields c.loop-i-test.true
           (field ∙ ap (option_map (λ byte. (item.unit, byte))) w.in_default.is) c.loop-i.invariant)
     ]

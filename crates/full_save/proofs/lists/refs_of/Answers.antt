@@ -21,7 +21,10 @@ loop-cp-preserved c =
       | in-Some+in_ok-add w ↦
           listed_entry (λ item. item.note) entry 0 main c.loop-cp.cp item w.in-Some.kind [] c.loop-cp.refs
           c.match-item.refs c.loop-cp-test.true (note ∙ w.in-Some.is)
-          (w.refs-is ∙ (w.in_ok-add.ensures.ok ∙ ap (λ (b : Bool). c.loop-cp.refs ++ (record { cp = c.loop-cp.cp; auto = b }) ∷ []) w.is_auto.ensures
+          (w.refs-is ∙ (w.in_ok-add.ensures.ok ∙ ap (λ (b : Bool). c.loop-cp.refs ++ (record {
+            cp = c.loop-cp.cp;
+            auto = b;
+          }) ∷ []) w.is_auto.ensures
           ∙ ap (λ (n : ℕ). c.loop-cp.refs ++ (record { cp = n; auto = is_auto w.in-Some.kind }) ∷ []) from_zero))
           c.loop-cp.invariant
       | in_default w ↦

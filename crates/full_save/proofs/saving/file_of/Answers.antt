@@ -58,7 +58,8 @@ streams_with-requires c =
     let right = c.requires.right in
     let table : c.as_slice.result.now ≡ table_stream d =
     c.as_slice.ensures
-    ∙ (c.in_ok-table.ensures.bytes_are ∙ ap (λ (t : TableText). entries_bytes (table_entries d t)) c.requires.body.text) in
+    ∙ (c.in_ok-table.ensures.bytes_are ∙ ap (λ (t : TableText). entries_bytes (table_entries d t))
+    c.requires.body.text) in
     let wd : c.as_slice-2.result.now ≡ wd_stream d =
     c.as_slice-2.ensures
     ∙ (c.in_ok-wd.ensures ∙ (λ i. wd_of (c.fib_of-fib.ensures i) (c.requires.body.bytes i))) in
@@ -74,7 +75,8 @@ whole-requires c =
     let right = c.requires.right in
     let table : c.as_slice.result.now ≡ table_stream d =
     c.as_slice.ensures
-    ∙ (c.in_ok-table.ensures.bytes_are ∙ ap (λ (t : TableText). entries_bytes (table_entries d t)) c.requires.body.text) in
+    ∙ (c.in_ok-table.ensures.bytes_are ∙ ap (λ (t : TableText). entries_bytes (table_entries d t))
+    c.requires.body.text) in
     let wd : c.as_slice-2.result.now ≡ wd_stream d =
     c.as_slice-2.ensures
     ∙ (c.in_ok-wd.ensures ∙ (λ i. wd_of (c.fib_of-fib.ensures i) (c.requires.body.bytes i))) in
@@ -93,7 +95,8 @@ returns-in-Ok c =
     let right = c.requires.right in
     let table : c.as_slice.result.now ≡ table_stream d =
     c.as_slice.ensures
-    ∙ (c.in_ok-table.ensures.bytes_are ∙ ap (λ (t : TableText). entries_bytes (table_entries d t)) c.requires.body.text) in
+    ∙ (c.in_ok-table.ensures.bytes_are ∙ ap (λ (t : TableText). entries_bytes (table_entries d t))
+    c.requires.body.text) in
     let wd : c.as_slice-2.result.now ≡ wd_stream d =
     c.as_slice-2.ensures
     ∙ (c.in_ok-wd.ensures ∙ (λ i. wd_of (c.fib_of-fib.ensures i) (c.requires.body.bytes i))) in
@@ -110,7 +113,8 @@ returns-in-Err-TooLarge c =
     let right = c.requires.right in
     let table : c.as_slice.result.now ≡ table_stream d =
     c.as_slice.ensures
-    ∙ (c.in_ok-table.ensures.bytes_are ∙ ap (λ (t : TableText). entries_bytes (table_entries d t)) c.requires.body.text) in
+    ∙ (c.in_ok-table.ensures.bytes_are ∙ ap (λ (t : TableText). entries_bytes (table_entries d t))
+    c.requires.body.text) in
     let wd : c.as_slice-2.result.now ≡ wd_stream d =
     c.as_slice-2.ensures
     ∙ (c.in_ok-wd.ensures ∙ (λ i. wd_of (c.fib_of-fib.ensures i) (c.requires.body.bytes i))) in
@@ -119,6 +123,7 @@ returns-in-Err-TooLarge c =
     let streams : c.in_ok-streams.streams ≡ layout_streams d = c.in_ok-streams.ensures ∙ saved in
     let lengths = ap (λ (xs : List NamedBytes). sectors_needed (lengths_of xs)) streams in
     let fault : IsLayoutFault (lengths_of c.in_ok-streams.streams) (TooLarge c.in-Err-TooLarge.sectors) =
-    subst (λ f. IsLayoutFault (lengths_of c.in_ok-streams.streams) f) c.in-Err-TooLarge.field-0-is c.in-Err-TooLarge.ensures in
+    subst (λ f. IsLayoutFault (lengths_of c.in_ok-streams.streams) f) c.in-Err-TooLarge.field-0-is
+    c.in-Err-TooLarge.ensures in
     let most = fault.0 in
     (omega (arith, most, lengths), fault.1 ∙ lengths)

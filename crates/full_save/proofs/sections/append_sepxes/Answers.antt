@@ -45,7 +45,8 @@ loop-cp-preserved c =
           (record { start = c.match-item.start; out = c.match-item.out; seds = c.match-item.seds }) c.loop-cp-test.true
           (sect ∙ w.in-Some.is) short (w.out-is ∙ w.in_ok-place.ensures.bytes)
           (w.seds-is ∙ (w.in_ok-add.ensures.ok
-          ∙ ap (λ (place : ℕ). c.loop-cp.seds ++ (record { start = c.loop-cp.start; sepx = place }) ∷ []) w.in_ok-place.ensures.place))
+          ∙ ap (λ (place : ℕ). c.loop-cp.seds ++ (record { start = c.loop-cp.start; sepx = place }) ∷ [])
+          w.in_ok-place.ensures.place))
           w.start-is c.loop-cp.invariant
       | in_default w ↦
           subst (λ so. AreSepxesUpTo main c.args.base old (cp + 1) so)
@@ -58,9 +59,11 @@ loop-cp-preserved c =
 pub returns-clause-bytes : goal.returns-clause-bytes
 returns-clause-bytes c =
     (sepxes_all c.args.main.now c.args.base c.args.out.now c.loop-cp.cp
-    (record { start = c.loop-cp.start; out = c.loop-cp.out; seds = c.loop-cp.seds }) c.loop-cp-test.false c.loop-cp.invariant).0
+    (record { start = c.loop-cp.start; out = c.loop-cp.out; seds = c.loop-cp.seds }) c.loop-cp-test.false
+    c.loop-cp.invariant).0
 
 pub returns-clause-seds : goal.returns-clause-seds
 returns-clause-seds c =
     (sepxes_all c.args.main.now c.args.base c.args.out.now c.loop-cp.cp
-    (record { start = c.loop-cp.start; out = c.loop-cp.out; seds = c.loop-cp.seds }) c.loop-cp-test.false c.loop-cp.invariant).1
+    (record { start = c.loop-cp.start; out = c.loop-cp.out; seds = c.loop-cp.seds }) c.loop-cp-test.false
+    c.loop-cp.invariant).1

@@ -21,4 +21,5 @@ loop-i-preserved c =
     ∙ (append_assoc c.args.lengths.now.items (lengths_of part) (length c.bytes.result.now ∷ [])
     ∙ (ap (λ (n : ℕ). c.args.lengths.now.items ++ (lengths_of part ++ n ∷ [])) size
     ∙ (ap (λ (xs : List ℕ). c.args.lengths.now.items ++ xs) (sym (lengths-append part (get_or others i no_stream ∷ [])))
-    ∙ ap (λ (xs : List NamedBytes). c.args.lengths.now.items ++ lengths_of xs) (sym (range_next others c.args.from i no_stream c.loop-i.auto.i below))))))
+    ∙ ap (λ (xs : List NamedBytes). c.args.lengths.now.items ++ lengths_of xs) (sym (range_next others c.args.from i
+    no_stream c.loop-i.auto.i below))))))

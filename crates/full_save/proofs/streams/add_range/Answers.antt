@@ -16,7 +16,8 @@ add-requires c =
     let is = stream_is others i it c.name.result.now c.bytes.result.now below c.name.ensures c.bytes.ensures in
     let next = add_next c.args.streams.now others c.args.from i c.args.to it low test within c.requires.streams in
     subst (λ (front : List NamedBytes). AreStreams (front ++ it ∷ [])) (sym c.loop-i.invariant)
-    (subst (λ (x : NamedBytes). AreStreams ((c.args.streams.now ++ slice_range others c.args.from i) ++ x ∷ [])) (sym is) next)
+    (subst (λ (x : NamedBytes). AreStreams ((c.args.streams.now ++ slice_range others c.args.from i) ++ x ∷ []))
+    (sym is) next)
 
 pub loop-i-preserved : goal.loop-i-preserved
 loop-i-preserved c =

@@ -16,11 +16,14 @@ returns c = λ table wd is_table is_wd.
     let first = c.place_for-first.result in
     let second = c.place_for-second.result in
     let len = c.count.ensures.len in
-    let one = c.in_ok-add_lengths.ensures ∙ ap (λ (xs : List ℕ). xs ++ lengths_of (slice_range others 0 first)) c.new-lengths.ensures.items in
+    let one = c.in_ok-add_lengths.ensures ∙ ap (λ (xs : List ℕ). xs ++ lengths_of (slice_range others 0 first))
+    c.new-lengths.ensures.items in
     let two = c.in_ok-push.ensures.items ∙ ap (λ (xs : List ℕ). xs ++ c.args.table ∷ []) one in
-    let three = c.in_ok-add_lengths-2.ensures ∙ ap (λ (xs : List ℕ). xs ++ lengths_of (slice_range others first second)) two in
+    let three = c.in_ok-add_lengths-2.ensures ∙ ap (λ (xs : List ℕ). xs ++ lengths_of (slice_range others first
+    second)) two in
     let four = c.in_ok-push-2.ensures.items ∙ ap (λ (xs : List ℕ). xs ++ c.args.wd ∷ []) three in
     c.in_ok-add_lengths-3.ensures
     ∙ (ap (λ (xs : List ℕ). xs ++ lengths_of (slice_range others second c.count.result)) four
-    ∙ ((λ i. (((lengths_of (slice_range others 0 first) ++ sym is_table i ∷ []) ++ lengths_of (slice_range others first second)) ++ sym is_wd i ∷ []) ++ lengths_of (slice_range others second (len i)))
+    ∙ ((λ i. (((lengths_of (slice_range others 0 first) ++ sym is_table i ∷ []) ++ lengths_of (slice_range others
+    first second)) ++ sym is_wd i ∷ []) ++ lengths_of (slice_range others second (len i)))
     ∙ lengths_in_parts table wd others first second c.place_for-first.ensures c.place_for-second.ensures))

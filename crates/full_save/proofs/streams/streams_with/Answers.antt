@@ -16,7 +16,8 @@ add_range-requires-clause-streams c =
     let fronts =
     fronts_are c.args.table.now c.args.wd.now others first second c.place_for-first.ensures c.place_for-second.ensures
     c.requires in
-    subst (λ (xs : List NamedBytes). AreStreams (xs ++ slice_range others 0 first)) (sym c.new-streams.ensures) fronts.one
+    subst (λ (xs : List NamedBytes). AreStreams (xs ++ slice_range others 0 first)) (sym c.new-streams.ensures)
+    fronts.one
 
 pub add-requires : goal.add-requires
 add-requires c =
@@ -28,7 +29,8 @@ add-requires c =
     let fronts =
     fronts_are c.args.table.now c.args.wd.now others first second c.place_for-first.ensures c.place_for-second.ensures
     c.requires in
-    let one = c.in_ok-add_range.ensures ∙ ap (λ (xs : List NamedBytes). xs ++ slice_range others 0 first) c.new-streams.ensures in
+    let one = c.in_ok-add_range.ensures ∙ ap (λ (xs : List NamedBytes). xs ++ slice_range others 0 first)
+    c.new-streams.ensures in
     subst (λ (xs : List NamedBytes). AreStreams (xs ++ that ∷ [])) (sym one) fronts.two
 
 pub add_range-requires-2-clause-ordered : goal.add_range-requires-2-clause-ordered
@@ -46,7 +48,8 @@ add_range-requires-2-clause-streams c =
     let fronts =
     fronts_are c.args.table.now c.args.wd.now others first second c.place_for-first.ensures c.place_for-second.ensures
     c.requires in
-    let one = c.in_ok-add_range.ensures ∙ ap (λ (xs : List NamedBytes). xs ++ slice_range others 0 first) c.new-streams.ensures in
+    let one = c.in_ok-add_range.ensures ∙ ap (λ (xs : List NamedBytes). xs ++ slice_range others 0 first)
+    c.new-streams.ensures in
     let two = c.in_ok-add.ensures.ok ∙ ap (λ (xs : List NamedBytes). xs ++ that ∷ []) one in
     subst (λ (xs : List NamedBytes). AreStreams (xs ++ slice_range others first second)) (sym two) fronts.three
 
@@ -60,9 +63,11 @@ add-requires-2 c =
     let fronts =
     fronts_are c.args.table.now c.args.wd.now others first second c.place_for-first.ensures c.place_for-second.ensures
     c.requires in
-    let one = c.in_ok-add_range.ensures ∙ ap (λ (xs : List NamedBytes). xs ++ slice_range others 0 first) c.new-streams.ensures in
+    let one = c.in_ok-add_range.ensures ∙ ap (λ (xs : List NamedBytes). xs ++ slice_range others 0 first)
+    c.new-streams.ensures in
     let two = c.in_ok-add.ensures.ok ∙ ap (λ (xs : List NamedBytes). xs ++ that ∷ []) one in
-    let three = c.in_ok-add_range-2.ensures ∙ ap (λ (xs : List NamedBytes). xs ++ slice_range others first second) two in
+    let three = c.in_ok-add_range-2.ensures ∙ ap (λ (xs : List NamedBytes). xs ++ slice_range others first second) two
+    in
     subst (λ (xs : List NamedBytes). AreStreams (xs ++ it ∷ [])) (sym three) fronts.four
 
 pub add_range-requires-3-clause-streams : goal.add_range-requires-3-clause-streams
@@ -75,14 +80,17 @@ add_range-requires-3-clause-streams c =
     let fronts =
     fronts_are c.args.table.now c.args.wd.now others first second c.place_for-first.ensures c.place_for-second.ensures
     c.requires in
-    let one = c.in_ok-add_range.ensures ∙ ap (λ (xs : List NamedBytes). xs ++ slice_range others 0 first) c.new-streams.ensures in
+    let one = c.in_ok-add_range.ensures ∙ ap (λ (xs : List NamedBytes). xs ++ slice_range others 0 first)
+    c.new-streams.ensures in
     let two = c.in_ok-add.ensures.ok ∙ ap (λ (xs : List NamedBytes). xs ++ that ∷ []) one in
-    let three = c.in_ok-add_range-2.ensures ∙ ap (λ (xs : List NamedBytes). xs ++ slice_range others first second) two in
+    let three = c.in_ok-add_range-2.ensures ∙ ap (λ (xs : List NamedBytes). xs ++ slice_range others first second) two
+    in
     let four = c.in_ok-add-2.ensures.ok ∙ ap (λ (xs : List NamedBytes). xs ++ it ∷ []) three in
     let len = c.count.ensures.len in
     let rest = ap (λ (n : ℕ). slice_range others second n) len in
     subst (λ (xs : List NamedBytes). AreStreams (xs ++ slice_range others second c.count.result)) (sym four)
-    (subst AreStreams (sym fronts.whole ∙ ap (λ (xs : List NamedBytes). (((slice_range others 0 first ++ that ∷ []) ++ slice_range others first second) ++ it ∷ []) ++ xs) (sym rest)) c.requires)
+    (subst AreStreams (sym fronts.whole ∙ ap (λ (xs : List NamedBytes). (((slice_range others 0 first ++ that ∷ []) ++
+    slice_range others first second) ++ it ∷ []) ++ xs) (sym rest)) c.requires)
 
 pub returns : goal.returns
 returns c =
@@ -94,12 +102,15 @@ returns c =
     let fronts =
     fronts_are c.args.table.now c.args.wd.now others first second c.place_for-first.ensures c.place_for-second.ensures
     c.requires in
-    let one = c.in_ok-add_range.ensures ∙ ap (λ (xs : List NamedBytes). xs ++ slice_range others 0 first) c.new-streams.ensures in
+    let one = c.in_ok-add_range.ensures ∙ ap (λ (xs : List NamedBytes). xs ++ slice_range others 0 first)
+    c.new-streams.ensures in
     let two = c.in_ok-add.ensures.ok ∙ ap (λ (xs : List NamedBytes). xs ++ that ∷ []) one in
-    let three = c.in_ok-add_range-2.ensures ∙ ap (λ (xs : List NamedBytes). xs ++ slice_range others first second) two in
+    let three = c.in_ok-add_range-2.ensures ∙ ap (λ (xs : List NamedBytes). xs ++ slice_range others first second) two
+    in
     let four = c.in_ok-add-2.ensures.ok ∙ ap (λ (xs : List NamedBytes). xs ++ it ∷ []) three in
     let len = c.count.ensures.len in
     let rest = ap (λ (n : ℕ). slice_range others second n) len in
     c.in_ok-add_range-3.ensures
     ∙ (ap (λ (xs : List NamedBytes). xs ++ slice_range others second c.count.result) four
-    ∙ (ap (λ (xs : List NamedBytes). (((slice_range others 0 first ++ that ∷ []) ++ slice_range others first second) ++ it ∷ []) ++ xs) rest ∙ fronts.whole))
+    ∙ (ap (λ (xs : List NamedBytes). (((slice_range others 0 first ++ that ∷ []) ++ slice_range others first second)
+    ++ it ∷ []) ++ xs) rest ∙ fronts.whole))

@@ -92,7 +92,14 @@ finish-requires c =
     let heads = c.in_ok-push_story-2.ensures.count in
     let mark = c.in_ok-mark_behind.ensures.count in
     let small = c.requires in
-    omega (arith, sizes.stories, sizes.notes, sizes.heads, mark_most (nat_lt c.len-main.result (length c.push_story-2.new.self.units.items)))
+    omega (
+      arith,
+      sizes.stories,
+      sizes.notes,
+      sizes.heads,
+      mark_most (nat_lt c.len-main.result
+          (length c.push_story-2.new.self.units.items)),
+    )
 
 pub returns : goal.returns
 unfolding note_story head_story text_counts
@@ -115,17 +122,21 @@ returns c =
     let third = c.in_ok-push_story-2.ensures.text (d.main ++ notes) second in
     let fourth = c.in_ok-mark_behind.ensures.text ((d.main ++ notes) ++ heads) third in
     let whole = c.in_ok-text.ensures
-    (((d.main ++ notes) ++ heads) ++ mark_if (nat_lt c.len-main.result (length c.push_story-2.new.self.units.items))) fourth in
+    (((d.main ++ notes) ++ heads) ++ mark_if (nat_lt c.len-main.result (length c.push_story-2.new.self.units.items)))
+    fourth in
     let both = length-append notes heads in
-    let total : length c.push_story-2.new.self.units.items ≡ c.len-main.result + length (notes ++ heads) = omega arith in
-    let mark : nat_lt c.len-main.result (length c.push_story-2.new.self.units.items) ≡ nat_lt 0 (length (notes ++ heads)) =
+    let total : length c.push_story-2.new.self.units.items ≡ c.len-main.result + length (notes ++ heads) = omega arith
+    in
+    let mark : nat_lt c.len-main.result (length c.push_story-2.new.self.units.items) ≡ nat_lt 0
+    (length (notes ++ heads)) =
     ap (λ (n : ℕ). nat_lt c.len-main.result n) total ∙ came_behind c.len-main.result (length (notes ++ heads)) in
     let items = ap (λ (b : Bool). ((d.main ++ notes) ++ heads) ++ mark_if b) mark ∙ sym (text_is d) in
     let a : c.len-main.result ≡ length d.main = omega arith in
     let b : c.len.result - c.len-main.result ≡ length notes = omega arith in
     let e : c.len-2.result - c.len-main.result - (c.len.result - c.len-main.result) ≡ length heads = omega arith in
     let given : List ℕ =
-    c.len-main.result ∷ (c.len.result - c.len-main.result) ∷ (c.len-2.result - c.len-main.result - (c.len.result - c.len-main.result)) ∷ [] in
+    c.len-main.result ∷ (c.len.result - c.len-main.result) ∷ (c.len-2.result - c.len-main.result - (c.len.result -
+    c.len-main.result)) ∷ [] in
     let counts : given ≡ length d.main ∷ length notes ∷ length heads ∷ [] = λ i. a i ∷ b i ∷ e i ∷ [] in
     subst (λ (cs : List ℕ). IsWholeText (text_items d) cs c.in_ok-text.text) counts
     (subst (λ (xs : List Item). IsWholeText xs given c.in_ok-text.text) items whole)

@@ -5,4 +5,6 @@ pub cut-last-requires-clause-sound : goal.cut-last-requires-clause-sound
 cut-last-requires-clause-sound c = c.cut-first.ensures.cut.keeps.pieces c.requires.sound
 
 pub returns-clause-cut : goal.returns-clause-cut
-returns-clause-cut c = cut_twice c.args.entries.now.items c.cut-first.new.entries.items c.cut-last.new.entries.items c.args.from c.args.to c.cut-first.result c.cut-last.result c.requires.order c.cut-first.ensures.cut c.cut-last.ensures.cut
+returns-clause-cut c = cut_twice c.args.entries.now.items c.cut-first.new.entries.items c.cut-last.new.entries.items
+    c.args.from c.args.to c.cut-first.result c.cut-last.result c.requires.order c.cut-first.ensures.cut
+    c.cut-last.ensures.cut

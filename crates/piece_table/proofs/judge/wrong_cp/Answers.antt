@@ -13,12 +13,15 @@ pub returns-then-cp-text_len : goal.returns-then-cp-text_len
 returns-then-cp-text_len c =
     let plc = c.args.plc.now in
     let starts : Starts plc = (omega arith, sym c.cp.ensures ∙ c.if-cp-ne0.false) in
-    let last : c.cp-2.result ≡ plc_cp plc.bytes plc.count = c.cp-2.ensures ∙ ap (λ n. plc_cp plc.bytes n) c.len-2.ensures in
-    rw c.len-then-cp-text_len.ensures (first_wrong_end plc c.args.base c.args.text_len starts c.in_default.ensures (λ e. c.if-cp-text_len.true (last ∙ e)))
+    let last : c.cp-2.result ≡ plc_cp plc.bytes plc.count = c.cp-2.ensures ∙ ap (λ n. plc_cp plc.bytes n)
+    c.len-2.ensures in
+    rw c.len-then-cp-text_len.ensures (first_wrong_end plc c.args.base c.args.text_len starts c.in_default.ensures
+    (λ e. c.if-cp-text_len.true (last ∙ e)))
 
 pub returns : goal.returns
 returns c =
     let plc = c.args.plc.now in
     let starts : Starts plc = (omega arith, sym c.cp.ensures ∙ c.if-cp-ne0.false) in
-    let last : c.cp-2.result ≡ plc_cp plc.bytes plc.count = c.cp-2.ensures ∙ ap (λ n. plc_cp plc.bytes n) c.len-2.ensures in
+    let last : c.cp-2.result ≡ plc_cp plc.bytes plc.count = c.cp-2.ensures ∙ ap (λ n. plc_cp plc.bytes n)
+    c.len-2.ensures in
     no_wrong_cp plc c.args.base c.args.text_len starts c.in_default.ensures (sym last ∙ c.if-cp-text_len.false)

@@ -11,4 +11,8 @@ returns-in_ok-modifier-in-Prc-clause-does c =
     let list = c.list.result.now in
     let accepted = c.requires.readable c.in-Prc.number list c.in-Prc.is c.list.ensures in
     subst (λ prm. IsPrmModifier c.args.prcs.now prm c.in_ok-modifier-in-Prc.modifier) (sym c.in-Prc.is)
-    (record { sprms = accepted.list; named = (list, (c.list.ensures, accepted.spelt)); does = c.in_ok-modifier-in-Prc.ensures.parts accepted.list accepted.spelt })
+    (record {
+      sprms = accepted.list;
+      named = (list, (c.list.ensures, accepted.spelt));
+      does = c.in_ok-modifier-in-Prc.ensures.parts accepted.list accepted.spelt;
+    })

@@ -15,7 +15,8 @@ returns-in-Some c =
     let end = c.in_ok-prcs.end in
     let plc = c.in-Some.plc in
     let bytes : AreBytes clx = λ i. omega (arith, c.type_inv.clx i) in
-    let front : IsPcdtFront (drop end clx) plc = subst (λ rest. IsPcdtFront rest plc) (rest_is clx end) c.in-Some.ensures in
+    let front : IsPcdtFront (drop end clx) plc = subst (λ rest. IsPcdtFront rest plc) (rest_is clx end)
+    c.in-Some.ensures in
     let found = parts_found clx c.in_ok-prcs.prcs end plc bytes c.in_ok-prcs.ensures.are front in
     (nowhere_from (IsWrongAt clx) c.args.at found.0, found.1)
 
@@ -23,5 +24,6 @@ pub returns : goal.returns
 returns c =
     let clx = c.args.clx.now in
     let end = c.in_ok-prcs.end in
-    let none : (plc : PlcPart) → ¬ (IsPcdtFront (drop end clx) plc) = subst (λ rest. (plc : PlcPart) → ¬ (IsPcdtFront rest plc)) (rest_is clx end) c.in-None.ensures in
+    let none : (plc : PlcPart) → ¬ (IsPcdtFront (drop end clx) plc) = subst (λ rest. (plc : PlcPart) →
+    ¬ (IsPcdtFront rest plc)) (rest_is clx end) c.in-None.ensures in
     (refl, least_from (IsWrongAt clx) c.args.at end (parts_wrong clx c.in_ok-prcs.prcs end c.in_ok-prcs.ensures none))

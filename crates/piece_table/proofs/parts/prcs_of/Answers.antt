@@ -10,8 +10,10 @@ loop-grpprl-preserved c =
     let clx = c.args.clx.now in
     let at = c.loop-grpprl.at in
     let bytes : AreBytes clx = λ i. omega (arith, c.type_inv.clx i) in
-    let front : IsPrcFront (drop at clx) c.in-Some.grpprl = subst (λ rest. IsPrcFront rest c.in-Some.grpprl) (rest_is clx at) c.in-Some.ensures in
-    subst (λ prcs. ArePrcs clx prcs (at + 3 + c.in-Some.grpprl)) (sym c.in_ok-push.ensures) (prcs_more clx c.loop-grpprl.prcs at c.in-Some.grpprl bytes c.loop-grpprl.invariant front)
+    let front : IsPrcFront (drop at clx) c.in-Some.grpprl = subst (λ rest. IsPrcFront rest c.in-Some.grpprl)
+    (rest_is clx at) c.in-Some.ensures in
+    subst (λ prcs. ArePrcs clx prcs (at + 3 + c.in-Some.grpprl)) (sym c.in_ok-push.ensures) (prcs_more clx
+    c.loop-grpprl.prcs at c.in-Some.grpprl bytes c.loop-grpprl.invariant front)
 
 pub returns : goal.returns
 returns c =

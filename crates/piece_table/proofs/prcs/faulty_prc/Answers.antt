@@ -13,7 +13,11 @@ overflow_cast-result c =
     let prcs = c.args.parts.now.prcs in
     let list = c.list-list.result.now in
     let place = c.requires.place in
-    omega (arith, fault_within list prc_groups c.in-Some.offset c.in-Some.ensures.least.broken, prc_ends prcs c.loop-i.i list c.list-list.ensures)
+    omega (
+      arith,
+      fault_within list prc_groups c.in-Some.offset c.in-Some.ensures.least.broken,
+      prc_ends prcs c.loop-i.i list c.list-list.ensures,
+    )
 
 pub overflow_add-result-in-Some : goal.overflow_add-result-in-Some
 overflow_add-result-in-Some c =
@@ -21,7 +25,11 @@ overflow_add-result-in-Some c =
     let list = c.list-list.result.now in
     let place = c.requires.place in
     let here = c.loop-i.invariant.0 in
-    omega (arith, fault_within list prc_groups c.in-Some.offset c.in-Some.ensures.least.broken, prc_ends prcs c.loop-i.i list c.list-list.ensures)
+    omega (
+      arith,
+      fault_within list prc_groups c.in-Some.offset c.in-Some.ensures.least.broken,
+      prc_ends prcs c.loop-i.i list c.list-list.ensures,
+    )
 
 pub returns-in-Some-clause-least : goal.returns-in-Some-clause-least
 returns-in-Some-clause-least c =
@@ -33,7 +41,8 @@ returns-in-Some-clause-least c =
     let place : at + (prc_place parts.prcs i + 3) + offset ≡ c.loop-i.place + (3 + offset) = omega arith in
     let named = (c.requires.marks.marked i).0 c.if-marks-i.true in
     subst (λ p. IsLeast (λ a b. a ≤ b) (Among (length parts.prcs) (IsFaultyPrc parts at)) p) place
-    (first_faulty parts at i offset c.list-list.result.now c.loop-i.invariant.1 c.list-list.ensures named c.in-Some.ensures.least)
+    (first_faulty parts at i offset c.list-list.result.now c.loop-i.invariant.1 c.list-list.ensures named
+    c.in-Some.ensures.least)
 
 pub overflow_cast-place : goal.overflow_cast-place
 overflow_cast-place c =
@@ -52,10 +61,21 @@ loop-i-preserved c =
     let i = c.loop-i.i in
     let list = c.list-list.result.now in
     let here = c.loop-i.invariant.0 in
-    let place : c.loop-i.place + (3 + length list) ≡ c.args.at + prc_place parts.prcs (i + 1) = omega (arith, place_more parts.prcs i list c.list-list.ensures) in
+    let place : c.loop-i.place + (3 + length list) ≡ c.args.at + prc_place parts.prcs (i + 1) = omega (
+      arith,
+      place_more parts.prcs i list c.list-list.ensures,
+    ) in
     elim c.if-marks-i.branch [
-      | then-marks-i+in_default w ↦ (place, accepted_more parts i list c.loop-i.invariant.1 c.list-list.ensures (λ named. w.in_default.ensures.accepted))
-      | else-marks-i w ↦ (place, accepted_more parts i list c.loop-i.invariant.1 c.list-list.ensures (λ named. let marked = (c.requires.marks.marked i).1 named in absurd (cc (w.if-marks-i.false, marked))))
+      | then-marks-i+in_default w ↦ (
+        place,
+        accepted_more parts i list c.loop-i.invariant.1 c.list-list.ensures
+            (λ named. w.in_default.ensures.accepted),
+      )
+      | else-marks-i w ↦ (
+        place,
+        accepted_more parts i list c.loop-i.invariant.1 c.list-list.ensures
+            (λ named. let marked = (c.requires.marks.marked i).1 named in absurd (cc (w.if-marks-i.false, marked))),
+      )
     ]
 
 pub returns-clause-least : goal.returns-clause-least

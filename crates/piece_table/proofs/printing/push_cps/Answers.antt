@@ -1,5 +1,6 @@
 -- Each turn appends the sum of the lengths before it.
-use Rattle.std.proofs.Common.{◌≡◌, ℕ, ◌+◌, ◌<◌, List, ◌++◌, ◌∙◌, false, take, get_or, map, flat_map, length, refl, sym, ap, arith, append_assoc}
+use Rattle.std.proofs.Common.{◌≡◌, ℕ, ◌+◌, ◌<◌, List, ◌++◌, ◌∙◌, false, take, get_or, map, flat_map, length, refl}
+use Rattle.std.proofs.Common.{sym, ap, arith, append_assoc}
 use Rattle.std.specs.List.{range_with_len, sum}
 use Rattle.std.proofs.Math.ListN.{length-map}
 use Rattle.doc_bits.specs.Number.{number_bytes}
@@ -12,10 +13,12 @@ abbrev none : Entry
 none = record { piece = record { at = 0; wide = false; len = 0 }; modifier = 0 }
 
 -- the sum with the length of one entry more
-with_next : (entries : List Entry) (k : ℕ) → k < length entries → sum (take (k + 1) (lens_of entries)) ≡ sum (take k (lens_of entries)) + (get_or entries k none).piece.len
+with_next : (entries : List Entry) (k : ℕ) → k < length entries → sum (take (k + 1) (lens_of entries)) ≡ sum
+    (take k (lens_of entries)) + (get_or entries k none).piece.len
 with_next entries k low =
     let entry = get_or entries k none in
-    sum_more (lens_of entries) k entry.piece.len (omega (arith, length-map entries (λ (e : Entry). e.piece.len))) (seen_at (λ (e : Entry). e.piece.len) entries k entry none low refl)
+    sum_more (lens_of entries) k entry.piece.len (omega (arith, length-map entries (λ (e : Entry). e.piece.len)))
+    (seen_at (λ (e : Entry). e.piece.len) entries k entry none low refl)
 
 pub overflow_add-cp : goal.overflow_add-cp
 overflow_add-cp c =
@@ -51,4 +54,5 @@ returns c =
     let all : k ≡ length (lens_of entries) = omega (arith, length-map entries (λ (e : Entry). e.piece.len)) in
     c.in_ok-push32-2.ensures.ok ∙ (ap (λ l. l ++ number_bytes 4 c.loop-k.cp) c.loop-k.invariant.0
     ∙ (append_assoc old nums (number_bytes 4 c.loop-k.cp)
-    ∙ ap (λ l. old ++ l) (ap (λ x. nums ++ number_bytes 4 x) c.loop-k.invariant.1 ∙ (sym (numbers_more f k) ∙ ap (λ n. flat_map (number_bytes 4) (map f (range_with_len 0 (n + 1)))) all))))
+    ∙ ap (λ l. old ++ l) (ap (λ x. nums ++ number_bytes 4 x) c.loop-k.invariant.1 ∙ (sym (numbers_more f k) ∙ ap
+    (λ n. flat_map (number_bytes 4) (map f (range_with_len 0 (n + 1)))) all))))

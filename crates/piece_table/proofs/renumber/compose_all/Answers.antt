@@ -15,12 +15,16 @@ loop-k-preserved c =
     let low = c.loop-k-test.true in
     let old = c.loop-k.numbers.items in
     let new = c.compose_one.new.numbers.items in
-    let done = All-weaker (λ (entry : Entry). slice_index old entry.modifier ≢ 0) (λ (entry : Entry). slice_index new entry.modifier ≢ 0) (λ entry kept. c.in_ok-compose_one.ensures.others entry.modifier kept) (take k entries) c.loop-k.invariant.done in
+    let done = All-weaker (λ (entry : Entry). slice_index old entry.modifier ≢ 0) (λ (entry : Entry). slice_index new
+    entry.modifier ≢ 0) (λ entry kept. c.in_ok-compose_one.ensures.others entry.modifier kept) (take k entries)
+    c.loop-k.invariant.done in
     record {
-      extends = extends_on c.args.modifiers.now.items c.loop-k.modifiers.items c.compose_one.new.modifiers.items c.loop-k.invariant.extends c.in_ok-compose_one.ensures.extends;
+      extends = extends_on c.args.modifiers.now.items c.loop-k.modifiers.items c.compose_one.new.modifiers.items
+          c.loop-k.invariant.extends c.in_ok-compose_one.ensures.extends;
       len = c.in_ok-compose_one.ensures.len ∙ c.loop-k.invariant.len;
       composed = c.in_ok-compose_one.ensures.composed;
-      done = All-more (λ (entry : Entry). slice_index new entry.modifier ≢ 0) entries k none (omega arith) done c.in_ok-compose_one.ensures.here;
+      done = All-more (λ (entry : Entry). slice_index new entry.modifier ≢ 0) entries k none (omega arith) done
+          c.in_ok-compose_one.ensures.here;
     }
 
 pub returns-clause-all : goal.returns-clause-all

@@ -13,8 +13,12 @@ returns-clause-composed c =
     let old = c.index-2.result.now in
     let made = c.in_ok-composed.composed in
     let short = c.requires.composed.short in
-    let is : old ≡ slice_index_or modifiers number no_modifier = c.index-2.ensures ∙ get_or_default modifiers number old no_modifier (omega (arith, c.requires.within)) in
-    let composed : IsComposed (slice_index_or modifiers number no_modifier) by made = subst (λ m. IsComposed m by made) is c.in_ok-composed.ensures.parts in
-    let formed : StaysFormedModifier (slice_index_or modifiers number no_modifier) by made = subst (λ m. StaysFormedModifier m by made) is c.in_ok-composed.ensures.formed in
+    let is : old ≡ slice_index_or modifiers number no_modifier = c.index-2.ensures ∙ get_or_default modifiers number
+    old no_modifier (omega (arith, c.requires.within)) in
+    let composed : IsComposed (slice_index_or modifiers number no_modifier) by made = subst (λ m. IsComposed m by
+    made) is c.in_ok-composed.ensures.parts in
+    let formed : StaysFormedModifier (slice_index_or modifiers number no_modifier) by made = subst
+    (λ m. StaysFormedModifier m by made) is c.in_ok-composed.ensures.formed in
     let place : c.len-place.result ≡ length modifiers = omega (arith, c.len-place.ensures) in
-    rw (c.in_ok-push.ensures.items, place) (composed_put by modifiers numbers number made c.requires.composed c.requires.within composed formed)
+    rw (c.in_ok-push.ensures.items, place) (composed_put by modifiers numbers number made c.requires.composed
+    c.requires.within composed formed)

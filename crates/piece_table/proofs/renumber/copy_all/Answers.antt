@@ -14,11 +14,14 @@ loop-k-preserved c =
     let low = c.loop-k-test.true in
     let old = c.loop-k.copies.numbers.items in
     let new = c.add.new.self.numbers.items in
-    let done = All-weaker (λ (entry : Entry). entry.modifier ≢ 0 → slice_index old entry.modifier ≢ 0) (λ (entry : Entry). entry.modifier ≢ 0 → slice_index new entry.modifier ≢ 0) (λ entry kept some. c.in_ok-add.ensures.others entry.modifier (kept some)) (take k entries) c.loop-k.invariant.done in
+    let done = All-weaker (λ (entry : Entry). entry.modifier ≢ 0 → slice_index old entry.modifier ≢ 0)
+    (λ (entry : Entry). entry.modifier ≢ 0 → slice_index new entry.modifier ≢ 0) (λ entry kept some.
+    c.in_ok-add.ensures.others entry.modifier (kept some)) (take k entries) c.loop-k.invariant.done in
     record {
       len = c.in_ok-add.ensures.len ∙ c.loop-k.invariant.len;
       copied = c.in_ok-add.ensures.copied;
-      done = All-more (λ (entry : Entry). entry.modifier ≢ 0 → slice_index new entry.modifier ≢ 0) entries k none (omega arith) done c.in_ok-add.ensures.here;
+      done = All-more (λ (entry : Entry). entry.modifier ≢ 0 → slice_index new entry.modifier ≢ 0) entries k none
+          (omega arith) done c.in_ok-add.ensures.here;
     }
 
 pub returns-clause-all : goal.returns-clause-all

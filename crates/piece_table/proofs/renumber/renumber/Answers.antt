@@ -14,9 +14,11 @@ loop-k-preserved c =
     let k = c.loop-k.k in
     let entry = c.index-entry.result.now in
     let below = c.loop-k-test.true in
-    let more = renumber_more f old new first k entry c.loop-k.auto.k (omega (arith, c.requires.within)) c.loop-k.invariant.items in
+    let more = renumber_more f old new first k entry c.loop-k.auto.k (omega (arith, c.requires.within))
+    c.loop-k.invariant.items in
     record {
-      items = subst (λ e. slice_set new k (f e) ≡ take first old ++ (map f (slice_range old first (k + 1)) ++ drop (k + 1) old)) (sym c.index-entry.ensures) more;
+      items = subst (λ e. slice_set new k (f e) ≡ take first old ++ (map f (slice_range old first (k + 1)) ++ drop
+          (k + 1) old)) (sym c.index-entry.ensures) more;
       count = c.loop-k.invariant.count;
       room = c.loop-k.invariant.room;
     }

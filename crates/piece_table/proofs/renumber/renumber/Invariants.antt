@@ -6,7 +6,8 @@ use Rattle.piece_table.proofs.renumber.renumber.Given as goal
 -- the entries of the range before this one have new numbers
 abbrev pub invariant-loop-k : goal.invariant-loop-k
 invariant-loop-k l = record {
-  items : l.entries.items ≡ take l.first l.initial.entries.items ++ (map (renumbered l.numbers) (slice_range l.initial.entries.items l.first l.k) ++ drop l.k l.initial.entries.items);
+  items : l.entries.items ≡ take l.first l.initial.entries.items ++ (map (renumbered l.numbers) (slice_range
+      l.initial.entries.items l.first l.k) ++ drop l.k l.initial.entries.items);
   count : vec_len l.entries ≡ vec_len l.initial.entries;
   room : vec_capacity l.entries ≡ vec_capacity l.initial.entries;
 }

@@ -21,7 +21,8 @@ loop-code-init c =
         others = prls;
         joined = refl;
         spelt = rw start h;
-        map = λ code. c.in_ok-put_all.ensures code ∙ (ap (option_or (get c.args.map.now code)) (ap (λ m. get m code) c.new-draft.ensures ∙ get-empty nat_cmp code) ∙ or_none (get c.args.map.now code));
+        map = λ code. c.in_ok-put_all.ensures code ∙ (ap (option_or (get c.args.map.now code)) (ap (λ m. get m code)
+            c.new-draft.ensures ∙ get-empty nat_cmp code) ∙ or_none (get c.args.map.now code));
         style = refl;
       };
     }
@@ -35,14 +36,19 @@ loop-code-preserved c =
       so_far = λ prls h.
           let before = c.loop-code.invariant.so_far prls h in
           let step = c.in-Some.ensures.taken before.others before.spelt in
-          let is = subst (λ b. before.others ≡ (c.in-Some.code.0, slice_range b c.in-Some.from c.in-Some.to) ∷ step.others) bytes step.is in
+          let is = subst (λ b. before.others ≡ (c.in-Some.code.0, slice_range b c.in-Some.from c.in-Some.to) ∷
+          step.others) bytes step.is in
           record {
             done = before.done ++ (entry ∷ []);
             others = step.others;
-            joined = before.joined ∙ (ap (λ o. before.done ++ o) is ∙ sym (append_assoc before.done (entry ∷ []) step.others));
+            joined = before.joined ∙ (ap (λ o. before.done ++ o) is ∙ sym (append_assoc before.done (entry ∷ [])
+                step.others));
             spelt = step.left;
-            map = λ code. c.in_ok-act.ensures code ∙ (ap (value_after (entry ∷ []) c.args.groups code) (before.map code) ∙ sym (value_after-append before.done (entry ∷ []) c.args.groups code (get c.args.map.now code)));
-            style = c.style-istd.ensures ∙ (ap (option_or (style_of (entry ∷ []) c.args.groups)) before.style ∙ sym (style_of-append before.done (entry ∷ []) c.args.groups));
+            map = λ code. c.in_ok-act.ensures code ∙ (ap (value_after (entry ∷ []) c.args.groups code)
+                (before.map code) ∙ sym (value_after-append before.done (entry ∷ []) c.args.groups code
+                (get c.args.map.now code)));
+            style = c.style-istd.ensures ∙ (ap (option_or (style_of (entry ∷ []) c.args.groups)) before.style ∙ sym
+                (style_of-append before.done (entry ∷ []) c.args.groups));
           };
     }
 
@@ -50,9 +56,11 @@ pub returns-clause-acted : goal.returns-clause-acted
 returns-clause-acted c = λ prls h.
     let before = c.loop-code.invariant.so_far prls h in
     let none = c.in_default.ensures.taken before.others before.spelt in
-    let all : before.done ≡ prls = sym (append-nil before.done) ∙ (ap (λ o. before.done ++ o) (sym none) ∙ sym before.joined) in
+    let all : before.done ≡ prls = sym (append-nil before.done) ∙ (ap (λ o. before.done ++ o) (sym none) ∙ sym
+    before.joined) in
     record {
-      map = λ code. ap (λ m. get m code) c.in_ok-into_map.ensures ∙ subst (λ l. get c.loop-code.draft code ≡ value_after l c.args.groups code (get c.args.map.now code)) all (before.map code);
+      map = λ code. ap (λ m. get m code) c.in_ok-into_map.ensures ∙ subst (λ l. get c.loop-code.draft code ≡
+          value_after l c.args.groups code (get c.args.map.now code)) all (before.map code);
       style = subst (λ l. c.loop-code.istd ≡ style_of l c.args.groups) all before.style;
     }
 

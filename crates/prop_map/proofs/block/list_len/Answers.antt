@@ -13,7 +13,8 @@ loop-code-init c =
 pub overflow_sub-len-in-Some : goal.overflow_sub-len-in-Some
 overflow_sub-len-in-Some c =
     let list = list-first c.loop-code.left c.next.new.self c.in-Some.code.0 c.in-Some.field-0-1.now c.in-Some.ensures in
-    let block = block-first c.loop-code.left c.next.new.self c.in-Some.code.0 c.in-Some.field-0-1.now c.in-Some.ensures in
+    let block = block-first c.loop-code.left c.next.new.self c.in-Some.code.0 c.in-Some.field-0-1.now
+    c.in-Some.ensures in
     let len = c.loop-code.invariant.len in
     let least = c.loop-code.invariant.least in
     omega arith
@@ -21,7 +22,8 @@ overflow_sub-len-in-Some c =
 pub loop-code-preserved : goal.loop-code-preserved
 loop-code-preserved c =
     let list = list-first c.loop-code.left c.next.new.self c.in-Some.code.0 c.in-Some.field-0-1.now c.in-Some.ensures in
-    let block = block-first c.loop-code.left c.next.new.self c.in-Some.code.0 c.in-Some.field-0-1.now c.in-Some.ensures in
+    let block = block-first c.loop-code.left c.next.new.self c.in-Some.code.0 c.in-Some.field-0-1.now
+    c.in-Some.ensures in
     let head = c.head_len.ensures.len c.in-Some.field-0-1.now in
     let most = c.head_len.ensures.bound in
     let len = c.loop-code.invariant.len in

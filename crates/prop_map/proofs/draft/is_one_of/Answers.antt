@@ -10,4 +10,5 @@ returns-then-other-code c =
 pub loop-other-preserved : goal.loop-other-preserved
 loop-other-preserved c =
     let within : c.loop-other.other-index < length c.args.codes.now = omega arith in
-    among_more c.args.code c.args.codes.now c.loop-other.other-index _ within c.if-other-code.false c.loop-other.invariant
+    among_more c.args.code c.args.codes.now c.loop-other.other-index _ within c.if-other-code.false
+    c.loop-other.invariant

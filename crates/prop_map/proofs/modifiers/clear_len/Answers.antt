@@ -6,4 +6,5 @@ use Rattle.prop_map.proofs.PrintedLemmas.{length-clear}
 use Rattle.prop_map.proofs.modifiers.clear_len.Goals as goal
 
 pub returns-then-clear-clause-len : goal.returns-then-clear-clause-len
-returns-then-clear-clause-len c = sym (ap (λ clear. length (flat_map spelling (clear_prls clear))) c.if-clear.true ∙ length-clear)
+returns-then-clear-clause-len c = sym (ap (λ clear. length (flat_map spelling (clear_prls clear))) c.if-clear.true ∙
+    length-clear)

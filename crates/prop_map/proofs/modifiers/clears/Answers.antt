@@ -21,14 +21,16 @@ loop-code-preserved c = λ prls h.
     record {
       others = step.others;
       spelt = step.left;
-      same = before.same ∙ (ap clears_characters step.is ∙ not_first _ (clears_characters step.others) (sym c.if-clears_character.ensures));
+      same = before.same ∙ (ap clears_characters step.is ∙ not_first _ (clears_characters step.others)
+          (sym c.if-clears_character.ensures));
     }
 
 pub returns-then-clears_character : goal.returns-then-clears_character
 returns-then-clears_character c = λ prls h.
     let before = c.loop-code.invariant prls h in
     let step = c.in-Some.ensures.taken before.others before.spelt in
-    sym (before.same ∙ (ap clears_characters step.is ∙ first_of _ (clears_characters step.others) (sym c.if-clears_character.ensures)))
+    sym (before.same ∙ (ap clears_characters step.is ∙ first_of _ (clears_characters step.others)
+    (sym c.if-clears_character.ensures)))
 
 pub returns : goal.returns
 returns c = λ prls h.

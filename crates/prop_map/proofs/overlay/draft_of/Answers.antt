@@ -12,6 +12,7 @@ returns c = λ code.
     elim c.if-clear.branch [
       | then-clear w ↦
           rw w.if-clear.true
-          (ap (λ m. get m code) (w.draft-is ∙ w.clear.ensures) ∙ (get-retained c.put_all.new.self is_kept code ∙ (ap (λ o. cond (is_kept code) o None) first ∙ cleared (is_kept code) (get c.args.base.now code))))
+          (ap (λ m. get m code) (w.draft-is ∙ w.clear.ensures) ∙ (get-retained c.put_all.new.self is_kept code ∙
+          (ap (λ o. cond (is_kept code) o None) first ∙ cleared (is_kept code) (get c.args.base.now code))))
       | else-clear w ↦ rw w.if-clear.false (ap (λ m. get m code) w.draft-is ∙ first)
     ]

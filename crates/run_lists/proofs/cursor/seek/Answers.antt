@@ -12,7 +12,8 @@ returns-clause-value g c =
     let nothing : extent {T = g.row.T.Denot} [] ≡ 0 = extent-nil g.row.T.Denot in
     let place : extent (take 0 runs) + c.args.place ≡ c.args.place = omega (arith, nothing) in
     let before : extent (take 0 runs) + c.args.place < extent runs = omega (arith, nothing, c.requires.within) in
-    subst (λ (n : ℕ). slice_get (spread runs) n ≡ Some (get_or runs c.reach-spot.result.run c.index-runs-spot.result).value)
+    subst (λ (n : ℕ). slice_get (spread runs) n ≡ Some (get_or runs c.reach-spot.result.run
+    c.index-runs-spot.result).value)
     place
     (found_value runs 0 c.args.place c.reach-spot.result c.index-runs-spot.result c.reach-spot.ensures.found before)
 

@@ -14,8 +14,10 @@ returns-clause-map c =
     record {
       list = c.requires.list;
       spelt = c.requires.spelt;
-      acted = subst (λ old. ArePropertiesAfter c.requires.list c.args.groups old c.in_ok-map.field-0.map) c.new-none.ensures acted.map;
+      acted = subst (λ old. ArePropertiesAfter c.requires.list c.args.groups old c.in_ok-map.field-0.map)
+          c.new-none.ensures acted.map;
     }
 
 pub returns-clause-formed : goal.returns-clause-formed
-returns-clause-formed c = c.in_ok-map.ensures.formed (subst (IsPropertyMap c.args.groups) (sym c.new-none.ensures) (empty_formed c.args.groups))
+returns-clause-formed c = c.in_ok-map.ensures.formed (subst (IsPropertyMap c.args.groups) (sym c.new-none.ensures)
+    (empty_formed c.args.groups))

@@ -16,10 +16,13 @@ returns-clause-first c =
     let base = c.args.base in
     let at = c.first_upx-at.ensures.place in
     let next = c.next_place-next.ensures.next in
-    let first = rw (rest_of c.counted_bytes.result.now, c.counted_bytes.ensures.bytes, at) at c.fault_in-paragraphs.ensures.first in
+    let first = rw (rest_of c.counted_bytes.result.now, c.counted_bytes.ensures.bytes, at) at
+    c.fault_in-paragraphs.ensures.first in
     let second = rw (c.counted_bytes-2.ensures.bytes, next, at) at c.fault_in-characters.ensures.first in
-    subst (LeastOrNone (λ offset. IsParagraphFault std base offset ⊎ IsCharacterFault std (upx_place std base 1) offset)) (sym c.lesser.ensures)
-    (least_either (IsParagraphFault std base) (IsCharacterFault std (upx_place std base 1)) c.fault_in-paragraphs.result c.fault_in-characters.result first second)
+    subst (LeastOrNone (λ offset. IsParagraphFault std base offset ⊎ IsCharacterFault std (upx_place std base 1)
+    offset)) (sym c.lesser.ensures)
+    (least_either (IsParagraphFault std base) (IsCharacterFault std (upx_place std base 1))
+    c.fault_in-paragraphs.result c.fault_in-characters.result first second)
 
 pub returns-clause-accepted : goal.returns-clause-accepted
 returns-clause-accepted c = λ none.
@@ -27,6 +30,7 @@ returns-clause-accepted c = λ none.
     let next = c.next_place-next.ensures.next in
     let both = neither c.fault_in-paragraphs.result c.fault_in-characters.result (sym c.lesser.ensures ∙ none) in
     record {
-      paragraphs = rw (rest_of c.counted_bytes.result.now, c.counted_bytes.ensures.bytes, at) at (c.fault_in-paragraphs.ensures.accepted both.0);
+      paragraphs = rw (rest_of c.counted_bytes.result.now, c.counted_bytes.ensures.bytes, at) at
+          (c.fault_in-paragraphs.ensures.accepted both.0);
       characters = rw (c.counted_bytes-2.ensures.bytes, next, at) at (c.fault_in-characters.ensures.accepted both.1);
     }

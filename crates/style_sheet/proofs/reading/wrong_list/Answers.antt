@@ -30,4 +30,5 @@ pub returns-clause-first : goal.returns-clause-first
 returns-clause-first c =
     let end = c.get16-slot-end.ensures in
     let all : c.loop-slot._slot ≡ cstd c.args.part.now = omega arith in
-    subst (λ n. LeastOrNone (Among n (HasStyleFault c.args.part.now c.args.at)) c.loop-slot.least) all c.loop-slot.invariant.least
+    subst (λ n. LeastOrNone (Among n (HasStyleFault c.args.part.now c.args.at)) c.loop-slot.least) all
+    c.loop-slot.invariant.least

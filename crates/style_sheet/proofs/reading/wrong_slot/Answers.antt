@@ -11,7 +11,8 @@ returns-then-not-is_slot-clause-first c =
     let n = c.loop-slot._slot in
     let inv = c.loop-slot.invariant in
     let end = c.get16-slot-end.ensures in
-    let here : c.table_offset.result ≡ table_offset at (slot_place part n) = c.table_offset.ensures ∙ ap (table_offset at) inv.place in
+    let here : c.table_offset.result ≡ table_offset at (slot_place part n) = c.table_offset.ensures ∙ ap (table_offset
+    at) inv.place in
     let wrong = rw (c.get16-base.ensures, inv.place) at c.if-not-is_slot.ensures in
     first_among (IsWrongSlot part at) (cstd part) n c.table_offset.result (wrong_rises part at) (omega arith)
     (λ k below p w. w.wrong (inv.slots k below))

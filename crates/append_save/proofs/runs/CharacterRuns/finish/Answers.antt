@@ -3,9 +3,17 @@ use Rattle.append_save.proofs.runs.CharacterRuns.finish.Goals as goal
 
 pub returns-then-from-end : goal.returns-then-from-end
 returns-then-from-end c = λ at done here so.
-    characters_none_left at c.args.end done (record { closed = c.args.self.closed; from = c.args.self.from; chp = c.args.self.chp }) here c.if-from-end.true so
+    characters_none_left at c.args.end done (record {
+      closed = c.args.self.closed;
+      from = c.args.self.from;
+      chp = c.args.self.chp;
+    }) here c.if-from-end.true so
 
 pub returns : goal.returns
 returns c = λ at done here so.
-    characters_left at c.args.end done (record { closed = c.args.self.closed; from = c.args.self.from; chp = c.args.self.chp }) c.add.new.self here c.if-from-end.false
+    characters_left at c.args.end done (record {
+      closed = c.args.self.closed;
+      from = c.args.self.from;
+      chp = c.args.self.chp;
+    }) c.add.new.self here c.if-from-end.false
     c.in_ok-add.ensures.ok so

@@ -14,9 +14,11 @@ returns-in-Some-clause-made c =
     let from = c.args.range.0 in
     let to = c.args.range.1 in
     let kept = c.args.self.now in
-    subst (IsMadeByAnswer source.kind source.modifier.now (page_at wd c.args.number) (Found from to)) (sym c.in_ok-copy.ensures)
+    subst (IsMadeByAnswer source.kind source.modifier.now (page_at wd c.args.number) (Found from to))
+    (sym c.in_ok-copy.ensures)
     (kept_answer source.kind wd source.modifier.now c.args.number from to c.index.result.now c.requires.right
-    (made_of_place source.kind wd source.modifier.now kept.places kept.made.items c.in-Some.known (512 * c.args.number + from) (512 * c.args.number + to) c.index.result.now c.requires.kept c.in-Some.ensures c.index.ensures))
+    (made_of_place source.kind wd source.modifier.now kept.places kept.made.items c.in-Some.known (512 * c.args.number
+    + from) (512 * c.args.number + to) c.index.result.now c.requires.kept c.in-Some.ensures c.index.ensures))
 
 pub returns-clause-kept : goal.returns-clause-kept
 returns-clause-kept c =
@@ -30,4 +32,5 @@ returns-clause-kept c =
     let list : c.in-Some-list_in.list.now ≡ slice_range wd (512 * c.args.number + from) (512 * c.args.number + to) =
     c.in-Some-list_in.ensures.1.0.0 ∙ in_page wd c.args.number from to (omega arith) (omega arith) in
     c.in_ok-put-in-Some-list_in.ensures.ok source.kind wd source.modifier.now
-    (subst (λ l. IsMadeOf source.kind l source.modifier.now made) list c.in_ok-made-in-Some-list_in.ensures) c.requires.kept
+    (subst (λ l. IsMadeOf source.kind l source.modifier.now made) list c.in_ok-made-in-Some-list_in.ensures)
+    c.requires.kept

@@ -13,4 +13,5 @@ returns-clause-pair c =
     let below : n < 93 = rw (c.pair.ensures.number) at c.pair.ensures.below in
     c.pair-2.ensures
     ∙ (ap (pair_at inside.fib.now.pairs) c.pair.ensures.number
-    ∙ (pair-read inside.wd.now inside.fib.now n below c.self.invariant.fields ∙ ap (λ (s : DocSource). fib_pair s.wd n) c.self.view_is))
+    ∙ (pair-read inside.wd.now inside.fib.now n below c.self.invariant.fields ∙ ap (λ (s : DocSource). fib_pair s.wd
+    n) c.self.view_is))

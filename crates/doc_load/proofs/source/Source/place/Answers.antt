@@ -13,7 +13,8 @@ returns-clause-addressed c =
     let at : c.pair.result.0 ≡ part_place source part = ap (λ (pair : ℕ × ℕ). pair.0) c.pair.ensures.pair in
     elim (cases_lt 0 (length (part_bytes source part))) [
       | inl some ↦
-          let within = length-range_within source.table (part_place source part) (fib_pair source.wd (pair_of part)).1 some in
+          let within = length-range_within source.table (part_place source part) (fib_pair source.wd (pair_of part)).1
+          some in
           omega (arith, at, within, c.pair.ensures.small)
       | inr none ↦ omega (arith, none)
     ]

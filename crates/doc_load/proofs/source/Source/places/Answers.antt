@@ -19,8 +19,10 @@ front-requires c =
 pub returns-clause-places : goal.returns-clause-places
 returns-clause-places c =
     let source = c.args.self.now in
-    let all : c.places-all.result ≡ source.text.places = c.places-all.ensures ∙ ap (λ (s : DocSource). s.text.places) c.self.view_is in
+    let all : c.places-all.result ≡ source.text.places = c.places-all.ensures ∙ ap (λ (s : DocSource). s.text.places)
+    c.self.view_is in
     let begin = c.story_begin.ensures.begin in
     let count = c.story_len.ensures.count in
-    c.front.ensures ∙ (ap (take c.story_len.result) c.skip-from.ensures ∙ (range-front c.places-all.result c.story_begin.result c.story_len.result
+    c.front.ensures ∙ (ap (take c.story_len.result) c.skip-from.ensures ∙ (range-front c.places-all.result
+    c.story_begin.result c.story_len.result
     ∙ (λ i. slice_range (all i) (begin i) (begin i + count i))))

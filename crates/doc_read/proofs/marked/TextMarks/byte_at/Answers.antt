@@ -16,5 +16,9 @@ returns-in-Some-clause-byte c =
     let bytes = marks.field_bytes.items in
     let found = rw c.deref.ensures.value at c.in-Some.ensures.found in
     let below = found.0 in
-    let there = slice_get_read bytes (length bytes) c.in-Some.k c.index.result.now refl (omega (arith, below, c.requires.listed.len)) c.index.ensures in
+    let there = slice_get_read bytes (length bytes) c.in-Some.k c.index.result.now refl (omega (
+      arith,
+      below,
+      c.requires.listed.len,
+    )) c.index.ensures in
     sym (entry_found cps bytes c.args.cp c.in-Some.k c.index.result.now c.requires.listed.up below found.1 there)

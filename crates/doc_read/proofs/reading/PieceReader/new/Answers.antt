@@ -12,8 +12,10 @@ returns-clause-reads c =
     let characters = c.in_ok-characters.characters in
     let same : characters.modifier ≡ modifier = ap (λ (s : PlaceSource). s.modifier) c.in_ok-characters.ensures in
     record {
-      characters = source_as characters characters Chpx text.wd.now text.characters.now modifier c.in_ok-characters.ensures same;
-      marks = source_as c.in_ok-marks.marks characters Papx text.wd.now text.paragraphs.now modifier c.in_ok-marks.ensures same;
+      characters = source_as characters characters Chpx text.wd.now text.characters.now modifier
+          c.in_ok-characters.ensures same;
+      marks = source_as c.in_ok-marks.marks characters Papx text.wd.now text.paragraphs.now modifier
+          c.in_ok-marks.ensures same;
       formed = subst IsFormedModifier (sym same) c.requires.formed;
     }
 

@@ -7,15 +7,19 @@ use Rattle.doc_read.proofs.sections.MetSections.settings.Goals as goal
 pub returns-in-Some-clause-settings : goal.returns-in-Some-clause-settings
 returns-in-Some-clause-settings c =
     let met = c.args.self.now in
-    subst (IsSectionSettings c.args.wd.now c.args.fc) (sym c.in_ok-copy.ensures) (met_before c.args.wd.now met.places met.maps.items c.in-Some.known c.args.fc c.index.result.now c.requires.met c.in-Some.ensures c.index.ensures).is
+    subst (IsSectionSettings c.args.wd.now c.args.fc) (sym c.in_ok-copy.ensures) (met_before c.args.wd.now met.places
+    met.maps.items c.in-Some.known c.args.fc c.index.result.now c.requires.met c.in-Some.ensures c.index.ensures).is
 
 pub returns-in-Some-clause-formed : goal.returns-in-Some-clause-formed
 returns-in-Some-clause-formed c =
     let met = c.args.self.now in
-    subst (IsPropertyMap section_groups) (sym c.in_ok-copy.ensures) (met_before c.args.wd.now met.places met.maps.items c.in-Some.known c.args.fc c.index.result.now c.requires.met c.in-Some.ensures c.index.ensures).formed
+    subst (IsPropertyMap section_groups) (sym c.in_ok-copy.ensures) (met_before c.args.wd.now met.places
+    met.maps.items c.in-Some.known c.args.fc c.index.result.now c.requires.met c.in-Some.ensures
+    c.index.ensures).formed
 
 pub returns-clause-met : goal.returns-clause-met
 returns-clause-met c =
     let met = c.args.self.now in
     rw (c.in_ok-add.ensures.ok, c.in_ok-push.ensures.items)
-    (one_met c.args.wd.now met.places met.maps.items c.args.fc c.in_ok-map.map c.requires.met (record { is = c.in_ok-map.ensures.settings; formed = c.in_ok-map.ensures.formed }))
+    (one_met c.args.wd.now met.places met.maps.items c.args.fc c.in_ok-map.map c.requires.met
+    (record { is = c.in_ok-map.ensures.settings; formed = c.in_ok-map.ensures.formed }))

@@ -53,7 +53,8 @@ section_places-requires c =
     let contents = c.in_ok-container.container in
     let named : HasNamed contents.streams wd_name c.named.result.now =
     subst (λ (n : List ℕ). HasNamed contents.streams n c.named.result.now) c.word_document.ensures c.named.ensures in
-    let wd = held_wd_is file c.args.document.now c.requires contents c.in_ok-container.ensures c.named.result.now named in
+    let wd = held_wd_is file c.args.document.now c.requires contents c.in_ok-container.ensures c.named.result.now
+    named in
     held_read file c.args.document.now c.requires contents c.in_ok-container.ensures c.read_fib-fib.result
     (c.read_fib-fib.ensures ∙ ap (λ (w : List ℕ). fib_fields w) wd)
 
@@ -66,7 +67,8 @@ returns c = λ held.
     let named : HasNamed contents.streams wd_name c.named.result.now =
     subst (λ (n : List ℕ). HasNamed contents.streams n c.named.result.now) c.word_document.ensures c.named.ensures in
     let again : HasNamed contents.streams wd_name c.named-2.result.now =
-    subst (λ (n : List ℕ). HasNamed contents.streams n c.named-2.result.now) c.word_document-2.ensures c.named-2.ensures in
+    subst (λ (n : List ℕ). HasNamed contents.streams n c.named-2.result.now) c.word_document-2.ensures
+    c.named-2.ensures in
     let fib : c.read_fib-fib.result ≡ fib_fields held.holds.parts.text.wd =
     c.read_fib-fib.ensures
     ∙ ap (λ (w : List ℕ). fib_fields w) (held_wd_is file document held contents has c.named.result.now named) in

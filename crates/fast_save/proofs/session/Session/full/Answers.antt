@@ -49,7 +49,8 @@ returns-clause-ok c =
     (λ (f : FibFields). AreCountsOf pieces (sector_count c.as_slice-2.result.now) (bin_length f) counts)
     c.in_ok-parts.ensures.fib first in
     let third : AreCountsOf pieces (sector_count (full_save_image document)) (bin_length (full_fib document)) counts =
-    subst (λ (f : List ℕ). AreCountsOf pieces (sector_count f) (bin_length (full_fib document)) counts) file_is second in
+    subst (λ (f : List ℕ). AreCountsOf pieces (sector_count f) (bin_length (full_fib document)) counts) file_is second
+    in
     let same =
     counts_in_full text_at (length (text_items document)) (sector_count (full_save_image document))
     (bin_length (full_fib document)) counts third in

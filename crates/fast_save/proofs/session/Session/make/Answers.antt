@@ -84,11 +84,14 @@ invariant_of-self-2 c =
     (session_edited inside.file document command inside.parts new is made.0 text sections refl refl) in
     let counted : IsCounted inside.file new (after_edit command units inside.counts) =
     counted_after inside.file document command inside.parts new inside.counts c.self.invariant.1 room made.0.tried.codes
-    text sections (text.fit (saved_stream is.held) is.text is.fit) c.pieces_are_few.ensures (pieces_are_few document command)
+    text sections (text.fit (saved_stream is.held) is.text is.fit) c.pieces_are_few.ensures (pieces_are_few document
+    command)
     refl units (omega (arith, few))
     (grown_within document command inside.parts.text.added.items c.edit.new.self.added.items text.added)
-    (runs_after document command inside.parts.text.added.items c.edit.new.self.added.items made.0.tried.range text.added)
-    (bytes_after document command inside.parts.text.added.items c.edit.new.self.added.items made.0.tried.range text.added) in
+    (runs_after document command inside.parts.text.added.items c.edit.new.self.added.items made.0.tried.range
+    text.added)
+    (bytes_after document command inside.parts.text.added.items c.edit.new.self.added.items made.0.tried.range
+    text.added) in
     let counts : c.after_edit-self-inside.result ≡ after_edit command units inside.counts =
     c.after_edit-self-inside.ensures
     ∙ ap (λ (facts : Facts). after_edit command facts.units_in inside.counts) made.1.1 in

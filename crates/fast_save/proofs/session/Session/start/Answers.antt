@@ -13,7 +13,8 @@ pub of_file-requires : goal.of_file-requires
 of_file-requires c =
     let bytes : AreBytes c.args.file.now = λ i. omega (arith, c.type_inv.file i) in
     let is = c.into_parts-document.ensures in
-    (parts_handed_out c.args.file.now c.in_ok-opened.opened c.into_parts-document.result.0 c.into_parts-document.result.1
+    (parts_handed_out c.args.file.now c.in_ok-opened.opened c.into_parts-document.result.0
+    c.into_parts-document.result.1
     c.into_parts-document.result.2 c.into_parts-document.result.3.pieces bytes c.in_ok-opened.ensures is.document is.fib
     is.contents is.pieces).opening
 

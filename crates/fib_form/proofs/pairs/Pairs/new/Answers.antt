@@ -5,7 +5,13 @@ use Rattle.fib_form.specs.FibFields.{IsWidePair, empty_pairs}
 use Rattle.fib_form.proofs.pairs.Pairs.new.Goals as goal
 
 pub invariant_of-result : goal.invariant_of-result
-invariant_of-result c = (length-replicate {A = ℕ × ℕ} 93 (0, 0), All-replicate {X = ℕ × ℕ} IsWidePair 93 (0, 0) (lit< tt, lit< tt))
+invariant_of-result c = (
+  length-replicate {A = ℕ × ℕ} 93 (0, 0),
+  All-replicate {X = ℕ × ℕ} IsWidePair 93 (
+    0,
+    0,
+  ) (lit< tt, lit< tt),
+)
 
 pub returns : goal.returns
 unfolding empty_pairs

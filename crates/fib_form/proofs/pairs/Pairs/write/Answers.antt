@@ -18,14 +18,20 @@ loop-n-preserved c =
     let last = c.put32-in-loop-n.new.bytes in
     let count : length pairs ≡ 93 = subst (λ ps. length ps ≡ 93) c.self.view_is c.self.invariant.0 in
     let fc : next ≡ take (154 + 8 * n) out ++ (number_bytes 4 (pair_at pairs n).0 ++ drop (154 + 8 * n + 4) out) =
-    subst (λ ps. next ≡ take (154 + 8 * n) out ++ (number_bytes 4 (pair_at ps n).0 ++ drop (154 + 8 * n + 4) out)) c.self.view_is c.put32.ensures in
-    let lcb : last ≡ take (154 + 8 * n + 4) next ++ (number_bytes 4 (pair_at pairs n).1 ++ drop (154 + 8 * n + 4 + 4) next) =
-    subst (λ ps. last ≡ take (154 + 8 * n + 4) next ++ (number_bytes 4 (pair_at ps n).1 ++ drop (154 + 8 * n + 4 + 4) next)) c.self.view_is c.put32-in-loop-n.ensures in
-    let size : length (take 154 c.args.out.now) ≡ 154 = let long = c.requires.size in omega (arith, length-take 154 c.args.out.now) in
-    pairs_more pairs n (take 154 c.args.out.now) (drop 900 c.args.out.now) out next last c.loop-n-test.true count size c.loop-n.invariant fc lcb
+    subst (λ ps. next ≡ take (154 + 8 * n) out ++ (number_bytes 4 (pair_at ps n).0 ++ drop (154 + 8 * n + 4) out))
+    c.self.view_is c.put32.ensures in
+    let lcb : last ≡ take (154 + 8 * n + 4) next ++ (number_bytes 4 (pair_at pairs n).1 ++ drop (154 + 8 * n + 4 + 4)
+    next) =
+    subst (λ ps. last ≡ take (154 + 8 * n + 4) next ++ (number_bytes 4 (pair_at ps n).1 ++ drop (154 + 8 * n + 4 + 4)
+    next)) c.self.view_is c.put32-in-loop-n.ensures in
+    let size : length (take 154 c.args.out.now) ≡ 154 = let long = c.requires.size in
+    omega (arith, length-take 154 c.args.out.now) in
+    pairs_more pairs n (take 154 c.args.out.now) (drop 900 c.args.out.now) out next last c.loop-n-test.true count size
+    c.loop-n.invariant fc lcb
 
 pub returns : goal.returns
 returns c =
     let count : length c.args.self.now ≡ 93 = subst (λ ps. length ps ≡ 93) c.self.view_is c.self.invariant.0 in
     let ended : c.loop-n.n ≡ 93 = omega arith in
-    pairs_all c.args.self.now c.loop-n.n (take 154 c.args.out.now) (drop 900 c.args.out.now) c.loop-n.out ended count c.loop-n.invariant
+    pairs_all c.args.self.now c.loop-n.n (take 154 c.args.out.now) (drop 900 c.args.out.now) c.loop-n.out ended count
+    c.loop-n.invariant

@@ -7,4 +7,5 @@ loop-i-init c = c.new-ranges.ensures ∙ sym (numbered_bins-none c.args.number)
 
 pub loop-i-preserved : goal.loop-i-preserved
 loop-i-preserved c =
-    next_range c.args.number c.loop-i.i c.get.result c.args.self.now.starts [] c.loop-i.ranges c.add.new.self c.get.ensures c.loop-i.invariant c.in_ok-add.ensures.ok
+    next_range c.args.number c.loop-i.i c.get.result c.args.self.now.starts [] c.loop-i.ranges c.add.new.self
+    c.get.ensures c.loop-i.invariant c.in_ok-add.ensures.ok

@@ -21,7 +21,8 @@ loop-item-preserved c =
     let count = c.loop-item.invariant.1 in
     let more = c.in_ok-push.ensures.count in (
       goes_on_by (take i items ++ item ∷ []) (take (i + 1) items) c.args.self.now c.push.new.self (sym taken)
-          (goes_on_both (take i items) (item ∷ []) c.args.self.now c.loop-item.self c.push.new.self c.loop-item.invariant.0
+          (goes_on_both (take i items) (item ∷ []) c.args.self.now c.loop-item.self c.push.new.self
+          c.loop-item.invariant.0
           c.in_ok-push.ensures.text),
       omega arith,
     )

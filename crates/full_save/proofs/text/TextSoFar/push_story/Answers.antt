@@ -14,7 +14,8 @@ mark_behind-requires c = let small = c.requires in let count = c.in_ok-push_text
 
 -- whether a mark follows
 mark_is : (c : goal.In_ok-mark_behind) →
-    nat_lt c.len-before.result (length c.push_texts.new.self.units.items) ≡ nat_lt 0 (length (joined_texts c.args.texts.now))
+    nat_lt c.len-before.result (length c.push_texts.new.self.units.items) ≡ nat_lt 0
+    (length (joined_texts c.args.texts.now))
 mark_is c =
     let old = length c.args.self.now.units.items in
     ap (λ (n : ℕ). nat_lt n (length c.push_texts.new.self.units.items)) c.len-before.ensures

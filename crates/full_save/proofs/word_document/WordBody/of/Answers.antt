@@ -227,7 +227,8 @@ append_sepxes-requires-clause-sections c =
     let few = few_items d right in
     let most = few.all in
     let some = few.some in
-    subst (λ (items : List Item). All HasSavableSection items) (sym c.as_slice.ensures.items) (sections_savable d formed right)
+    subst (λ (items : List Item). All HasSavableSection items) (sym c.as_slice.ensures.items) (sections_savable d
+    formed right)
 
 pub append_sepxes-requires-clause-room : goal.append_sepxes-requires-clause-room
 append_sepxes-requires-clause-room c =
@@ -255,7 +256,8 @@ append_sepxes-requires-clause-room c =
     let three : c.append_papx_pages.new.out ≡ text_and_pages d =
     c.in_ok-append_papx_pages.ensures.bytes
     ∙ (ap (λ (xs : List ℕ). xs ++ (pages_of Papx c.in_ok-text.text.paragraphs).bytes) two
-    ∙ ap (λ (runs : List Run). (padded 512 0 (text_bytes d) ++ (document_pages Chpx d).bytes) ++ (pages_of Papx runs).bytes) text.paragraphs) in
+    ∙ ap (λ (runs : List Run). (padded 512 0 (text_bytes d) ++ (document_pages Chpx d).bytes) ++ (pages_of Papx
+    runs).bytes) text.paragraphs) in
     let short = pages_short d formed right in
     let size = ap length three in
     omega arith
@@ -277,16 +279,19 @@ write_bin-requires c =
     let number : c.pages_for-first.result ≡ first_character_page d =
     c.pages_for-first.ensures ∙ ap (λ (n : ℕ). units_for 512 (text_at + 2 * n)) len in
     let starts = ap (λ (runs : List Run). (pages_of Chpx runs).starts) text.characters in
-    let character_bins : c.append_chpx_pages.new.bins ≡ numbered_bins (first_character_page d) (document_pages Chpx d).starts =
+    let character_bins : c.append_chpx_pages.new.bins ≡ numbered_bins (first_character_page d) (document_pages Chpx
+    d).starts =
     c.in_ok-second.ensures.bins
-    ∙ (ap (λ (xs : List Bin). xs ++ numbered_bins c.pages_for-first.result (pages_of Chpx c.in_ok-text.text.characters).starts) c.new-characters.ensures
+    ∙ (ap (λ (xs : List Bin). xs ++ numbered_bins c.pages_for-first.result (pages_of Chpx
+    c.in_ok-text.text.characters).starts) c.new-characters.ensures
     ∙ (λ i. numbered_bins (number i) (starts i))) in
     let end : 1024 + 2 * c.len-len.result ≡ text_at + 2 * length (text_items d) = ap (λ (n : ℕ). text_at + 2 * n) len in
     let pages = few_pages Chpx d formed right in
     let small : first_character_page d + length (document_pages Chpx d).starts ≤ 2 ^ 22 = omega arith in
     let printable = bins_printable Chpx d (first_character_page d) formed right small in
     subst (λ (bins : List Bin). ArePrintableBins bins (1024 + 2 * c.len-len.result)) (sym character_bins)
-    (subst (λ (n : ℕ). ArePrintableBins (numbered_bins (first_character_page d) (document_pages Chpx d).starts) n) (sym end) printable)
+    (subst (λ (n : ℕ). ArePrintableBins (numbered_bins (first_character_page d) (document_pages Chpx d).starts) n)
+    (sym end) printable)
 
 pub write_bin-requires-2 : goal.write_bin-requires-2
 write_bin-requires-2 c =
@@ -305,24 +310,29 @@ write_bin-requires-2 c =
     let number : c.pages_for-first.result ≡ first_character_page d =
     c.pages_for-first.ensures ∙ ap (λ (n : ℕ). units_for 512 (text_at + 2 * n)) len in
     let starts = ap (λ (runs : List Run). (pages_of Chpx runs).starts) text.characters in
-    let character_bins : c.append_chpx_pages.new.bins ≡ numbered_bins (first_character_page d) (document_pages Chpx d).starts =
+    let character_bins : c.append_chpx_pages.new.bins ≡ numbered_bins (first_character_page d) (document_pages Chpx
+    d).starts =
     c.in_ok-second.ensures.bins
-    ∙ (ap (λ (xs : List Bin). xs ++ numbered_bins c.pages_for-first.result (pages_of Chpx c.in_ok-text.text.characters).starts) c.new-characters.ensures
+    ∙ (ap (λ (xs : List Bin). xs ++ numbered_bins c.pages_for-first.result (pages_of Chpx
+    c.in_ok-text.text.characters).starts) c.new-characters.ensures
     ∙ (λ i. numbered_bins (number i) (starts i))) in
     let end : 1024 + 2 * c.len-len.result ≡ text_at + 2 * length (text_items d) = ap (λ (n : ℕ). text_at + 2 * n) len in
     let pages = few_pages Chpx d formed right in
     let next : c.in_ok-second.second ≡ first_paragraph_page d =
     c.in_ok-second.ensures.next ∙ (λ i. number i + length (starts i)) in
     let later = ap (λ (runs : List Run). (pages_of Papx runs).starts) text.paragraphs in
-    let paragraph_bins : c.append_papx_pages.new.bins ≡ numbered_bins (first_paragraph_page d) (document_pages Papx d).starts =
+    let paragraph_bins : c.append_papx_pages.new.bins ≡ numbered_bins (first_paragraph_page d) (document_pages Papx
+    d).starts =
     c.in_ok-append_papx_pages.ensures.bins
-    ∙ (ap (λ (xs : List Bin). xs ++ numbered_bins c.in_ok-second.second (pages_of Papx c.in_ok-text.text.paragraphs).starts) c.new-paragraphs.ensures
+    ∙ (ap (λ (xs : List Bin). xs ++ numbered_bins c.in_ok-second.second (pages_of Papx
+    c.in_ok-text.text.paragraphs).starts) c.new-paragraphs.ensures
     ∙ (λ i. numbered_bins (next i) (later i))) in
     let more = few_pages Papx d formed right in
     let small : first_paragraph_page d + length (document_pages Papx d).starts ≤ 2 ^ 22 = omega arith in
     let printable = bins_printable Papx d (first_paragraph_page d) formed right small in
     subst (λ (bins : List Bin). ArePrintableBins bins (1024 + 2 * c.len-len.result)) (sym paragraph_bins)
-    (subst (λ (n : ℕ). ArePrintableBins (numbered_bins (first_paragraph_page d) (document_pages Papx d).starts) n) (sym end) printable)
+    (subst (λ (n : ℕ). ArePrintableBins (numbered_bins (first_paragraph_page d) (document_pages Papx d).starts) n)
+    (sym end) printable)
 
 pub returns : goal.returns
 returns c =
@@ -350,26 +360,32 @@ returns c =
     let three : c.append_papx_pages.new.out ≡ text_and_pages d =
     c.in_ok-append_papx_pages.ensures.bytes
     ∙ (ap (λ (xs : List ℕ). xs ++ (pages_of Papx c.in_ok-text.text.paragraphs).bytes) two
-    ∙ ap (λ (runs : List Run). (padded 512 0 (text_bytes d) ++ (document_pages Chpx d).bytes) ++ (pages_of Papx runs).bytes) text.paragraphs) in
+    ∙ ap (λ (runs : List Run). (padded 512 0 (text_bytes d) ++ (document_pages Chpx d).bytes) ++ (pages_of Papx
+    runs).bytes) text.paragraphs) in
     let number : c.pages_for-first.result ≡ first_character_page d =
     c.pages_for-first.ensures ∙ ap (λ (n : ℕ). units_for 512 (text_at + 2 * n)) len in
     let starts = ap (λ (runs : List Run). (pages_of Chpx runs).starts) text.characters in
-    let character_bins : c.append_chpx_pages.new.bins ≡ numbered_bins (first_character_page d) (document_pages Chpx d).starts =
+    let character_bins : c.append_chpx_pages.new.bins ≡ numbered_bins (first_character_page d) (document_pages Chpx
+    d).starts =
     c.in_ok-second.ensures.bins
-    ∙ (ap (λ (xs : List Bin). xs ++ numbered_bins c.pages_for-first.result (pages_of Chpx c.in_ok-text.text.characters).starts) c.new-characters.ensures
+    ∙ (ap (λ (xs : List Bin). xs ++ numbered_bins c.pages_for-first.result (pages_of Chpx
+    c.in_ok-text.text.characters).starts) c.new-characters.ensures
     ∙ (λ i. numbered_bins (number i) (starts i))) in
     let end : 1024 + 2 * c.len-len.result ≡ text_at + 2 * length (text_items d) = ap (λ (n : ℕ). text_at + 2 * n) len in
     let pages = few_pages Chpx d formed right in
     let next : c.in_ok-second.second ≡ first_paragraph_page d =
     c.in_ok-second.ensures.next ∙ (λ i. number i + length (starts i)) in
     let later = ap (λ (runs : List Run). (pages_of Papx runs).starts) text.paragraphs in
-    let paragraph_bins : c.append_papx_pages.new.bins ≡ numbered_bins (first_paragraph_page d) (document_pages Papx d).starts =
+    let paragraph_bins : c.append_papx_pages.new.bins ≡ numbered_bins (first_paragraph_page d) (document_pages Papx
+    d).starts =
     c.in_ok-append_papx_pages.ensures.bins
-    ∙ (ap (λ (xs : List Bin). xs ++ numbered_bins c.in_ok-second.second (pages_of Papx c.in_ok-text.text.paragraphs).starts) c.new-paragraphs.ensures
+    ∙ (ap (λ (xs : List Bin). xs ++ numbered_bins c.in_ok-second.second (pages_of Papx
+    c.in_ok-text.text.paragraphs).starts) c.new-paragraphs.ensures
     ∙ (λ i. numbered_bins (next i) (later i))) in
     let more = few_pages Papx d formed right in
     let sections = ap sections_of c.as_slice.ensures.items in
-    let place : 1024 + length c.append_papx_pages.new.out ≡ pages_end d = ap (λ (xs : List ℕ). 1024 + length xs) three ∙ pages_end_is d formed right in
+    let place : 1024 + length c.append_papx_pages.new.out ≡ pages_end d = ap (λ (xs : List ℕ). 1024 + length xs) three
+    ∙ pages_end_is d formed right in
     let seds = c.in_ok-seds.ensures.seds ∙ (λ i. seds_from 0 (place i) (sections i)) in
     let positive : 0 < length (text_items d) = omega arith in
     let characters = c.in_ok-write_bin.ensures.bytes

@@ -12,5 +12,7 @@ returns c =
     let entries = c.self.inside.items.items in
     let modifiers = c.self.inside.modifiers.items in
     let is : IsEntrySpot entries c.args.cp c.spot_of.result = rw c.deref.ensures.value at c.spot_of.ensures in
-    let total : total_length (map (text_piece modifiers) entries) ≡ total_length c.args.self.now.pieces = ap (λ table. total_length table.pieces) c.self.view_is in
-    subst (λ table. IsSpot table.pieces c.args.cp c.spot_of.result) c.self.view_is (spot_seen modifiers entries c.args.cp c.spot_of.result is (omega (arith, total, total_length-seen modifiers entries, c.requires)))
+    let total : total_length (map (text_piece modifiers) entries) ≡ total_length c.args.self.now.pieces = ap
+    (λ table. total_length table.pieces) c.self.view_is in
+    subst (λ table. IsSpot table.pieces c.args.cp c.spot_of.result) c.self.view_is (spot_seen modifiers entries
+    c.args.cp c.spot_of.result is (omega (arith, total, total_length-seen modifiers entries, c.requires)))

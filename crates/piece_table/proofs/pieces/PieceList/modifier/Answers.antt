@@ -15,10 +15,14 @@ returns-clause-formed c =
     let view = text_piece modifiers in
     let entry = c.index.result.now in
     let made = c.index-2.result.now in
-    let seen : get_or (map view items) c.args.i (view entry) ≡ view entry = get_or-map view items c.args.i entry ∙ ap view (sym c.index.ensures) in
-    let count : length (map view items) ≡ length c.args.self.now.pieces = ap (λ table. length table.pieces) c.self.view_is in
+    let seen : get_or (map view items) c.args.i (view entry) ≡ view entry = get_or-map view items c.args.i entry ∙ ap
+    view (sym c.index.ensures) in
+    let count : length (map view items) ≡ length c.args.self.now.pieces = ap (λ table. length table.pieces)
+    c.self.view_is in
     let low : c.args.i < length (map view items) = omega (arith, count, c.requires) in
     let formed = (subst (λ p. IsTextPiece p) seen (c.self.invariant.1.0.each c.args.i (view entry) low)).formed in
-    let named : entry.modifier < length modifiers = subst (λ (e : Entry). e.modifier < length modifiers) (sym c.index.ensures) (c.self.invariant.0.named c.args.i entry (omega (arith, length-map items view))) in
-    let is : slice_index_or modifiers entry.modifier no_modifier ≡ made = get_or_default modifiers entry.modifier no_modifier made named ∙ sym c.index-2.ensures in
+    let named : entry.modifier < length modifiers = subst (λ (e : Entry). e.modifier < length modifiers)
+    (sym c.index.ensures) (c.self.invariant.0.named c.args.i entry (omega (arith, length-map items view))) in
+    let is : slice_index_or modifiers entry.modifier no_modifier ≡ made = get_or_default modifiers entry.modifier
+    no_modifier made named ∙ sym c.index-2.ensures in
     subst IsFormedModifier is formed

@@ -10,7 +10,9 @@ returns-clause-sound c =
     let items = c.self.inside.items.items in
     let view = text_piece c.self.inside.modifiers.items in
     let entry = c.index.result.now in
-    let seen : get_or (map view items) c.args.i (view entry) ≡ view entry = get_or-map view items c.args.i entry ∙ ap view (sym c.index.ensures) in
-    let count : length (map view items) ≡ length c.args.self.now.pieces = ap (λ table. length table.pieces) c.self.view_is in
+    let seen : get_or (map view items) c.args.i (view entry) ≡ view entry = get_or-map view items c.args.i entry ∙ ap
+    view (sym c.index.ensures) in
+    let count : length (map view items) ≡ length c.args.self.now.pieces = ap (λ table. length table.pieces)
+    c.self.view_is in
     let low : c.args.i < length (map view items) = omega (arith, count, c.requires) in
     (subst (λ p. IsTextPiece p) seen (c.self.invariant.1.0.each c.args.i (view entry) low)).units

@@ -11,8 +11,15 @@ invariant_of-self c =
     let modifiers = c.self.inside.modifiers.items in
     let old = c.self.inside.items.items in
     let new = c.cut.new.entries.items in
-    let keeps = c.cut.ensures.cut.keeps in
-    (kept_numbered modifiers old new keeps c.self.invariant.0, (kept_pieces modifiers old new keeps c.self.invariant.1.0, c.self.invariant.1.1 ∙ kept_total modifiers old new keeps))
+    let keeps = c.cut.ensures.cut.keeps in (
+      kept_numbered modifiers old new keeps c.self.invariant.0,
+      (
+        kept_pieces modifiers old new keeps
+            c.self.invariant.1.0,
+        c.self.invariant.1.1 ∙ kept_total modifiers old new keeps,
+      ),
+    )
 
 pub returns-clause-begins : goal.returns-clause-begins
-returns-clause-begins c = seam_begins c.self.inside.modifiers.items c.cut.new.entries.items c.args.cp c.cut.result c.cut.ensures.cut.seam
+returns-clause-begins c = seam_begins c.self.inside.modifiers.items c.cut.new.entries.items c.args.cp c.cut.result
+    c.cut.ensures.cut.seam

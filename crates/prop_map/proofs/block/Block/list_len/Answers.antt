@@ -9,4 +9,5 @@ use Rattle.prop_map.proofs.block.Block.list_len.Goals as goal
 pub returns : goal.returns
 returns c =
     c.self.invariant.len_is
-    ∙ ap (λ es. length (flat_map spelling es)) (sym (entries-from_sorted nat_cmp _ (of_true _ c.self.invariant.sorted_is.sorted)) ∙ ap entries c.self.view_is)
+    ∙ ap (λ es. length (flat_map spelling es)) (sym (entries-from_sorted nat_cmp _
+    (of_true _ c.self.invariant.sorted_is.sorted)) ∙ ap entries c.self.view_is)

@@ -13,4 +13,5 @@ invariant_of-self c =
 pub returns : goal.returns
 returns c =
     let kept = filter_same_pairs _ (λ e. is_kept e.0) _ (λ k v b w f t. search rules) _ _ c.retain.ensures.filtered in
-    ap from_sorted kept ∙ (from_sorted-where is_kept c.self.inside.tree.entries c.self.invariant ∙ ap (λ m. retain_keys m is_kept) c.self.view_is)
+    ap from_sorted kept ∙ (from_sorted-where is_kept c.self.inside.tree.entries c.self.invariant ∙ ap
+    (λ m. retain_keys m is_kept) c.self.view_is)

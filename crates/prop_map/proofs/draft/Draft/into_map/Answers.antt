@@ -11,22 +11,31 @@ loop-code-init c = none_appended c.into_iter-code-iterator.result c.new-bytes.re
 
 pub loop-code-preserved : goal.loop-code-preserved
 loop-code-preserved c =
-    let appended = subst (λ left. HasAppended c.into_iter-code-iterator.result left c.loop-code.bytes) c.in-Some.ensures.steps c.loop-code.invariant in
-    one_appended c.into_iter-code-iterator.result c.next.new.self c.in-Some.code c.in-Some.value c.loop-code.bytes c.push_entry.new.bytes appended
-    (subst (λ v. c.push_entry.new.bytes ≡ c.loop-code.bytes ++ entry_bytes (c.in-Some.code, v)) c.as_slice.ensures c.in_ok-push_entry.ensures.bytes)
+    let appended = subst (λ left. HasAppended c.into_iter-code-iterator.result left c.loop-code.bytes)
+    c.in-Some.ensures.steps c.loop-code.invariant in
+    one_appended c.into_iter-code-iterator.result c.next.new.self c.in-Some.code c.in-Some.value c.loop-code.bytes
+    c.push_entry.new.bytes appended
+    (subst (λ v. c.push_entry.new.bytes ≡ c.loop-code.bytes ++ entry_bytes (c.in-Some.code, v)) c.as_slice.ensures
+    c.in_ok-push_entry.ensures.bytes)
     (subst (λ v. IsBlockEntry (c.in-Some.code, v)) c.as_slice.ensures c.in_ok-push_entry.ensures.entry)
 
 pub from_bytes-requires : goal.from_bytes-requires
 from_bytes-requires c =
     let all = c.into_iter-code-iterator.result in
-    let appended = subst (λ left. HasAppended all left c.loop-code.bytes) c.in-None.ensures.steps.0 c.loop-code.invariant in
-    let sorted = subst (λ es. IsTrue (is_sorted nat_cmp es)) (sym c.into_iter-code-iterator.ensures.into_iter_gives.0) c.self.invariant in
+    let appended = subst (λ left. HasAppended all left c.loop-code.bytes) c.in-None.ensures.steps.0
+    c.loop-code.invariant in
+    let sorted = subst (λ es. IsTrue (is_sorted nat_cmp es)) (sym c.into_iter-code-iterator.ensures.into_iter_gives.0)
+    c.self.invariant in
     (all_appended all c.as_slice-2.result.now (subst (HasAppended all []) (sym c.as_slice-2.ensures) appended) sorted).0
 
 pub returns : goal.returns
 returns c =
     let all = c.into_iter-code-iterator.result in
-    let appended = subst (λ left. HasAppended all left c.loop-code.bytes) c.in-None.ensures.steps.0 c.loop-code.invariant in
-    let sorted = subst (λ es. IsTrue (is_sorted nat_cmp es)) (sym c.into_iter-code-iterator.ensures.into_iter_gives.0) c.self.invariant in
-    let read = (all_appended all c.as_slice-2.result.now (subst (HasAppended all []) (sym c.as_slice-2.ensures) appended) sorted).1 in
-    subst (λ m. IfOk c.from_block.result (λ made. made ≡ m)) (c.in_ok-block.ensures ∙ (ap from_sorted (read ∙ c.into_iter-code-iterator.ensures.into_iter_gives.0) ∙ c.self.view_is)) c.from_block.ensures
+    let appended = subst (λ left. HasAppended all left c.loop-code.bytes) c.in-None.ensures.steps.0
+    c.loop-code.invariant in
+    let sorted = subst (λ es. IsTrue (is_sorted nat_cmp es)) (sym c.into_iter-code-iterator.ensures.into_iter_gives.0)
+    c.self.invariant in
+    let read = (all_appended all c.as_slice-2.result.now (subst (HasAppended all []) (sym c.as_slice-2.ensures)
+    appended) sorted).1 in
+    subst (λ m. IfOk c.from_block.result (λ made. made ≡ m)) (c.in_ok-block.ensures ∙ (ap from_sorted
+    (read ∙ c.into_iter-code-iterator.ensures.into_iter_gives.0) ∙ c.self.view_is)) c.from_block.ensures

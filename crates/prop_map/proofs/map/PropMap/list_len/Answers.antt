@@ -7,4 +7,5 @@ use Rattle.prop_map.proofs.EntriesLemmas.{entries-empty}
 use Rattle.prop_map.proofs.map.PropMap.list_len.Goals as goal
 
 pub returns-in-None : goal.returns-in-None
-returns-in-None c = sym (ap (λ m. length (printed_list m)) (sym c.self.view_is ∙ ap behind c.in-None.is) ∙ ap (λ es. length (flat_map spelling es)) entries-empty)
+returns-in-None c = sym (ap (λ m. length (printed_list m)) (sym c.self.view_is ∙ ap behind c.in-None.is) ∙ ap
+    (λ es. length (flat_map spelling es)) entries-empty)

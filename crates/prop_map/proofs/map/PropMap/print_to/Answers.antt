@@ -13,16 +13,21 @@ loop-code-init c = record {
 }
 
 pub push_prl-requires : goal.push_prl-requires
-push_prl-requires c = All-head IsPrl (c.in-Some.code.0, c.in-Some.value.now) c.next.new.self (subst (All IsPrl) c.in-Some.ensures c.loop-code.invariant.prls)
+push_prl-requires c = All-head IsPrl (c.in-Some.code.0, c.in-Some.value.now) c.next.new.self (subst (All IsPrl)
+    c.in-Some.ensures c.loop-code.invariant.prls)
 
 pub loop-code-preserved : goal.loop-code-preserved
 loop-code-preserved c =
     record {
-      prls = All-tail IsPrl (c.in-Some.code.0, c.in-Some.value.now) c.next.new.self (subst (All IsPrl) c.in-Some.ensures c.loop-code.invariant.prls);
+      prls = All-tail IsPrl (c.in-Some.code.0, c.in-Some.value.now) c.next.new.self (subst (All IsPrl)
+          c.in-Some.ensures c.loop-code.invariant.prls);
       spelt = ap (λ b. b ++ flat_map spelling c.next.new.self) c.in_ok-push_prl.ensures
-          ∙ (append_assoc c.loop-code.bytes (spelling (c.in-Some.code.0, c.in-Some.value.now)) (flat_map spelling c.next.new.self)
-          ∙ (ap (λ es. c.loop-code.bytes ++ flat_map spelling es) (sym c.in-Some.ensures) ∙ c.loop-code.invariant.spelt));
+          ∙ (append_assoc c.loop-code.bytes (spelling (c.in-Some.code.0, c.in-Some.value.now)) (flat_map spelling
+          c.next.new.self)
+          ∙ (ap (λ es. c.loop-code.bytes ++ flat_map spelling es) (sym c.in-Some.ensures) ∙
+          c.loop-code.invariant.spelt));
     }
 
 pub returns : goal.returns
-returns c = sym (append-nil c.loop-code.bytes) ∙ (ap (λ es. c.loop-code.bytes ++ flat_map spelling es) (sym c.in_default.ensures.0) ∙ c.loop-code.invariant.spelt)
+returns c = sym (append-nil c.loop-code.bytes) ∙ (ap (λ es. c.loop-code.bytes ++ flat_map spelling es)
+    (sym c.in_default.ensures.0) ∙ c.loop-code.invariant.spelt)

@@ -8,8 +8,10 @@ use Rattle.prop_map.proofs.map.PropMap.without.Goals as goal
 pub returns-clause-map : goal.returns-clause-map
 returns-clause-map c =
     let codes = each (λ k. k.0) c.args.codes.now in
-    let draft = same_settings c.put_all.new.self c.args.self.now (λ code. put_first _ _ c.args.self.now code (c.in_ok-put_all.ensures code) c.new-draft.ensures) in
+    let draft = same_settings c.put_all.new.self c.args.self.now (λ code. put_first _ _ c.args.self.now code
+    (c.in_ok-put_all.ensures code) c.new-draft.ensures) in
     c.in_ok-made.ensures ∙ (c.remove.ensures ∙ ap (without codes) draft)
 
 pub returns-clause-formed : goal.returns-clause-formed
-returns-clause-formed c = λ groups formed. subst (IsPropertyMap groups) (sym (returns-clause-map c)) (without_formed groups (each (λ k. k.0) c.args.codes.now) c.args.self.now formed)
+returns-clause-formed c = λ groups formed. subst (IsPropertyMap groups) (sym (returns-clause-map c)) (without_formed
+    groups (each (λ k. k.0) c.args.codes.now) c.args.self.now formed)

@@ -11,9 +11,11 @@ returns-clause-parts c = λ prls h.
     let marks = c.in_ok-marks.ensures.acted prls h in
     record {
       style = marks.style;
-      marks = subst (λ old. ArePropertiesAfter prls paragraph_groups old c.in_ok-marks.marks.map) c.new-none.ensures marks.map;
+      marks = subst (λ old. ArePropertiesAfter prls paragraph_groups old c.in_ok-marks.marks.map) c.new-none.ensures
+          marks.map;
       clear = c.clears.ensures prls h;
-      characters = subst (λ old. ArePropertiesAfter prls character_groups old c.in_ok-characters.characters.map) c.new-none.ensures characters.map;
+      characters = subst (λ old. ArePropertiesAfter prls character_groups old c.in_ok-characters.characters.map)
+          c.new-none.ensures characters.map;
     }
 
 pub returns-clause-acts : goal.returns-clause-acts
@@ -21,6 +23,8 @@ returns-clause-acts c = λ prls h. does_as_listed prls _ (returns-clause-parts c
 
 pub returns-clause-formed : goal.returns-clause-formed
 returns-clause-formed c = record {
-  chp = c.in_ok-characters.ensures.formed (subst (IsPropertyMap character_groups) (sym c.new-none.ensures) (IsPropertyMap-empty character_groups));
-  pap = c.in_ok-marks.ensures.formed (subst (IsPropertyMap paragraph_groups) (sym c.new-none.ensures) (IsPropertyMap-empty paragraph_groups));
+  chp = c.in_ok-characters.ensures.formed (subst (IsPropertyMap character_groups) (sym c.new-none.ensures)
+      (IsPropertyMap-empty character_groups));
+  pap = c.in_ok-marks.ensures.formed (subst (IsPropertyMap paragraph_groups) (sym c.new-none.ensures)
+      (IsPropertyMap-empty paragraph_groups));
 }

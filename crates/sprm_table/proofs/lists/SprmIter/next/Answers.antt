@@ -6,15 +6,18 @@ use Rattle.sprm_table.proofs.SprmLemmas.{gives, gives_takes, spells_nothing, spe
 use Rattle.sprm_table.proofs.lists.SprmIter.next.Goals as goal
 
 -- the part that is read is what is left
-rest_left : (old : SprmCursor) (bytes : List ℕ) (at : ℕ) → record { bytes = bytes; at = at } ≡ old → take (length bytes - at) (drop at bytes) ≡ left old
+rest_left : (old : SprmCursor) (bytes : List ℕ) (at : ℕ) → record { bytes = bytes; at = at } ≡ old →
+    take (length bytes - at) (drop at bytes) ≡ left old
 rest_left old bytes at is = take_rest bytes at ∙ ap left is
 
 pub returns-in-Prl-clause-taken : goal.returns-in-Prl-clause-taken
 returns-in-Prl-clause-taken c = λ list spelt.
     let bytes = c.self.inside.list.now in
     let at = c.self.inside.at in
-    gives_takes c.args.self.now (record { bytes = bytes; at = at + c.in-Prl.to }) c.in-Prl.code.0 (at + c.in-Prl.from) (at + c.in-Prl.to) list
-    (gives c.args.self.now bytes (take (length bytes - at) (drop at bytes)) at c.in-Prl.code.0 c.in-Prl.from c.in-Prl.to c.self.view_is (take_rest bytes at) c.in-Prl.ensures)
+    gives_takes c.args.self.now (record { bytes = bytes; at = at + c.in-Prl.to }) c.in-Prl.code.0 (at + c.in-Prl.from)
+    (at + c.in-Prl.to) list
+    (gives c.args.self.now bytes (take (length bytes - at) (drop at bytes)) at c.in-Prl.code.0 c.in-Prl.from
+    c.in-Prl.to c.self.view_is (take_rest bytes at) c.in-Prl.ensures)
     spelt
 
 pub returns-in-End-clause-taken : goal.returns-in-End-clause-taken

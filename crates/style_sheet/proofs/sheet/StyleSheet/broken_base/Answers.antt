@@ -22,7 +22,8 @@ returns-then-not-has_sound_base-clause-sound c =
     (λ e. absurd (cc), λ h. absurd (sound_nowhere c.args.self.now h c.loop-istd.istd here))
 
 pub loop-istd-preserved : goal.loop-istd-preserved
-loop-istd-preserved c = below_more (HasSoundBase c.args.self.now) c.loop-istd.istd c.loop-istd.invariant (c.if-not-has_sound_base.ensures.sound.0 refl)
+loop-istd-preserved c = below_more (HasSoundBase c.args.self.now) c.loop-istd.istd c.loop-istd.invariant
+    (c.if-not-has_sound_base.ensures.sound.0 refl)
 
 pub returns-clause-first : goal.returns-clause-first
 returns-clause-first c =

@@ -10,10 +10,12 @@ loop-base-smaller c =
     let sheet = c.args.self.now in
     let found = c.requires.sound.chains c.args.istd c.requires.settings in
     let n = c.loop-base.invariant.n in
-    let next = climbed_next sheet c.args.istd n c.loop-base.at c.in-Some.base found.0 c.loop-base.invariant.climbed (sym c.in-Some.ensures) found.1 in
+    let next = climbed_next sheet c.args.istd n c.loop-base.at c.in-Some.base found.0 c.loop-base.invariant.climbed
+    (sym c.in-Some.ensures) found.1 in
     let short = chain_short sheet c.args.istd found.0 found.1 in
     let old : length c.loop-base.items.items ≡ suc n =
-    ap length c.loop-base.invariant.items ∙ (length-reverse (ups sheet c.args.istd n) ∙ length-ups sheet c.args.istd n) in
+    ap length c.loop-base.invariant.items ∙ (length-reverse (ups sheet c.args.istd n) ∙ length-ups sheet c.args.istd
+    n) in
     let new : length c.push-in-Some.new.self.items ≡ length c.loop-base.items.items + 1 =
     ap length c.in_ok-push-2.ensures.items ∙ length-append c.loop-base.items.items (c.in-Some.base ∷ []) in
     omega arith
@@ -29,7 +31,8 @@ loop-base-preserved c =
     record {
       n = suc n;
       climbed = climbed_more sheet c.args.istd n c.loop-base.at c.in-Some.base climbed base kind;
-      items = c.in_ok-push-2.ensures.items ∙ ups_more sheet c.args.istd n c.in-Some.base c.loop-base.items.items (up_more sheet c.args.istd n c.loop-base.at c.in-Some.base climbed.here base) c.loop-base.invariant.items;
+      items = c.in_ok-push-2.ensures.items ∙ ups_more sheet c.args.istd n c.in-Some.base c.loop-base.items.items
+          (up_more sheet c.args.istd n c.loop-base.at c.in-Some.base climbed.here base) c.loop-base.invariant.items;
     }
 
 pub returns : goal.returns
@@ -37,5 +40,7 @@ returns c =
     let sheet = c.args.self.now in
     let n = c.loop-base.invariant.n in
     let root : base_at sheet c.loop-base.at ≡ None = sym c.in_default.ensures in
-    let items = c.from_vec.ensures ∙ (c.reverse.ensures.items ∙ (ap reverse c.loop-base.invariant.items ∙ reverse-reverse (ups sheet c.args.istd n))) in
-    subst (IsBaseChain sheet c.args.istd) (sym items) (climbed_chain sheet c.args.istd n c.loop-base.at c.loop-base.invariant.climbed root)
+    let items = c.from_vec.ensures ∙ (c.reverse.ensures.items ∙ (ap reverse c.loop-base.invariant.items ∙
+    reverse-reverse (ups sheet c.args.istd n))) in
+    subst (IsBaseChain sheet c.args.istd) (sym items) (climbed_chain sheet c.args.istd n c.loop-base.at
+    c.loop-base.invariant.climbed root)

@@ -9,7 +9,8 @@ use Rattle.style_sheet.proofs.sheet.StyleSheet.is_writable.Goals as goal
 pub loop-istd-preserved : goal.loop-istd-preserved
 loop-istd-preserved c =
     let len = c.std_len.ensures in
-    below_more (λ k. length (written_slot k (style_at c.args.self.now k)) ≤ 32767) c.loop-istd.istd c.loop-istd.invariant (omega arith)
+    below_more (λ k. length (written_slot k (style_at c.args.self.now k)) ≤ 32767) c.loop-istd.istd
+    c.loop-istd.invariant (omega arith)
 
 pub returns : goal.returns
 returns c = (

@@ -9,13 +9,15 @@ use Rattle.style_sheet.proofs.SheetBackLemmas.{sheet_back}
 use Rattle.style_sheet.proofs.sheet.StyleSheet.print.Goals as goal
 
 -- one slot more
-slot_more : (sheet : Sheet) (i : ℕ) → i < length sheet.styles → take (i + 1) (written_slots 0 sheet.styles) ≡ take i (written_slots 0 sheet.styles) ++ written_slot i (style_at sheet i) ∷ []
+slot_more : (sheet : Sheet) (i : ℕ) → i < length sheet.styles → take (i + 1) (written_slots 0 sheet.styles) ≡ take i
+    (written_slots 0 sheet.styles) ++ written_slot i (style_at sheet i) ∷ []
 slot_more sheet i h =
     let stds = written_slots 0 sheet.styles in
     let len = length-written_slots 0 sheet.styles in
     let place : 0 + i ≡ i = omega arith in
     take_more stds i [] (omega arith)
-    ∙ ap (λ x. take i stds ++ x ∷ []) (written_slots_at 0 sheet.styles i [] h ∙ ap (λ n. written_slot n (style_at sheet i)) place)
+    ∙ ap (λ x. take i stds ++ x ∷ []) (written_slots_at 0 sheet.styles i [] h ∙ ap (λ n. written_slot n
+    (style_at sheet i)) place)
 
 pub loop-istd-preserved : goal.loop-istd-preserved
 loop-istd-preserved c =
@@ -33,12 +35,14 @@ returns-clause-bytes c =
     let sheet = c.args.self.now in
     let len = length-written_slots 0 sheet.styles in
     let count = c.slots-istd-end.ensures.count in
-    c.loop-istd.invariant ∙ ap (λ t. written_front sheet ++ flat_map written_counted t) (take_all c.loop-istd.istd (written_slots 0 sheet.styles) (omega arith))
+    c.loop-istd.invariant ∙ ap (λ t. written_front sheet ++ flat_map written_counted t) (take_all c.loop-istd.istd
+    (written_slots 0 sheet.styles) (omega arith))
 
 pub returns-clause-back : goal.returns-clause-back
 returns-clause-back c =
     let sheet = c.args.self.now in
     let len = length-written_slots 0 sheet.styles in
     let count = c.slots-istd-end.ensures.count in
-    let bytes = c.loop-istd.invariant ∙ ap (λ t. written_front sheet ++ flat_map written_counted t) (take_all c.loop-istd.istd (written_slots 0 sheet.styles) (omega arith)) in
+    let bytes = c.loop-istd.invariant ∙ ap (λ t. written_front sheet ++ flat_map written_counted t)
+    (take_all c.loop-istd.istd (written_slots 0 sheet.styles) (omega arith)) in
     subst (IsReadAs sheet) (sym bytes) (sheet_back sheet c.slots.ensures.formed c.requires)

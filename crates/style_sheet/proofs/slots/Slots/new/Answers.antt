@@ -6,4 +6,5 @@ use Rattle.style_sheet.proofs.slots.Slots.new.Goals as goal
 
 pub returns-clause-words : goal.returns-clause-words
 returns-clause-words c =
-    subst (All (λ n. n < 65536)) (sym (ap Sheet.head c.in_ok-add.ensures.ok)) (All-from_get_or (λ n. n < 65536) c.args.head.now 0 (λ i below. c.fits-head i))
+    subst (All (λ n. n < 65536)) (sym (ap Sheet.head c.in_ok-add.ensures.ok)) (All-from_get_or (λ n. n < 65536)
+    c.args.head.now 0 (λ i below. c.fits-head i))

@@ -38,8 +38,11 @@ returns c =
     let e3 = c.in_ok-push16-3.ensures.ok ∙ ap (λ t. t ++ word third) e2 in
     let e4 = c.in_ok-push16-4.ensures.ok ∙ ap (λ t. t ++ word c.std_len.result) e3 in
     let e5 = c.in_ok-push16-5.ensures.ok ∙ ap (λ t. t ++ word style.grfstd) e4 in
-    let e6 = c.in_ok-push16-6.ensures.ok ∙ (ap (λ n. c.push16-5.new.self ++ word (length n)) c.as_slice.ensures ∙ ap (λ t. t ++ word (length style.name)) e5) in
-    let e7 = c.in_ok-push_words.ensures ∙ (ap (λ n. c.push16-6.new.self ++ flat_map word n) c.as_slice-2.ensures ∙ ap (λ t. t ++ flat_map word style.name) e6) in
+    let e6 = c.in_ok-push16-6.ensures.ok ∙ (ap (λ n. c.push16-5.new.self ++ word (length n)) c.as_slice.ensures ∙ ap
+    (λ t. t ++ word (length style.name)) e5) in
+    let e7 = c.in_ok-push_words.ensures ∙ (ap (λ n. c.push16-6.new.self ++ flat_map word n) c.as_slice-2.ensures ∙ ap
+    (λ t. t ++ flat_map word style.name) e6) in
     let e8 = c.in_ok-push16-7.ensures.ok ∙ ap (λ t. t ++ word 0) e7 in
     let e9 = c.in_ok-push_upxes.ensures ∙ ap (λ t. t ++ flat_map written_counted (written_upxes istd style.kind)) e8 in
-    style_pushed istd style first second third c.std_len.result c.push_upxes.new.bytes refl (omega arith) (omega arith) (omega arith) e9
+    style_pushed istd style first second third c.std_len.result c.push_upxes.new.bytes refl (omega arith)
+    (omega arith) (omega arith) e9
