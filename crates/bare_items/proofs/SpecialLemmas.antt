@@ -1,5 +1,7 @@
 -- A text is right where its bare items are, and the text of its special items is.
-use Rattle.std.proofs.Common.{◌≡◌, inl, inr, ℕ, zero, suc, ◌+◌, ◌-◌, ◌<◌, ◌≤◌, Bool, true, false, cond, not, ◌||◌, ◌&&◌, List, [], ◌∷◌, ◌++◌, length, take, drop, get_or, map, Option, Some, refl, sym, ◌∙◌, ap, subst, arith, add-one, drop-cons, length-append}
+use Rattle.std.proofs.Common.{◌≡◌, inl, inr, ℕ, zero, suc, ◌+◌, ◌-◌, ◌<◌, ◌≤◌, Bool, true, false, cond, not, ◌||◌}
+use Rattle.std.proofs.Common.{◌&&◌, List, [], ◌∷◌, ◌++◌, length, take, drop, get_or, map, Option, Some, refl, sym}
+use Rattle.std.proofs.Common.{◌∙◌, ap, subst, arith, add-one, drop-cons, length-append}
 use Rattle.std.specs.Prelude.{is_some, slice_get, option_map, IsTrue}
 use Rattle.std.specs.List.{All, filter, count_by}
 use Rattle.std.specs.Option.{ForSome}
@@ -13,7 +15,7 @@ use Rattle.std.proofs.lemmas.List.Sums.{sum_by-cons}
 use Rattle.std.proofs.lemmas.Option.{slice_get_within, slice_get-get_or, get_or_from_slice_get, slice_get-map}
 use Rattle.doc_bits.specs.declared.places.Where.{Where}
 use Rattle.doc_bits.specs.declared.places.Where.TheVariants.{File, Wd, Table, Sheet as SheetPart, Main, Note, Head}
-use Rattle.text_codes.specs.Paragraph.{cell_mark}
+use Rattle.text_codes.specs.Paragraph.{cell_mark, is_paragraph_end}
 use Rattle.style_sheet.specs.Sheet.{Sheet}
 use Rattle.style_sheet.specs.Chain.{kind_at, HasSoundBases}
 use Rattle.style_sheet.specs.Written.{IsWritable}
@@ -23,13 +25,26 @@ use Rattle.plain_doc.specs.Nesting.{field_characters, most_open, AreFields}
 use Rattle.plain_doc.specs.Rows.{FitsRow, open_cells, cells_after, is_on, paragraph_value}
 use Rattle.plain_doc.specs.RulesOfItems.{IsPlacedRight, HasShortSettings, IsShortChp, IsShortPap, IsShortSect}
 use Rattle.plain_doc.specs.RulesOfTexts.{EndsRight, HasParagraphStyle, text_of}
-use Rattle.plain_doc.specs.RulesOfSheet.{note_count, section_count, heads_of_sections, item_count, most_items, HasShortStyle}
+use Rattle.plain_doc.specs.RulesOfSheet.{note_count, section_count, heads_of_sections, item_count, most_items}
+use Rattle.plain_doc.specs.RulesOfSheet.{HasShortStyle}
 use Rattle.plain_doc.specs.RightDocument.{HoldsAtItems, IsRightText}
 use Rattle.plain_doc.specs.Sound.{IsSound}
 use Rattle.plain_doc.proofs.RowLemmas.{open_cells_more}
 use Rattle.plain_doc.proofs.TextWalkLemmas.{last_is_mark}
 use Rattle.plain_doc.proofs.RightLemmas.{sound_is_right, right_is_sound}
 use Rattle.bare_items.specs.Specials.{is_special, special_items, IsPlainUnit, HasRightBareItems, AreSpecialsOf}
+
+-- ---- units of no mark
+
+not_both : true ≡ false → ⊥
+not_both same = cc
+
+-- a unit that ends no paragraph where no section ends
+pub plain_unit : (unit : ℕ) → is_paragraph_end unit false ≡ false → IsPlainUnit unit
+plain_unit unit none = record {
+  paragraph = λ is. not_both (subst (λ n. is_paragraph_end n false ≡ false) is none);
+  cell = λ is. not_both (subst (λ n. is_paragraph_end n false ≡ false) is none);
+}
 
 -- ---- what a bare item lacks
 
@@ -110,7 +125,8 @@ more_specials : (text : List Item) (i k : ℕ) → i ≤ k →
     length (special_items (take i text)) ≤ length (special_items (take k text))
 more_specials text i k le =
     let sum : i + (k - i) ≡ k = omega arith in
-    let parts : special_items (take k text) ≡ special_items (take i text) ++ special_items (take (k - i) (drop i text)) =
+    let parts : special_items (take k text) ≡ special_items (take i text) ++ special_items (take (k - i)
+    (drop i text)) =
     ap (λ (n : ℕ). special_items (take n text)) (sym sum) ∙ ap special_items (take-add i (k - i) text)
     ∙ filter-append is_special (take i text) (take (k - i) (drop i text)) in
     omega (
@@ -202,7 +218,8 @@ place_of text right i item there special =
 -- ---- rows
 
 -- the cells of the open row after one item more
-cells_onto_last : (front : List Item) (item : Item) → open_cells (front ++ item ∷ []) ≡ cells_after (open_cells front) item
+cells_onto_last : (front : List Item) (item : Item) → open_cells (front ++ item ∷ []) ≡ cells_after (open_cells front)
+    item
 cells_onto_last front item =
     let text = front ++ item ∷ [] in
     let long : length text ≡ length front + 1 = length-append front (item ∷ []) in
@@ -352,7 +369,8 @@ bare_fits cells item bare plain = record {
       absurd (both_false (eqb item.unit cell_mark) (is_on (paragraph_value item 0x2417))
       (ne_eqb item.unit cell_mark plain.cell) mark);
   outside = λ mark.
-      absurd (both_false (is_some item.mark) (not (eqb item.unit cell_mark) && not (is_on (paragraph_value item 0x2416)))
+      absurd (both_false (is_some item.mark) (not (eqb item.unit cell_mark) && not (is_on (paragraph_value item
+      0x2416)))
       (bare_parts item bare).mark mark);
 }
 

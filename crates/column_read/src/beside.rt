@@ -1,16 +1,22 @@
 // What stands beside the units of a piece, stretch by stretch.
-ghost use Rattle.std.specs.Prelude.{◌≡◌, ◌+◌, ◌-◌, ◌<◌, ◌≤◌, ℕ, false, length, slice_index, IfOk, OnOk};
+ghost use Rattle.std.specs.Prelude.{◌≡◌, ◌+◌, ◌-◌, ◌<◌, ◌≤◌, ℕ, false, length, slice_index};
+ghost use Rattle.std.specs.Prelude.{IfOk, IfSome, OnOk};
+ghost use Rattle.prop_map.specs.Formed.{IsPropertyMap, paragraph_groups};
+ghost use Rattle.prop_map.specs.declared.modifiers.Modifier.{Modifier as ModifierValue};
 ghost use Rattle.text_codes.specs.Paragraph.{is_paragraph_end};
 ghost use Rattle.doc_read.specs.Passing.{AddsEach};
-ghost use Rattle.doc_read.specs.Reading.{IsReadable, ArePassed, IsPieceReader, IsTextPart, mark_lists, text_view};
+ghost use Rattle.doc_read.specs.Items.{IsMarkAt};
+ghost use Rattle.doc_read.specs.Reading.{IsReadable, ArePassed, IsPieceReader, IsTextPart};
+ghost use Rattle.doc_read.specs.Reading.{ends_at, mark_lists, text_view};
 ghost use Rattle.column_read.specs.Beside.{IsBesideAt};
 
 use doc_bits::Memory;
 use doc_columns::Beside;
-use doc_read::{Passed, PieceReader, TextPart, mark_at, next_marked};
+use doc_read::{Passed, PieceReader, TextPart, TextSource, mark_at, next_marked};
+use plain_doc::Mark;
 use run_lists::Runs;
 use std::alloc::Global;
-use text_codes::{PARAGRAPH_MARK, ends_paragraph};
+use text_codes::{bare_len, ends_paragraph};
 
 /// The CPs of a piece that are left: from one to before another.
 #[derive(Clone, Copy)]
@@ -49,7 +55,7 @@ pub(crate) fn push_besides(
     Ok(())
 }
 
-/// Appends what stands beside the units up to where something stands, or what stands there. It answers the next CP.
+/// Appends what stands beside the units up to where something stands, and what stands there. It answers the next CP.
 fn push_stretch(
     alloc: Global,
     part: &TextPart<'_>,
@@ -74,15 +80,41 @@ fn push_stretch(
         AddsEach (IsBesideAt (text_view part.now.text.now) reader.old.characters.modifier)
         (next - left.cp) besides.old besides.new) }
 {
-    let marked = (next_marked(part.text, passed) as usize).min(left.end);
-    let until = bare_until(part.text.units, left.cp, marked);
-    if left.cp < until {
-        besides.add((until - left.cp) as u32, Beside::none())?;
-        return Ok(until);
+    let bare = push_bare(part.text, left, besides, passed)?;
+    if bare == left.end {
+        return Ok(bare);
     }
-    let beside = beside_at(alloc, part, left.cp as u32, reader, passed)?;
+    let beside = beside_at(alloc, part, bare as u32, reader, passed)?;
     besides.add(1, beside)?;
-    Ok(left.cp + 1)
+    Ok(bare + 1)
+}
+
+/// Appends nothing for each unit before the first where something may stand, and answers the CP of that one.
+fn push_bare(
+    text: &TextSource<'_>,
+    left: Left,
+    besides: &mut Runs<Beside>,
+    passed: &Passed,
+) -> Result<usize, Memory>
+    requires readable { IsReadable (text_view text.now) }
+    requires some { left.cp < left.end }
+    requires within { left.end ≤ length text.now.units.now }
+    requires here { length besides.old ≡ left.cp }
+    requires passed { ArePassed (mark_lists text.now.marks.now) passed.now left.cp }
+    ensures behind { IfOk result (λ bare. left.cp ≤ bare) }
+    ensures inside { IfOk result (λ bare. bare ≤ left.end) }
+    ensures here { IfOk result (λ bare. length besides.new ≡ bare) }
+    ensures passed { IfOk result (ArePassed (mark_lists text.now.marks.now) passed.now) }
+    ensures besides { IfOk result (λ bare. (modifier : ModifierValue)
+        → AddsEach (IsBesideAt (text_view text.now) modifier) (bare - left.cp) besides.old besides.new) }
+{
+    let marked = (next_marked(text, passed) as usize).min(left.end);
+    let until = bare_until(text.units, left.cp, marked);
+    if until <= left.cp {
+        return Ok(left.cp);
+    }
+    besides.add((until - left.cp) as u32, Beside::none())?;
+    Ok(until)
 }
 
 /// The first CP from one to before another whose unit ends a paragraph wherever it stands, or the other CP.
@@ -91,23 +123,10 @@ fn bare_until(units: &[u16], cp: usize, until: usize) -> usize
     ensures inside { cp < result → result ≤ until }
     ensures bare { (at : ℕ) → cp ≤ at → at < result → is_paragraph_end (slice_index units.now at) false ≡ false }
 {
-    for at in cp..until {
-        if ends_alone(units[at]) {
-            return at;
-        }
+    if until <= cp {
+        return until;
     }
-    until
-}
-
-/// Whether a unit ends a paragraph wherever it stands. Most units are told by one comparison.
-#[inline(always)]
-fn ends_alone(unit: u16) -> bool
-    ensures { result ≡ is_paragraph_end unit false }
-{
-    if unit > PARAGRAPH_MARK {
-        return false;
-    }
-    ends_paragraph(unit, false)
+    cp + bare_len(&units[cp..until])
 }
 
 /// Reads what stands beside the unit of a CP, which stands in a piece of the reader.
@@ -129,7 +148,6 @@ fn beside_at(
     ensures beside { IfOk result (IsBesideAt (text_view part.now.text.now) reader.old.characters.modifier cp) }
 {
     let unit = part.text.units[cp as usize];
-    let place = part.places.get(cp as usize - part.from);
     let fld = part.text.marks.byte_at(&mut passed.field, cp);
     let note = part.text.marks.kind_at(&mut passed.note, cp);
     let sect = part
@@ -137,11 +155,38 @@ fn beside_at(
         .marks
         .section_at(alloc, part.text.maps, &mut passed.section, cp)?;
     let ends = ends_paragraph(unit, sect.is_some());
-    let mark = mark_at(alloc, place, ends, &mut reader.marks)?;
+    let mark = mark_of(alloc, part, cp, ends, reader)?;
     Ok(Beside {
         fld,
         note,
         mark,
         sect,
     })
+}
+
+/// Reads the mark of a CP, where its unit ends a paragraph. No place is looked for where it does not.
+fn mark_of(
+    alloc: Global,
+    part: &TextPart<'_>,
+    cp: u32,
+    ends: bool,
+    reader: &mut PieceReader<'_>,
+) -> Result<Option<Mark>, Memory>
+    requires readable { IsReadable (text_view part.now.text.now) }
+    requires within { cp < length part.now.text.now.units.now }
+    requires part { IsTextPart part.now }
+    requires from { part.now.from ≤ cp }
+    requires reader { IsPieceReader (text_view part.now.text.now) reader.old }
+    requires ends { ends ≡ ends_at (text_view part.now.text.now) cp }
+    ensures same { reader.new ≡ reader.old }
+    ensures mark { IfOk result (IsMarkAt ends part.now.text.now.wd.now part.now.text.now.paragraphs.now
+        (slice_index part.now.text.now.places cp) reader.old.characters.modifier) }
+    ensures formed { IfOk result (λ mark. IfSome mark (λ mark. IsPropertyMap paragraph_groups mark.pap)) }
+{
+    if !ends {
+        return Ok(None);
+    }
+    let place = part.places.get(cp as usize - part.from);
+    let mark = mark_at(alloc, place, ends, &mut reader.marks)?;
+    Ok(mark)
 }

@@ -1,21 +1,20 @@
-// The text of all three stories by columns, piece by piece.
+// What stands with the units of all three stories, by columns, piece by piece.
 ghost use Rattle.std.specs.Prelude.{◌≡◌, ◌-◌, ◌≤◌, length, IfOk, OnOk};
 ghost use Rattle.doc_bits.specs.Rules.{Hold};
 ghost use Rattle.piece_table.specs.Piece.{total_length};
 ghost use Rattle.doc_load.specs.FileRules.{source_of};
-ghost use Rattle.doc_load.specs.FormatRules.{text_count};
 ghost use Rattle.doc_load.specs.PartRules.{part_rules, HasPartLists};
 ghost use Rattle.doc_columns.specs.Columns.{items_of};
 ghost use Rattle.doc_read.specs.Sections.{AreSectionMaps};
-ghost use Rattle.doc_read.specs.Items.{HoldsItems};
 ghost use Rattle.doc_read.specs.Passing.{AddsEach};
 ghost use Rattle.doc_read.specs.Reading.{ArePassed, ArePlacedItems, IsReadable, IsReadCharacter};
 ghost use Rattle.doc_read.specs.Reading.{IsPieceReader, IsTextPart, mark_lists, text_view};
 ghost use Rattle.column_read.specs.Beside.{IsBesideAt};
+ghost use Rattle.column_read.specs.ReadParts.{AreColumnsOf};
 
 use crate::beside::{Left, push_besides};
 use doc_bits::Memory;
-use doc_columns::{Beside, Columns};
+use doc_columns::Beside;
 use doc_load::{DocParts, LoadedText};
 use doc_read::{
     Passed, PieceReader, SectionMaps, TextPart, TextSource, has_units, read_marks, reader_for,
@@ -28,24 +27,27 @@ use std::alloc::Global;
 
 /// The settings of the units that were read, and what stands beside them.
 #[derive(Drop)]
-struct ReadColumns {
-    chps: Runs<PropMap>,
-    besides: Runs<Beside>,
+pub(crate) struct ReadColumns {
+    pub(crate) chps: Runs<PropMap>,
+    pub(crate) besides: Runs<Beside>,
 }
 
-/// The text of the CPs of all three stories.
+/// Reads what stands with the units of the CPs of all three stories.
 pub(crate) fn read_columns(
     alloc: Global,
     text: &LoadedText<'_>,
     parts: &DocParts<'_>,
     sections: &SectionMaps,
-) -> Result<Columns, Memory>
+) -> Result<ReadColumns, Memory>
     requires rules { Hold (part_rules (source_of text.now)) }
     requires lists { HasPartLists (source_of text.now) parts.now }
     requires sections { AreSectionMaps text.now.wd parts.now.sections sections.now }
-    ensures { IfOk result (HoldsItems
-        (record { source = source_of text.now; pieces = text.now.pieces; lists = parts.now; sections = sections.now })
-        0 (text_count (source_of text.now))) }
+    ensures { IfOk result (AreColumnsOf (record {
+      source = source_of text.now;
+      pieces = text.now.pieces;
+      lists = parts.now;
+      sections = sections.now;
+    })) }
 {
     let source = text.source();
     has_units(&source);
@@ -60,8 +62,7 @@ pub(crate) fn read_columns(
         maps: sections,
     };
     let read = columns_of_pieces(alloc, &lists, text.pieces())?;
-    let units = Vec::from_slice(alloc, lists.units)?;
-    Ok(Columns::from_parts(units, read.chps, read.besides))
+    Ok(read)
 }
 
 /// The columns of all pieces, one after the other, as far as there are units.

@@ -1,24 +1,41 @@
-// The document of the parts of a file, by columns.
-ghost use Rattle.std.specs.Prelude.{◌≡◌, ◌≤◌, ◌<◌, ◌^◌, length, take, IfOk};
+// The document of the parts of a file, by columns. What borrows from its text is read before the units are taken over.
+ghost use Rattle.std.specs.Prelude.{◌≡◌, ◌≤◌, length, take, IfOk};
 ghost use Rattle.doc_bits.specs.Rules.{Hold};
 ghost use Rattle.doc_load.specs.PartRules.{part_rules, HasPartLists};
 ghost use Rattle.doc_load.specs.FileRules.{HasText, source_of};
-ghost use Rattle.doc_read.specs.Sections.{AreSectionMaps};
 ghost use Rattle.doc_read.specs.CarriedParts.{AreWithinBounds};
-ghost use Rattle.doc_read.specs.Holds.{IsDocumentFrom, head_texts};
-ghost use Rattle.column_read.specs.ReadTexts.{AreTextsOf};
+ghost use Rattle.column_read.specs.ReadParts.{AreDocumentParts, FitUnits};
+ghost use Rattle.column_read.specs.ReadTexts.{AreCutsOf, AreTextsOf, IsDocumentWith};
 
-use crate::columns::read_columns;
+use crate::columns::{ReadColumns, read_columns};
 use crate::texts::cut_columns;
 use cfb_streams::Container;
 use doc_bits::Memory;
 use doc_columns::{ColumnDocument, ColumnTexts, Columns};
 use doc_load::{DocParts, LoadedText};
-use doc_read::{SectionMaps, read_carried, read_section_maps};
-use fib_form::StoryKind;
+use doc_parts::Cuts;
+use doc_read::{read_carried, read_section_maps};
+use fib_form::{Fib, StoryKind};
 use plain_doc::{Carried, HEADS_A_SECTION, SEPARATORS};
 use std::alloc::Global;
 use style_sheet::StyleSheet;
+
+/// Where the notes and the header texts are cut, and how many header texts there are.
+#[derive(Drop)]
+struct StoryCuts {
+    notes: Cuts,
+    heads: Cuts,
+    head_count: usize,
+}
+
+/// What a document is made of, but for the units of its text.
+#[derive(Drop)]
+pub(crate) struct DocumentParts {
+    columns: ReadColumns,
+    cuts: StoryCuts,
+    sheet: StyleSheet,
+    carried: Carried,
+}
 
 /// The texts of a document.
 #[derive(Drop)]
@@ -28,55 +45,76 @@ struct ReadTexts {
     heads: ColumnTexts,
 }
 
-/// Reads the document of a file whose parts have been read.
-pub(crate) fn column_document(
+/// Reads what the document of a file is made of, whose parts have been read.
+pub(crate) fn read_document_parts(
     alloc: Global,
     container: &Container,
     text: &LoadedText<'_>,
     parts: DocParts<'_>,
-) -> Result<ColumnDocument, Memory>
+) -> Result<DocumentParts, Memory>
     requires bounds { AreWithinBounds container.now }
     requires text { HasText container.now text.now }
     requires rules { Hold (part_rules (source_of text.now)) }
     requires lists { HasPartLists (source_of text.now) parts }
-    ensures { IfOk result (IsDocumentFrom container.now text.now parts.entry) }
+    ensures { IfOk result (AreDocumentParts container.now text.now parts.entry) }
 {
     let sections = read_section_maps(alloc, text, &parts.sections)?;
     let carried = read_carried(alloc, container, text, &parts)?;
-    let texts = read_texts(alloc, text, &parts, &sections)?;
-    Ok(document_of(texts, parts.sheet, carried))
+    let columns = read_columns(alloc, text, &parts, &sections)?;
+    let head_count = SEPARATORS + HEADS_A_SECTION * parts.sections.len();
+    let notes = parts.notes;
+    Ok(DocumentParts {
+        columns,
+        cuts: StoryCuts {
+            notes: notes.cuts,
+            heads: parts.heads,
+            head_count,
+        },
+        sheet: parts.sheet,
+        carried,
+    })
 }
 
-/// Reads the texts of the document.
-fn read_texts(
+/// The document of its parts and of the units of its text, which it takes over.
+pub(crate) fn document_with(
     alloc: Global,
-    text: &LoadedText<'_>,
-    parts: &DocParts<'_>,
-    sections: &SectionMaps,
-) -> Result<ReadTexts, Memory>
-    requires notes { length parts.now.notes < 2 ^ 32 }
-    requires heads { head_texts parts.now < 2 ^ 32 }
-    requires rules { Hold (part_rules (source_of text.now)) }
-    requires lists { HasPartLists (source_of text.now) parts.now }
-    requires sections { AreSectionMaps text.now.wd parts.now.sections sections.now }
-    ensures { IfOk result (AreTextsOf text.now parts.now sections.now) }
+    fib: &Fib,
+    units: Vec<u16>,
+    parts: DocumentParts,
+) -> Result<ColumnDocument, Memory>
+    requires units { FitUnits units.items parts.columns }
+    requires cuts { AreCutsOf fib.now parts.cuts (length units.items) }
+    ensures { IfOk result (IsDocumentWith fib.now units.items parts) }
 {
-    let all = read_columns(alloc, text, parts, sections)?;
-    let fib = text.fib();
-    let count = SEPARATORS + HEADS_A_SECTION * parts.sections.len();
+    let DocumentParts {
+        columns,
+        cuts,
+        sheet,
+        carried,
+    } = parts;
+    let all = Columns::from_parts(units, columns.chps, columns.besides);
+    let texts = read_texts(alloc, fib, all, &cuts)?;
+    Ok(document_of(texts, sheet, carried))
+}
+
+/// Cuts the text into the texts of the document.
+fn read_texts(alloc: Global, fib: &Fib, all: Columns, cuts: &StoryCuts) -> Result<ReadTexts, Memory>
+    requires { AreCutsOf fib.now cuts.now (length all) }
+    ensures { IfOk result (AreTextsOf fib.now cuts.now all) }
+{
     let notes = cut_columns(
         alloc,
         &all,
         fib.story_begin(StoryKind::Notes),
-        &parts.notes.cuts,
-        parts.notes.cuts.len().saturating_sub(1),
+        &cuts.notes,
+        cuts.notes.len().saturating_sub(1),
     )?;
     let heads = cut_columns(
         alloc,
         &all,
         fib.story_begin(StoryKind::Heads),
-        &parts.heads,
-        count,
+        &cuts.heads,
+        cuts.head_count,
     )?;
     let main = front(alloc, all, fib.story_len(StoryKind::Main) as usize)?;
     Ok(ReadTexts { main, notes, heads })

@@ -7,7 +7,7 @@ ghost use Rattle.doc_read.specs.CarriedParts.{AreWithinBounds};
 ghost use Rattle.doc_read.specs.Holds.{all_rules};
 ghost use Rattle.doc_read.specs.Opened.{IsFoundIn, IsOpened};
 
-use crate::document::column_document;
+use crate::document::{document_with, read_document_parts};
 use cfb_streams::Container;
 use doc_columns::{ColumnDocument, is_sound};
 use doc_load::{ReadFault, load_text, read_parts};
@@ -124,8 +124,9 @@ fn read_contents(alloc: Global, container: &Container) -> Result<Found, ReadFaul
     let text = load_text(alloc, container)?;
     let source = text.source();
     let parts = read_parts(alloc, &source)?;
-    let document = column_document(alloc, container, &text, parts)?;
-    let (fib, pieces) = text.into_parts();
+    let read = read_document_parts(alloc, container, &text, parts)?;
+    let (fib, pieces, units) = text.into_parts_with_units();
+    let document = document_with(alloc, &fib, units, read)?;
     Ok(Found {
         document,
         fib,

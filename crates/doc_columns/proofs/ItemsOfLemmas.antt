@@ -1,5 +1,6 @@
 -- The items of three columns: lengths, parts, places.
-use Rattle.std.proofs.Common.{◌≡◌, ℕ, zero, suc, ◌+◌, ◌-◌, ◌<◌, ◌≤◌, ◌^◌, List, [], ◌∷◌, ◌++◌, length, take, drop, map, Some, refl, sym, ◌∙◌, ap, subst, arith, length-append, length-take-le}
+use Rattle.std.proofs.Common.{◌≡◌, ℕ, zero, suc, ◌+◌, ◌-◌, ◌<◌, ◌≤◌, ◌^◌, List, [], ◌∷◌, ◌++◌, length, take, drop}
+use Rattle.std.proofs.Common.{map, Some, refl, sym, ◌∙◌, ap, subst, arith, length-append, length-take-le}
 use Rattle.std.specs.Prelude.{slice_get, slice_range, replicate}
 use Rattle.std.specs.List.{All, splice}
 use Rattle.std.proofs.lemmas.List.{length-map, length-replicate}
@@ -9,7 +10,8 @@ use Rattle.prop_map.specs.Settings.{Settings}
 use Rattle.plain_doc.specs.declared.item.Item.{Item}
 use Rattle.plain_doc.specs.declared.item.Mark.{Mark}
 use Rattle.plain_doc.specs.Document.{HasPropertyMaps, IsFormedItem, IsFormedText}
-use Rattle.plain_doc.proofs.FormedLemmas.{length-splice, IsFormedList-splice, IsFormedList-add, ForSome-from_cases, HasPropertyMaps-from_parts}
+use Rattle.plain_doc.proofs.FormedLemmas.{length-splice, IsFormedList-splice, IsFormedList-add, ForSome-from_cases}
+use Rattle.plain_doc.proofs.FormedLemmas.{HasPropertyMaps-from_parts}
 use Rattle.doc_columns.specs.declared.beside.Beside.{Beside}
 use Rattle.doc_columns.specs.Beside.{beside_of, nothing, IsRanged}
 use Rattle.doc_columns.specs.Columns.{item_of, items_of, bare_items, AreColumns}
@@ -320,7 +322,11 @@ bare_are [] chp map words = All-nil IsFormedItem
 bare_are (unit ∷ units) chp map words =
     All-cons IsFormedItem (item_of unit chp nothing) (bare_items chp units)
     (formed_item unit chp nothing (All-head (λ n. n < 2 ^ 16) unit units words)
-    (record { style = ForSome-from_cases _ (λ (mark : Mark). mark.istd < 2 ^ 16) tt; field = ForSome-from_cases _ (λ (byte : ℕ). byte < 2 ^ 8) tt })
+    (record {
+      style = ForSome-from_cases _ (λ (mark : Mark). mark.istd < 2 ^ 16) tt;
+      field = ForSome-from_cases _
+          (λ (byte : ℕ). byte < 2 ^ 8) tt;
+    })
     (HasPropertyMaps-from_parts (item_of unit chp nothing) map tt tt))
     (bare_are units chp map (All-tail (λ n. n < 2 ^ 16) unit units words))
 

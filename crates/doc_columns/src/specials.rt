@@ -1,5 +1,5 @@
 // The items of a text that have something beside their settings.
-ghost use Rattle.std.specs.Prelude.{◌≡◌, ◌↔◌, ◌⊎◌, ◌+◌, ◌-◌, ◌<◌, ◌≤◌, ◌^◌, false};
+ghost use Rattle.std.specs.Prelude.{◌≡◌, ◌⊎◌, ◌+◌, ◌-◌, ◌<◌, ◌≤◌, ◌^◌, false};
 ghost use Rattle.std.specs.Prelude.{[], ◌++◌, length, slice_get, map, All};
 ghost use Rattle.std.specs.Prelude.{Some, IsTrue, IfOk, IfSome, OnOk};
 ghost use Rattle.prop_map.specs.Formed.{IsPropertyMap, character_groups};
@@ -17,7 +17,7 @@ use plain_doc::{Items, Texts};
 use prop_map::PropMap;
 use run_lists::{Cursor, Run, Shared, seek};
 use std::alloc::Global;
-use text_codes::{CELL_MARK, PARAGRAPH_MARK};
+use text_codes::{PARAGRAPH_MARK, bare_len};
 
 /// [MS-DOC] Chpx: its length is counted by a byte.
 const CHP_MOST: u64 = 255;
@@ -100,19 +100,7 @@ fn is_short_run(run: &Run<PropMap>) -> bool
 fn are_plain(units: &[u16]) -> bool
     ensures { IsTrue result → All IsPlainUnit units.now }
 {
-    for unit in units {
-        if !is_plain_unit(*unit) {
-            return false;
-        }
-    }
-    true
-}
-
-/// Whether a unit is not that of a mark.
-fn is_plain_unit(unit: u16) -> bool
-    ensures { IsTrue result ↔ IsPlainUnit unit }
-{
-    unit != PARAGRAPH_MARK && unit != CELL_MARK
+    bare_len(units) == units.len()
 }
 
 /// The items that have something beside, where no other one has the unit of a mark.

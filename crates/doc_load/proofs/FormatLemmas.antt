@@ -1,22 +1,24 @@
 -- The ends of paragraphs and sections, one more in each turn.
-use Rattle.std.proofs.Common.{◌≡◌, ◌∙◌, refl, sym, ap, ℕ, ◌+◌, ◌-◌, ◌≤◌, ◌==◌, Bool, true, false, ◌||◌, List, [], ◌∷◌, ◌++◌, length, map, take, drop, filter, slice_get, Some, arith}
+use Rattle.std.proofs.Common.{◌≡◌, ◌∙◌, refl, sym, ap, ℕ, ◌+◌, ◌-◌, ◌≤◌, ◌==◌, Bool, true, false, ◌||◌}
+use Rattle.std.proofs.Common.{List, [], ◌∷◌, ◌++◌, map, drop, filter, arith}
 use Rattle.std.specs.List.{range_with_len}
 use Rattle.std.specs.Prelude.{slice_index}
-use Rattle.std.proofs.lemmas.List.{append-nil, map-id, map-append, map_more, drop-append-le, drop-drop, get_or-drop, length-map, length-take}
+use Rattle.std.proofs.lemmas.List.{append-nil, map-id, map-append, drop-drop, get_or-drop}
 use Rattle.std.proofs.lemmas.List.Elements.{filter-append}
 use Rattle.std.proofs.lemmas.List.Folds.{list_any-append}
 use Rattle.std.proofs.lemmas.List.FromFn.{map-range_with_len_more}
-use Rattle.std.proofs.lemmas.Option.{slice_get_within, get_or_from_slice_get}
-use Rattle.doc_parts.specs.declared.lists.Sed.{Sed}
 use Rattle.doc_load.specs.FormatRules.{is_end}
 
 range_more : (n : ℕ) → range_with_len 0 (n + 1) ≡ range_with_len 0 n ++ n ∷ []
 range_more n =
-    sym (map-id (range_with_len 0 (n + 1))) ∙ (map-range_with_len_more (λ j. j) 0 n n (omega arith) ∙ ap (λ l. l ++ n ∷ []) (map-id (range_with_len 0 n)))
+    sym (map-id (range_with_len 0 (n + 1))) ∙ (map-range_with_len_more (λ j. j) 0 n n (omega arith) ∙ ap (λ l. l ++ n
+    ∷ []) (map-id (range_with_len 0 n)))
 
-kept_more : (p : ℕ → Bool) (f : ℕ → ℕ) (n : ℕ) → map f (filter p (range_with_len 0 (n + 1))) ≡ map f (filter p (range_with_len 0 n)) ++ map f (filter p (n ∷ []))
+kept_more : (p : ℕ → Bool) (f : ℕ → ℕ) (n : ℕ) → map f (filter p (range_with_len 0 (n + 1))) ≡ map f
+    (filter p (range_with_len 0 n)) ++ map f (filter p (n ∷ []))
 kept_more p f n =
-    ap (λ l. map f (filter p l)) (range_more n) ∙ (ap (map f) (filter-append p (range_with_len 0 n) (n ∷ [])) ∙ map-append f (filter p (range_with_len 0 n)) (filter p (n ∷ [])))
+    ap (λ l. map f (filter p l)) (range_more n) ∙ (ap (map f) (filter-append p (range_with_len 0 n) (n ∷ [])) ∙
+    map-append f (filter p (range_with_len 0 n)) (filter p (n ∷ [])))
 
 one_kept : (p : ℕ → Bool) (n : ℕ) → p n ≡ true → filter p (n ∷ []) ≡ n ∷ []
 one_kept p n e = rw e (refl)
@@ -25,14 +27,19 @@ none_kept : (p : ℕ → Bool) (n : ℕ) → p n ≡ false → filter p (n ∷ [
 none_kept p n e = rw e (refl)
 
 -- a number with the property is added
-pub one-added : (p : ℕ → Bool) (f : ℕ → ℕ) (n x : ℕ) (before after : List ℕ) → p n ≡ true → x ≡ f n → after ≡ before ++ x ∷ [] → before ≡ map f (filter p (range_with_len 0 n)) → after ≡ map f (filter p (range_with_len 0 (n + 1)))
+pub one-added : (p : ℕ → Bool) (f : ℕ → ℕ) (n x : ℕ) (before after : List ℕ) → p n ≡ true → x ≡ f n →
+    after ≡ before ++ x ∷ [] → before ≡ map f (filter p (range_with_len 0 n)) →
+    after ≡ map f (filter p (range_with_len 0 (n + 1)))
 one-added p f n x before after e x_is added so_far =
-    added ∙ (ap (λ l. l ++ x ∷ []) so_far ∙ (ap (λ y. map f (filter p (range_with_len 0 n)) ++ y ∷ []) x_is ∙ (ap (λ l. map f (filter p (range_with_len 0 n)) ++ map f l) (sym (one_kept p n e)) ∙ sym (kept_more p f n))))
+    added ∙ (ap (λ l. l ++ x ∷ []) so_far ∙ (ap (λ y. map f (filter p (range_with_len 0 n)) ++ y ∷ []) x_is ∙
+    (ap (λ l. map f (filter p (range_with_len 0 n)) ++ map f l) (sym (one_kept p n e)) ∙ sym (kept_more p f n))))
 
 -- one without it is not
-pub none-added : (p : ℕ → Bool) (f : ℕ → ℕ) (n : ℕ) (before after : List ℕ) → p n ≡ false → after ≡ before → before ≡ map f (filter p (range_with_len 0 n)) → after ≡ map f (filter p (range_with_len 0 (n + 1)))
+pub none-added : (p : ℕ → Bool) (f : ℕ → ℕ) (n : ℕ) (before after : List ℕ) → p n ≡ false → after ≡ before →
+    before ≡ map f (filter p (range_with_len 0 n)) → after ≡ map f (filter p (range_with_len 0 (n + 1)))
 none-added p f n before after e same so_far =
-    same ∙ (so_far ∙ (sym (append-nil (map f (filter p (range_with_len 0 n)))) ∙ (ap (λ l. map f (filter p (range_with_len 0 n)) ++ map f l) (sym (none_kept p n e)) ∙ sym (kept_more p f n))))
+    same ∙ (so_far ∙ (sym (append-nil (map f (filter p (range_with_len 0 n)))) ∙
+    (ap (λ l. map f (filter p (range_with_len 0 n)) ++ map f l) (sym (none_kept p n e)) ∙ sym (kept_more p f n))))
 
 or_false : (b : Bool) → (b || false) ≡ b
 or_false true = refl
@@ -43,21 +50,12 @@ pub is_end-append : (ends : List ℕ) (end cp : ℕ) → is_end (ends ++ end ∷
 is_end-append ends end cp =
     list_any-append (λ e. e == cp) ends (end ∷ []) ∙ ap (λ b. is_end ends cp || b) (or_false (end == cp))
 
--- the starts of the later sections, one more
-pub later-more : (sections : List Sed) (k : ℕ) (sed : Sed) → 1 ≤ k → slice_get sections k ≡ Some sed → drop 1 (map (λ sed. sed.start) (take (k + 1) sections)) ≡ drop 1 (map (λ sed. sed.start) (take k sections)) ++ sed.start ∷ []
-later-more sections k sed some here =
-    let start : Sed → ℕ = λ sed. sed.start in
-    let below = slice_get_within sections k sed here in
-    let len = length-map (take k sections) start in
-    let len_taken = length-take k sections in
-    let enough : 1 ≤ length (map start (take k sections)) = omega arith in
-    ap (drop 1) (map_more start sections k sed below) ∙ (drop-append-le 1 (map start (take k sections)) _ enough ∙ ap (λ s. drop 1 (map start (take k sections)) ++ s ∷ []) (ap start (get_or_from_slice_get sections k sed sed here)))
-
 -- the places from a later CP on, and the place of it
 pub walk_on : (all rest : List ℕ) (passed cp : ℕ) → passed ≤ cp → rest ≡ drop passed all →
     (drop (cp - passed) rest ≡ drop cp all) × (slice_index rest (cp - passed) ≡ slice_index all cp)
 walk_on all rest passed cp behind is =
     let there : passed + (cp - passed) ≡ cp = omega (arith, behind) in (
       ap (drop (cp - passed)) is ∙ (drop-drop (cp - passed) passed all ∙ ap (λ n. drop n all) there),
-      ap (λ l. slice_index l (cp - passed)) is ∙ (get_or-drop passed all (cp - passed) 0 ∙ ap (λ n. slice_index all n) there),
+      ap (λ l. slice_index l (cp - passed)) is ∙ (get_or-drop passed all (cp - passed) 0 ∙ ap (λ n. slice_index all n)
+          there),
     )

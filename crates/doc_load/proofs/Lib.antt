@@ -14,3 +14,5 @@ pub mod TextLemmas
 pub mod FileLemmas
 pub mod RightPlaces
 pub mod FormatLemmas
+pub mod EndLemmas
+pub mod StretchLemmas

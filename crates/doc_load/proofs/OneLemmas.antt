@@ -9,7 +9,8 @@ use Rattle.doc_parts.specs.Sections.{sed_form, sed_cps}
 use Rattle.doc_parts.specs.Fields.{fld_form, fld_cps}
 use Rattle.doc_parts.specs.Stories.{ref_form, ref_cps, cut_form, cut_cps}
 use Rattle.doc_parts.proofs.ReadBackLemmas.{AreEntries-unique}
-use Rattle.fib_form.specs.declared.table_parts.TablePart.TheVariants.{Stshf, PlcffndRef, PlcffndTxt, PlcfSed, PlcfHdd, PlfLst}
+use Rattle.fib_form.specs.declared.table_parts.TablePart.TheVariants.{Stshf, PlcffndRef, PlcffndTxt, PlcfSed, PlcfHdd}
+use Rattle.fib_form.specs.declared.table_parts.TablePart.TheVariants.{PlfLst}
 use Rattle.fib_form.specs.declared.stories.StoryKind.{StoryKind}
 use Rattle.fib_form.specs.declared.stories.StoryKind.TheVariants.{Main, Notes, Heads}
 use Rattle.doc_load.specs.Source.{DocSource, part_bytes, part_place, story_length}
@@ -27,17 +28,21 @@ pub sections_one : (source : DocSource) (a b : List Sed) → HasSections source 
 sections_one source a b ha hb =
     AreEntries-unique sed_form (sed_cps (story_length source Main)) (plc_part 12 (part_bytes source PlcfSed)) a b ha hb
 
-fields_one : (source : DocSource) (story : StoryKind) (a b : List Fld) → HasFields source story a → HasFields source story b → a ≡ b
+fields_one : (source : DocSource) (story : StoryKind) (a b : List Fld) → HasFields source story a → HasFields source
+    story b → a ≡ b
 fields_one source story a b ha hb =
-    AreEntries-unique fld_form (fld_cps (story_length source story)) (plc_part 2 (part_bytes source (field_part story))) a b ha hb
+    AreEntries-unique fld_form (fld_cps (story_length source story)) (plc_part 2 (part_bytes source
+    (field_part story))) a b ha hb
 
 refs_one : (source : DocSource) (a b : List NoteRef) → HasRefs source a → HasRefs source b → a ≡ b
 refs_one source a b ha hb =
-    AreEntries-unique ref_form (ref_cps (story_length source Main)) (plc_part 2 (part_bytes source PlcffndRef)) a b ha hb
+    AreEntries-unique ref_form (ref_cps (story_length source Main)) (plc_part 2 (part_bytes source PlcffndRef)) a b ha
+    hb
 
 pub notes_one : (source : DocSource) (a b : List ℕ) → HasNoteCuts source a → HasNoteCuts source b → a ≡ b
 notes_one source a b (inl x) (inl y) =
-    AreEntries-unique cut_form (cut_cps (story_length source Notes)) (plc_part 0 (part_bytes source PlcffndTxt)) a b x.1 y.1
+    AreEntries-unique cut_form (cut_cps (story_length source Notes)) (plc_part 0 (part_bytes source PlcffndTxt)) a b
+    x.1 y.1
 notes_one source a b (inl x) (inr y) = absurd (y.0 x.0)
 notes_one source a b (inr x) (inl y) = absurd (x.0 y.0)
 notes_one source a b (inr x) (inr y) = x.1 ∙ sym y.1
@@ -58,14 +63,32 @@ sheet_one : (source : DocSource) (a b : Sheet) → HasSheet source a → HasShee
 sheet_one source a b ha hb = sheets_agree (part_bytes source Stshf) a b ha hb
 
 -- lists are the same where each of them is
-lists_same : (a b : PartLists) → a.sections ≡ b.sections → a.sheet ≡ b.sheet → a.main_fields ≡ b.main_fields → a.note_fields ≡ b.note_fields → a.head_fields ≡ b.head_fields → a.refs ≡ b.refs → a.notes ≡ b.notes → a.heads ≡ b.heads → a.levels ≡ b.levels → a ≡ b
+lists_same : (a b : PartLists) → a.sections ≡ b.sections → a.sheet ≡ b.sheet → a.main_fields ≡ b.main_fields →
+    a.note_fields ≡ b.note_fields → a.head_fields ≡ b.head_fields → a.refs ≡ b.refs → a.notes ≡ b.notes →
+    a.heads ≡ b.heads → a.levels ≡ b.levels → a ≡ b
 lists_same a b e0 es e1 e2 e3 e4 e5 e6 e7 =
     let f0 : List Sed → PartLists = λ x. record a { sections = x } in
     let fs : Sheet → PartLists = λ x. record a { sections = b.sections; sheet = x } in
     let f1 : List Fld → PartLists = λ x. record a { sections = b.sections; sheet = b.sheet; main_fields = x } in
-    let f2 : List Fld → PartLists = λ x. record a { sections = b.sections; sheet = b.sheet; main_fields = b.main_fields; note_fields = x } in
-    let f3 : List Fld → PartLists = λ x. record b { head_fields = x; refs = a.refs; notes = a.notes; heads = a.heads; levels = a.levels } in
-    let f4 : List NoteRef → PartLists = λ x. record b { refs = x; notes = a.notes; heads = a.heads; levels = a.levels } in
+    let f2 : List Fld → PartLists = λ x. record a {
+      sections = b.sections;
+      sheet = b.sheet;
+      main_fields = b.main_fields;
+      note_fields = x;
+    } in
+    let f3 : List Fld → PartLists = λ x. record b {
+      head_fields = x;
+      refs = a.refs;
+      notes = a.notes;
+      heads = a.heads;
+      levels = a.levels;
+    } in
+    let f4 : List NoteRef → PartLists = λ x. record b {
+      refs = x;
+      notes = a.notes;
+      heads = a.heads;
+      levels = a.levels;
+    } in
     let f5 : List ℕ → PartLists = λ x. record b { notes = x; heads = a.heads; levels = a.levels } in
     let f6 : List ℕ → PartLists = λ x. record b { heads = x; levels = a.levels } in
     let f7 : List ℕ → PartLists = λ x. record b { levels = x } in

@@ -37,36 +37,49 @@ right_bin bytes at none =
       ];
       ascend = λ k below. elim (cases_lt (plc_cp bytes k) (plc_cp bytes (k + 1))) [
         | inl up ↦ up
-        | inr flat ↦ absurd (none (at + 4 * (k + 1)) (inr (record { entry = k; below = below; broken = record { here = refl; broken = flat } })))
+        | inr flat ↦ absurd (none (at + 4 * (k + 1)) (inr (record {
+          entry = k;
+          below = below;
+          broken = record { here = refl; broken = flat };
+        })))
       ];
     }
 
 -- the bin tables are tables
-pub bin_tables : (source : DocSource) → Hold (rules_of_bins source) → IsBinTable (part_bytes source PlcfBteChpx) × IsBinTable (part_bytes source PlcfBtePapx)
+pub bin_tables : (source : DocSource) → Hold (rules_of_bins source) → IsBinTable (part_bytes source PlcfBteChpx) ×
+    IsBinTable (part_bytes source PlcfBtePapx)
 bin_tables source h =
-    let characters = part_bytes source PlcfBteChpx in
-    let paragraphs = part_bytes source PlcfBtePapx in
-    let first : Nowhere (BreaksBinTable characters (part_place source PlcfBteChpx)) = λ p b. h.0 (Table, p) (refl, b) in
-    let next : Nowhere (BreaksBinTable paragraphs (part_place source PlcfBtePapx)) = λ p b. h.1 (Table, p) (refl, b) in
-    (right_bin characters (part_place source PlcfBteChpx) first, right_bin paragraphs (part_place source PlcfBtePapx) next)
+    let chpx = part_bytes source PlcfBteChpx in
+    let papx = part_bytes source PlcfBtePapx in
+    let first : Nowhere (BreaksBinTable chpx (part_place source PlcfBteChpx)) = λ p b. h.0 (Table, p) (refl, b) in
+    let next : Nowhere (BreaksBinTable papx (part_place source PlcfBtePapx)) = λ p b. h.1 (Table, p) (refl, b) in (
+      right_bin chpx (part_place source PlcfBteChpx) first,
+      right_bin papx (part_place source PlcfBtePapx) next,
+    )
 
 -- the pages of the sections that the document has
-held_formats : (source : DocSource) (sections : List Sed) → Hold (rules_of_formats source) → HasSections source sections → Hold (format_rules source sections)
+held_formats : (source : DocSource) (sections : List Sed) → Hold (rules_of_formats source) → HasSections source
+    sections → Hold (format_rules source sections)
 held_formats source sections h has =
     subst (λ list. Hold (format_rules source list)) (sections_one source h.0 sections h.1.0 has) h.1.1
 
 -- the unit of each CP has its characters' settings
-pub right_characters : (source : DocSource) (sections : List Sed) → Hold (rules_of_formats source) → HasSections source sections → AreRightPlaces Chpx source.wd (part_bytes source PlcfBteChpx) (judged_places source)
+pub right_characters : (source : DocSource) (sections : List Sed) → Hold (rules_of_formats source) →
+    HasSections source sections → AreRightPlaces Chpx source.wd (part_bytes source PlcfBteChpx) (judged_places source)
 right_characters source sections h has =
     let wd = source.wd in
     let bin = part_bytes source PlcfBteChpx in
     let places = judged_places source in
-    right_where_hold Chpx wd bin places (hold_out Wd (page_rules Chpx wd bin places) (held_formats source sections h has).0)
+    right_where_hold Chpx wd bin places (hold_out Wd (page_rules Chpx wd bin places) (held_formats source sections h
+    has).0)
 
 -- each unit that ends a paragraph has its paragraph's settings
-pub right_paragraphs : (source : DocSource) (sections : List Sed) → Hold (rules_of_formats source) → HasSections source sections → AreRightPlaces Papx source.wd (part_bytes source PlcfBtePapx) (paragraph_places source sections)
+pub right_paragraphs : (source : DocSource) (sections : List Sed) → Hold (rules_of_formats source) →
+    HasSections source sections → AreRightPlaces Papx source.wd (part_bytes source PlcfBtePapx) (paragraph_places
+    source sections)
 right_paragraphs source sections h has =
     let wd = source.wd in
     let bin = part_bytes source PlcfBtePapx in
     let places = paragraph_places source sections in
-    right_where_hold Papx wd bin places (hold_out Wd (page_rules Papx wd bin places) (held_formats source sections h has).1)
+    right_where_hold Papx wd bin places (hold_out Wd (page_rules Papx wd bin places) (held_formats source sections h
+    has).1)

@@ -13,6 +13,7 @@ pub mod HeadRules
 pub mod EndRules
 pub mod ListRules
 pub mod FormatRules
+pub mod EndSearch
 pub mod SheetRules
 pub mod PartRules
 pub mod FileRules

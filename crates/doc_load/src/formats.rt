@@ -1,15 +1,14 @@
 // The rules on the pages: the units of the text, and those that end a paragraph.
-ghost use Rattle.std.specs.Prelude.{◌≡◌, ◌+◌, ◌<◌, ◌≤◌, ◌==◌};
-ghost use Rattle.std.specs.Prelude.{◌||◌, ◌-◌, ℕ, drop, false, length, slice_index, slice_index_or, IfOk};
-ghost use Rattle.std.specs.Prelude.{MatchResult};
+ghost use Rattle.std.specs.Prelude.{◌≡◌, ◌+◌, ◌-◌, ◌<◌, ◌≤◌, drop, length, slice_index, IfOk, MatchResult};
 ghost use Rattle.doc_bits.specs.Rules.{Hold};
 ghost use Rattle.doc_load.specs.Faults.{IsReadFault};
 ghost use Rattle.doc_load.specs.SectionRules.{HasSections};
 ghost use Rattle.doc_load.specs.BinRules.{rules_of_bins};
-ghost use Rattle.doc_load.specs.FormatRules.{format_rules, is_end, paragraph_places as places_of_paragraphs};
-ghost use Rattle.doc_load.specs.FormatRules.{rules_of_formats, section_ends};
+ghost use Rattle.doc_load.specs.FormatRules.{format_rules, paragraph_places as places_of_paragraphs};
+ghost use Rattle.doc_load.specs.FormatRules.{rules_of_formats};
 
 use crate::fault::refused_page;
+use crate::paragraph_ends::{SectionEnds, next_end};
 use crate::{ReadFault, Source};
 use direct_props::{Places, judge_places, judge_rows};
 use doc_bits::Memory;
@@ -17,7 +16,6 @@ use doc_parts::Seds;
 use fib_form::{StoryKind, TablePart};
 use fkp_pages::PageKind;
 use std::alloc::Global;
-use text_codes::ends_paragraph;
 
 /// Judges the pages of the text.
 pub fn judge_formats(alloc: Global, source: &Source<'_>, sections: &Seds) -> Result<(), ReadFault>
@@ -35,6 +33,7 @@ pub fn judge_formats(alloc: Global, source: &Source<'_>, sections: &Seds) -> Res
 
 /// Judges the pages of all units, and then those of the ends of paragraphs.
 fn judge_runs(alloc: Global, source: &Source<'_>, sections: &Seds) -> Result<(), ReadFault>
+    requires sections { HasSections source.now sections.now }
     requires bins { Hold (rules_of_bins source.now) }
     ensures { MatchResult result
         (λ _. Hold (format_rules source.now sections.now))
@@ -57,21 +56,25 @@ fn judge_runs(alloc: Global, source: &Source<'_>, sections: &Seds) -> Result<(),
 
 /// The places in `WordDocument` of the units that end a paragraph, by CP.
 fn paragraph_places(alloc: Global, source: &Source<'_>, sections: &Seds) -> Result<Vec<u32>, Memory>
+    requires { HasSections source.now sections.now }
     ensures { IfOk result (λ places. places.items ≡ places_of_paragraphs source.now sections.now) }
 {
-    let main_len = source.story_len(StoryKind::Main);
-    let marks = section_marks(alloc, sections, main_len)?;
     let units = source.judged_units();
+    let main_len = source.story_len(StoryKind::Main) as usize;
+    let mut ends = SectionEnds {
+        sections,
+        main_len,
+        met: 1,
+    };
     let mut walk = PlaceWalk {
         rest: source.judged_places(),
         passed: 0,
     };
     let mut places = Vec::new(alloc);
-    for cp in 0..units.len() {
-        let ends = cp < main_len as usize && marks[cp + 1];
-        if ends_paragraph(units[cp], ends) {
-            places.push(place_of(&mut walk, cp))?;
-        }
+    let mut cp = 0;
+    while let Some(end) = next_end(units, &mut ends, cp) {
+        places.push(place_of(&mut walk, end))?;
+        cp = end + 1;
     }
     Ok(places)
 }
@@ -94,31 +97,4 @@ fn place_of(walk: &mut PlaceWalk<'_>, cp: usize) -> u32
     walk.rest = walk.rest.skip(cp - walk.passed);
     walk.passed = cp;
     walk.rest.first()
-}
-
-/// For each CP up to the end of the main text whether a section ends before it.
-fn section_marks(alloc: Global, sections: &Seds, main_len: u32) -> Result<Vec<bool>, Memory>
-    requires { main_len ≤ 500000 }
-    ensures len { IfOk result (λ marks. length marks.items ≡ main_len + 1) }
-    ensures marks { IfOk result (λ marks. (cp : ℕ) → cp ≤ main_len
-        → slice_index_or marks.items cp false ≡ is_end (section_ends sections.now main_len) cp) }
-{
-    let mut marks = vec![in alloc; false; main_len as usize + 1]?;
-    for k in 1..sections.len() {
-        let (start, _) = sections.get(k);
-        mark(&mut marks, start as usize);
-    }
-    mark(&mut marks, main_len as usize);
-    Ok(marks)
-}
-
-/// Marks a CP that is there.
-fn mark(marks: &mut Vec<bool>, at: usize)
-    ensures len { length marks.new.items ≡ length marks.old.items }
-    ensures marks { (cp : ℕ) → cp < length marks.old.items
-        → slice_index_or marks.new.items cp false ≡ (slice_index_or marks.old.items cp false || (at == cp)) }
-{
-    if at < marks.len() {
-        marks[at] = true;
-    }
 }

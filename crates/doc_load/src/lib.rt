@@ -12,6 +12,7 @@ mod loading;
 mod narrow;
 mod notes;
 mod pair_rules;
+mod paragraph_ends;
 mod parts;
 mod sections;
 mod sheets;

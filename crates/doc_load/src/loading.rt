@@ -53,6 +53,7 @@ impl<'a> Model for LoadedText<'a> {
 
 impl<'a> LoadedText<'a> {
     ghost use Rattle.doc_load.specs.FileRules.{source_of};
+    ghost use Rattle.doc_load.specs.FormatRules.{judged_units};
 
     /// What the rules on the parts read.
     pub fn source(&self) -> Source<'_>
@@ -81,6 +82,18 @@ impl<'a> LoadedText<'a> {
         ensures pieces { result.1.pieces ≡ self.entry.pieces }
     {
         (self.fib, self.pieces)
+    }
+
+    /// The same two, and the units of the three stories, by CP. None is copied.
+    pub fn into_parts_with_units(self) -> (Fib, PieceList, Vec<u16>)
+        ensures fib { result.0 ≡ fib_fields self.entry.wd }
+        ensures pieces { result.1.pieces ≡ self.entry.pieces }
+        ensures units { result.2.items ≡ judged_units (source_of self.entry) }
+    {
+        let count = self.source().judged_count();
+        let mut units = self.units.into_units();
+        units.truncate(count);
+        (self.fib, self.pieces, units)
     }
 }
 

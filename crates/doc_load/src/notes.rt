@@ -54,6 +54,7 @@ struct JudgedRefs {
     fault: Option<u32>,
 }
 
+/// Reads the references of the notes up to the first one that breaks the rule.
 fn judged_refs(alloc: Global, source: &Source<'_>) -> Result<JudgedRefs, Memory>
     ensures { IfOk result (λ judged. LeastOrNone (BreaksRefs source.now) judged.fault
         × (judged.fault ≡ None → HasRefs source.now judged.list)) }

@@ -129,6 +129,7 @@ impl<'a> Source<'a> {
     /// The units of the three stories, by CP.
     pub fn judged_units(&self) -> &'a [u16]
         ensures units { result.now ≡ judged_units self.now }
+        ensures all { length result.now ≡ text_count self.now }
         ensures few { length result.now ≤ 500000 }
         ensures count { length result.now ≡ length (judged_places self.now) }
     {
@@ -145,7 +146,7 @@ impl<'a> Source<'a> {
     }
 
     /// The number of CPs of the three stories.
-    fn judged_count(&self) -> usize
+    pub(crate) fn judged_count(&self) -> usize
         ensures count { result ≡ text_count self.now }
         ensures few { result ≤ 500000 }
         ensures units { result ≤ length self.now.text.units }

@@ -46,6 +46,13 @@ impl TextUnits {
     {
         &self.units
     }
+
+    /// The same units. None is copied.
+    pub fn into_units(self) -> Vec<u16>
+        ensures { result.items ≡ self.units }
+    {
+        self.units
+    }
 }
 
 /// Reads the units of all pieces, one after the other.

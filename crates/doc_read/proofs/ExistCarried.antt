@@ -55,7 +55,8 @@ part_small source part short = simp (length-take, length-drop) (omega arith)
 -- the CLSID and the parts of a file of bytes are bytes
 pub carried_bytes : (file : List ℕ) (contents : Contents) (source : DocSource) (levels : List ℕ) → AreBytes file →
     HasContents file contents → AreBytes source.table → HasLevels source levels
-    → All AreBytes (contents.clsid ∷ part_bytes source SttbfFfn ∷ part_bytes source Dop ∷ part_bytes source SttbfAssoc ∷ part_bytes source PlfLst ∷ levels ∷ part_bytes source PlfLfo ∷ [])
+    → All AreBytes (contents.clsid ∷ part_bytes source SttbfFfn ∷ part_bytes source Dop ∷ part_bytes source SttbfAssoc
+    ∷ part_bytes source PlfLst ∷ levels ∷ part_bytes source PlfLfo ∷ [])
 carried_bytes file contents source levels bytes has table has_levels =
     let at = entry_place has.parts.directory 0 in
     let clsid : AreBytes contents.clsid =
@@ -82,8 +83,12 @@ carried_bytes file contents source levels bytes has table has_levels =
 
 pub carried_there : (contents : Contents) (text : FileText) (levels : List ℕ) → AreWithinBounds contents →
     HasText contents text → AreBytes text.wd → length contents.clsid ≡ 16
-    → All AreBytes (contents.clsid ∷ part_bytes (source_of text) SttbfFfn ∷ part_bytes (source_of text) Dop ∷ part_bytes (source_of text) SttbfAssoc ∷ part_bytes (source_of text) PlfLst ∷ levels ∷ part_bytes (source_of text) PlfLfo ∷ [])
-    → ArePartsShort (part_bytes (source_of text) SttbfFfn ∷ part_bytes (source_of text) Dop ∷ part_bytes (source_of text) SttbfAssoc ∷ part_bytes (source_of text) PlfLst ∷ levels ∷ part_bytes (source_of text) PlfLfo ∷ []) →
+    → All AreBytes (contents.clsid ∷ part_bytes (source_of text) SttbfFfn ∷ part_bytes (source_of text) Dop ∷
+    part_bytes (source_of text) SttbfAssoc ∷ part_bytes (source_of text) PlfLst ∷ levels ∷ part_bytes
+    (source_of text) PlfLfo ∷ [])
+    → ArePartsShort (part_bytes (source_of text) SttbfFfn ∷ part_bytes (source_of text) Dop ∷ part_bytes
+    (source_of text) SttbfAssoc ∷ part_bytes (source_of text) PlfLst ∷ levels ∷ part_bytes (source_of text) PlfLfo
+    ∷ []) →
     AreListsWithLevels (part_bytes (source_of text) PlfLst) levels → AreStored (carried_streams contents.streams) →
     HasFormedCarried contents (source_of text) levels
 carried_there contents text levels bounds has bytes long are short lists stored =
@@ -109,7 +114,19 @@ carried_there contents text levels bounds has bytes long are short lists stored 
         kept = flags;
         others = fit;
       };
-      holds = record { fonts = refl; dop = refl; assoc = refl; lst = refl; levels_are = refl; lfo = refl; clsid = refl; lid = refl; lid_fe = refl; flags = refl; streams = refl };
+      holds = record {
+        fonts = refl;
+        dop = refl;
+        assoc = refl;
+        lst = refl;
+        levels_are = refl;
+        lfo = refl;
+        clsid = refl;
+        lid = refl;
+        lid_fe = refl;
+        flags = refl;
+        streams = refl;
+      };
       formed = record {
         parts = short;
         bytes = are;
@@ -125,7 +142,8 @@ carried_there contents text levels bounds has bytes long are short lists stored 
 
 pub all_short : (source : DocSource) (levels : List ℕ) → length source.table ≤ 7143936 →
     length levels ≤ length source.table →
-    ArePartsShort (part_bytes source SttbfFfn ∷ part_bytes source Dop ∷ part_bytes source SttbfAssoc ∷ part_bytes source PlfLst ∷ levels ∷ part_bytes source PlfLfo ∷ [])
+    ArePartsShort (part_bytes source SttbfFfn ∷ part_bytes source Dop ∷ part_bytes source SttbfAssoc ∷ part_bytes
+    source PlfLst ∷ levels ∷ part_bytes source PlfLfo ∷ [])
 all_short source levels short few =
     let none : List (List ℕ) = [] in
     let one : TablePart → List ℕ = part_bytes source in

@@ -37,7 +37,14 @@ cut_there items begin cuts k all few = elim (cases_lt (k + 1) (length cuts)) [
           };
         },
       )
-  | inr missing ↦ ([], record { there = λ more. absurd (omega arith); missing = λ over. refl; formed = record { few = omega arith; each = All-nil IsFormedItem } })
+  | inr missing ↦ (
+    [],
+    record {
+      there = λ more. absurd (omega arith);
+      missing = λ over. refl;
+      formed = record { few = omega arith; each = All-nil IsFormedItem };
+    },
+  )
 ]
 
 pub texts_there : (items : List Item) (begin : ℕ) (cuts : List ℕ) (count : ℕ) → All IsFormedItem items →
@@ -47,6 +54,15 @@ texts_there items begin cuts count all few small =
     let len = found.len in
     record {
       texts = found.list;
-      cut = record { len = len; there = λ k text here. (found.each k text here).there; missing = λ k text here. (found.each k text here).missing };
-      formed = record { few = omega arith; each = All-from_slice_get IsFormedText found.list (λ k text here. (found.each k text here).formed) };
+      cut = record {
+        len = len;
+        there = λ k text here. (found.each k text here).there;
+        missing = λ k text here.
+            (found.each k text here).missing;
+      };
+      formed = record {
+        few = omega arith;
+        each = All-from_slice_get IsFormedText found.list (λ k text here.
+            (found.each k text here).formed);
+      };
     }

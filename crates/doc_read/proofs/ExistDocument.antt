@@ -64,15 +64,27 @@ document_of contents text lists maps has made sheet short few items carried =
     let small : length items.items < 2 ^ 32 = omega arith in
     let notes_small = notes-few source lists.notes short has.has_notes in
     let heads_small = heads-few source lists.sections short has.has_sections in
-    let notes = texts_there items.items (story_begin source Notes) lists.notes (length lists.notes - 1) all small (omega arith) in
+    let notes = texts_there items.items (story_begin source Notes) lists.notes (length lists.notes - 1) all small
+    (omega arith) in
     let heads =
     texts_there items.items (story_begin source Heads) lists.heads (head_texts lists) all small heads_small in
-    let document : Document = record { main = take main_len items.items; notes = notes.texts; heads = heads.texts; sheet = lists.sheet; carried = carried.carried } in
+    let document : Document = record {
+      main = take main_len items.items;
+      notes = notes.texts;
+      heads = heads.texts;
+      sheet = lists.sheet;
+      carried = carried.carried;
+    } in
     record {
       document = document;
-      from = document-from contents text lists maps items.items document has made items.holds refl notes.cut heads.cut refl carried.holds;
+      from = document-from contents text lists maps items.items document has made items.holds refl notes.cut heads.cut
+          refl carried.holds;
       formed = record {
-        main = record { few = omega (arith, length-take main_len items.items); each = All-take IsFormedItem main_len items.items all };
+        main = record {
+          few = omega (arith, length-take main_len items.items);
+          each = All-take IsFormedItem main_len
+              items.items all;
+        };
         notes = notes.formed;
         heads = heads.formed;
         sheet = sheet;
@@ -89,17 +101,21 @@ ready file contents text lists maps wd table fits has_text hold has fields made 
     let source = source_of text in
     let main_len = story_length source Main in
     let formats = hold.1.0 in
-    let held : Hold (format_rules source lists.sections) = subst (λ list. Hold (format_rules source list)) (sections_one source formats.0 lists.sections formats.1.0 has.has_sections) formats.1.1 in
+    let held : Hold (format_rules source lists.sections) = subst (λ list. Hold (format_rules source list))
+    (sections_one source formats.0 lists.sections formats.1.0 has.has_sections) formats.1.1 in
     let chars = hold_out Wd (page_rules Chpx text.wd (part_bytes source PlcfBteChpx) (judged_places source)) held.0 in
-    let paras = hold_out Wd (page_rules Papx text.wd (part_bytes source PlcfBtePapx) (paragraph_places source lists.sections)) held.1 in
+    let paras = hold_out Wd (page_rules Papx text.wd (part_bytes source PlcfBtePapx) (paragraph_places source
+    lists.sections)) held.1 in
     let total = fits.total in
     record {
       bytes = wd;
       long = omega arith;
-      modifiers = place_right text.pieces (right_modifiers (clx_of text.wd text.table) text.pieces (part_bytes_are (source_of text) Clx table) has_text.has_pieces);
+      modifiers = place_right text.pieces (right_modifiers (clx_of text.wd text.table) text.pieces (part_bytes_are
+          (source_of text) Clx table) has_text.has_pieces);
       characters = right_of Chpx text.wd (part_bytes source PlcfBteChpx) (judged_places source) chars;
       paragraphs = right_of Papx text.wd (part_bytes source PlcfBtePapx) (paragraph_places source lists.sections) paras;
-      ends = ends_up lists.sections main_len (some_section source lists.sections hold.0.0 has.has_sections) has.has_sections.leading.in_order;
+      ends = ends_up lists.sections main_len (some_section source lists.sections hold.0.0 has.has_sections)
+          has.has_sections.leading.in_order;
       maps_formed = made.formed;
       fields = fields;
     }
@@ -113,7 +129,8 @@ document_there file contents text bytes container has texts has_text hold =
     let source = source_of text in
     let wd = named_bytes file contents wd_name text.wd bytes has has_text.has_wd in
     let table = named_bytes file contents (table_stream_name text.wd) text.table bytes has has_text.has_table in
-    let fits = text_fits text.wd text.table text.pieces (part_bytes_are (source_of text) Clx table) (text_held file contents text texts has has_text) has_text.has_pieces in
+    let fits = text_fits text.wd text.table text.pieces (part_bytes_are (source_of text) Clx table) (text_held file
+    contents text texts has has_text) has_text.has_pieces in
     let bounds = contents-bounded file contents container has in
     let short = table-short contents text bounds has_text in
     let total = fits.total in
@@ -121,16 +138,24 @@ document_there file contents text bytes container has texts has_text hold =
     let long : text_count source ≤ length source.text.units = omega arith in
     let parts = part_lists_there source table long hold in
     let lists = parts.lists in
-    let sepx = subst (λ list. Hold (sed_rules source list)) (sections_one source hold.0.0.1.0 lists.sections hold.0.0.1.1.0 parts.has.has_sections) hold.0.0.1.1.1 in
+    let sepx = subst (λ list. Hold (sed_rules source list)) (sections_one source hold.0.0.1.0 lists.sections
+    hold.0.0.1.1.0 parts.has.has_sections) hold.0.0.1.1.1 in
     let maps = section_maps_there text.wd lists.sections wd (λ place broken. sepx.1.1 (Wd, place) (refl, broken)) in
     let is_ready = ready file contents text lists maps.0 wd table fits has_text hold parts.has parts.fields maps.1 in
     let few = fits.few in
     let levels = levels-short source lists.levels parts.has.has_levels in
     let carried = carried_there contents text lists.levels bounds has_text wd (clsid_long file contents container has)
     (carried_bytes file contents source lists.levels bytes has table parts.has.has_levels)
-    (all_short source lists.levels short levels) (lists-with_levels source lists.levels hold.1.1.1.1.1.1.1 parts.has.has_levels)
-    (carried-stored contents (contents_stored file contents bytes has)) in
-    (lists, (parts.has, document_of contents text lists maps.0 parts.has maps.1 parts.sheet short (omega arith) (items_there text lists maps.0 is_ready) carried))
+    (all_short source lists.levels short levels) (lists-with_levels source lists.levels hold.1.1.1.1.1.1.1
+    parts.has.has_levels)
+    (carried-stored contents (contents_stored file contents bytes has)) in (
+      lists,
+      (
+        parts.has,
+        document_of contents text lists maps.0 parts.has maps.1 parts.sheet short (omega arith)
+            (items_there text lists maps.0 is_ready) carried,
+      ),
+    )
 
 pub files_hold : FilesHoldDocuments
 files_hold file bytes hold =
@@ -139,7 +164,8 @@ files_hold file bytes hold =
     let rest = hold.1.1.1 in
     let text = rest.1.0 in
     let has_text = rest.1.1.0 in
-    let there = document_there file contents text bytes (hold_out File (container_rules file) hold.0) has rest.0 has_text rest.1.1.1 in
+    let there = document_there file contents text bytes (hold_out File (container_rules file) hold.0) has rest.0
+    has_text rest.1.1.1 in
     let lists = there.0 in
     let document = there.1.1 in
     record {
@@ -147,7 +173,12 @@ files_hold file bytes hold =
       holds = record {
         rules = hold;
         parts = record { contents = contents; text = text; lists = lists; sections = document.from.sections };
-        has_parts = record { has_contents = has; has_text = has_text; has_lists = there.1.0; has_sections = document.from.has_sections };
+        has_parts = record {
+          has_contents = has;
+          has_text = has_text;
+          has_lists = there.1.0;
+          has_sections = document.from.has_sections;
+        };
         document_is = document.from.document_is;
       };
       formed = document.formed;

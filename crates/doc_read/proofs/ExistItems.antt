@@ -42,10 +42,14 @@ use Rattle.doc_read.proofs.KeptPlaces.{paragraph_place}
 pub record AreReady (text : FileText) (lists : PartLists) (maps : List Settings) : Type 0 where
   pub bytes : AreBytes text.wd
   pub long : text_count (source_of text) ≤ length (flat_pieces text.pieces)
-  pub modifiers : (cp : ℕ) (place : UnitPlace) → place_of_cp text.pieces cp ≡ Some place → IsRightModifier place.modifier
-  pub characters : (k : ℕ) → k < length (judged_places (source_of text)) → IsRight Chpx text.wd (part_bytes (source_of text) PlcfBteChpx) (slice_index (judged_places (source_of text)) k)
-  pub paragraphs : (k : ℕ) → k < length (paragraph_places (source_of text) lists.sections) → IsRight Papx text.wd (part_bytes (source_of text) PlcfBtePapx) (slice_index (paragraph_places (source_of text) lists.sections) k)
-  pub ends : IsUpWithin 1 (story_length (source_of text) Main + 1) (section_ends lists.sections (story_length (source_of text) Main))
+  pub modifiers : (cp : ℕ) (place : UnitPlace) → place_of_cp text.pieces cp ≡ Some place → IsRightModifier
+      place.modifier
+  pub characters : (k : ℕ) → k < length (judged_places (source_of text)) → IsRight Chpx text.wd
+      (part_bytes (source_of text) PlcfBteChpx) (slice_index (judged_places (source_of text)) k)
+  pub paragraphs : (k : ℕ) → k < length (paragraph_places (source_of text) lists.sections) → IsRight Papx text.wd
+      (part_bytes (source_of text) PlcfBtePapx) (slice_index (paragraph_places (source_of text) lists.sections) k)
+  pub ends : IsUpWithin 1 (story_length (source_of text) Main + 1) (section_ends lists.sections (story_length
+      (source_of text) Main))
   pub maps_formed : All (IsPropertyMap section_groups) maps
   pub fields : AreByteFields lists
 
@@ -62,7 +66,12 @@ record HasMarkOf (end : Bool) (source : DocSource) (place : UnitPlace) : Type 0 
 mark_of : (end : Bool) (source : DocSource) (place : UnitPlace) → AreBytes source.wd →
     (end ≡ true → IsRight Papx source.wd (part_bytes source PlcfBtePapx) place.at) → IsRightModifier place.modifier →
     HasMarkOf end source place
-mark_of false source place bytes right modifier = record { mark = None; is = tt; formed = λ m e. absurd (cc (e)); small = λ m e. absurd (cc (e)) }
+mark_of false source place bytes right modifier = record {
+  mark = None;
+  is = tt;
+  formed = λ m e. absurd (cc (e));
+  small = λ m e. absurd (cc (e));
+}
 mark_of true source place bytes right modifier =
     let has =
     mark_there source.wd (part_bytes source PlcfBtePapx) place.at place.modifier bytes (right refl) modifier in
@@ -98,35 +107,59 @@ item_there text lists maps ready cp below =
     read_at_place (λ p. p.at) text.pieces cp (text_count source) place here below in
     let unit_is : slice_index (judged_units source) cp ≡ unit =
     read_at_place (unit_at text.wd) text.pieces cp (text_count source) place here below in
-    let all_places : length (judged_places source) ≡ min (text_count source) (length (map (λ (p : UnitPlace). p.at) flat)) = length-take (text_count source) (map (λ (p : UnitPlace). p.at) flat) in
+    let all_places : length (judged_places source) ≡ min (text_count source) (length (map (λ (p : UnitPlace). p.at)
+    flat)) = length-take (text_count source) (map (λ (p : UnitPlace). p.at) flat) in
     let all_units : length (judged_units source) ≡ min (text_count source) (length (map (unit_at text.wd) flat)) =
     length-take (text_count source) (map (unit_at text.wd) flat) in
     let places_len = length-map flat (λ (p : UnitPlace). p.at) in
     let units_len = length-map flat (unit_at text.wd) in
     let in_places : cp < length (judged_places source) = omega arith in
     let in_units : cp < length (judged_units source) = omega arith in
-    let chp = character_there text.wd (part_bytes source PlcfBteChpx) place.at place.modifier ready.bytes (subst (IsRight Chpx text.wd (part_bytes source PlcfBteChpx)) place_is (ready.characters cp in_places)) modifier in
+    let chp = character_there text.wd (part_bytes source PlcfBteChpx) place.at place.modifier ready.bytes
+    (subst (IsRight Chpx text.wd (part_bytes source PlcfBteChpx)) place_is (ready.characters cp in_places))
+    modifier in
     let ends : is_paragraph_end unit (is_some sect) ≡ true → ends_paragraph source lists.sections cp ≡ true = λ e.
     ends_more (slice_index (judged_units source) cp) (is_some sect) (ends_section lists.sections main_len cp)
     (section_ends_there lists.sections main_len maps cp ready.ends)
     (ap (λ u. is_paragraph_end u (is_some sect)) unit_is ∙ e) in
-    let right : is_paragraph_end unit (is_some sect) ≡ true → IsRight Papx text.wd (part_bytes source PlcfBtePapx) place.at = λ e.
+    let right : is_paragraph_end unit (is_some sect) ≡ true → IsRight Papx text.wd (part_bytes source PlcfBtePapx)
+    place.at = λ e.
     let at = paragraph_place source lists.sections cp in_units (ends e) in
     subst (IsRight Papx text.wd (part_bytes source PlcfBtePapx)) (at.1.1 ∙ place_is) (ready.paragraphs at.0 at.1.0) in
     let mark = mark_of (is_paragraph_end unit (is_some sect)) source place ready.bytes right modifier in
     let fld = entry_at (field_bytes source lists) cp in (
-      record { unit = unit; chp = chp.settings; mark = mark.mark; sect = sect; fld = fld; note = entry_at (note_kinds lists.refs) cp },
       record {
-        is = record { place = place; here = here; unit = refl; characters = chp.is; section = refl; mark = mark.is; field = refl; note = refl };
+        unit = unit;
+        chp = chp.settings;
+        mark = mark.mark;
+        sect = sect;
+        fld = fld;
+        note = entry_at
+            (note_kinds lists.refs) cp;
+      },
+      record {
+        is = record {
+          place = place;
+          here = here;
+          unit = refl;
+          characters = chp.is;
+          section = refl;
+          mark = mark.is;
+          field = refl;
+          note = refl;
+        };
         formed = record {
           maps = record {
             chp = chp.formed;
             pap = mark.formed;
-            sect = λ m e. entry_has (IsPropertyMap section_groups) (section_marks lists.sections main_len maps) cp m (zipped_has (IsPropertyMap section_groups) (section_lasts lists.sections main_len) maps ready.maps_formed) e;
+            sect = λ m e. entry_has (IsPropertyMap section_groups) (section_marks lists.sections main_len maps) cp m
+                (zipped_has (IsPropertyMap section_groups) (section_lasts lists.sections main_len) maps
+                ready.maps_formed) e;
           };
           unit = place_unit_small text.wd place ready.bytes;
           style = mark.small;
-          field = λ n e. entry_has (λ b. b < 256) (field_bytes source lists) cp n (all_bytes source lists ready.fields) e;
+          field = λ n e. entry_has (λ b. b < 256) (field_bytes source lists) cp n (all_bytes source lists
+              ready.fields) e;
         };
       },
     )
@@ -145,6 +178,10 @@ items_there text lists maps ready =
     let from_start : (i : ℕ) → i ≡ 0 + i = λ i. omega arith in
     record {
       items = found.list;
-      holds = record { len = omega (arith, found.len); each = λ i item here. subst (λ cp. IsItemAt (parts_of text lists maps) cp item) (from_start i) (found.each i item here).is };
+      holds = record {
+        len = omega (arith, found.len);
+        each = λ i item here. subst (λ cp. IsItemAt (parts_of text
+            lists maps) cp item) (from_start i) (found.each i item here).is;
+      };
       formed = All-from_slice_get IsFormedItem found.list (λ k item here. (found.each k item here).formed);
     }

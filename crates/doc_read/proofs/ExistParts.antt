@@ -71,10 +71,16 @@ story_fields source story are long none =
       broken = record {
         here = refl;
         broken = λ there.
-            no (subst (λ len. IsRightEntry fld_form (fld_cps len) (plc_part 2 bytes) k) (story_fits source story long) there.right);
+            no (subst (λ len. IsRightEntry fld_form (fld_cps len) (plc_part 2 bytes) k) (story_fits source story long)
+            there.right);
       };
     }))) in
-    record { list = found.0; has = found.1; bytes = fields_are_bytes bytes (story_length source story) found.0 (part_bytes_are source (field_part story) are) found.1 }
+    record {
+      list = found.0;
+      has = found.1;
+      bytes = fields_are_bytes bytes (story_length source story) found.0
+          (part_bytes_are source (field_part story) are) found.1;
+    }
 
 all_stories : (source : DocSource) → Nowhere (BreaksAllFields source) → (story : StoryKind) →
     Nowhere (BreaksStoryFields source story)
@@ -109,9 +115,11 @@ part_lists_there source are long hold =
     let main = story_fields source Main are long (none_fields Main) in
     let notes = story_fields source Notes are long (none_fields Notes) in
     let heads = story_fields source Heads are long (none_fields Heads) in
-    let refs = refs_there (part_bytes source PlcffndRef) (part_place source PlcffndRef) (story_length source Main) (λ place broken. story.1.0 (Table, place) (refl, inl broken)) in
+    let refs = refs_there (part_bytes source PlcffndRef) (part_place source PlcffndRef) (story_length source Main)
+    (λ place broken. story.1.0 (Table, place) (refl, inl broken)) in
     let ends = story.1.1.1.0 in
-    let sheet = sheet_there (part_bytes source Stshf) (part_place source Stshf) (part_bytes_are source Stshf are) (hold_out Table (stsh_rules (part_bytes source Stshf) (part_place source Stshf)) hold.1.1.0) in
+    let sheet = sheet_there (part_bytes source Stshf) (part_place source Stshf) (part_bytes_are source Stshf are)
+    (hold_out Table (stsh_rules (part_bytes source Stshf) (part_place source Stshf)) hold.1.1.0) in
     let levels = levels_there source in
     let sections = hold.0.0.1 in
     record {

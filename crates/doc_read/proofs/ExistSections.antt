@@ -31,18 +31,32 @@ section_there wd list k bytes none below =
       | inr there ↦
           let list_bytes = AreBytes-range wd (fc + 2) (fc + 2 + u16_at wd fc) bytes in
           let accepted = accepted_of (sepx_list wd fc) section_groups list_bytes
-          (λ p fault. none (fc + 2 + p) (record { entry = k; below = below; broken = record { settings = there; fault = record { offset = p; here = refl; broken = fault } } })) in
-          let made = settings_there (sepx_list wd fc) section_groups list_bytes accepted in
-          (made.made, record { is = inr (record { there = there; style = made.style; makes = made.makes }); formed = made.formed })
+          (λ p fault. none (fc + 2 + p) (record {
+            entry = k;
+            below = below;
+            broken = record {
+              settings = there;
+              fault = record { offset = p; here = refl; broken = fault };
+            };
+          })) in
+          let made = settings_there (sepx_list wd fc) section_groups list_bytes accepted in (
+            made.made,
+            record {
+              is = inr (record { there = there; style = made.style; makes = made.makes });
+              formed = made.formed;
+            },
+          )
     ]
 
 pub section_maps_there : (wd : List ℕ) (list : List Sed) → AreBytes wd → Nowhere (BreaksSepxLists wd list) →
     (maps : List Settings) × AreSectionMaps wd list maps
 section_maps_there wd list bytes none =
-    let found = list_of (length list) (λ k map. IsRightSection wd (section_fc list k) map) (λ k below. section_there wd list k bytes none below) in (
+    let found = list_of (length list) (λ k map. IsRightSection wd (section_fc list k) map) (λ k below. section_there
+    wd list k bytes none below) in (
       found.list,
       record {
         have = record { len = found.len; each = λ k map here. (found.each k map here).is };
-        formed = All-from_slice_get (IsPropertyMap section_groups) found.list (λ k map here. (found.each k map here).formed);
+        formed = All-from_slice_get (IsPropertyMap section_groups) found.list (λ k map here. (found.each k map
+            here).formed);
       },
     )

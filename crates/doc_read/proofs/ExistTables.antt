@@ -19,7 +19,14 @@ pub refs_there : (bytes : List ℕ) (at main_len : ℕ) → Nowhere (BreaksTable
 refs_there bytes at main_len none =
     let table = plc_part 2 bytes in
     entries_there ref_form (ref_cps main_len) table (λ cp bytes entry e. ap (λ o. (unwrap_or o entry).cp) (sym e))
-    (λ k below wrong. none (at + 4 * k) (inr (record { entry = k; below = below; broken = record { here = refl; broken = wrong } })))
+    (λ k below wrong. none (at + 4 * k) (inr (record {
+      entry = k;
+      below = below;
+      broken = record {
+        here = refl;
+        broken = wrong;
+      };
+    })))
 
 -- a field character has the CP and the second byte
 fld_is : (b : Bool) (cp unit byte : ℕ) (fld : Fld) →
@@ -32,7 +39,8 @@ pub fields_there : (bytes : List ℕ) (story_len : ℕ) →
     (list : List Fld) × AreFields bytes story_len list
 fields_there bytes story_len right =
     entries_there fld_form (fld_cps story_len) (plc_part 2 bytes)
-    (λ cp bytes entry e. (fld_is (is_field_unit (slice_index bytes 0 % 32)) cp (slice_index bytes 0 % 32) (slice_index bytes 1) entry e).0) right
+    (λ cp bytes entry e. (fld_is (is_field_unit (slice_index bytes 0 % 32)) cp (slice_index bytes 0 % 32) (slice_index
+    bytes 1) entry e).0) right
 
 pub fld_byte : (bytes : List ℕ) (story_len k : ℕ) (list : List Fld) (fld : Fld) → AreFields bytes story_len list →
     slice_get list k ≡ Some fld → fld.byte ≡ slice_index (plc_entry (plc_part 2 bytes) k) 1

@@ -40,7 +40,8 @@ file-refused-document file document fault holds refused =
     (refused-given (HoldsDocument file) document_rules document fault holds refused)
 
 -- the document that is found is the one that the file holds
-pub holds-found : (file : List ℕ) (contents : Contents) (document : Document) (fib : FibFields) (pieces : List TextPiece) →
+pub holds-found : (file : List ℕ) (contents : Contents) (document : Document) (fib : FibFields) (pieces : List
+    TextPiece) →
     Hold (rules_in File (container_rules file)) → HasContents file contents → Hold (contents_rules contents) →
     IsFoundIn contents document fib pieces → HoldsDocument file document
 holds-found file contents document fib pieces container has holds found =
@@ -48,7 +49,12 @@ holds-found file contents document fib pieces container has holds found =
     record {
       rules = (container, (contents, (has, holds)));
       parts = record { contents = contents; text = found.text; lists = found.lists; sections = from.sections };
-      has_parts = record { has_contents = has; has_text = found.has_text; has_lists = found.has_lists; has_sections = from.has_sections };
+      has_parts = record {
+        has_contents = has;
+        has_text = found.has_text;
+        has_lists = found.has_lists;
+        has_sections = from.has_sections;
+      };
       document_is = from.document_is;
     }
 

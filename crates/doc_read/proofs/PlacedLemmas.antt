@@ -29,7 +29,8 @@ use Rattle.doc_read.proofs.PlaceLemmas.{place_at, place_in_piece, read_at_place}
 use Rattle.doc_read.proofs.ReadableLemmas.{view_of}
 
 -- the item of a CP
-pub item_of : (text : FileText) (source : DocSource) (lists : PartLists) (marks : MarkLists) (maps : List Settings) (cp : ℕ) (item : Item) →
+pub item_of : (text : FileText) (source : DocSource) (lists : PartLists) (marks : MarkLists) (maps : List Settings)
+    (cp : ℕ) (item : Item) →
     source ≡ source_of text → AreMarksOf source lists marks → cp < text_count source →
     IsPlacedItem (view_of source marks maps) text.pieces cp item →
     IsItemAt (record { source = source; pieces = text.pieces; lists = lists; sections = maps }) cp item
@@ -44,21 +45,27 @@ item_of text source lists marks maps cp item same is below placed =
     ap (λ (s : DocSource). s.text.units) same ∙ ap (λ wd. map (unit_at wd) flat) wd_is in
     let places_are : source.text.places ≡ map (λ (place : UnitPlace). place.at) flat =
     ap (λ (s : DocSource). s.text.places) same in
-    let place_is : slice_index (judged_places source) cp ≡ place.at = ap (λ l. slice_index (take count l) cp) places_are ∙ read_at_place (λ (place : UnitPlace). place.at) pieces cp count place placed.here below in
+    let place_is : slice_index (judged_places source) cp ≡ place.at = ap (λ l. slice_index (take count l) cp)
+    places_are ∙ read_at_place (λ (place : UnitPlace). place.at) pieces cp count place placed.here below in
     record {
       place = place;
       here = placed.here;
-      unit = read.unit_is ∙ (ap (λ l. slice_index (take count l) cp) units_are ∙ read_at_place (unit_at source.wd) pieces cp count place placed.here below);
-      characters = subst (λ fc. IsDirectCharacter source.wd (part_bytes source PlcfBteChpx) fc place.modifier item.chp) place_is read.characters;
+      unit = read.unit_is ∙ (ap (λ l. slice_index (take count l) cp) units_are ∙ read_at_place (unit_at source.wd)
+          pieces cp count place placed.here below);
+      characters = subst (λ fc. IsDirectCharacter source.wd (part_bytes source PlcfBteChpx) fc place.modifier
+          item.chp) place_is read.characters;
       section = read.sect_is ∙ ap (λ l. section_at l maps cp) is.sections;
       mark =
-          (subst (λ fc. IsMarkAt (is_paragraph_end item.unit (is_some item.sect)) source.wd (part_bytes source PlcfBtePapx) fc place.modifier item.mark) place_is read.mark_is);
-      field = read.fld_is ∙ entry_of_parts (field_bytes source lists) marks.field_cps marks.field_bytes cp is.fields is.bytes;
+          (subst (λ fc. IsMarkAt (is_paragraph_end item.unit (is_some item.sect)) source.wd (part_bytes source
+          PlcfBtePapx) fc place.modifier item.mark) place_is read.mark_is);
+      field = read.fld_is ∙ entry_of_parts (field_bytes source lists) marks.field_cps marks.field_bytes cp is.fields
+          is.bytes;
       note = read.note_is ∙ entry_of_parts (note_kinds lists.refs) marks.note_cps marks.note_kinds cp is.notes is.kinds;
     }
 
 -- the items of one piece more
-pub placed_more : (view : TextView) (pieces : List TextPiece) (i added count : ℕ) (piece : TextPiece) (old new : List Item) →
+pub placed_more : (view : TextView) (pieces : List TextPiece) (i added count : ℕ) (piece : TextPiece) (old new : List
+    Item) →
     slice_get pieces i ≡ Some piece → length old ≡ min (total_length (take i pieces)) count →
     added ≡ min piece.len (count - length old) → ArePlacedItems view pieces old →
     AddsEach (IsReadAt view piece.modifier) added old new → ArePlacedItems view pieces new
@@ -72,7 +79,11 @@ placed_more view pieces i added count piece old new here len added_is so_far add
           let j : ℕ = cp - front in
           let cp_is : cp ≡ front + j = omega (arith, within, all, len, added_is) in
           let below : j < piece.len = omega (arith, within, all, len, added_is, cp_is) in
-          record { place = place_at piece j; here = place_in_piece pieces i j cp piece here below cp_is; read = adds.each cp item upper there }
+          record {
+            place = place_at piece j;
+            here = place_in_piece pieces i j cp piece here below cp_is;
+            read = adds.each cp item upper there;
+          }
     ]
 
 -- and their number
@@ -97,15 +108,18 @@ enough_units text source units pieces units_are same pieces_are =
     omega (arith, some, one, two, three)
 
 -- all items
-pub held : (text : FileText) (source : DocSource) (lists : PartLists) (marks : MarkLists) (maps : List Settings) (items : List Item) →
+pub held : (text : FileText) (source : DocSource) (lists : PartLists) (marks : MarkLists) (maps : List Settings)
+    (items : List Item) →
     source ≡ source_of text → AreMarksOf source lists marks → length items ≡ text_count source →
     ArePlacedItems (view_of source marks maps) text.pieces items
-    → HoldsItems (record { source = source; pieces = text.pieces; lists = lists; sections = maps }) 0 (text_count source) items
+    → HoldsItems (record { source = source; pieces = text.pieces; lists = lists; sections = maps }) 0
+    (text_count source) items
 held text source lists marks maps items same is len placed =
     let parts : TextParts = record { source = source; pieces = text.pieces; lists = lists; sections = maps } in
     record {
       len = omega (arith, len);
       each = λ i item here.
           let within = slice_get_within items i item here in
-          subst (λ n. IsItemAt parts n item) (sym (zero-add i)) (item_of text source lists marks maps i item same is (omega (arith, within, len)) (placed i item here));
+          subst (λ n. IsItemAt parts n item) (sym (zero-add i)) (item_of text source lists marks maps i item same is
+          (omega (arith, within, len)) (placed i item here));
     }

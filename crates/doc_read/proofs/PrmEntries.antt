@@ -34,7 +34,12 @@ TakesByte code = (byte : ℕ) → IsPrl (code, byte ∷ [])
 
 takes_byte : (code : ℕ) → 0 < code → code < 65536 → size_of code ≡ Fixed 1 → TakesByte code
 unfolding TakesByte
-takes_byte code some word size byte = record { some = some; word = word; size = subst (λ s. IsSizeOf s (length (byte ∷ []))) (sym size) refl }
+takes_byte code some word size byte = record {
+  some = some;
+  word = word;
+  size = subst (λ s. IsSizeOf s
+      (length (byte ∷ []))) (sym size) refl;
+}
 
 codes_take_bytes : AllRows TakesByte prm_codes
 unfolding AllRows
@@ -68,7 +73,14 @@ codes_take_bytes = (
                             takes_byte 0x083B (lit< tt) (lit< tt) refl,
                             (
                               takes_byte 0x083C (lit< tt) (lit< tt) refl,
-                              (takes_byte 0x2A3E (lit< tt) (lit< tt) refl, (takes_byte 0x2A42 (lit< tt) (lit< tt) refl, (takes_byte 0x2A48 (lit< tt) (lit< tt) refl, tt))),
+                              (
+                                takes_byte 0x2A3E (lit< tt) (lit< tt) refl,
+                                (
+                                  takes_byte 0x2A42 (lit< tt) (lit< tt)
+                                      refl,
+                                  (takes_byte 0x2A48 (lit< tt) (lit< tt) refl, tt),
+                                ),
+                              ),
                             ),
                           ),
                         ),
@@ -94,5 +106,6 @@ pub named_entries : (prcs : List (List ℕ)) (prm : Prm) (sprms : List Prl) → 
 named_entries prcs Nothing sprms named = subst (All IsPrl) (sym named) (All-nil IsPrl)
 named_entries prcs (Sprm isprm operand) sprms named =
     let code = named.0 in
-    subst (All IsPrl) (sym named.1.1) (All-cons IsPrl (code, operand ∷ []) [] (prm_entry isprm code operand named.1.0) (All-nil IsPrl))
+    subst (All IsPrl) (sym named.1.1) (All-cons IsPrl (code, operand ∷ []) [] (prm_entry isprm code operand named.1.0)
+    (All-nil IsPrl))
 named_entries prcs (Prc number) sprms named = named.1.1.entries

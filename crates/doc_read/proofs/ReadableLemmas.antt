@@ -49,16 +49,32 @@ readable_of source lists marks maps rules has are is small few same =
       same = same;
       right_characters = right_characters source sections rules.1.0 has.has_sections;
       right_paragraphs = λ cp below ends_here.
-          let there = λ (s : is_some (section_at marks.section_cps maps cp) ≡ true). section_ends_there sections main_len maps cp ends (ap (λ l. is_some (section_at l maps cp)) (sym is.sections) ∙ s) in
-          let e = ends_more (slice_index (judged_units source) cp) (is_some (section_at marks.section_cps maps cp)) (ends_section sections main_len cp) there ends_here in
+          let there = λ (s : is_some (section_at marks.section_cps maps cp) ≡ true). section_ends_there sections
+          main_len maps cp ends (ap (λ l. is_some (section_at l maps cp)) (sym is.sections) ∙ s) in
+          let e = ends_more (slice_index (judged_units source) cp) (is_some (section_at marks.section_cps maps cp))
+          (ends_section sections main_len cp) there ends_here in
           paragraph_right source.wd (part_bytes source PlcfBtePapx) source sections right cp below e;
       fields = record {
         up = subst AreUp (sym is.fields) (fields_up source lists has);
-        len = omega (arith, ap length is.fields, ap length is.bytes, length-map (field_bytes source lists) (λ entry. entry.0), length-map (field_bytes source lists) (λ entry. entry.1));
+        len = omega (
+          arith,
+          ap length is.fields,
+          ap length is.bytes,
+          length-map (field_bytes source lists)
+              (λ entry. entry.0),
+          length-map (field_bytes source lists) (λ entry. entry.1),
+        );
       };
       notes = record {
         up = subst AreUp (sym is.notes) (notes_up source lists has);
-        len = omega (arith, ap length is.notes, ap length is.kinds, length-map (note_kinds lists.refs) (λ entry. entry.0), length-map (note_kinds lists.refs) (λ entry. entry.1));
+        len = omega (
+          arith,
+          ap length is.notes,
+          ap length is.kinds,
+          length-map (note_kinds lists.refs)
+              (λ entry. entry.0),
+          length-map (note_kinds lists.refs) (λ entry. entry.1),
+        );
       };
       sections = record {
         up = subst AreUp (sym is.sections) (up_less (main_len + 1) _ ends);
@@ -68,9 +84,27 @@ readable_of source lists marks maps rules has are is small few same =
     }
 
 -- the same by its lists
-pub view_same : (source : DocSource) (marks : MarkLists) (maps : List Settings) (wd characters paragraphs units places : List ℕ) →
+pub view_same : (source : DocSource) (marks : MarkLists) (maps : List Settings) (wd characters paragraphs units places
+    : List ℕ) →
     wd ≡ source.wd → characters ≡ part_bytes source PlcfBteChpx → paragraphs ≡ part_bytes source PlcfBtePapx →
     units ≡ judged_units source → places ≡ judged_places source
-    → record { wd = wd; characters = characters; paragraphs = paragraphs; units = units; places = places; marks = marks; maps = maps } ≡ view_of source marks maps
-view_same source marks maps wd characters paragraphs units places wd_is characters_are paragraphs_are units_are places_are =
-    λ i. record { wd = wd_is i; characters = characters_are i; paragraphs = paragraphs_are i; units = units_are i; places = places_are i; marks = marks; maps = maps }
+    → record {
+      wd = wd;
+      characters = characters;
+      paragraphs = paragraphs;
+      units = units;
+      places = places;
+      marks = marks;
+      maps = maps;
+    } ≡ view_of source marks maps
+view_same source marks maps wd characters paragraphs units places wd_is characters_are paragraphs_are units_are
+    places_are =
+    λ i. record {
+      wd = wd_is i;
+      characters = characters_are i;
+      paragraphs = paragraphs_are i;
+      units = units_are i;
+      places = places_are i;
+      marks = marks;
+      maps = maps;
+    }

@@ -1,5 +1,6 @@
 -- Readers of pieces with one modifier.
-use Rattle.std.proofs.Common.{◌≡◌, ◌∙◌, ◌<◌, ◌≤◌, ◌+◌, ◌-◌, refl, sym, ap, subst, ℕ, List, [], ◌∷◌, ◌++◌, length, Some, slice_get, get_or, arith}
+use Rattle.std.proofs.Common.{◌≡◌, ◌∙◌, ◌<◌, ◌≤◌, ◌+◌, ◌-◌, refl, sym, ap, subst, ℕ, List, [], ◌∷◌, ◌++◌, length}
+use Rattle.std.proofs.Common.{Some, slice_get, get_or, arith}
 use Rattle.std.specs.Prelude.{slice_range}
 use Rattle.std.proofs.lemmas.Option.{slice_get_read, slice_get_within}
 use Rattle.std.proofs.lemmas.List.Elements.{All-set}
@@ -17,41 +18,64 @@ use Rattle.doc_read.specs.Reading.{TextView, IsPieceReader, ArePieceReaders, Has
 use Rattle.doc_read.proofs.PlaceLemmas.{range_at}
 
 -- a source has the modifier of another, where both have one
-pub source_as : (source other : PlaceSource) (kind : PageKind) (wd bin : List ℕ) (modifier : Modifier) → source ≡ record { kind = kind; wd = wd; bin = bin; modifier = modifier } → other.modifier ≡ modifier →
+pub source_as : (source other : PlaceSource) (kind : PageKind) (wd bin : List ℕ) (modifier : Modifier) →
+    source ≡ record { kind = kind; wd = wd; bin = bin; modifier = modifier } → other.modifier ≡ modifier →
     source ≡ record { kind = kind; wd = wd; bin = bin; modifier = other.modifier }
-source_as source other kind wd bin modifier e m = e ∙ (λ i. record { kind = kind; wd = wd; bin = bin; modifier = sym m i })
+source_as source other kind wd bin modifier e m = e ∙ (λ i. record {
+  kind = kind;
+  wd = wd;
+  bin = bin;
+  modifier = sym m
+      i;
+})
 
 -- some of the places are right where all are
-pub right_range : (wd bin places : List ℕ) (from to : ℕ) → to ≤ length places → AreRightPlaces Chpx wd bin places → AreRightPlaces Chpx wd bin (slice_range places from to)
+pub right_range : (wd bin places : List ℕ) (from to : ℕ) → to ≤ length places → AreRightPlaces Chpx wd bin places →
+    AreRightPlaces Chpx wd bin (slice_range places from to)
 right_range wd bin places from to within right k below =
     let len = length-range places from to within in
     let inside : k < to - from = omega (arith, below, len) in
-    subst (λ fc. IsRightPlace Chpx wd bin fc) (sym (range_at places from to k inside)) (right (from + k) (omega (arith, inside, within)))
+    subst (λ fc. IsRightPlace Chpx wd bin fc) (sym (range_at places from to k inside)) (right (from + k)
+    (omega (arith, inside, within)))
 
 -- the reader at a number
-pub reader_there : (readers : List PieceReader) (number : ℕ) (reader : PieceReader) (modifier : Modifier) → number < length readers → reader ≡ get_or readers number reader →
+pub reader_there : (readers : List PieceReader) (number : ℕ) (reader : PieceReader) (modifier : Modifier) →
+    number < length readers → reader ≡ get_or readers number reader →
     reader.characters.modifier ≡ modifier → HasReaderFor readers number modifier
 reader_there readers number reader modifier within is serves =
-    record { reader = reader; here = slice_get_read readers (length readers) number reader refl within is; serves = serves }
+    record {
+      reader = reader;
+      here = slice_get_read readers (length readers) number reader refl within is;
+      serves = serves;
+    }
 
 -- the reader that was added
-pub last_reader : (readers : List PieceReader) (number : ℕ) (reader : PieceReader) (modifier : Modifier) → number ≡ length readers →
+pub last_reader : (readers : List PieceReader) (number : ℕ) (reader : PieceReader) (modifier : Modifier) →
+    number ≡ length readers →
     reader.characters.modifier ≡ modifier → HasReaderFor (readers ++ reader ∷ []) number modifier
 last_reader readers number reader modifier is serves =
-    record { reader = reader; here = ap (slice_get (readers ++ reader ∷ [])) is ∙ slice_get_push readers reader; serves = serves }
+    record {
+      reader = reader;
+      here = ap (slice_get (readers ++ reader ∷ [])) is ∙ slice_get_push readers reader;
+      serves = serves;
+    }
 
 -- a reader at its number reads this text
-pub reader_right : (view : TextView) (readers : List PieceReader) (number : ℕ) (reader : PieceReader) → ArePieceReaders view readers → slice_get readers number ≡ Some reader → IsPieceReader view reader
+pub reader_right : (view : TextView) (readers : List PieceReader) (number : ℕ) (reader : PieceReader) →
+    ArePieceReaders view readers → slice_get readers number ≡ Some reader → IsPieceReader view reader
 reader_right view readers number reader are here = All_at (IsPieceReader view) readers number reader are here
 
 -- a reader that stays as it is
-pub readers_same : (view : TextView) (readers : List PieceReader) (number : ℕ) (old new : PieceReader) → ArePieceReaders view readers → slice_get readers number ≡ Some old → new ≡ old →
+pub readers_same : (view : TextView) (readers : List PieceReader) (number : ℕ) (old new : PieceReader) →
+    ArePieceReaders view readers → slice_get readers number ≡ Some old → new ≡ old →
     ArePieceReaders view (set readers number new)
 readers_same view readers number old new are here same =
-    All-set (IsPieceReader view) readers number new (subst (IsPieceReader view) (sym same) (reader_right view readers number old are here)) are
+    All-set (IsPieceReader view) readers number new (subst (IsPieceReader view) (sym same) (reader_right view readers
+    number old are here)) are
 
 -- the reader that stands at the number serves
-pub reader_at : (readers : List PieceReader) (number : ℕ) (reader : PieceReader) (modifier : Modifier) → HasReaderFor readers number modifier → reader ≡ get_or readers number reader →
+pub reader_at : (readers : List PieceReader) (number : ℕ) (reader : PieceReader) (modifier : Modifier) →
+    HasReaderFor readers number modifier → reader ≡ get_or readers number reader →
     (slice_get readers number ≡ Some reader) × (reader.characters.modifier ≡ modifier)
 reader_at readers number reader modifier has is =
     let within = slice_get_within readers number has.reader has.here in

@@ -51,7 +51,14 @@ sepx-right source list k h has below = λ place fault.
 pub list-right : (wd : List ℕ) (fc from to : ℕ) → fc ≢ 0xFFFFFFFF → from ≡ fc + 2 → to ≡ fc + 2 + u16_at wd fc →
     Nowhere (HasSepxFault wd fc) → Nowhere (HasSprmFaultAt (slice_range wd from to) section_groups)
 list-right wd fc from to settings begins ends right = λ offset fault.
-    right (fc + 2 + offset) (record { settings = settings; fault = record { offset = offset; here = refl; broken = rw (begins, ends) at fault } })
+    right (fc + 2 + offset) (record {
+      settings = settings;
+      fault = record {
+        offset = offset;
+        here = refl;
+        broken = rw (begins, ends) at fault;
+      };
+    })
 
 -- an accepted list makes the settings of its section
 pub is-made : (wd list : List ℕ) (fc : ℕ) (none : Settings) (acted : Acted) → fc ≢ 0xFFFFFFFF → list ≡ sepx_list wd fc →
@@ -107,7 +114,8 @@ maps_more wd list k fc maps map are e settings formed = record {
         let same : j ≡ k = last.0 ∙ are.len in
         let here : IsSectionSettings wd (section_fc list k) map =
         subst (λ n. IsSectionSettings wd n map) (sym e) settings in
-        subst (λ m. IsSectionSettings wd (section_fc list j) m) (sym last.1) (subst (λ n. IsSectionSettings wd (section_fc list n) map) (sym same) here)
+        subst (λ m. IsSectionSettings wd (section_fc list j) m) (sym last.1) (subst (λ n. IsSectionSettings wd
+        (section_fc list n) map) (sym same) here)
   ];
   formed = All-push (IsPropertyMap section_groups) maps map are.formed formed;
 }
@@ -118,7 +126,8 @@ pub no_sections : (wd : List ℕ) → AreMetSections wd [] []
 no_sections wd = record { len = refl; each = λ k place map p q. absurd (none-some place p) }
 
 -- the settings that are kept at a number
-pub met_before : (wd : List ℕ) (places : List (ℕ × ℕ)) (maps : List Settings) (k fc : ℕ) (map : Settings) → AreMetSections wd places maps →
+pub met_before : (wd : List ℕ) (places : List (ℕ × ℕ)) (maps : List Settings) (k fc : ℕ) (map : Settings) →
+    AreMetSections wd places maps →
     slice_get places k ≡ Some (fc, fc) → map ≡ get_or maps k map → IsMetSection wd (fc, fc) map
 met_before wd places maps k fc map are there here =
     let within = slice_get_within places k (fc, fc) there in
@@ -126,7 +135,11 @@ met_before wd places maps k fc map are there here =
     are.each k (fc, fc) map there (slice_get_read maps (length maps) k map refl (omega arith) here)
 
 -- one section more
-pub one_met : (wd : List ℕ) (places : List (ℕ × ℕ)) (maps : List Settings) (fc : ℕ) (map : Settings) → AreMetSections wd places maps → IsMetSection wd (fc, fc) map →
+pub one_met : (wd : List ℕ) (places : List (ℕ × ℕ)) (maps : List Settings) (fc : ℕ) (map : Settings) →
+    AreMetSections wd places maps → IsMetSection wd (fc, fc) map →
     AreMetSections wd (places ++ (fc, fc) ∷ []) (maps ++ map ∷ [])
 one_met wd places maps fc map are is =
-    together_joined (IsMetSection wd) places maps ((fc, fc) ∷ []) (map ∷ []) are (together_one (IsMetSection wd) (fc, fc) map is)
+    together_joined (IsMetSection wd) places maps ((fc, fc) ∷ []) (map ∷ []) are (together_one (IsMetSection wd) (
+      fc,
+      fc,
+    ) map is)

@@ -80,9 +80,11 @@ carried-few contents text has =
     let no_wd = wd-not_carried wd.stream.name wd.named in
     let no_table = table-not_carried table.stream.name (fib_which_table text.wd == 1) table.named in
     elim (cases_lt wd.index table.index) [
-      | inl less ↦ left_out-two contents.streams wd.index table.index wd.stream table.stream less wd.here table.here no_wd no_table
+      | inl less ↦ left_out-two contents.streams wd.index table.index wd.stream table.stream less wd.here table.here
+          no_wd no_table
       | inr rest ↦ elim (cases_lt table.index wd.index) [
-        | inl less ↦ left_out-two contents.streams table.index wd.index table.stream wd.stream less table.here wd.here no_table no_wd
+        | inl less ↦ left_out-two contents.streams table.index wd.index table.stream wd.stream less table.here wd.here
+            no_table no_wd
         | inr more ↦
             let same : wd.index ≡ table.index = omega arith in
             let one : wd.stream ≡ table.stream =
@@ -108,10 +110,12 @@ carried-fit contents text bounds has = record {
 
 -- one more stream, which is carried or left out
 carried-more : (streams : List Stream) (i : ℕ) (none : Stream) → i < length streams
-    → carried_streams (take (i + 1) streams) ≡ carried_streams (take i streams) ++ map without_chain (cond (is_carried (get_or streams i none).name) (get_or streams i none ∷ []) [])
+    → carried_streams (take (i + 1) streams) ≡ carried_streams (take i streams) ++ map without_chain
+    (cond (is_carried (get_or streams i none).name) (get_or streams i none ∷ []) [])
 carried-more streams i none within =
     ap (map without_chain) (filter_more (λ s. is_carried s.name) streams i none within)
-    ∙ map-append without_chain (filter (λ s. is_carried s.name) (take i streams)) (cond (is_carried (get_or streams i none).name) (get_or streams i none ∷ []) [])
+    ∙ map-append without_chain (filter (λ s. is_carried s.name) (take i streams))
+    (cond (is_carried (get_or streams i none).name) (get_or streams i none ∷ []) [])
 
 -- a field of what stands at a place
 field-at : {X : Type 0} (streams : List Stream) (i : ℕ) (none : Stream) (field : Stream → X) (x : X) →
@@ -122,7 +126,8 @@ field-at streams i none field x within p =
 pub carried-next : (streams : List Stream) (i : ℕ) (name bytes : List ℕ) → i < length streams →
     option_map (λ s. s.name) (slice_get streams i) ≡ Some name →
     option_map (λ s. s.bytes) (slice_get streams i) ≡ Some bytes → is_carried name ≡ true
-    → carried_streams (take i streams) ++ (record { name = name; bytes = bytes }) ∷ [] ≡ carried_streams (take (i + 1) streams)
+    → carried_streams (take i streams) ++ (record { name = name; bytes = bytes }) ∷ [] ≡ carried_streams (take (i + 1)
+    streams)
 carried-next streams i name bytes within p q carried =
     let none : Stream = record { name = []; bytes = []; chain = None } in
     let stream = get_or streams i none in
@@ -131,7 +136,8 @@ carried-next streams i name bytes within p q carried =
     let same : without_chain (get_or streams i none) ≡ record { name = name; bytes = bytes } =
     λ k. record { name = name_is k; bytes = bytes_is k } in
     let is : is_carried (get_or streams i none).name ≡ true = ap is_carried name_is ∙ carried in
-    sym (carried-more streams i none within ∙ (ap (λ b. carried_streams (take i streams) ++ map without_chain (cond b (stream ∷ []) [])) is ∙ ap (λ named. carried_streams (take i streams) ++ named ∷ []) same))
+    sym (carried-more streams i none within ∙ (ap (λ b. carried_streams (take i streams) ++ map without_chain
+    (cond b (stream ∷ []) [])) is ∙ ap (λ named. carried_streams (take i streams) ++ named ∷ []) same))
 
 pub carried-skip : (streams : List Stream) (i : ℕ) (name : List ℕ) → i < length streams →
     option_map (λ s. s.name) (slice_get streams i) ≡ Some name → is_carried name ≡ false
@@ -141,7 +147,8 @@ carried-skip streams i name within p left =
     let stream = get_or streams i none in
     let left_out : is_carried (get_or streams i none).name ≡ false =
     ap is_carried (field-at streams i none (λ s. s.name) name within p) ∙ left in
-    sym (carried-more streams i none within ∙ (ap (λ b. carried_streams (take i streams) ++ map without_chain (cond b (stream ∷ []) [])) left_out ∙ append-nil (carried_streams (take i streams))))
+    sym (carried-more streams i none within ∙ (ap (λ b. carried_streams (take i streams) ++ map without_chain
+    (cond b (stream ∷ []) [])) left_out ∙ append-nil (carried_streams (take i streams))))
 
 -- the first streams of a container are within bounds
 pub bounds-take : (count : ℕ) (contents : Contents) → AreWithinBounds contents →
@@ -152,7 +159,8 @@ bounds-take count contents bounds = record {
   some = λ i stream here. bounds.some i stream (slice_get-take count contents.streams i stream here);
   fit = λ i stream here. bounds.fit i stream (slice_get-take count contents.streams i stream here);
   order = λ i j stream later less here there.
-      bounds.order i j stream later less (slice_get-take count contents.streams i stream here) (slice_get-take count contents.streams j later there);
+      bounds.order i j stream later less (slice_get-take count contents.streams i stream here) (slice_get-take count
+      contents.streams j later there);
 }
 
 -- with the next stream they can still be put into another container
@@ -162,6 +170,11 @@ pub next-are_streams : (contents : Contents) (copied : List NamedBytes) (i : ℕ
     option_map (λ s. s.bytes) (slice_get contents.streams i) ≡ Some bytes → is_carried name ≡ true
     → AreStreams (copied ++ (record { name = name; bytes = bytes }) ∷ [])
 next-are_streams contents copied i name bytes bounds so_far within p q carried =
-    let more : copied ++ (record { name = name; bytes = bytes }) ∷ [] ≡ carried_streams (take (i + 1) contents.streams) =
-    ap (λ xs. xs ++ (record { name = name; bytes = bytes }) ∷ []) so_far ∙ carried-next contents.streams i name bytes within p q carried in
-    subst AreStreams (sym more) (carried-are_streams (record { streams = take (i + 1) contents.streams; clsid = contents.clsid }) (bounds-take (i + 1) contents bounds))
+    let more : copied ++ (record { name = name; bytes = bytes }) ∷ [] ≡ carried_streams (take (i + 1)
+    contents.streams) =
+    ap (λ xs. xs ++ (record { name = name; bytes = bytes }) ∷ []) so_far ∙ carried-next contents.streams i name bytes
+    within p q carried in
+    subst AreStreams (sym more) (carried-are_streams (record {
+      streams = take (i + 1) contents.streams;
+      clsid = contents.clsid;
+    }) (bounds-take (i + 1) contents bounds))

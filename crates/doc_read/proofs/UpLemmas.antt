@@ -24,7 +24,8 @@ up_from_steps cps step i (suc j) lower below =
     let last = step j (omega arith) in
     elim (cases_lt i j) [
       | inl earlier ↦ let before = up_from_steps cps step i j earlier (omega arith) in omega (arith, before, last, at)
-      | inr same ↦ let i_is : i ≡ j = omega arith in let e : slice_index cps i ≡ slice_index cps j = ap (slice_index cps) i_is in omega (arith, e, last, at)
+      | inr same ↦ let i_is : i ≡ j = omega arith in let e : slice_index cps i ≡ slice_index cps j = ap (slice_index
+          cps) i_is in omega (arith, e, last, at)
     ]
 
 -- the CPs of a table
@@ -57,7 +58,8 @@ up_shift begin len high cps enough is = record {
 
 -- an entry of a joined list is one of the first list, or one of the second
 either_side : (xs ys : List ℕ) (k : ℕ) → k < length (xs ++ ys) →
-    ((k < length xs) × (slice_index (xs ++ ys) k ≡ slice_index xs k)) ⊎ ((n : ℕ) × ((k ≡ length xs + n) × ((n < length ys) × (slice_index (xs ++ ys) k ≡ slice_index ys n))))
+    ((k < length xs) × (slice_index (xs ++ ys) k ≡ slice_index xs k)) ⊎ ((n : ℕ) × ((k ≡ length xs + n) ×
+    ((n < length ys) × (slice_index (xs ++ ys) k ≡ slice_index ys n))))
 either_side xs ys k h = elim (cases_lt k (length xs)) [
   | inl lower ↦ inl (lower, get_or_append_left xs ys 0 k lower)
   | inr upper ↦
@@ -103,7 +105,11 @@ up_one cp = record {
 
 -- all but the first
 pub up_rest : (len : ℕ) (cps : List ℕ) → IsUpWithin 0 len cps → IsUpWithin 1 len (drop 1 cps)
-up_rest len [] is = record { up = λ i j before below. absurd (omega arith); above = λ k below. absurd (omega arith); below = λ k below. absurd (omega arith) }
+up_rest len [] is = record {
+  up = λ i j before below. absurd (omega arith);
+  above = λ k below. absurd (omega arith);
+  below = λ k below. absurd (omega arith);
+}
 up_rest len (c ∷ cps) is = record {
   up = up_tail c cps is.up;
   above = λ k below. let u : c < slice_index cps k = is.up zero (suc k) (omega arith) (omega arith) in omega (arith, u);

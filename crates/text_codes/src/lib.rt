@@ -7,5 +7,5 @@ mod paragraph;
 mod showing;
 
 pub use compressed::unit_of_byte;
-pub use paragraph::{CELL_MARK, PARAGRAPH_MARK, SECTION_MARK, ends_paragraph};
+pub use paragraph::{CELL_MARK, PARAGRAPH_MARK, SECTION_MARK, bare_len, ends_paragraph};
 pub use showing::{ShownText, show_units};

@@ -1,39 +1,17 @@
 -- What stands at the CP.
-use Rattle.std.proofs.Common.{◌≡◌, ◌∙◌, sym, ap, subst}
+use Rattle.std.proofs.Common.{◌≡◌, ◌∙◌, ap, subst}
 use Rattle.std.specs.Prelude.{slice_index, is_some}
 use Rattle.prop_map.specs.Formed.{IsPropertyMap, paragraph_groups, section_groups}
-use Rattle.prop_map.specs.Modifiers.{IsFormedModifier}
-use Rattle.fkp_pages.specs.declared.kind.PageKind.TheVariants.{Papx}
-use Rattle.direct_props.specs.PageRules.{IsRightPlace}
-use Rattle.direct_props.specs.Kept.{PlaceSource}
 use Rattle.doc_read.specs.Items.{IsMarkAt}
-use Rattle.doc_read.specs.Reading.{ends_at, text_view}
 use Rattle.text_codes.specs.Paragraph.{is_paragraph_end}
 use Rattle.plain_doc.proofs.FormedLemmas.{ForSome-from_cases}
-use Rattle.doc_read.proofs.PlaceLemmas.{part_at}
 use Rattle.column_read.proofs.beside.beside_at.Goals as goal
 
-pub mark_at-requires-clause-kind : goal.mark_at-requires-clause-kind
-mark_at-requires-clause-kind c = ap (λ (s : PlaceSource). s.kind) c.requires.reader.marks
-
-pub mark_at-requires-clause-right : goal.mark_at-requires-clause-right
-mark_at-requires-clause-right c =
-    let text = c.args.part.now.text.now in
-    let unit = slice_index text.units.now c.args.cp in
-    let place = slice_index text.places c.args.cp in
-    let place_is : c.get-place.result ≡ place =
-    c.get-place.ensures
-    ∙ part_at text.places c.args.part.now.places c.args.part.now.from c.args.cp c.requires.from c.requires.part in
-    let ends : c.ends_paragraph-ends.result ≡ ends_at (text_view text) c.args.cp =
+pub mark_of-requires-clause-ends : goal.mark_of-requires-clause-ends
+mark_of-requires-clause-ends c =
+    let unit = slice_index c.args.part.now.text.now.units.now c.args.cp in
     c.ends_paragraph-ends.ensures ∙ ap (is_paragraph_end unit)
-    (c.is_some.ensures ∙ ap is_some c.in_ok-sect.ensures.section) in
-    λ t. subst (λ (s : PlaceSource). IsRightPlace Papx s.wd s.bin c.get-place.result) (sym c.requires.reader.marks)
-    (subst (IsRightPlace Papx text.wd.now text.paragraphs.now) (sym place_is)
-    (c.requires.readable.right_paragraphs c.args.cp c.requires.within (sym ends ∙ t)))
-
-pub mark_at-requires-clause-formed : goal.mark_at-requires-clause-formed
-mark_at-requires-clause-formed c = subst (λ (s : PlaceSource). IsFormedModifier s.modifier)
-    (sym c.requires.reader.marks) c.requires.reader.formed
+    (c.is_some.ensures ∙ ap is_some c.in_ok-sect.ensures.section)
 
 pub returns-clause-beside : goal.returns-clause-beside
 returns-clause-beside c =
@@ -41,22 +19,15 @@ returns-clause-beside c =
     let cp = c.args.cp in
     let unit = slice_index text.units.now cp in
     let place = slice_index text.places cp in
-    let place_is : c.get-place.result ≡ place =
-    c.get-place.ensures
-    ∙ part_at text.places c.args.part.now.places c.args.part.now.from cp c.requires.from c.requires.part in
     let sect = c.in_ok-sect.sect in
     let mark = c.in_ok-mark.mark in
     let ends : c.ends_paragraph-ends.result ≡ is_paragraph_end unit (is_some sect) =
     c.ends_paragraph-ends.ensures ∙ ap (is_paragraph_end unit) c.is_some.ensures in
     let modifier = c.args.reader.now.characters.modifier in
-    let read = subst
-    (λ (s : PlaceSource). IsMarkAt c.ends_paragraph-ends.result s.wd s.bin c.get-place.result s.modifier mark)
-    c.requires.reader.marks c.in_ok-mark.ensures.mark in
-    let here = subst
-    (λ fc. IsMarkAt c.ends_paragraph-ends.result text.wd.now text.paragraphs.now fc modifier mark) place_is read in
     record {
       sect_is = c.in_ok-sect.ensures.section;
-      mark_is = subst (λ b. IsMarkAt b text.wd.now text.paragraphs.now place modifier mark) ends here;
+      mark_is =
+          subst (λ b. IsMarkAt b text.wd.now text.paragraphs.now place modifier mark) ends c.in_ok-mark.ensures.mark;
       fld_is = c.byte_at-fld.ensures.byte;
       note_is = c.kind_at-note.ensures.kind;
       maps = record {

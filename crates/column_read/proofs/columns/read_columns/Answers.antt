@@ -1,17 +1,16 @@
--- The items of the columns are those of the text.
+-- The columns make the items of the text with its units.
 use Rattle.std.proofs.Common.{◌≡◌, ◌∙◌, refl, sym, ap, subst, ℕ, ◌<◌, ◌≤◌, ◌^◌, List, length, arith}
-use Rattle.std.specs.List.{All}
 use Rattle.std.proofs.lemmas.List.{length-take-le}
 use Rattle.fib_form.specs.declared.table_parts.TablePart.TheVariants.{PlcfBteChpx, PlcfBtePapx}
 use Rattle.doc_load.specs.Source.{DocSource, part_bytes}
 use Rattle.doc_load.specs.FileRules.{source_of}
 use Rattle.doc_load.specs.FormatRules.{text_count, judged_units, judged_places}
-use Rattle.plain_doc.specs.Document.{HasPropertyMaps}
 use Rattle.doc_columns.specs.Columns.{items_of}
 use Rattle.doc_read.specs.Items.{TextParts, HoldsItems}
 use Rattle.doc_read.specs.Reading.{AreMarksOf, ArePlacedItems, IsReadable, mark_lists}
 use Rattle.doc_read.proofs.ReadableLemmas.{view_of, view_same, readable_of}
 use Rattle.doc_read.proofs.PlacedLemmas.{enough_units, held}
+use Rattle.column_read.specs.ReadParts.{FitUnits}
 use Rattle.column_read.proofs.MeetLemmas.{length-read, placed_maps}
 use Rattle.column_read.proofs.columns.read_columns.Goals as goal
 
@@ -44,24 +43,6 @@ columns_of_pieces-requires-clause-enough c =
     enough_units c.args.text.now (source_of c.args.text.now) c.judged_units.result.now c.pieces.result.now.pieces
     (c.judged_units.ensures.units ∙ ap judged_units c.source-source.ensures) refl c.pieces.ensures
 
-pub from_parts-requires-clause-few : goal.from_parts-requires-clause-few
-from_parts-requires-clause-few c =
-    omega (arith, ap length c.in_ok-units.ensures.items, c.judged_units.ensures.few)
-
-pub from_parts-requires-clause-chps : goal.from_parts-requires-clause-chps
-from_parts-requires-clause-chps c = c.in_ok-read.ensures.chps ∙ ap length (sym c.in_ok-units.ensures.items)
-
-pub from_parts-requires-clause-besides : goal.from_parts-requires-clause-besides
-from_parts-requires-clause-besides c = c.in_ok-read.ensures.besides ∙ ap length (sym c.in_ok-units.ensures.items)
-
-pub from_parts-requires-clause-maps : goal.from_parts-requires-clause-maps
-from_parts-requires-clause-maps c =
-    let read = c.in_ok-read.read in
-    subst (λ (units : List ℕ). All HasPropertyMaps (items_of units read.chps read.besides))
-    (sym c.in_ok-units.ensures.items)
-    (placed_maps _ c.pieces.result.now.pieces (items_of c.judged_units.result.now read.chps read.besides)
-    c.in_ok-read.ensures.each)
-
 pub returns : goal.returns
 returns c =
     let text = c.args.text.now in
@@ -85,12 +66,20 @@ returns c =
     let placed = subst (λ pieces. ArePlacedItems (view_of source marks maps) pieces items) c.pieces.ensures in_view in
     let enough : text_count source ≤ length source.text.units = rw same at c.has_units.ensures in
     let all : length (judged_units source) ≡ count = length-take-le count source.text.units enough in
-    let len : length items ≡ count =
+    let long : length items ≡ length units =
     length-read units read.chps read.besides (length units) c.in_ok-read.ensures.chps c.in_ok-read.ensures.besides
-    (omega arith)
-    ∙ (ap length units_are ∙ all) in
-    let text_is : c.from_parts.result ≡ items =
-    c.from_parts.ensures ∙ ap (λ (us : List ℕ). items_of us read.chps read.besides) c.in_ok-units.ensures.items in
+    (omega arith) in
+    let len : length items ≡ count = long ∙ (ap length units_are ∙ all) in
     let are : AreMarksOf source lists marks = rw same at c.in_ok-marks.ensures in
     let parts : TextParts = record { source = source; pieces = text.pieces; lists = lists; sections = maps } in
-    subst (λ l. HoldsItems parts 0 count l) (sym text_is) (held text source lists marks maps items refl are len placed)
+    let fit : FitUnits units read = record {
+      few = omega (arith, c.judged_units.ensures.few);
+      chps = c.in_ok-read.ensures.chps;
+      besides = c.in_ok-read.ensures.besides;
+      maps = placed_maps _ c.pieces.result.now.pieces items c.in_ok-read.ensures.each;
+    } in
+    record {
+      fit = subst (λ (us : List ℕ). FitUnits us read) units_are fit;
+      holds = subst (λ (us : List ℕ). HoldsItems parts 0 count (items_of us read.chps read.besides)) units_are
+          (held text source lists marks maps items refl are len placed);
+    }

@@ -1,13 +1,11 @@
-use Rattle.std.proofs.Common.{get_or, refl, below_more, arith}
+use Rattle.std.proofs.Common.{◌≡◌, get_or, length, eqb-true, arith}
 use Rattle.std.proofs.lemmas.List.Elements.{All-from_get_or}
 use Rattle.bare_items.specs.Specials.{IsPlainUnit}
+use Rattle.bare_items.proofs.SpecialLemmas.{plain_unit}
 use Rattle.doc_columns.proofs.specials.are_plain.Goals as goal
 
-pub loop-unit-preserved : goal.loop-unit-preserved
-loop-unit-preserved c =
-    below_more (λ k. IsPlainUnit (get_or c.args.units.now k 0)) c.loop-unit.unit-index c.loop-unit.invariant
-    (c.if-not-is_plain_unit.ensures.0 refl)
-
 pub returns : goal.returns
-returns c = λ _.
-    All-from_get_or IsPlainUnit c.args.units.now 0 (λ i h. c.loop-unit.invariant i (omega (arith, h)))
+returns c = λ same.
+    let all : c.bare_len.result ≡ length c.args.units.now = eqb-true _ _ same in
+    All-from_get_or IsPlainUnit c.args.units.now 0
+    (λ i h. plain_unit (get_or c.args.units.now i 0) (c.bare_len.ensures.bare i (omega (arith, h, all))))

@@ -14,21 +14,35 @@ settings_fault-requires-clause-there c = λ lacks.
     let source = c.args.source.now in
     let list = c.args.list.now in
     let at = part_place source PlcfSed in
-    let fc : section_fc list c.loop-k.k ≡ c.get-fc.result.1 = index_of_get (λ (sed : Sed). sed.sepx) list c.loop-k.k _ c.get-fc.ensures in
+    let fc : section_fc list c.loop-k.k ≡ c.get-fc.result.1 = index_of_get (λ (sed : Sed). sed.sepx) list c.loop-k.k _
+    c.get-fc.ensures in
     let lost : LacksSepx source.wd (section_fc list c.loop-k.k) = rw (fc, ← c.wd-wd.ensures.bytes) lacks in
-    c.requires (place_of_fc_sepx at (length list) c.loop-k.k) (record { entry = c.loop-k.k; below = omega (arith, c.len-k-end.ensures); broken = record { here = refl; broken = lost } })
+    c.requires (place_of_fc_sepx at (length list) c.loop-k.k) (record {
+      entry = c.loop-k.k;
+      below = omega (
+        arith,
+        c.len-k-end.ensures,
+      );
+      broken = record { here = refl; broken = lost };
+    })
 
 pub loop-k-preserved : goal.loop-k-preserved
 loop-k-preserved c =
     let source = c.args.source.now in
     let list = c.args.list.now in
-    let fc : section_fc list c.loop-k.k ≡ c.get-fc.result.1 = index_of_get (λ (sed : Sed). sed.sepx) list c.loop-k.k _ c.get-fc.ensures in
-    let here : LeastOrNone (HasSepxFault source.wd (section_fc list c.loop-k.k)) c.settings_fault.result = rw (fc, ← c.wd-wd.ensures.bytes) c.settings_fault.ensures in
-    rw c.lesser-least.ensures (least_step (λ k. HasSepxFault source.wd (section_fc list k)) c.loop-k.k _ _ c.loop-k.invariant here)
+    let fc : section_fc list c.loop-k.k ≡ c.get-fc.result.1 = index_of_get (λ (sed : Sed). sed.sepx) list c.loop-k.k _
+    c.get-fc.ensures in
+    let here : LeastOrNone (HasSepxFault source.wd (section_fc list c.loop-k.k)) c.settings_fault.result = rw (
+      fc,
+      ← c.wd-wd.ensures.bytes,
+    ) c.settings_fault.ensures in
+    rw c.lesser-least.ensures (least_step (λ k. HasSepxFault source.wd (section_fc list k)) c.loop-k.k _ _
+    c.loop-k.invariant here)
 
 pub returns : goal.returns
 returns c =
     let source = c.args.source.now in
     let list = c.args.list.now in
     let all : c.loop-k.k ≡ length list = omega (arith, c.len-k-end.ensures) in
-    subst (λ n. LeastOrNone (Among n (λ k. HasSepxFault source.wd (section_fc list k))) c.loop-k.least) all c.loop-k.invariant
+    subst (λ n. LeastOrNone (Among n (λ k. HasSepxFault source.wd (section_fc list k))) c.loop-k.least) all
+    c.loop-k.invariant

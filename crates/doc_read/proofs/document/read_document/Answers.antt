@@ -26,7 +26,8 @@ cut_texts-requires-clause-cuts c =
     let parts = c.args.parts in
     let cuts : c.parts.inside.notes.cuts ≡ parts.notes = ap (λ (p : PartLists). p.notes) c.parts.view_is in
     let begin : c.story_begin.result ≡ story_begin source Notes =
-    begins c.args.text.now c.fib-fib.result.now Notes c.story_begin.result c.fib-fib.ensures c.story_begin.ensures.value in
+    begins c.args.text.now c.fib-fib.result.now Notes c.story_begin.result c.fib-fib.ensures
+    c.story_begin.ensures.value in
     let len = length c.in_ok-main.main in
     within_as (story_begin source Notes) c.story_begin.result parts.notes c.parts.inside.notes.cuts len begin cuts
     (notes_within source parts len c.requires.lists (omega (arith, c.in_ok-main.ensures.len)))
@@ -44,7 +45,8 @@ cut_texts-requires-2-clause-cuts c =
     let parts = c.args.parts in
     let cuts : c.parts.inside.heads ≡ parts.heads = ap (λ (p : PartLists). p.heads) c.parts.view_is in
     let begin : c.story_begin-2.result ≡ story_begin source Heads =
-    begins c.args.text.now c.fib-fib.result.now Heads c.story_begin-2.result c.fib-fib.ensures c.story_begin-2.ensures.value in
+    begins c.args.text.now c.fib-fib.result.now Heads c.story_begin-2.result c.fib-fib.ensures
+    c.story_begin-2.ensures.value in
     let len = length c.in_ok-main.main in
     within_as (story_begin source Heads) c.story_begin-2.result parts.heads c.parts.inside.heads len begin cuts
     (heads_within source parts len c.requires.lists (omega (arith, c.in_ok-main.ensures.len)))
@@ -67,21 +69,34 @@ returns c =
     let heads : c.parts.inside.heads ≡ parts.heads = ap (λ (p : PartLists). p.heads) c.parts.view_is in
     let sheet : c.parts.inside.sheet ≡ parts.sheet = ap (λ (p : PartLists). p.sheet) c.parts.view_is in
     let items = c.in_ok-main.main in
-    let maps = subst (λ list. AreSectionMaps text.wd list c.in_ok-sections.sections) sections c.in_ok-sections.ensures in
+    let maps = subst (λ list. AreSectionMaps text.wd list c.in_ok-sections.sections) sections c.in_ok-sections.ensures
+    in
     let len : c.story_len.result ≡ story_length source Main =
     c.story_len.ensures.value ∙ ap (λ (f : FibFields). story_ccp f.ccps Main) c.fib-fib.ensures in
-    let main : c.truncate.new.self ≡ take (story_length source Main) items = c.truncate.ensures ∙ ap (λ n. take n items) len in
-    let note_begin = begins text c.fib-fib.result.now Notes c.story_begin.result c.fib-fib.ensures c.story_begin.ensures.value in
-    let head_begin = begins text c.fib-fib.result.now Heads c.story_begin-2.result c.fib-fib.ensures c.story_begin-2.ensures.value in
+    let main : c.truncate.new.self ≡ take (story_length source Main) items = c.truncate.ensures ∙ ap (λ n. take n
+    items) len in
+    let note_begin = begins text c.fib-fib.result.now Notes c.story_begin.result c.fib-fib.ensures
+    c.story_begin.ensures.value in
+    let head_begin = begins text c.fib-fib.result.now Heads c.story_begin-2.result c.fib-fib.ensures
+    c.story_begin-2.ensures.value in
     let note_count : c.saturating_sub.result ≡ length parts.notes - 1 =
     c.saturating_sub.ensures ∙ ap (λ n. n - 1) (c.len-2.ensures ∙ ap length notes) in
-    let head_count : 6 + 6 * c.len.result ≡ head_texts parts = ap (λ n. 6 + 6 * n) (c.len.ensures ∙ ap length sections) in
+    let head_count : 6 + 6 * c.len.result ≡ head_texts parts = ap (λ n. 6 + 6 * n) (c.len.ensures ∙ ap length
+    sections) in
     let cut_notes =
-    cut_as items c.story_begin.result (story_begin source Notes) c.parts.inside.notes.cuts parts.notes c.saturating_sub.result
+    cut_as items c.story_begin.result (story_begin source Notes) c.parts.inside.notes.cuts parts.notes
+    c.saturating_sub.result
     (length parts.notes - 1) c.in_ok-notes.notes note_begin notes note_count c.in_ok-notes.ensures in
     let cut_heads =
-    cut_as items c.story_begin-2.result (story_begin source Heads) c.parts.inside.heads parts.heads (6 + 6 * c.len.result)
+    cut_as items c.story_begin-2.result (story_begin source Heads) c.parts.inside.heads parts.heads
+    (6 + 6 * c.len.result)
     (head_texts parts) c.in_ok-heads.heads head_begin heads head_count c.in_ok-heads.ensures in
     document-from c.args.container.now text parts c.in_ok-sections.sections items
-    (record { main = c.truncate.new.self; notes = c.in_ok-notes.notes; heads = c.in_ok-heads.heads; sheet = c.parts.inside.sheet; carried = c.in_ok-carried.carried })
+    (record {
+      main = c.truncate.new.self;
+      notes = c.in_ok-notes.notes;
+      heads = c.in_ok-heads.heads;
+      sheet = c.parts.inside.sheet;
+      carried = c.in_ok-carried.carried;
+    })
     c.requires.lists maps c.in_ok-main.ensures main cut_notes cut_heads sheet c.in_ok-carried.ensures
