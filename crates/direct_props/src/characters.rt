@@ -82,6 +82,12 @@ pub(crate) fn settings_of(alloc: Global, kind: PageKind, list: &[u8]) -> Result<
 {
     let start = style_len(kind).min(list.len());
     let none = PropMap::new(alloc);
+    if start == list.len() {
+        return Ok(Acted {
+            map: none,
+            istd: None,
+        });
+    }
     let acted = act(alloc, &list[start..], groups_of(kind), &none)?;
     Ok(acted)
 }
