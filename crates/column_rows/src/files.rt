@@ -20,6 +20,7 @@ fn comes_back(alloc: Global, document: &Document) -> Result<bool, SaveFault> {
     }
 }
 
+/// Whether the full save of a sound document is read into the same one by columns, with the same main text and line.
 fn comes_back_sound(alloc: Global, document: &Document) -> Result<bool, SaveFault>
     requires { IsSound document.now }
 {
@@ -30,6 +31,7 @@ fn comes_back_sound(alloc: Global, document: &Document) -> Result<bool, SaveFaul
     }
 }
 
+/// Whether a document by columns has the items, the main text and the line of a plain one.
 fn is_shown_as(alloc: Global, columns: &ColumnDocument, plain: &Document) -> Result<bool, Memory> {
     let text = main_text(alloc, columns)?;
     let line = accepted_line(alloc, columns)?;

@@ -49,7 +49,7 @@ fn run(alloc: Global, document: &mut Document, script: &Script) -> bool {
 
 /// Makes a command, where the document is sound.
 fn is_made(alloc: Global, document: &mut Document, command: &Command) -> bool {
-    if !is_sound(document) {
+    if !breaks_none(document) {
         return false;
     }
     match apply_plain(alloc, document, command) {
@@ -58,7 +58,8 @@ fn is_made(alloc: Global, document: &mut Document, command: &Command) -> bool {
     }
 }
 
-fn is_sound(document: &Document) -> bool
+/// Whether a document is known to break no rule.
+pub(crate) fn breaks_none(document: &Document) -> bool
     ensures { IsTrue result → IsSound document.now }
 {
     match check(document) {

@@ -1,13 +1,13 @@
 // A document that a script makes of the blank one, plain and by columns at once.
-ghost use Rattle.std.specs.Prelude.{◌≡◌, IsTrue};
 ghost use Rattle.plain_doc.specs.Sound.{IsSound};
 
+use crate::scripted::breaks_none;
 use column_edits::apply_columns;
 use doc_bits::Memory;
 use doc_columns::{ColumnDocument, is_sound};
 use edit_ops::{Command, apply_plain};
 use edit_script::{Script, read_script};
-use plain_doc::{Document, blank, check, equal};
+use plain_doc::{Document, blank, equal};
 use std::alloc::Global;
 
 /// What a script did to both.
@@ -40,6 +40,7 @@ fn of_blank(alloc: Global) -> Result<Scripted, Memory> {
     })
 }
 
+/// Plays the commands of a script on both.
 fn play(alloc: Global, both: &mut Scripted, json: &str) -> Result<(), Memory> {
     match read_script(alloc, json.as_bytes()) {
         Ok(script) => run(alloc, both, &script),
@@ -50,6 +51,7 @@ fn play(alloc: Global, both: &mut Scripted, json: &str) -> Result<(), Memory> {
     }
 }
 
+/// Makes each command of a script on both, in order.
 fn run(alloc: Global, both: &mut Scripted, script: &Script) -> Result<(), Memory> {
     for k in 0..script.len() {
         step(alloc, both, script.get(k))?;
@@ -67,15 +69,7 @@ fn step(alloc: Global, both: &mut Scripted, command: &Command) -> Result<(), Mem
     Ok(())
 }
 
-fn breaks_none(document: &Document) -> bool
-    ensures { IsTrue result → IsSound document.now }
-{
-    match check(document) {
-        Ok(()) => true,
-        Err(_) => false,
-    }
-}
-
+/// Makes a command on both, and notes where they answer or become different.
 fn make(alloc: Global, both: &mut Scripted, command: &Command) -> Result<(), Memory>
     requires plain { IsSound both.old.plain }
     requires columns { IsSound both.old.columns }

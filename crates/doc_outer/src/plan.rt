@@ -22,6 +22,7 @@ impl Model for CallPlan {
 }
 
 impl CallPlan {
+    /// No call fails, and none is numbered.
     pub(crate) fn new(alloc: Global) -> CallPlan
         ensures { result ≡ no_plan }
     {

@@ -102,6 +102,7 @@ impl Ending {
         }
     }
 
+    /// The status that the run answers.
     pub(crate) fn status(&self) -> u8
         ensures { result ≡ self.now.status }
     {

@@ -13,6 +13,7 @@ use std::rt::Env;
 /// How many items the edits of a run may add.
 const UNITS: u64 = 1_000_000;
 
+/// Runs the words over real files and the standard output, with a quota on the items that the edits add.
 fn main(rt: HostRuntime) -> ExitCode {
     let alloc = rt.alloc();
     let Ok(words) = words(&rt) else {

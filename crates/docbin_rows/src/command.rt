@@ -151,10 +151,7 @@ fn plain<'a>(first: &str, words: &mut Words<'a, '_>) -> Result<Command<'a>, RowF
             name: words.word()?,
             len: words.number()? as usize,
         }),
-        "length" => Ok(Command::Change {
-            name: words.word()?,
-            edit: Edit::Length(words.number()? as usize),
-        }),
+        "length" => length(words),
         "numbers" => numbers(words),
         "copy" => copy(words),
         "fail" => fail(words),
@@ -196,11 +193,13 @@ fn text(line: &str) -> Result<Command<'_>, RowFault> {
     }
 }
 
+/// The command that says where the expected lines of a row come from.
 fn source<'a>(mut words: Words<'a, '_>) -> Result<Command<'a>, RowFault> {
     words.word()?;
     Ok(Command::From)
 }
 
+/// The command that puts numbers of this width into a file.
 fn put<'a>(
     alloc: Global,
     mut words: Words<'a, '_>,
@@ -220,6 +219,15 @@ fn put<'a>(
     })
 }
 
+/// The length that a file is to have.
+fn length<'a>(words: &mut Words<'a, '_>) -> Result<Command<'a>, RowFault> {
+    Ok(Command::Change {
+        name: words.word()?,
+        edit: Edit::Length(words.number()? as usize),
+    })
+}
+
+/// Numbers that rise by a step.
 fn numbers<'a>(words: &mut Words<'a, '_>) -> Result<Command<'a>, RowFault> {
     Ok(Command::Change {
         name: words.word()?,
@@ -233,6 +241,7 @@ fn numbers<'a>(words: &mut Words<'a, '_>) -> Result<Command<'a>, RowFault> {
     })
 }
 
+/// Bytes of a file at another place of it.
 fn copy<'a>(words: &mut Words<'a, '_>) -> Result<Command<'a>, RowFault> {
     Ok(Command::Change {
         name: words.word()?,
@@ -244,6 +253,7 @@ fn copy<'a>(words: &mut Words<'a, '_>) -> Result<Command<'a>, RowFault> {
     })
 }
 
+/// The call of the shelf or of the sink that is to fail.
 fn fail<'a>(words: &mut Words<'a, '_>) -> Result<Command<'a>, RowFault> {
     match words.word()? {
         "shelf" => Ok(Command::FailShelf(small(words)?)),
@@ -252,6 +262,7 @@ fn fail<'a>(words: &mut Words<'a, '_>) -> Result<Command<'a>, RowFault> {
     }
 }
 
+/// A number of 32 bits.
 fn small(words: &mut Words<'_, '_>) -> Result<u32, RowFault> {
     match u32::try_from(words.number()?) {
         Ok(number) => Ok(number),
@@ -259,6 +270,7 @@ fn small(words: &mut Words<'_, '_>) -> Result<u32, RowFault> {
     }
 }
 
+/// The words of a run.
 fn run<'a>(alloc: Global, words: Words<'a, '_>) -> Result<Command<'a>, RowFault> {
     let mut all = Vec::new(alloc);
     for word in words.rest() {

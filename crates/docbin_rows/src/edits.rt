@@ -74,6 +74,7 @@ pub(crate) enum Edit {
 }
 
 impl Edit {
+    /// Does the edit on a file.
     pub(crate) fn act(&self, alloc: Global, file: &mut Vec<u8>) -> Result<(), RowFault> {
         match self {
             Edit::Put { at, numbers } => put_numbers(file, *at, numbers),
@@ -93,6 +94,7 @@ impl Edit {
     }
 }
 
+/// Puts numbers from a place on, one behind the other.
 fn put_numbers(file: &mut [u8], at: usize, numbers: &[Number]) -> Result<(), RowFault> {
     let mut place = at;
     for number in numbers {
@@ -101,6 +103,7 @@ fn put_numbers(file: &mut [u8], at: usize, numbers: &[Number]) -> Result<(), Row
     Ok(())
 }
 
+/// Puts so many numbers from a place on, each greater than the one before by a step.
 fn put_rising(
     file: &mut [u8],
     at: usize,
@@ -118,6 +121,7 @@ fn put_rising(
     Ok(())
 }
 
+/// Puts bytes of the file at another place.
 fn copy(
     alloc: Global,
     file: &mut [u8],

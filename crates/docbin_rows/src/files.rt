@@ -19,6 +19,7 @@ pub(crate) struct Files {
 }
 
 impl Files {
+    /// No name holds bytes.
     pub(crate) fn new(alloc: Global) -> Files {
         Files {
             alloc,
@@ -63,6 +64,7 @@ impl Files {
         Err(RowFault::NoFile)
     }
 
+    /// The bytes that a name holds.
     fn bytes(&self, name: &str) -> Result<&[u8], RowFault> {
         for file in &self.files {
             if file.name.as_str() == name {

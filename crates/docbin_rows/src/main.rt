@@ -17,6 +17,7 @@ use std::io::{BufRead, BufReader};
 use std::process::ExitCode;
 use std::rt::Files;
 
+/// Plays the lines of the standard input. The status is 0 where each was understood.
 fn main(rt: HostRuntime) -> ExitCode {
     match play(&rt) {
         Ok(true) => ExitCode::from(0),

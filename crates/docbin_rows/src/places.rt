@@ -16,6 +16,7 @@ pub(crate) struct Places {
 }
 
 impl Places {
+    /// No number has a name.
     pub(crate) fn new(alloc: Global) -> Places {
         Places {
             alloc,
@@ -60,6 +61,7 @@ impl Places {
         }
     }
 
+    /// The number of a name, if it has one.
     fn find(&self, name: &str) -> Option<u64> {
         for place in &self.places {
             if place.name.as_str() == name {

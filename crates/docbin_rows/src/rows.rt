@@ -24,6 +24,7 @@ struct Outside {
 }
 
 impl Outside {
+    /// No call fails, and the sink takes all.
     fn new(alloc: Global) -> Outside {
         Outside {
             shelf_calls: Vec::new(alloc),
@@ -33,6 +34,7 @@ impl Outside {
         }
     }
 
+    /// The sink that the next run is given.
     fn sink(&self, alloc: Global) -> Result<MemSink, RowFault> {
         let mut sink = MemSink::new(alloc, self.room)?;
         for call in &self.sink_calls {
@@ -44,6 +46,7 @@ impl Outside {
         Ok(sink)
     }
 
+    /// Lets the calls of the shelf fail that are to fail.
     fn prepare(&self, shelf: &mut MemShelf) -> Result<(), RowFault> {
         for call in &self.shelf_calls {
             shelf.fail_call(*call)?;
@@ -64,6 +67,7 @@ pub(crate) struct Rows {
 }
 
 impl Rows {
+    /// No row is in progress, and no number has a name.
     pub(crate) fn new(alloc: Global) -> Rows {
         Rows {
             alloc,
@@ -180,6 +184,7 @@ fn full_file(alloc: Global, document: &Document) -> Result<Vec<u8>, RowFault>
     }
 }
 
+/// The word that is printed for an answer.
 fn yes_or_no(answer: bool) -> &'static str {
     if answer { "yes" } else { "no" }
 }
@@ -214,6 +219,7 @@ fn push_taken(alloc: Global, text: &mut String, taken: &str) -> Result<(), RowFa
     }
 }
 
+/// Whole lines that the sink took, each behind a bar.
 fn push_lines(alloc: Global, text: &mut String, lines: &str) -> Result<(), RowFault> {
     for line in lines.split('\n') {
         text.push_str(format!(in alloc; "| {line}\n")?.as_str())?;
@@ -221,6 +227,7 @@ fn push_lines(alloc: Global, text: &mut String, lines: &str) -> Result<(), RowFa
     Ok(())
 }
 
+/// What the sink took behind the last line feed, behind a colon.
 fn push_rest(alloc: Global, text: &mut String, rest: &str) -> Result<(), RowFault> {
     if !rest.is_empty() {
         text.push_str(format!(in alloc; ": {rest}\n")?.as_str())?;

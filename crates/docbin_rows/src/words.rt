@@ -11,6 +11,7 @@ pub(crate) struct Words<'a, 'p> {
 }
 
 impl<'a, 'p> Words<'a, 'p> {
+    /// The words of a line.
     pub(crate) fn new(line: &'a str, places: &'p Places) -> Words<'a, 'p> {
         Words {
             words: line.split_whitespace(),
@@ -18,10 +19,12 @@ impl<'a, 'p> Words<'a, 'p> {
         }
     }
 
+    /// The next word, if there is one.
     pub(crate) fn next(&mut self) -> Option<&'a str> {
         self.words.next()
     }
 
+    /// The next word. A line that has none is refused.
     pub(crate) fn word(&mut self) -> Result<&'a str, RowFault> {
         match self.next() {
             Some(word) => Ok(word),
@@ -29,6 +32,7 @@ impl<'a, 'p> Words<'a, 'p> {
         }
     }
 
+    /// The number that the next word says.
     pub(crate) fn number(&mut self) -> Result<u64, RowFault> {
         let word = self.word()?;
         self.places.number(word)

@@ -137,6 +137,7 @@ impl Edited {
         }
     }
 
+    /// Refuses a session whose bytes are not the full save of the document.
     fn is_saved_in_full(&self) -> Result<(), RowFault> {
         let file = full_save_of(self.alloc, &self.document)?;
         if file.as_slice() == self.session.bytes() {

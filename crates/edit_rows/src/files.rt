@@ -36,6 +36,7 @@ pub(crate) fn full_save_of(alloc: Global, document: &Document) -> Result<Bytes, 
     }
 }
 
+/// The full save of a sound document.
 fn saved(alloc: Global, document: &Document) -> Result<Bytes, RowFault>
     requires { IsSound document.now }
 {

@@ -68,6 +68,7 @@ fn word(text: &str) -> (&str, &str) {
     }
 }
 
+/// A name for a text, and how often it is repeated.
 fn repeat(rest: &str) -> Result<Line<'_>, RowFault> {
     let (name, rest) = word(rest);
     let (count, text) = word(rest);
@@ -77,6 +78,7 @@ fn repeat(rest: &str) -> Result<Line<'_>, RowFault> {
     }
 }
 
+/// A command, and how often it is made.
 fn again(rest: &str) -> Result<Line<'_>, RowFault> {
     let (count, object) = word(rest);
     match count.parse::<u32>() {
@@ -85,6 +87,7 @@ fn again(rest: &str) -> Result<Line<'_>, RowFault> {
     }
 }
 
+/// A save in one of the two modes.
 fn save(mode: &str) -> Result<Line<'_>, RowFault> {
     match mode {
         "fast" => Ok(Line::On(Step::Save(Mode::Fast))),

@@ -22,6 +22,7 @@ use std::process::ExitCode;
 use std::rt::Files;
 use subject::Subject;
 
+/// Plays the lines of the standard input. The status is 0 where each was understood.
 fn main(rt: HostRuntime) -> ExitCode {
     match play::<HostRuntime, Edited>(&rt) {
         Ok(None) => ExitCode::from(0),

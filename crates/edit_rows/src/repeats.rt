@@ -16,6 +16,7 @@ pub(crate) struct Repeats {
 }
 
 impl Repeats {
+    /// No name stands for a text.
     pub(crate) fn new(alloc: Global) -> Repeats {
         Repeats {
             alloc,

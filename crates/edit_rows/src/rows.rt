@@ -20,6 +20,7 @@ pub(crate) struct Rows<S: Subject + Drop> {
 }
 
 impl<S: Subject + Drop> Rows<S> {
+    /// No row is in progress, and no name stands for a text.
     pub(crate) fn new(alloc: Global) -> Rows<S> {
         Rows {
             alloc,
@@ -48,6 +49,7 @@ impl<S: Subject + Drop> Rows<S> {
         Ok(format!(in self.alloc; "row {name}\n")?)
     }
 
+    /// Notes that the row says where its expected lines come from.
     fn name_source(&mut self) -> String {
         self.has_source = true;
         String::new(self.alloc)
@@ -150,6 +152,7 @@ fn subject_of<S: Subject, D: Shelf>(
     S::open(alloc, file.as_slice())
 }
 
+/// The bytes of a file of data.
 fn file_of<D: Shelf>(alloc: Global, data: &mut D, name: &str) -> Result<Bytes, RowFault> {
     match read_whole(alloc, data, name) {
         Ok(file) => Ok(file),

@@ -23,6 +23,7 @@ struct Seen {
 }
 
 impl Seen {
+    /// What is seen of a session now.
     fn of(alloc: Global, session: &Session) -> Result<Seen, Memory> {
         Ok(Seen {
             document: session.document()?,
@@ -104,6 +105,7 @@ pub(crate) fn save_session(
     }
 }
 
+/// Saves a session in this mode.
 fn saved_by(session: &mut Session, mode: Mode) -> Result<(), FastFault> {
     match mode {
         Mode::Fast => session.fast(),

@@ -20,6 +20,7 @@ fn content(alloc: Global, len: usize, stream: usize) -> Result<Vec<u8>, Memory> 
     Ok(bytes)
 }
 
+/// Adds a stream where it may be added.
 fn add(streams: &mut Streams, name: &[u16], bytes: &[u8]) -> Result<(), Memory> {
     if streams.can_add(name, bytes) {
         streams.add(name, bytes)?;
@@ -58,6 +59,7 @@ fn sum_of(bytes: &[u8]) -> u32 {
     (high % 65_521) * 65_536 + low % 65_521
 }
 
+/// Whether a container holds these streams, and the class of the writer.
 fn has_streams(container: &Container, streams: &Streams) -> bool {
     if container.count() != streams.count() || container.clsid() != CLSID {
         return false;
@@ -97,6 +99,7 @@ const ROWS: [Row; 7] = [
     Row(&[10, 20, 30, 40, 50, 60, 70], 5, 1_973_909_866),
 ];
 
+/// Whether streams of the lengths of a row are laid out in its sectors, with its sum, and read again.
 fn is_laid_out(alloc: Global, row: Row) -> Result<bool, LayoutFault> {
     let streams = streams_of(alloc, row.0)?;
     let file = container_of(alloc, &streams)?;

@@ -80,6 +80,7 @@ pub fn item_of(alloc: Global, letter: u8) -> Item {
     }
 }
 
+/// Whether the settings of a mark are those of paragraphs.
 fn holds_mark(mark: &Option<Mark>) -> bool
     ensures { IsTrue result → ForSome mark.now (λ mark. IsPropertyMap paragraph_groups mark.pap) }
 {
@@ -89,6 +90,7 @@ fn holds_mark(mark: &Option<Mark>) -> bool
     }
 }
 
+/// Whether settings, if there are any, are those of sections.
 fn holds_section(sect: &Option<PropMap>) -> bool
     ensures { IsTrue result → ForSome sect.now (IsPropertyMap section_groups) }
 {
@@ -111,6 +113,7 @@ pub fn holds_maps(item: &Item) -> bool
     holds_section(&item.sect)
 }
 
+/// Adds an item that may stand in a text.
 fn add_item(text: &mut Items, item: Item) -> Result<(), Memory> {
     if text.len() > 1_000 || !holds_maps(&item) {
         return Err(Memory);
@@ -137,6 +140,7 @@ pub fn text_of(alloc: Global, letters: &str) -> Result<Items, Memory> {
     Ok(text)
 }
 
+/// Adds a text, up to a thousand.
 fn add_text(texts: &mut Texts, text: Items) -> Result<(), Memory> {
     if texts.len() < 1_000 {
         texts.add(text)?;
@@ -181,6 +185,7 @@ const ROWS: [Row<'static>; 19] = [
     Row("BP", "", HEADS, (67, Where::Main, 12)),
 ];
 
+/// The blank document with the texts of a row.
 fn document_of(alloc: Global, row: Row<'_>) -> Result<Document, Memory> {
     let mut document = blank(alloc)?;
     document.main = text_of(alloc, row.0)?;
@@ -189,6 +194,7 @@ fn document_of(alloc: Global, row: Row<'_>) -> Result<Document, Memory> {
     Ok(document)
 }
 
+/// Whether the first broken rule of a document is this one, at this place.
 fn breaks(document: &Document, fault: (u8, Where, u32)) -> bool {
     match check(document) {
         Ok(()) => false,

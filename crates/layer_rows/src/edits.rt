@@ -57,6 +57,7 @@ fn the_main_text_is_spliced(rt: HostRuntime) -> Result<(), Fail> {
     Ok(())
 }
 
+/// Replaces the second of three texts.
 fn splice_texts(texts: &mut Texts, fresh: Texts) -> Result<(), Memory> {
     if texts.len() == 3 && fresh.len() < 1_000 {
         texts.splice(1, 2, fresh)?;
@@ -64,6 +65,7 @@ fn splice_texts(texts: &mut Texts, fresh: Texts) -> Result<(), Memory> {
     Ok(())
 }
 
+/// Replaces the first text.
 fn replace_text(texts: &mut Texts, text: Items) {
     if texts.len() > 0 {
         texts.replace(0, text);
@@ -82,6 +84,7 @@ fn texts_are_spliced_and_replaced(rt: HostRuntime) -> Result<(), Fail> {
     Ok(())
 }
 
+/// Replaces the first item of the main text.
 fn replace_first(document: &mut Document, item: Item) -> Result<(), Memory> {
     if document.main.len() == 0 || !holds_maps(&item) {
         return Err(Memory);

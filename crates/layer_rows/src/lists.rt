@@ -4,6 +4,7 @@ use doc_bits::{Bytes, Memory, Text, Units};
 use std::alloc::Global;
 use std::test::Fail;
 
+/// Eight bytes, by each call that adds some.
 fn some_bytes(alloc: Global) -> Result<Bytes, Memory> {
     let mut bytes = Bytes::from_slice(alloc, &[1])?;
     bytes.push_all(&[2])?;
@@ -12,12 +13,14 @@ fn some_bytes(alloc: Global) -> Result<Bytes, Memory> {
     Ok(bytes)
 }
 
+/// Three units, by each call that adds some.
 fn some_units(alloc: Global) -> Result<Units, Memory> {
     let mut units = Units::from_slice(alloc, &[7])?;
     units.push_all(&[8, 9])?;
     Ok(units)
 }
 
+/// Three letters, by two calls.
 fn some_text(alloc: Global) -> Result<Text, Memory> {
     let mut text = Text::new(alloc);
     text.push_all("ab")?;
@@ -34,6 +37,7 @@ fn lists_grow(rt: HostRuntime) -> Result<(), Fail> {
     Ok(())
 }
 
+/// Whether the one stream has this name and these bytes.
 fn is_stream(streams: &Streams, name: &[u16], bytes: &[u8]) -> bool {
     streams.count() == 1 && streams.name(0) == name && streams.bytes(0) == bytes
 }

@@ -7,6 +7,7 @@ use piece_table::PieceList;
 use plain_doc::Document;
 use std::test::Fail;
 
+/// Six items, no notes and twelve header texts.
 fn is_document(document: &Document) -> bool {
     document.main.len() == 6 && document.notes.len() == 0 && document.heads.len() == 12
 }
@@ -20,6 +21,7 @@ fn is_fib(fib: &Fib) -> bool {
         && fib.pair(33) == (232, 21)
 }
 
+/// Two streams, the second one of 4,096 bytes.
 fn is_container(container: &Container) -> bool {
     container.count() == 2 && container.bytes(1).len() == 4096
 }
@@ -33,6 +35,7 @@ fn are_pieces(pieces: &PieceList) -> bool {
     piece.at == 1024 && piece.wide && piece.len == 6 && pieces.modifier(0).is_none()
 }
 
+/// Whether the four parts are those of the hello file.
 fn has_parts(opened: &Opened) -> bool {
     is_document(opened.document())
         && is_fib(opened.fib())
@@ -40,6 +43,7 @@ fn has_parts(opened: &Opened) -> bool {
         && are_pieces(opened.pieces())
 }
 
+/// Whether the four parts are the same when they are taken over.
 fn is_taken_apart(opened: Opened) -> bool {
     let (document, fib, container, pieces) = opened.into_parts();
     is_document(&document) && is_fib(&fib) && is_container(&container) && are_pieces(&pieces)

@@ -16,6 +16,7 @@ fn reads<S: Shelf>(shelf: &mut S, at: u64, bytes: &[u8; 4]) -> bool {
     shelf.read_at(PATH, at, &mut buf) == Ok(4) && buf == *bytes
 }
 
+/// The fault of a read from the front of a name, if it has one.
 fn fault_of<S: Shelf>(shelf: &mut S, name: &str) -> Option<ShelfFault> {
     let mut buf = [0u8; 4];
     shelf.read_at(name, 0, &mut buf).err()

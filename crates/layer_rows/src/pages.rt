@@ -26,6 +26,7 @@ fn page_of(parts: &[At<'_>]) -> [u8; 512] {
     page
 }
 
+/// Three runs of character settings, the middle one of none.
 fn character_runs(alloc: Global) -> Result<ChpRuns, Memory> {
     let mut runs = ChpRuns::new(alloc);
     runs.add(1024, 1030, map_of(alloc, &[(0x0835, &[1])])?)?;
@@ -38,6 +39,7 @@ fn character_runs(alloc: Global) -> Result<ChpRuns, Memory> {
     Ok(runs)
 }
 
+/// The pages of runs of character settings.
 fn character_pages(alloc: Global, runs: &ChpRuns) -> Result<Bytes, Memory> {
     if !are_chp_runs(runs) {
         return Ok(Bytes::new(alloc));
@@ -62,6 +64,7 @@ fn a_character_page_is_laid_out_by_hand(rt: HostRuntime) -> Result<(), Fail> {
     Ok(())
 }
 
+/// Four runs of paragraph settings.
 fn paragraph_runs(alloc: Global) -> Result<PapRuns, Memory> {
     let mut runs = PapRuns::new(alloc);
     runs.add(1024, 1030, 1, map_of(alloc, &[(0x2403, &[1])])?)?;
@@ -71,6 +74,7 @@ fn paragraph_runs(alloc: Global) -> Result<PapRuns, Memory> {
     Ok(runs)
 }
 
+/// The pages of runs of paragraph settings.
 fn paragraph_pages(alloc: Global, runs: &PapRuns) -> Result<Bytes, Memory> {
     if !are_pap_runs(runs) {
         return Ok(Bytes::new(alloc));
@@ -117,6 +121,7 @@ fn ranges_of(alloc: Global, count: u32) -> Result<Bins, Memory> {
     Ok(bins)
 }
 
+/// Whether a bin table has these two ranges.
 fn are_two(bins: &Bins, first: (u32, u32), second: (u32, u32)) -> bool {
     bins.len() == 2 && bins.get(0) == first && bins.get(1) == second
 }
@@ -160,6 +165,7 @@ fn a_page_takes_the_most_runs(rt: HostRuntime) -> Result<(), Fail> {
     Ok(())
 }
 
+/// The bin table of two ranges.
 fn two_ranges(alloc: Global) -> Result<Bytes, Memory> {
     let mut bins = Bins::new(alloc);
     bins.add(1024, 3)?;

@@ -6,12 +6,14 @@ use doc_parts::{
 use std::alloc::Global;
 use std::test::Fail;
 
+/// One section without settings.
 fn printed_sections(alloc: Global) -> Result<Bytes, Memory> {
     let mut seds = Seds::new(alloc);
     seds.add(0, NO_SEPX)?;
     print_sections(alloc, &seds, 6)
 }
 
+/// The begin and the end of a field.
 fn printed_fields(alloc: Global) -> Result<Bytes, Memory> {
     let mut flds = Flds::new(alloc);
     flds.add(2, 0x13, 0x58)?;
@@ -19,6 +21,7 @@ fn printed_fields(alloc: Global) -> Result<Bytes, Memory> {
     print_fields(alloc, &flds, 9)
 }
 
+/// Two references, the first one of an automatic number.
 fn printed_refs(alloc: Global) -> Result<Bytes, Memory> {
     let mut refs = Refs::new(alloc);
     refs.add(4, true)?;
@@ -26,6 +29,7 @@ fn printed_refs(alloc: Global) -> Result<Bytes, Memory> {
     print_refs(alloc, &refs, 8)
 }
 
+/// The cuts of two texts.
 fn printed_texts(alloc: Global) -> Result<Bytes, Memory> {
     let mut cuts = Cuts::new(alloc);
     cuts.add(0)?;

@@ -83,6 +83,7 @@ fn push_pcdt(clx: &mut Bytes, pieces: &[Pcd]) -> Result<(), Memory> {
     Ok(())
 }
 
+/// The number of units of all pieces.
 fn units_of(pieces: &[Pcd]) -> u32 {
     let mut units = 0u32;
     for piece in pieces {
@@ -99,6 +100,7 @@ fn list_of(alloc: Global, prcs: usize, pieces: &[Pcd]) -> Result<PieceList, ClxF
     read_list(alloc, &clx, units_of(pieces))
 }
 
+/// The pieces of a Clx with so many units, in a stream of 100,000 bytes.
 fn read_list(alloc: Global, clx: &Bytes, units: u32) -> Result<PieceList, ClxFault> {
     if clx.as_slice().len() > 1_000_000 || units > 500_001 {
         return Err(ClxFault::Memory);
@@ -318,11 +320,13 @@ fn long_pieces(alloc: Global, count: usize, own: bool) -> Result<Vec<Pcd>, Memor
     Ok(pieces)
 }
 
+/// So many pieces of one unit, which share one list or have one each.
 fn long_list(alloc: Global, count: usize, own: bool) -> Result<PieceList, ClxFault> {
     let pieces = long_pieces(alloc, count, own)?;
     list_of(alloc, if own { count } else { 1 }, &pieces)
 }
 
+/// Whether each piece is made bold.
 fn are_all_bold(list: &PieceList) -> bool {
     for k in 0..list.len() {
         if bold_of(list.modifier(k)) != Some(1) {

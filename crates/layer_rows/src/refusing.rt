@@ -162,6 +162,7 @@ fn put<R: Files + AllocGlobal>(
     Ok(given == answer && held.as_slice() == bytes && !left)
 }
 
+/// Files whose making and whose writing are refused so.
 fn refused_at(making: Option<ErrorKind>, writing: Option<ErrorKind>) -> Refusals {
     Refusals { making, writing }
 }

@@ -111,6 +111,7 @@ enum Change {
     Repeated,
 }
 
+/// Appends a key and its value.
 fn push_key(text: &mut String, key: &str, value: &str) -> Result<(), AllocError> {
     text.push_str(",\"")?;
     text.push_str(key)?;
@@ -118,6 +119,7 @@ fn push_key(text: &mut String, key: &str, value: &str) -> Result<(), AllocError>
     text.push_str(value)
 }
 
+/// Appends a key and its value, changed so.
 fn push_changed(
     alloc: Global,
     text: &mut String,

@@ -11,6 +11,7 @@ use std::alloc::Global;
 use std::test::Fail;
 use style_sheet::{StyleSheet, UpxList};
 
+/// Settings of characters that are not bold.
 fn not_bold(alloc: Global) -> Result<PropMap, Memory>
     ensures { IfOk result (IsPropertyMap character_groups) }
 {
@@ -21,6 +22,7 @@ fn not_bold(alloc: Global) -> Result<PropMap, Memory>
     Ok(map)
 }
 
+/// Settings of a paragraph of the third level, kept on one page.
 fn third_level(alloc: Global) -> Result<PropMap, Memory>
     ensures { IfOk result (IsPropertyMap paragraph_groups) }
 {
@@ -74,6 +76,7 @@ const BLANK: [u8; 188] = [
     104, 0, 32, 0, 70, 0, 111, 0, 110, 0, 116, 0, 0, 0, 0, 0, 0, 0, 0, 0, 0, 0, 0, 0,
 ];
 
+/// The bytes of a sheet that may be written.
 fn printed(alloc: Global, sheet: &StyleSheet) -> Result<Bytes, Memory> {
     if !sheet.is_writable() {
         return Ok(Bytes::new(alloc));
@@ -88,6 +91,7 @@ fn the_blank_sheet_is_printed(rt: HostRuntime) -> Result<(), Fail> {
     Ok(())
 }
 
+/// A list of two bytes, and an empty one.
 fn two_lists(alloc: Global) -> Result<UpxList, Memory> {
     let mut upxes = UpxList::new(alloc);
     upxes.add(Bytes::from_slice(alloc, &[1, 2])?)?;
@@ -95,6 +99,7 @@ fn two_lists(alloc: Global) -> Result<UpxList, Memory> {
     Ok(upxes)
 }
 
+/// Whether these are the same two lists.
 fn are_two_lists(upxes: &UpxList) -> bool {
     upxes.len() == 2
         && upxes.get(0).as_slice() == [1, 2].as_slice()

@@ -43,6 +43,7 @@ impl<'a> Model for Prcs<'a> {
 }
 
 impl<'a> Prcs<'a> {
+    /// No list.
     fn new(alloc: Global) -> Prcs<'a>
         ensures { result ≡ [] }
     {
@@ -51,6 +52,7 @@ impl<'a> Prcs<'a> {
         }
     }
 
+    /// Appends a list.
     fn push(&mut self, list: &'a [u8]) -> Result<(), Memory>
         ensures { OnOk result (self.new ≡ self.old ++ list.now ∷ []) }
     {

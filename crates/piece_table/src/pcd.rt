@@ -25,6 +25,7 @@ pub enum Prm {
 }
 
 impl FcCompressed {
+    /// The FcCompressed of a number.
     fn read(number: u32) -> FcCompressed
         ensures { result ≡ fc_compressed number }
     {
@@ -41,6 +42,7 @@ impl FcCompressed {
 }
 
 impl Prm {
+    /// The Prm of a number.
     pub(crate) fn read(number: u16) -> Prm
         ensures { result ≡ prm_of number }
     {

@@ -13,6 +13,7 @@ pub(crate) struct PrcLists {
 }
 
 impl PrcLists {
+    /// No list was printed.
     pub(crate) fn new(alloc: Global) -> PrcLists
         ensures { prm_of_list result.prms.entries (λ key. key.items) ≡ no_prm }
     {
