@@ -3,3 +3,4 @@ pub mod Plc
 pub mod Rules
 pub mod Places
 pub mod Together
+pub mod Sums

@@ -7,6 +7,8 @@ mod memory;
 mod numbers;
 mod places;
 mod plcs;
+mod steps;
+mod sums;
 
 pub use laws::{number_is_read_back, plc_is_read_back};
 pub use lists::{Bytes, Text, Units};
@@ -14,3 +16,5 @@ pub use memory::Memory;
 pub use numbers::{get16, get32, put16, put32};
 pub use places::{Story, Where, lesser};
 pub use plcs::{Plc, PlcFault, plc_of};
+pub use steps::{Ledger, NoLedger, Steps};
+pub use sums::Sums;
