@@ -1,10 +1,8 @@
 -- A fault of one of the rules on the entries is the first of them, where the rules before it hold.
-use Rattle.std.proofs.Common.{inl, inr, ℕ, ◌≤◌, List, length, arith}
+use Rattle.std.proofs.Common.{inl, inr, ℕ, List}
 use Rattle.doc_bits.specs.Rules.{rule, Nowhere}
 use Rattle.cfb_sectors.specs.declared.faults.CfbFault.{CfbFault}
 use Rattle.cfb_sectors.specs.declared.faults.CfbFault.TheVariants.{Rule, Memory}
-use Rattle.cfb_sectors.proofs.ChainLemmas.{length_below}
-use Rattle.cfb_directory.specs.Reach.{entry_count, ListsReached}
 use Rattle.cfb_directory.specs.Reach.{BreaksRoot, BreaksTree, BreaksName, BreaksStorage}
 use Rattle.cfb_directory.specs.Entries.{tree_rules}
 use Rattle.cfb_sectors.specs.Judged.{IsCfbFault}
@@ -25,9 +23,3 @@ pub storages_fault : (file directory : List ℕ) (e : CfbFault) → Nowhere (Bre
     IsCfbFault (rule 10 (BreaksStorage file directory)) e → IsCfbFault (tree_rules file directory) e
 storages_fault file directory (Rule number place) root tree names first = inr (root, inr (tree, inr (names, first)))
 storages_fault file directory Memory root tree names first = tt
-
--- the entries that are reached are at most 1,024
-pub reached_few : (file directory order : List ℕ) → ListsReached file directory order → length directory ≤ 256 →
-    length order ≤ 1024
-reached_few file directory order lists short =
-    let most = length_below order (entry_count directory) (λ i h. (lists.within i h).1) lists.distinct in omega arith

@@ -6,7 +6,7 @@ use Rattle.doc_bits.specs.Number.{u32_at}
 use Rattle.doc_bits.specs.Rules.{Among, LeastOrNone}
 use Rattle.doc_bits.proofs.RuleLemmas.{least_same}
 use Rattle.cfb_sectors.specs.SectorChain.{HasSector}
-use Rattle.cfb_directory.specs.Reach.{entry_place, IsReached, IsLink, IsNamedBefore, BreaksLink, ListsReached}
+use Rattle.cfb_directory.specs.Reach.{entry_place, IsReached, IsLink, IsNamedBefore, BreaksLink}
 use Rattle.cfb_directory.specs.Links.{ListsLinks, IsFirstNamed, IsWrongAt}
 use Rattle.cfb_sectors.proofs.ChainLemmas.{pushed_before, pushed_last, length_pushed}
 
@@ -78,25 +78,6 @@ front_step file directory order links n at f reached e low =
         ]
       ];
     }
-
--- the links of all entries that are reached are all links
-pub front_lists : (file directory order links : List ℕ) → IsLinkFront file directory order (length order) links →
-    ListsReached file directory order → ListsLinks file directory links
-front_lists file directory order links f lists = record {
-  sound = f.sound;
-  complete = λ place link. elim link [
-    | inl e ↦ subst (HasSector links) (sym e) f.child
-    | inr side ↦
-        let has = lists.complete side.entry side.reached in
-        elim side.here [
-          | inl e ↦ subst (HasSector links) (ap (λ k. entry_place directory k + 68) has.here ∙ sym e)
-              (f.lefts has.index has.inside)
-          | inr e ↦ subst (HasSector links) (ap (λ k. entry_place directory k + 72) has.here ∙ sym e)
-              (f.rights has.index has.inside)
-        ]
-  ];
-  inside = f.inside;
-}
 
 -- the least link that names an entry is below a link exactly where some link that names it is
 pub first_before : (file directory links first : List ℕ) (link : ℕ) → ListsLinks file directory links →

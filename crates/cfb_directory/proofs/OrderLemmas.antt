@@ -392,6 +392,3 @@ name_short len not = elim (cases_lt 64 len) [ inl lo ↦ absurd (not (inr (inr l
 
 pub name_some : (len : ℕ) → ¬ IsWrongNameLength len → 4 ≤ len
 name_some len not = elim (cases_lt len 4) [ inl lo ↦ absurd (not (inr (inl lo))) | inr hi ↦ hi ]
-
-pub name_even : (len : ℕ) → ¬ IsWrongNameLength len → len % 2 ≡ 0
-name_even len not = elim (cases_eq (len % 2) 0) [ inl e ↦ e | inr ne ↦ absurd (not (inl ne)) ]

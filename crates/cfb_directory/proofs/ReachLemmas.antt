@@ -1,9 +1,7 @@
 -- The entries that the root reaches: a list that grows, and when it is closed.
-use Rattle.std.proofs.Common.{◌≡◌, ◌≢◌, inl, inr, ℕ, ◌+◌, ◌<◌, ◌≤◌, Bool, true, false, Option, List, [], ◌∷◌, ◌++◌}
-use Rattle.std.proofs.Common.{length, set, slice_index, refl, sym, ap, ◌∙◌, subst, arith, length-set}
-use Rattle.std.specs.Prelude.{slice_index_or}
-use Rattle.std.proofs.lemmas.Bool.{cases_lt, cases_eq, false≢true}
-use Rattle.std.proofs.lemmas.List.{get_or-set_same, get_or-set_other}
+use Rattle.std.proofs.Common.{◌≡◌, inl, inr, ℕ, ◌+◌, ◌<◌, ◌≤◌, Bool, Option, List, []}
+use Rattle.std.proofs.Common.{length, slice_index, sym, ap, ◌∙◌, subst, arith}
+use Rattle.std.proofs.lemmas.Bool.{cases_lt}
 use Rattle.cfb_sectors.specs.SectorChain.{HasSector}
 use Rattle.cfb_directory.specs.Directory.{entry_left, entry_right, entry_child}
 use Rattle.cfb_directory.specs.Seen.{IsSeen, Follows}
@@ -11,65 +9,7 @@ use Rattle.cfb_directory.specs.Reach.{entry_place, entry_count, IsEntry, IsReach
 use Rattle.cfb_directory.specs.Reach.{AmongReached}
 use Rattle.doc_bits.specs.Rules.{Among, LeastOrNone}
 use Rattle.doc_bits.proofs.RuleLemmas.{least_same}
-use Rattle.cfb_sectors.proofs.ChainLemmas.{pushed_before, pushed_last, length_pushed, length_below}
-
--- an entry that is put last and marked
-pub seen_step : (order : List ℕ) (seen : List Bool) (e : ℕ) → IsSeen order seen → 0 < e → e < length seen →
-    slice_index_or seen e false ≡ false → IsSeen (order ++ e ∷ []) (set seen e true)
-seen_step order seen e h low high new =
-    let n = length_pushed order e in
-    let here : slice_index_or (set seen e true) e false ≡ true = get_or-set_same seen e true false high in
-    let len = length-set seen e true in
-    let apart : (i : ℕ) → i < length order → slice_index order i ≢ e =
-    λ i below same. false≢true (sym new ∙ (ap (λ k. slice_index_or seen k false) (sym same) ∙ h.marked i below)) in
-    record {
-      marked = λ i below. elim (cases_lt i (length order)) [
-        | inl lo ↦ rw (pushed_before order e i lo)
-            (get_or-set_other seen e (slice_index order i) true false (apart i lo) ∙ h.marked i lo)
-        | inr hi ↦ rw (pushed_last order e i (omega arith)) here
-      ];
-      listed = λ k mark. elim (cases_eq k e) [
-        | inl same ↦ record
-            { index = length order; inside = omega arith; here = pushed_last order e (length order) refl ∙ sym same }
-        | inr other ↦
-            let old = h.listed k (sym (get_or-set_other seen e k true false other) ∙ mark) in
-            let below = old.inside in
-            record
-            { index = old.index; inside = omega arith; here = pushed_before order e old.index old.inside ∙ old.here }
-      ];
-      within = λ i below. elim (cases_lt i (length order)) [
-        | inl lo ↦ rw (pushed_before order e i lo, len) (h.within i lo)
-        | inr hi ↦ rw (pushed_last order e i (omega arith), len) (low, high)
-      ];
-      distinct = λ i j less below same. elim (cases_lt j (length order)) [
-        | inl lo ↦ h.distinct i j less lo
-            (sym (pushed_before order e i (omega arith)) ∙ (same ∙ pushed_before order e j lo))
-        | inr hi ↦ apart i (omega arith)
-            (sym (pushed_before order e i (omega arith)) ∙ (same ∙ pushed_last order e j (omega arith)))
-      ];
-    }
-
--- the list with the link's entry put last follows it
-pub follows_push : (count link : ℕ) (order : List ℕ) → Follows count link order (order ++ link ∷ [])
-follows_push count link order =
-    let n = length_pushed order link in
-    record {
-      longer = omega arith;
-      front = λ i h. pushed_before order link i h;
-      added = λ i low high. pushed_last order link i (omega arith);
-      there = λ low high. record
-          { index = length order; inside = omega arith; here = pushed_last order link (length order) refl };
-    }
-
--- a list that has the link's entry, or a link that names none, needs nothing
-pub follows_same : (count link : ℕ) (order : List ℕ) → (0 < link → link < count → HasSector order link) →
-    Follows count link order order
-follows_same count link order there = record {
-  longer = omega arith;
-  front = λ i h. refl;
-  added = λ i low high. absurd (omega arith);
-  there = there;
-}
+use Rattle.cfb_sectors.proofs.ChainLemmas.{length_below}
 
 -- what is in the old list is in the new one
 pub follows_has : (count link : ℕ) (old new : List ℕ) (k : ℕ) → Follows count link old new → HasSector old k →

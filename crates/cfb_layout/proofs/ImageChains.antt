@@ -2,7 +2,7 @@
 use Rattle.std.proofs.Common.{◌≡◌, ℕ, ◌+◌, ◌*◌, ◌/◌, ◌<◌, ◌≤◌, ltb, List, length, slice_index, sum, sym, ap, ◌∙◌}
 use Rattle.std.proofs.Common.{subst, arith}
 use Rattle.std.specs.List.{range_with_len}
-use Rattle.std.proofs.lemmas.Bool.{lt-ltb, le-ltb, cond-true, cond-false}
+use Rattle.std.proofs.lemmas.Bool.{lt-ltb, cond-true}
 use Rattle.std.proofs.lemmas.List.FromFn.{length-range_with_len, get_or-range_with_len}
 use Rattle.doc_bits.specs.Number.{u32_at}
 use Rattle.cfb_sectors.specs.SectorChain.{end_of_chain, HasSector, IsSectorChain}
@@ -24,10 +24,6 @@ sectors_of counts i = range_with_len (start_of counts i) (slice_index counts i)
 pub first_some : (counts : List ℕ) (i : ℕ) → 0 < slice_index counts i → first_sector counts i ≡ start_of counts i
 first_some counts i h = cond-true (ltb 0 (slice_index counts i)) (start_of counts i) end_of_chain
     (lt-ltb 0 (slice_index counts i) h)
-
-pub first_none : (counts : List ℕ) (i : ℕ) → slice_index counts i ≡ 0 → first_sector counts i ≡ end_of_chain
-first_none counts i h = cond-false (ltb 0 (slice_index counts i)) (start_of counts i) end_of_chain
-    (le-ltb 0 (slice_index counts i) (omega arith))
 
 -- a sector of a row
 pub run_sector : (start count s : ℕ) → HasSector (range_with_len start count) s → (start ≤ s) × (s < start + count)

@@ -1,12 +1,13 @@
 -- The names of an image, in their order.
-use Rattle.std.proofs.Common.{◌≡◌, inl, inr, ℕ, ◌+◌, ◌-◌, ◌<◌, ◌≤◌, List, length, slice_index, slice_index_or, sym}
-use Rattle.std.proofs.Common.{ap, ◌∙◌, arith}
+use Rattle.std.proofs.Common.{◌≡◌, inl, inr, ℕ, ◌+◌, ◌-◌, ◌<◌, ◌≤◌, List, length, slice_index_or, sym}
+use Rattle.std.proofs.Common.{ap, arith}
 use Rattle.std.proofs.lemmas.Bool.{cases_order}
 use Rattle.std.proofs.lemmas.Option.{slice_get-get_or}
 use Rattle.doc_bits.specs.Rules.{Nowhere}
 use Rattle.cfb_streams.specs.Contents.{NamedBytes, AreStreams}
-use Rattle.cfb_directory.specs.Directory.{entry_unit, upper_case, IsNameOf, HaveOneName, EntryBefore, ComesBefore}
+use Rattle.cfb_directory.specs.Directory.{IsNameOf, HaveOneName, EntryBefore}
 use Rattle.cfb_directory.specs.Reach.{BreaksName}
+use Rattle.cfb_directory.proofs.NameLemmas.{EntryBefore-names}
 use Rattle.cfb_layout.specs.Layout.{no_stream}
 use Rattle.cfb_layout.proofs.Image.{IsImage}
 use Rattle.cfb_layout.proofs.ImageTree.{directory_of, place_in, image_stream, reached_only}
@@ -17,37 +18,6 @@ pub image_name : (file : List ℕ) (streams : List NamedBytes) (clsid : List ℕ
 image_name file streams clsid i k im low is =
     let e = image_stream file streams clsid i k im low is in
     record { long = e.long; units = λ j h. sym (e.units j h) }
-
--- the order of names is that of entries
-pub entry_before : (file : List ℕ) (at other : ℕ) (name later : List ℕ) → IsNameOf file at name → IsNameOf file other
-    later → ComesBefore name later → EntryBefore file at other
-entry_before file at other name later a b h =
-    let x = a.long in
-    let y = b.long in
-    elim h [
-      | inl short ↦ inl (omega arith)
-      | inr same ↦
-          let len = same.0 in
-          let place = same.1.0 in
-          let less = same.1.1 in
-          let inside = less.inside in
-          let first : (i : ℕ) → i < length name → upper_case (entry_unit file at i) ≡ upper_case (slice_index name
-          i) = λ i low. ap upper_case (sym (a.units i low)) in
-          let second : (i : ℕ) → i < length name → upper_case (entry_unit file other i) ≡ upper_case (slice_index
-          later i) = λ i low. ap upper_case (sym (b.units i (omega arith))) in
-          inr (
-            omega arith,
-            (
-              place,
-              record {
-                inside = omega arith;
-                front = λ i low. first i (omega arith) ∙ (less.front i low ∙ sym (second i (omega arith)));
-                less = let p = first place inside in let q = second place inside in let lower = less.less in
-                    omega arith;
-              },
-            ),
-          )
-    ]
 
 -- entries in the order of names have two names
 pub before_apart : (file : List ℕ) (at other : ℕ) → EntryBefore file at other → ¬ HaveOneName file at other
@@ -80,7 +50,7 @@ pub image_order : (file : List ℕ) (streams : List NamedBytes) (clsid : List �
 image_order file streams clsid e k im are some less low =
     let a = image_name file streams clsid (e - 1) e im (omega arith) (omega arith) in
     let b = image_name file streams clsid (k - 1) k im (omega arith) (omega arith) in
-    entry_before file (place_in streams e) (place_in streams k) (slice_index_or streams (e - 1) no_stream).name
+    EntryBefore-names file (place_in streams e) (place_in streams k) (slice_index_or streams (e - 1) no_stream).name
     (slice_index_or streams (k - 1) no_stream).name a b
     (are.order (e - 1) (k - 1) (slice_index_or streams (e - 1) no_stream) (slice_index_or streams (k - 1) no_stream)
     (omega arith) (slice_get-get_or streams (e - 1) no_stream (omega arith)) (slice_get-get_or streams (k - 1)

@@ -1,8 +1,8 @@
 -- Lists that are written piece by piece.
 use Rattle.std.proofs.Common.{◌≡◌, ℕ, zero, suc, ◌+◌, ◌-◌, ◌<◌, List, [], ◌∷◌, ◌++◌, length, map, take, get_or}
-use Rattle.std.proofs.Common.{replicate, sum, ltb, Some, slice_get, sym, ap, ◌∙◌, arith}
+use Rattle.std.proofs.Common.{sum, ltb, Some, slice_get, sym, ap, ◌∙◌, arith}
 use Rattle.std.specs.List.{flat_map, range_with_len}
-use Rattle.std.proofs.lemmas.List.{append-nil, append_assoc, flat_map_more, take_more, replicate_more, map_more}
+use Rattle.std.proofs.lemmas.List.{append-nil, append_assoc, flat_map_more, take_more, map_more}
 use Rattle.std.proofs.lemmas.List.Concat.{flat_map-append}
 use Rattle.std.proofs.lemmas.List.Sums.{sum_by-cons}
 use Rattle.std.specs.Option.{option_map}
@@ -40,12 +40,6 @@ row_step f base out new from at n end a b e last =
     ∙ ap (λ ys. base ++ flat_map f ys) (ap (λ k. range_with_len from n ++ k ∷ []) e ∙ (sym (range_more from n) ∙ ap
     (λ m. range_with_len from m) one))))
 
-pub repeat_step : (f : ℕ → List ℕ) (base out new : List ℕ) (x n : ℕ) → out ≡ base ++ flat_map f (replicate n x) →
-    new ≡ out ++ f x → new ≡ base ++ flat_map f (replicate (n + 1) x)
-repeat_step f base out new x n a b =
-    b ∙ (ap (λ ys. ys ++ f x) a ∙ (flat_map_more f base (replicate n x) x ∙ ap (λ ys. base ++ flat_map f ys)
-    (replicate_more n x)))
-
 -- two pieces of a table
 pub table_join : (base a b : List ℕ) (xs ys : List ℕ) → a ≡ base ++ flat_map (number_bytes 4) xs → b ≡ a ++ flat_map
     (number_bytes 4) ys → b ≡ base ++ flat_map (number_bytes 4) (xs ++ ys)
@@ -60,14 +54,6 @@ pub chain_is : (start count : ℕ) → 0 < count → range_with_len (start + 1) 
 chain_is start zero h = absurd (omega arith)
 chain_is start (suc more) h = let e : suc more - 1 ≡ more = omega arith in ap (λ n. range_with_len (start + 1) n ++
     end_of_chain ∷ []) e
-
-pub chain_join : (base a b : List ℕ) (start count : ℕ) → 0 < count → a ≡ base ++ flat_map (number_bytes 4)
-    (range_with_len (start + 1) (count - 1)) → b ≡ a ++ number_bytes 4 end_of_chain → b ≡ base ++ flat_map
-    (number_bytes 4) (chain_entries start count)
-chain_join base a b start count some h k =
-    k ∙ (ap (λ zs. zs ++ number_bytes 4 end_of_chain) h
-    ∙ (flat_map_more (number_bytes 4) base (range_with_len (start + 1) (count - 1)) end_of_chain
-    ∙ ap (λ ys. base ++ flat_map (number_bytes 4) ys) (chain_is start count some)))
 
 -- one chain more
 pub chains-append : (start : ℕ) (xs ys : List ℕ) → chains_from start (xs ++ ys) ≡ chains_from start xs ++ chains_from

@@ -5,13 +5,8 @@ ghost use Rattle.std.specs.List.{flat_map, range_with_len};
 ghost use Rattle.doc_bits.specs.Number.{number_bytes};
 ghost use Rattle.cfb_layout.specs.Sectors.{units_for, padded, chain_entries, chains_from};
 
+use cfb_sectors::SECTOR_LEN;
 use doc_bits::{Bytes, Memory};
-
-/// The length of a sector in bytes.
-pub const SECTOR_LEN: usize = 512;
-
-/// The length of a mini sector in bytes.
-pub const MINI_SECTOR_LEN: usize = 64;
 
 /// The entries of a FAT or a mini FAT in a sector.
 pub const TABLE_ENTRIES: usize = 128;

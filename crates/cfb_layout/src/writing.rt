@@ -14,11 +14,12 @@ use crate::entries::{EntryFields, push_entry};
 use crate::fields::{Field, push_fields};
 use crate::plan::{DIRECTORY, MINI_FAT, Plan};
 use crate::sectors::{
-    END_OF_CHAIN, FAT_SECTOR, FREE_SECTOR, MINI_SECTOR_LEN, SECTOR_LEN, TABLE_ENTRIES, push_chains,
-    push_padded, push_repeated, push_row, push_zeros, rest_of,
+    END_OF_CHAIN, FAT_SECTOR, FREE_SECTOR, TABLE_ENTRIES, push_chains, push_padded, push_repeated,
+    push_row, push_zeros, rest_of,
 };
 use crate::sizes::{CUTOFF, MAX_SECTORS, sectors_needed};
 use crate::tree::NO_ENTRY;
+use cfb_sectors::{MINI_SECTOR_LEN, SECTOR_LEN};
 use cfb_streams::Streams;
 use doc_bits::{Bytes, Memory};
 use std::alloc::Global;

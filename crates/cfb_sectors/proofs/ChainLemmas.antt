@@ -155,14 +155,6 @@ pub chain_unique : (entry : ℕ → ℕ) (valid start : ℕ) (xs ys : List ℕ) 
 chain_unique entry valid start xs ys low c d = full_unique entry valid start xs ys
     (chain_full entry valid start xs low c) (chain_full entry valid start ys low d)
 
--- a full path that does not end with ENDOFCHAIN leaves no chain
-pub no_chain : (entry : ℕ → ℕ) (valid start : ℕ) (xs : List ℕ) → valid ≤ end_of_chain →
-    IsFullPath entry valid start xs → entry (last_of xs) ≢ end_of_chain → (ys : List ℕ) →
-    ¬ IsSectorChain entry valid start ys
-no_chain entry valid start xs low f open_end ys c =
-    let e = full_unique entry valid start xs ys f (chain_full entry valid start ys low c) in
-    open_end (ap (λ zs. entry (last_of zs)) e ∙ c.ends)
-
 -- tables with the same entries have the same paths and chains
 pub path_same : (entry other : ℕ → ℕ) (valid start : ℕ) (xs : List ℕ) → ((s : ℕ) → s < valid → entry s ≡ other s) →
     IsSectorPath entry valid start xs → IsSectorPath other valid start xs
@@ -177,13 +169,6 @@ path_same entry other valid start xs same p = record {
 pub last_within : (entry : ℕ → ℕ) (valid start : ℕ) (xs : List ℕ) → IsSectorPath entry valid start xs →
     last_of xs < valid
 last_within entry valid start xs p = let some = p.some in p.within (length xs - 1) (omega arith)
-
-pub chain_same : (entry other : ℕ → ℕ) (valid start : ℕ) (xs : List ℕ) → ((s : ℕ) → s < valid → entry s ≡ other s) →
-    IsSectorChain entry valid start xs → IsSectorChain other valid start xs
-chain_same entry other valid start xs same c = record {
-  path = path_same entry other valid start xs same c.path;
-  ends = sym (same (last_of xs) (last_within entry valid start xs c.path)) ∙ c.ends;
-}
 
 -- a path has no more sectors than there are
 pub path_short : (entry : ℕ → ℕ) (valid start : ℕ) (xs : List ℕ) → IsSectorPath entry valid start xs → length xs ≤ valid

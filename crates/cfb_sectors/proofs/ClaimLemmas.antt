@@ -16,15 +16,6 @@ use Rattle.cfb_sectors.specs.Claims.{HasFront, Claimed, Takes, AreClosed, IsClos
 use Rattle.cfb_sectors.proofs.ChainLemmas.{walk_step, pushed_before, pushed_last, length_pushed, length_below}
 use Rattle.cfb_sectors.proofs.JudgeLemmas.{full_whole, whole_start}
 
--- at first the path is empty
-pub met_none : (marks : List Bool) → IsMetSince marks marks []
-met_none marks = record {
-  kept = λ s h. h;
-  met = λ i h. absurd (omega arith);
-  free = λ i h. absurd (omega arith);
-  only = λ s h. inl h;
-}
-
 -- a sector that is not marked is not on the path
 pub since_apart : (old new : List Bool) (path : List ℕ) (at : ℕ) → IsMetSince old new path →
     slice_index_or new at false ≡ false → (i : ℕ) → i < length path → slice_index path i ≢ at

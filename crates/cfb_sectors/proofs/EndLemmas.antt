@@ -4,7 +4,7 @@ use Rattle.std.proofs.Common.{MatchOption, false, true}
 use Rattle.std.proofs.Common.{List, [], ◌∷◌, length, set, slice_index, refl, sym, ap, ◌∙◌, subst, arith, length-set}
 use Rattle.std.specs.Prelude.{IfSome, is_some}
 use Rattle.std.proofs.lemmas.Bool.{cases_lt, cases_eq}
-use Rattle.std.proofs.lemmas.List.{get_or-set_same, get_or-set_other, get_or_past}
+use Rattle.std.proofs.lemmas.List.{get_or-set_same, get_or-set_other}
 use Rattle.cfb_sectors.specs.declared.ends.End.{End}
 use Rattle.cfb_sectors.specs.SectorChain.{HasSector, IsSectorPath, IsFullPath, last_of}
 use Rattle.cfb_sectors.proofs.ChainLemmas.{path_short}
@@ -224,13 +224,6 @@ remember_step entry valid old known new path i s low is r remembers kept here = 
   ];
 }
 
--- a known sector has a place
-pub known_below : (known : KnownEnds) (s : ℕ) → IsKnown known s → s < length known.counts
-known_below known s h = elim (cases_lt s (length known.counts)) [
-  | inl lo ↦ lo
-  | inr hi ↦ let e = get_or_past known.counts s 0 hi in absurd (omega arith)
-]
-
 -- the ends are small numbers
 pub end_few : (entry : ℕ → ℕ) (valid : ℕ) (known : KnownEnds) (s : ℕ) (rest : Option End) →
     Remembers entry valid known →
@@ -256,13 +249,3 @@ pub is_known : (known : KnownEnds) (s : ℕ) (rest : Option End) →
     IsKnown known s
 is_known known s None found some = absurd (cc some)
 is_known known s (Some end) found some = found.0
-
--- at first no end is known
-pub remembers_none : (entry : ℕ → ℕ) (valid : ℕ) (known : KnownEnds) → length known.counts ≡ valid →
-    length known.lasts ≡ valid → ((s : ℕ) → ¬ IsKnown known s) → Remembers entry valid known
-remembers_none entry valid known counts lasts none = record {
-  counts_len = counts;
-  lasts_len = lasts;
-  ends = λ s h. absurd (none s h);
-  closed = λ s h less. absurd (none s h);
-}

@@ -37,20 +37,6 @@ way_least table head place way = record {
   ];
 }
 
--- a chain whose start is not valid breaks nowhere else
-pub start_least : (table : Table) (head : Head) → table.valid ≤ head.start →
-    IsLeast (λ a b. a ≤ b) (BreaksChain table head) head.field
-start_least table head out = record {
-  broken = inl (record { here = refl; wrong = out });
-  least = λ p h. elim h [
-    | inl start ↦ let e = start.here in omega arith
-    | inr way ↦
-        let some = way.full.path.some in
-        let low = way.full.path.within 0 some in
-        let first = way.full.path.first in absurd (omega arith)
-  ];
-}
-
 -- a full path that ends with ENDOFCHAIN and has enough sectors is the chain
 pub full_holds : (table : Table) (head : Head) (xs : List ℕ) → table.valid ≤ end_of_chain →
     IsFullPath table.entry table.valid head.start xs → table.entry (last_of xs) ≡ end_of_chain →

@@ -7,11 +7,11 @@ use Rattle.cfb_sectors.specs.declared.chain.Chain.TheVariants.{Found, Breaks}
 use Rattle.cfb_sectors.specs.declared.ends.End.{End}
 use Rattle.cfb_sectors.specs.Ends.{IsEnd}
 use Rattle.cfb_sectors.specs.SectorChain.{IsFullPath}
-use Rattle.cfb_sectors.specs.Chain.{Table, Head, table_of, BreaksChain}
-use Rattle.cfb_sectors.specs.Judged.{IsFound, IsFoundBy, IsRefused, broken_place}
+use Rattle.cfb_sectors.specs.Chain.{table_of}
+use Rattle.cfb_sectors.specs.Judged.{IsFoundBy, IsRefused, broken_place}
 use Rattle.cfb_sectors.specs.Tables.{IsKept}
 use Rattle.cfb_sectors.specs.Judged.{IsCfbFault}
-use Rattle.cfb_sectors.proofs.JudgeLemmas.{full_same, holds_none}
+use Rattle.cfb_sectors.proofs.JudgeLemmas.{full_same}
 use Rattle.cfb_sectors.specs.Walk.{IsWalk}
 use Rattle.cfb_sectors.proofs.ClaimLemmas.{walk_same}
 
@@ -30,12 +30,6 @@ pub kept_walk : (file sectors entries : List ℕ) (valid start at : ℕ) (xs : L
 kept_walk file sectors entries valid start at xs is walk =
     walk_same (λ s. slice_index entries s) (table_of file sectors valid).entry valid start at xs
     (λ s h. let room = is.room in is.is_table.each s (omega arith)) walk
-
--- the place at which a chain is broken is the least one
-pub found_least : (table : Table) (head : Head) (c : Chain) → IsFound table head c →
-    LeastOrNone (BreaksChain table head) (broken_place c)
-found_least table head (Found sectors) h = holds_none table head sectors.items h
-found_least table head (Breaks place) h = h
 
 -- a rule that is refused is broken there first
 pub refused_first : (number : ℕ) (breaks : ℕ → Type 0) (wrong : Option ℕ) (fault : CfbFault) →

@@ -115,14 +115,6 @@ push-AreStreams streams last are some short ends room = record {
   total = rw (sum_by_push (λ (stream : NamedBytes). length stream.bytes) streams last) room;
 }
 
--- what the longer list has, its last stream has
-pub last-EndsBefore : (streams : List NamedBytes) (last : NamedBytes) → AreStreams (streams ++ last ∷ []) →
-    EndsBefore streams last.name
-last-EndsBefore streams last are = λ stream there.
-    let within = slice_get_within streams (length streams - 1) stream there in
-    are.order (length streams - 1) (length streams) stream last (omega arith)
-    (slice_get_before streams (last ∷ []) (length streams - 1) within ∙ there) (slice_get_push streams last)
-
 pub last_total : (streams : List NamedBytes) (last : NamedBytes) → AreStreams (streams ++ last ∷ []) →
     sum_by (λ stream. length stream.bytes) streams + length last.bytes < 2 ^ 48
 last_total streams last are = let total = are.total in let e = sum_by_push

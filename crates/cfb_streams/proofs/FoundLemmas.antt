@@ -1,33 +1,46 @@
 -- The chains of the parts, and of the streams, as the code finds them by the FAT and the mini FAT.
-use Rattle.std.proofs.Common.{◌≡◌, ◌≢◌, inl, inr, ℕ, ◌≤◌, Option, List, length, refl, arith}
+use Rattle.std.proofs.Common.{◌≡◌, ◌≢◌, inl, inr, ℕ, ◌<◌, ◌≤◌, Option, List, length, refl, ap, subst, arith}
 use Rattle.std.proofs.lemmas.Bool.{cases_lt}
 use Rattle.doc_bits.specs.Number.{u32_at}
-use Rattle.doc_bits.specs.Rules.{IsLeast, LeastOrNone, Nowhere}
+use Rattle.doc_bits.specs.Rules.{LeastOrNone}
 use Rattle.doc_bits.proofs.RuleLemmas.{least_same}
 use Rattle.cfb_sectors.specs.declared.chain.Chain.{Chain}
 use Rattle.cfb_sectors.specs.declared.chain.Chain.TheVariants.{Found, Breaks}
 use Rattle.cfb_sectors.specs.Chain.{fat_table, BreaksChain}
+use Rattle.cfb_sectors.specs.SectorChain.{IsFullPath}
+use Rattle.cfb_sectors.specs.Tables.{TablePlace, table_at, fat_place}
 use Rattle.cfb_sectors.specs.Judged.{IsFound}
 use Rattle.cfb_directory.specs.Directory.{entry_size}
 use Rattle.cfb_streams.specs.StreamRules.{mini_fat_head, mini_table_of}
 use Rattle.cfb_directory.specs.StreamEntries.{stream_head, IsLargeStream, IsSmallStream}
 use Rattle.cfb_streams.specs.StreamRules.{IsWrongStream}
-use Rattle.cfb_directory.specs.Reach.{entry_place, directory_head, IsLongDirectory, BreaksDirectory}
+use Rattle.cfb_directory.specs.Reach.{entry_place, directory_head, IsLongDirectory}
 use Rattle.cfb_streams.specs.FoundParts.{IsFoundDirectory, IsFoundMiniFat, IsFoundMiniStream}
-use Rattle.cfb_sectors.proofs.ChainLemmas.{chain_full}
+use Rattle.cfb_sectors.proofs.ChainLemmas.{chain_full, full_unique}
 
--- a path of more than 256 sectors is named at 48, before each place in the FAT
-pub long_least : (file : List ℕ) → IsLongDirectory file 48 → IsLeast (λ a b. a ≤ b) (BreaksDirectory file) 48
-long_least file long = record {
-  broken = inl long;
-  least = λ p h. elim h [
-    | inl other ↦ let e = other.here in omega arith
-    | inr broken ↦ elim broken [
-      | inl start ↦ let e = start.here in omega arith
-      | inr way ↦ let e = way.here in omega arith
-    ]
-  ];
-}
+-- a path that begins at the directory's start and cannot go on is the only one
+pub long_directory : (file xs : List ℕ) (fat : TablePlace) (start : ℕ) → fat ≡ fat_place file → start ≡ u32_at file 48 →
+    IsFullPath (table_at fat).entry fat.valid start xs → (256 < length xs → IsLongDirectory file 48) × (IsLongDirectory
+    file 48 → 256 < length xs)
+long_directory file xs fat start is begins path =
+    let entry = (fat_table file).entry in
+    let valid = (fat_table file).valid in
+    let full : IsFullPath entry valid (u32_at file 48) xs = subst (λ s. IsFullPath entry valid s xs) begins (subst
+    (λ t. IsFullPath (table_at t).entry t.valid start xs) is path) in (
+      λ long. record { here = refl; sectors = xs; full = full; long = long },
+      λ l.
+          let same = ap length (full_unique entry valid (u32_at file 48) l.sectors xs l.full full) in
+          let long = l.long in omega arith,
+    )
+
+-- none begins at a sector that is not there
+pub no_directory : (file : List ℕ) (fat : TablePlace) (start : ℕ) → fat ≡ fat_place file → start ≡ u32_at file 48 →
+    fat.valid ≤ start → ¬ IsLongDirectory file 48
+no_directory file fat start is begins past = λ l.
+    let path = l.full.path in
+    let valid : fat.valid ≡ (fat_table file).valid = ap (λ t. t.valid) is in
+    let within = path.within 0 path.some in
+    let first = path.first in omega arith
 
 -- without such a path the chain's own place, or the chain, is that of the directory
 pub found_directory : (file : List ℕ) (c : Chain) → ¬ IsLongDirectory file 48 →
@@ -71,14 +84,6 @@ found_mini_stream file directory (Breaks place) there h = record {
   broken = record { there = there; broken = h.broken };
   least = λ p w. h.least p w.broken;
 }
-
--- the place at which the chain of a stream is broken
-pub empty_right : (file directory mini_fat : List ℕ) (entry : ℕ) → entry_size file (entry_place directory entry) ≡ 0 →
-    Nowhere (IsWrongStream file directory mini_fat entry)
-empty_right file directory mini_fat entry empty = λ p w. elim w [
-  | inl large ↦ let size = large.is_large.large in omega arith
-  | inr small ↦ let size = small.is_small.some in omega arith
-]
 
 pub short_wrong : (file directory mini_fat : List ℕ) (entry : ℕ) (o : Option ℕ) → IsSmallStream file directory entry →
     LeastOrNone

@@ -48,12 +48,6 @@ same_name-is name other =
           (eq-eqb (upper_case (slice_index name i)) (upper_case (slice_index other i)) (are.units i below))))),
     )
 
--- the test of a loop
-pub same_name-true : (name other : List ℕ) → length name ≡ length other →
-    ((i : ℕ) → i < length name → upper_case (slice_index name i) ≡ upper_case (slice_index other i)) →
-    true ≡ is_same_name name other
-same_name-true name other long units = sym ((same_name-is name other).1 (record { long = long; units = units }))
-
 pub same_name-false : (name other : List ℕ) → ¬ AreSameNames name other → false ≡ is_same_name name other
 same_name-false name other apart = sym
     (false_from_ne_true (is_same_name name other) (λ same. apart ((same_name-is name other).0 same)))

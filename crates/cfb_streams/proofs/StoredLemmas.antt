@@ -54,10 +54,3 @@ pub contents_stored : (file : List ℕ) (contents : Contents) → AreBytes file 
     (i : ℕ) (stream : Stream) → slice_get contents.streams i ≡ Some stream → IsStored stream.name stream.bytes
 contents_stored file contents are has i stream there =
     stream_stored file has.parts (slice_index has.entries i) stream are (has.streams.each i stream there)
-
--- the CLSID of a file
-pub clsid_bytes : (file : List ℕ) (contents : Contents) → AreBytes file → HasContents file contents →
-    AreBytes contents.clsid
-clsid_bytes file contents are has =
-    let at = entry_place has.parts.directory 0 in
-    subst AreBytes (sym has.clsid) (AreBytes-range file (at + 80) (at + 96) are)

@@ -34,9 +34,9 @@ impl Container {
             (IsCfbFault (container_rules file.now)) }
     {
         let mut layout = Layout::judge(alloc, file)?;
-        layout.judge_streams(alloc)?;
-        let container = layout.gather(alloc)?;
-        Ok(container)
+        let loaded = layout.contents(alloc);
+        drop(layout);
+        loaded
     }
 
     /// The number of streams of the root.

@@ -1,7 +1,7 @@
 // One pass over the streams: it takes their sectors, and reads them.
 ghost use Rattle.std.specs.Prelude.{◌≡◌, ℕ, ◌+◌, ◌*◌, ◌<◌, ◌≤◌, None, length};
 ghost use Rattle.std.specs.Prelude.{IfOk, OnOk, MatchOption, MatchResult};
-ghost use Rattle.doc_bits.specs.Rules.{Nowhere, LeastOrNone, rule};
+ghost use Rattle.doc_bits.specs.Rules.{Hold, Nowhere, LeastOrNone, rule};
 ghost use Rattle.cfb_sectors.specs.Chain.{BreaksChain};
 ghost use Rattle.cfb_directory.specs.Directory.{IsNameOf};
 ghost use Rattle.cfb_directory.specs.Reach.{entry_place as place_of};
@@ -12,7 +12,7 @@ ghost use Rattle.cfb_sectors.specs.Tables.{table_at};
 ghost use Rattle.cfb_streams.specs.Layout.{IsLayout};
 ghost use Rattle.cfb_streams.specs.Gathered.{IsRead, TakesChain, TakesStream, HasMarks};
 ghost use Rattle.cfb_streams.specs.Gathered.{AreUnshared, with_some, IsTakenFront};
-ghost use Rattle.cfb_streams.specs.Container.{HasContents, IsStreamOf, AreStreamsOf};
+ghost use Rattle.cfb_streams.specs.Container.{container_rules, HasContents, IsStreamOf, AreStreamsOf};
 ghost use Rattle.cfb_sectors.specs.Judged.{IsCfbFault};
 
 use crate::CfbFault;
@@ -69,6 +69,18 @@ impl<'a> Layout<'a> {
             least = lesser(least, wrong);
         }
         refuse(RULE_STREAM_CHAIN, least)
+    }
+
+    /// Judges the rules 13 and 14, and reads the streams.
+    pub(crate) fn contents(&mut self, alloc: Global) -> Result<Container, CfbFault>
+        requires { IsLayout self.old }
+        ensures { MatchResult result
+            (λ c. Hold (container_rules self.old.file) × HasContents self.old.file c)
+            (IsCfbFault (container_rules self.old.file)) }
+    {
+        self.judge_streams(alloc)?;
+        let container = self.gather(alloc)?;
+        Ok(container)
     }
 
     /// The sectors of the directory, of the mini FAT and of the mini stream, taken.

@@ -146,6 +146,7 @@ pub fn layout_of<'a>(alloc: Global, file: &'a [u8]) -> Result<Layout<'a>, Memory
 {
     match Layout::judge(alloc, file) {
         Ok(layout) => Ok(layout),
-        Err(_) => Err(Memory),
+        Err(CfbFault::Rule { .. }) => unreachable!(),
+        Err(CfbFault::Memory) => Err(Memory),
     }
 }

@@ -1,7 +1,6 @@
 -- The sections' rule: a table that may not be empty.
-use Rattle.std.proofs.Common.{◌≡◌, ◌⊎◌, inl, inr, ℕ, ◌+◌, ◌*◌, ◌^◌, ◌<◌, ◌≤◌, List, [], ◌∷◌, ◌++◌, length, Option}
+use Rattle.std.proofs.Common.{◌≡◌, ◌⊎◌, inl, inr, ℕ, ◌+◌, ◌*◌, ◌^◌, ◌<◌, ◌≤◌, List, length, Option}
 use Rattle.std.proofs.Common.{Some, sym, subst, ◌∙◌, arith}
-use Rattle.std.proofs.lemmas.List.Elements.{All-append, All-nil, All-cons}
 use Rattle.std.proofs.lemmas.Option.{slice_get_within, same_Some}
 use Rattle.doc_bits.specs.Number.{AreBytes, u32_at}
 use Rattle.doc_bits.specs.Plc.{PlcPart, plc_cp, plc_entry}
@@ -52,10 +51,3 @@ read_numbers bytes main_len list are leading =
     }) sed there in
     subst (λ (s : Sed). s.sepx < 2 ^ 32) same (number_at-bound entry 2 4 (AreBytes-range bytes from
     (from + table.size) are)))
-
--- one section more
-pub more_numbers : (list : List Sed) (sed : Sed) → HaveFileNumbers list → sed.sepx < 2 ^ 32 → HaveFileNumbers
-    (list ++ sed ∷ [])
-more_numbers list sed numbers small =
-    let P : Sed → Type 0 = λ s. s.sepx < 2 ^ 32 in
-    All-append P list (sed ∷ []) numbers (All-cons P sed [] small (All-nil P))

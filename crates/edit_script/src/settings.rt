@@ -6,7 +6,7 @@ ghost use Rattle.edit_script.specs.Values.{settings_of};
 use crate::Misfit;
 use crate::hex::code_in;
 use crate::values::bytes_in;
-use prop_map::PropMap;
+use prop_map::{Draft, PropMap};
 use serde_json::Value;
 use sprm_table::Code;
 use std::alloc::Global;
@@ -18,13 +18,12 @@ pub fn settings_in(alloc: Global, value: &Value) -> Result<PropMap, Misfit>
     let Some(members) = value.as_object() else {
         return Err(Misfit::Shape);
     };
-    let mut set = PropMap::new(alloc);
+    let mut draft = Draft::new(alloc);
     for (key, value) in members.iter() {
         let Some(code) = code_in(key.as_bytes()) else {
             return Err(Misfit::Shape);
         };
-        let bytes = bytes_in(alloc, value)?;
-        set.set(Code(code), bytes.as_slice())?;
+        draft.put(Code(code), bytes_in(alloc, value)?)?;
     }
-    Ok(set)
+    Ok(draft.into_map(alloc)?)
 }

@@ -12,9 +12,8 @@ use Rattle.prop_map.specs.Formed.{IsPropertyMap, character_groups}
 use Rattle.style_sheet.specs.declared.styles.Style.{Style}
 use Rattle.style_sheet.specs.Sheet.{Sheet, style_at}
 use Rattle.style_sheet.specs.Chain.{kind_at}
-use Rattle.effective_props.specs.declared.layers.Part.TheVariants.{Character}
 use Rattle.effective_props.specs.Layers.{settings_of_styles, AreNamedLayers, named_style, character_style_code}
-use Rattle.effective_props.specs.LayerParts.{AddsChain, AddsNamed}
+use Rattle.effective_props.specs.LayerParts.{AddsNamed}
 
 -- what a call of `get` answers, as an option of the style
 pub match_now : {A B : Type 0} → (f : A → B) (o : Option A) (x : Option B) → MatchOption o (x ≡ None) (λ a. x ≡ Some
@@ -48,12 +47,6 @@ nothing_added : (sheet : Sheet) (named : Option ℕ) (old : List Settings) → A
     AddsNamed sheet named old old
 nothing_added sheet named old h = record { added = []; layers = h; joined = sym (append-nil old) }
 
-pub none_named : (sheet : Sheet) (direct : Settings) (old : List Settings) → get direct character_style_code ≡ None →
-    AddsNamed sheet (named_style direct) old old
-none_named sheet direct old e =
-    nothing_added sheet (named_style direct) old (subst (λ (o : Option (List ℕ)). AreNamedLayers sheet
-    (option_map (λ v. u16_at v 0) o) []) (sym e) refl)
-
 pub foreign_named : (sheet : Sheet) (direct : Settings) (value : List ℕ) (istd : ℕ) (old : List Settings) →
     get direct character_style_code ≡ Some value → istd ≡ u16_at value 0 → kind_at sheet istd ≢ 2 → AddsNamed sheet
     (named_style direct) old old
@@ -62,19 +55,6 @@ foreign_named sheet direct value istd old e number kind =
     ((λ is. absurd (kind is)), (λ is. refl)) in
     nothing_added sheet (named_style direct) old (subst (λ (o : Option (List ℕ)). AreNamedLayers sheet
     (option_map (λ v. u16_at v 0) o) []) (sym e) here)
-
-pub chain_named : (sheet : Sheet) (direct : Settings) (value : List ℕ) (istd : ℕ) (old new : List Settings) →
-    get direct character_style_code ≡ Some value → istd ≡ u16_at value 0 → kind_at sheet istd ≡ 2 →
-    AddsChain Character sheet istd old new → AddsNamed sheet (named_style direct) old new
-chain_named sheet direct value istd old new e number kind adds =
-    let here : AreNamedLayers sheet (Some (u16_at value 0)) adds.added = subst (λ i. AreNamedLayers sheet (Some i)
-    adds.added) number ((λ is. adds.layers), (λ is. absurd (is kind))) in
-    record {
-      added = adds.added;
-      layers = subst (λ (o : Option (List ℕ)). AreNamedLayers sheet (option_map (λ v. u16_at v 0) o) adds.added)
-          (sym e) here;
-      joined = adds.joined;
-    }
 
 -- ---- all layers
 

@@ -1,5 +1,5 @@
 -- Stops, layer by layer.
-use Rattle.std.proofs.Common.{◌≡◌, ◌≢◌, ◌⊎◌, inl, inr, ℕ, ℤ, ◌<◌, List, [], ◌∷◌, ◌++◌, length, Some, None, refl, sym}
+use Rattle.std.proofs.Common.{◌≡◌, ◌≢◌, ◌⊎◌, inl, inr, ℕ, ℤ, ◌<◌, List, [], ◌∷◌, ◌++◌, length, Some, refl, sym}
 use Rattle.std.proofs.Common.{ap, ◌∙◌, arith, subst}
 use Rattle.std.proofs.lemmas.Bool.{cases_lt}
 use Rattle.std.specs.List.{slice_get}
@@ -9,7 +9,8 @@ use Rattle.effective_props.specs.TabChange.{deleted_count, deleted_position, add
 use Rattle.effective_props.specs.TabChange.{Adds, Mentions}
 use Rattle.effective_props.specs.Stops.{HasTabChange, MentionsStop, HasStop}
 use Rattle.effective_props.specs.StopSteps.{StopTree, stop_at, ChangesBy, ChangesByLayer}
-use Rattle.effective_props.proofs.PlaceLemmas.{IsLastPlace, last_place, get_old, get_new, get_past, get_within, some_is}
+use Rattle.effective_props.proofs.PlaceLemmas.{IsLastPlace, last_place, get_old, get_new, get_past, get_within}
+use Rattle.effective_props.proofs.PlaceLemmas.{some_is}
 
 -- ---- a layer has one change at most
 
@@ -181,9 +182,3 @@ stops_more layers layer old new holds changes =
         there = λ tab h. changed_there layers layer some.0 old new tab holds some.1.0 some.1.1 h;
       }
     ]
-
-pub no_stops : (stops : StopTree) → ((p : ℤ) → stop_at stops p ≡ None) → HoldsStops [] stops
-no_stops stops none = record {
-  found = λ p kind is. absurd (cc (none p, is));
-  there = λ tab h. absurd (cc (h.there));
-}

@@ -23,7 +23,8 @@ use Rattle.doc_bits.proofs.TestLemmas.{both_true}
 use Rattle.fkp_pages.specs.Properties.{bare_list}
 use Rattle.fkp_pages.specs.Runs.{run_groups, run_list, IsBareRun, IsWritableRun}
 use Rattle.fkp_pages.specs.Written.{is_bare, written}
-use Rattle.fkp_pages.specs.PageBytes.{lowered, limit_after, first_limit, entries_end, half_offset, FitsPage, page_bytes}
+use Rattle.fkp_pages.specs.PageBytes.{lowered, limit_after, first_limit, entries_end, half_offset, FitsPage}
+use Rattle.fkp_pages.specs.PageBytes.{page_bytes}
 use Rattle.fkp_pages.specs.Found.{HasFileNumbers, IsListOfRun, FindsRun}
 use Rattle.fkp_pages.proofs.WrittenLemmas.{empty_map, written-bare, written-listed, length-run_list}
 use Rattle.fkp_pages.proofs.WrittenLemmas.{length-spelled_list, spelled_len}
@@ -44,10 +45,6 @@ bare_is Papx run = (
   ),
   λ h. ap (λ b. b && (length (entries run.map) == 0)) (eq-eqb run.istd 0 h.0) ∙ (empty_map run.map).1 h.1,
 )
-
-not_true : (b : Bool) → ¬ (IsTrue b) → b ≡ false
-not_true true h = absurd (h refl)
-not_true false h = refl
 
 -- their list
 bare_list_is : (kind : PageKind) (run : Run) → IsBareRun kind run → run_list kind run ≡ bare_list kind

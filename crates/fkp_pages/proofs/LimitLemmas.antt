@@ -18,10 +18,6 @@ use Rattle.fkp_pages.proofs.WrittenLemmas.{most_written, most-written}
 
 -- ---- one run
 
-pub lowered-none : (limit : ℕ) (bytes : List ℕ) → length bytes ≡ 0 → lowered limit bytes ≡ limit
-lowered-none limit [] h = refl
-lowered-none limit (byte ∷ bytes) h = absurd (omega arith)
-
 pub lowered-some : (limit : ℕ) (bytes : List ℕ) → 0 < length bytes → lowered limit bytes ≡ (limit - length bytes) / 2
     * 2
 lowered-some limit [] h = absurd (omega arith)

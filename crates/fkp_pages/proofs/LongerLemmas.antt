@@ -16,9 +16,6 @@ use Rattle.fkp_pages.proofs.RowTableLemmas.{table_of_row}
 
 -- ---- the fcs and the pages of joined ranges
 
-pages_of_bins : List Bin → List ℕ
-pages_of_bins bins = map (λ bin. bin.page) bins
-
 pub fc_before : (old new : List Bin) (end k : ℕ) (bin : Bin) → slice_get old k ≡ Some bin →
     slice_index (bin_fcs (old ++ new) end) k ≡ bin.first
 fc_before (bin ∷ old) new end zero it here = ap (λ (b : Bin). b.first) (same_Some bin it here)

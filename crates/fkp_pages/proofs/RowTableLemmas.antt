@@ -1,6 +1,5 @@
 -- Runs whose pages stand in a row: the table of the row, and the list of a run through it.
-use Rattle.std.specs.Prelude.{slice_get, slice_index}
-use Rattle.std.proofs.Common.{◌≡◌, ◌∙◌, sym, ap, subst, ℕ, ◌+◌, ◌-◌, ◌*◌, ◌^◌, ◌<◌, ◌≤◌, List, All, length, drop, arith}
+use Rattle.std.proofs.Common.{sym, ap, subst, ℕ, ◌-◌, ◌^◌, ◌<◌, ◌≤◌, List, All, length, drop, arith}
 use Rattle.std.proofs.lemmas.Option.{get_or_from_slice_get}
 use Rattle.doc_bits.proofs.ListLemmas.{All_at, there_is}
 use Rattle.sprm_table.specs.Sprm.{IsAcceptedList}

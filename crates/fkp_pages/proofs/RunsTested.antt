@@ -8,7 +8,6 @@ use Rattle.std.proofs.lemmas.Option.{get_or_from_slice_get, slice_get_within}
 use Rattle.fkp_pages.specs.declared.kind.PageKind.{PageKind}
 use Rattle.fkp_pages.specs.declared.lists.Run.{Run}
 use Rattle.fkp_pages.specs.Runs.{IsWritableRun, AreRuns}
-use Rattle.fkp_pages.proofs.OrderLemmas.{in_order}
 
 -- the first runs are writable and touch
 pub record AreRunsUpTo (kind : PageKind) (runs : List Run) (n : ℕ) : Type 0 where
@@ -38,19 +37,6 @@ runs_all kind runs n all h = record {
       ∙ (h.touch (k + 1) (omega arith) run (omega arith) ∙ ap (λ (x : Run). x.from) (get_or_from_slice_get runs
       (k + 1) next run there)));
 }
-
--- one that is not writable
-pub not_writable : (kind : PageKind) (runs : List Run) (i : ℕ) (run : Run) → i < length runs →
-    (IsWritableRun kind (get_or runs i run) → ⊥) → AreRuns kind runs → ⊥
-not_writable kind runs i run up none h = none (h.writable i run up)
-
--- runs touch
-pub touching : (kind : PageKind) (runs : List Run) (i : ℕ) → i < length runs → AreRuns kind runs → (d : Run) → 0 < i →
-    (get_or runs (i - 1) d).to ≡ (get_or runs i d).from
-touching kind runs i up h d some =
-    let next : i - 1 + 1 ≡ i = omega arith in
-    let touch = (in_order kind runs h).touch (i - 1) d (omega arith) in
-    touch ∙ ap (λ j. (get_or runs j d).from) next
 
 -- a test of two runs
 pub touch_test : (runs : List Run) (i : ℕ) (last run : Run) → 0 < i → i < length runs →

@@ -3,9 +3,9 @@ use Rattle.std.proofs.Common.{◌≡◌, ◌<◌, ◌≤◌, ◌+◌, ◌-◌, �
 use Rattle.fkp_pages.specs.declared.kind.PageKind.{PageKind}
 use Rattle.fkp_pages.specs.declared.kind.RunAnswer.{RunAnswer}
 use Rattle.fkp_pages.specs.declared.kind.RunAnswer.TheVariants.{Found, Empty, NoRun, BadCount, Leaves}
-use Rattle.fkp_pages.specs.Fkp.{page_count, page_fc, HasRunCount, HoldsFc, IsFirstRun, HasNoRun, IsAnswerOf}
+use Rattle.fkp_pages.specs.Fkp.{page_count, page_fc, HasRunCount, HoldsFc, IsFirstRun, IsAnswerOf}
 use Rattle.fkp_pages.specs.Fkp.{HasRunAnswer}
-use Rattle.fkp_pages.specs.Stretch.{IsStretch, HasStretch, IsFoundRun}
+use Rattle.fkp_pages.specs.Stretch.{HasStretch, IsFoundRun}
 use Rattle.fkp_pages.specs.declared.reading.Stretch.{Stretch}
 use Rattle.fkp_pages.proofs.PropertyLemmas.{run_answer_one}
 

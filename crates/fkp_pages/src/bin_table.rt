@@ -1,5 +1,5 @@
 // [MS-DOC] PlcBteChpx, PlcBtePapx: the page that has the runs of a byte place.
-ghost use Rattle.std.specs.Prelude.{◌≡◌, ◌<◌, ◌↔◌, IfOk, IsTrue, MatchOption};
+ghost use Rattle.std.specs.Prelude.{◌≡◌, ◌<◌, IfOk, MatchOption};
 ghost use Rattle.fkp_pages.specs.Bin.{bin_count, IsBinTable, IsBinRange, IsBinPage, HasNoBin, HasBinRange, printed_bin};
 ghost use Rattle.fkp_pages.specs.Bin.{ArePrintableBins, IsBinTableOf};
 
@@ -49,21 +49,6 @@ pub fn bin_range(bin: &[u8], fc: u32) -> Option<BinRange>
             })
         }
     }
-}
-
-/// Whether the bytes are a bin table whose fcs ascend.
-pub fn is_bin_table(bin: &[u8]) -> bool
-    ensures { IsTrue result ↔ IsBinTable bin.now }
-{
-    if bin.len() < 4 || (bin.len() - 4) % (4 + NUMBER_LEN) != 0 {
-        return false;
-    }
-    for k in 0..(bin.len() - 4) / (4 + NUMBER_LEN) {
-        if get32(bin, 4 * (k + 1)) <= get32(bin, 4 * k) {
-            return false;
-        }
-    }
-    true
 }
 
 /// The number of ranges.

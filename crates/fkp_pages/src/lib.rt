@@ -15,7 +15,7 @@ mod runs;
 mod writable;
 mod written;
 
-pub use bin_table::{BinRange, bin_at, bin_range, is_bin_table, write_bin};
+pub use bin_table::{BinRange, bin_at, bin_range, write_bin};
 pub use kind::{PAGE_LEN, PageKind, RunAnswer};
 pub use laws::{
     bin_page_is_one, list_at_is_one, list_is_spelled, run_answer_is_one, spelled_list_is_read,

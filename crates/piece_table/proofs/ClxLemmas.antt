@@ -94,9 +94,6 @@ front_of_prc bytes none prc =
     let within = read.1.1 in
     none (length prc.grpprl) (record { clxt = read.0; count = read.1.0; most = short; within = omega arith })
 
-pub prcs_none : (clx : List ℕ) → ArePrcs clx [] 0
-prcs_none clx = record { sizes = λ k d low. absurd (omega arith); spelt = refl; within = omega arith }
-
 -- one Prc more
 pub prcs_more : (clx : List ℕ) (prcs : List (List ℕ)) (at size : ℕ) → AreBytes clx → ArePrcs clx prcs at →
     IsPrcFront (drop at clx) size → ArePrcs clx (prcs ++ slice_range clx (at + 3) (at + 3 + size) ∷ []) (at + 3 + size)

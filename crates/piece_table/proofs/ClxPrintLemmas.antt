@@ -1,15 +1,13 @@
 -- The Clx that is printed of entries is that of the pieces as they are seen.
 use Rattle.std.proofs.Common.{◌≡◌, ℕ, ◌^◌, ◌<◌, List, [], ◌++◌, length, map, All, get_or, slice_index, slice_index_or}
 use Rattle.std.proofs.Common.{inl, inr, sym, ap, subst, ◌∙◌, arith}
-use Rattle.std.specs.List.{sum}
 use Rattle.std.proofs.Math.ListN.{get_or-map, length-map}
 use Rattle.std.proofs.lemmas.Option.{slice_get_within, get_or_from_slice_get}
-use Rattle.std.proofs.lemmas.List.Sums.{sum-map}
 use Rattle.doc_bits.proofs.ListLemmas.{map-map}
 use Rattle.prop_map.specs.declared.modifiers.Modifier.{Modifier}
 use Rattle.prop_map.specs.Modifiers.{no_modifier}
 use Rattle.piece_table.specs.declared.pieces.Entry.{Entry}
-use Rattle.piece_table.specs.Piece.{TextPiece, IsTextPiece, ArePieces, bare_piece, total_length}
+use Rattle.piece_table.specs.Piece.{TextPiece, IsTextPiece, ArePieces, bare_piece}
 use Rattle.piece_table.specs.Clx.{pcdt_bytes}
 use Rattle.std.proofs.lemmas.List.{get_or_default}
 use Rattle.piece_table.specs.ClxRules.{FitsPages}
@@ -36,11 +34,6 @@ entries_placed modifiers entries printable = All-seen (text_piece modifiers) (λ
 pub lens_seen : (modifiers : List Modifier) (entries : List Entry) → map (λ (piece : TextPiece). piece.len)
     (map (text_piece modifiers) entries) ≡ lens_of entries
 lens_seen modifiers entries = map-map (λ (piece : TextPiece). piece.len) (text_piece modifiers) entries
-
-pub lens_total : (modifiers : List Modifier) (entries : List Entry) → sum (lens_of entries) ≡ total_length
-    (map (text_piece modifiers) entries)
-lens_total modifiers entries = ap sum (sym (lens_seen modifiers entries)) ∙ sum-map (λ (piece : TextPiece). piece.len)
-    (map (text_piece modifiers) entries)
 
 -- the whole Clx
 pub printed_clx : (modifiers : List Modifier) (entries : List Entry) (table : PrcTable) (bytes : List ℕ) →

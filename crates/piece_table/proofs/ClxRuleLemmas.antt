@@ -12,7 +12,7 @@ use Rattle.piece_table.specs.declared.pcd.Prm.{Prm}
 use Rattle.piece_table.specs.declared.pcd.Prm.TheVariants.{Nothing, Sprm, Prc}
 use Rattle.piece_table.specs.declared.pieces.TextBounds.{TextBounds}
 use Rattle.piece_table.specs.Piece.{piece_end}
-use Rattle.piece_table.specs.Clx.{IsWrongAt, ClxParts, plc_place, prc_bytes, pcdt_bytes, pcd_place, pcd_prm}
+use Rattle.piece_table.specs.Clx.{ClxParts, plc_place, prc_bytes, pcdt_bytes, pcd_place, pcd_prm}
 use Rattle.piece_table.specs.Clx.{clx_piece, clx_pieces}
 use Rattle.piece_table.specs.ClxRules.{clx_rules, piece_rules, prc_rules, parts_rules, IsUnread, IsReadPrm}
 use Rattle.piece_table.specs.ClxRules.{AreReadPrms, IsFaultyPrc, IsLongPrc, HasWrongCp, IsNoAscent, IsOutside}
@@ -243,18 +243,6 @@ pub fault_long : (parts : ClxParts) (at : ℕ) (bounds : TextBounds) (text_len :
     (IsLongPrc parts at))) fault → IsClxFault (parts_rules parts at bounds text_len) fault
 fault_long parts at bounds text_len (Rule r p) holds none first = inr (holds, inr (none, first))
 fault_long parts at bounds text_len Memory holds none first = tt
-
--- the rules on the parts, where they are known
-pub hold_clx : (clx : List ℕ) (at : ℕ) (bounds : TextBounds) (text_len place : ℕ) (parts : ClxParts) →
-    Nowhere (From at (IsWrongAt clx)) → AreParts clx parts place → Hold (parts_rules parts at bounds text_len) →
-    Hold (clx_rules clx at bounds text_len)
-hold_clx clx at bounds text_len place parts none are holds = (none, (parts, (are.spelt, holds)))
-
-pub fault_clx : (clx : List ℕ) (at : ℕ) (bounds : TextBounds) (text_len place : ℕ) (parts : ClxParts)
-    (fault : ClxFault) → Nowhere (From at (IsWrongAt clx)) → AreParts clx parts place → IsClxFault (parts_rules parts
-    at bounds text_len) fault → IsClxFault (clx_rules clx at bounds text_len) fault
-fault_clx clx at bounds text_len place parts (Rule r p) none are first = inr (none, (parts, (are.spelt, first)))
-fault_clx clx at bounds text_len place parts Memory none are first = tt
 
 -- the Plc is within the Clx
 pub parts_within : (clx : List ℕ) (place : ℕ) (parts : ClxParts) → AreParts clx parts place →

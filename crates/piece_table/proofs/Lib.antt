@@ -20,3 +20,4 @@ pub mod RenumberLemmas
 pub mod SpliceLemmas
 pub mod ModifiedLemmas
 pub mod PrcListLemmas
+pub mod RenewalLemmas

@@ -1,6 +1,6 @@
 -- The modifiers that a table has, and those of Prms.
 use Rattle.std.proofs.Common.{◌≡◌, ◌≢◌, ℕ, ◌+◌, ◌<◌, ◌⊎◌, List, [], ◌∷◌, ◌++◌, length, map, true, All, get_or}
-use Rattle.std.proofs.Common.{slice_get, slice_index, slice_index_or, Some, refl, inl, inr, sym, ap, subst, ◌∙◌}
+use Rattle.std.proofs.Common.{slice_get, slice_index, slice_index_or, Some, inl, inr, sym, ap, subst, ◌∙◌}
 use Rattle.std.proofs.Common.{arith, length-append}
 use Rattle.std.specs.List.{range_with_len}
 use Rattle.std.proofs.lemmas.List.FromFn.{length-map-range_with_len, get_or-map-range_with_len}
@@ -69,11 +69,6 @@ met_put prcs list numbers new prm modifier met formed does here others =
       ];
     }
 
--- the modifier that was put last
-pub last_put : (list : List Modifier) (modifier : Modifier) → slice_index_or (list ++ modifier ∷ []) (length list)
-    no_modifier ≡ modifier
-last_put list modifier = get_or-append_seam list modifier [] no_modifier
-
 -- ---- entries
 
 -- what holds at each place holds of all
@@ -98,9 +93,6 @@ entries_extend parts old new n entries more are = record {
         does = subst (λ m. IsPrmModifier parts.prcs (pcd_prm parts.plc k) m) (sym same) is.does;
       };
 }
-
-pub entries_none : (parts : ClxParts) (modifiers : List Modifier) → AreEntriesOf parts modifiers 0 []
-entries_none parts modifiers = record { count = refl; each = λ k entry there. absurd (cc (there)) }
 
 pub entries_more : (parts : ClxParts) (modifiers : List Modifier) (n : ℕ) (entries : List Entry) (entry : Entry) →
     AreEntriesOf parts modifiers n entries → IsEntryOf parts modifiers n entry → AreEntriesOf parts modifiers (n + 1)

@@ -3,7 +3,7 @@ use Rattle.std.proofs.Common.{◌≡◌, ℕ, zero, suc, ◌+◌, ◌*◌, ◌<�
 use Rattle.std.proofs.Common.{All, get_or, slice_index, sym, ap, ◌∙◌, arith, length-append, append_assoc}
 use Rattle.std.specs.List.{range_with_len, sum}
 use Rattle.std.proofs.Math.ListN.{get_or-map, length-map}
-use Rattle.std.proofs.lemmas.List.{append-nil, take_more, take_all, map-append, get_or_default}
+use Rattle.std.proofs.lemmas.List.{append-nil, take_more, take_all, get_or_default}
 use Rattle.std.proofs.lemmas.List.Sums.{sum_by-append, sum_by-cons}
 use Rattle.std.proofs.lemmas.List.FromFn.{length-map-range_with_len, map-range_with_len_more}
 use Rattle.std.proofs.lemmas.Grind.{flat_map-append}
@@ -53,16 +53,6 @@ numbers_more f k =
     ap (flat_map (number_bytes 4)) (map-range_with_len_more f 0 k k (omega arith))
     ∙ (flat_map-append (number_bytes 4) before (f k ∷ []) ∙ ap (λ l. flat_map (number_bytes 4) before ++ l)
     (append-nil (number_bytes 4 (f k))))
-
--- one part more
-pub parts_more : {A : Type 0} (part : A → List ℕ) (xs : List A) (k : ℕ) (x d : A) → k < length xs → x ≡ get_or xs k
-    d → flat_map (λ p. p) (map part (take (k + 1) xs)) ≡ flat_map (λ p. p) (map part (take k xs)) ++ part x
-parts_more part xs k x d low is =
-    let more : take (k + 1) xs ≡ take k xs ++ x ∷ [] = take_more xs k d low ∙ ap (λ y. take k xs ++ y ∷ []) (sym is) in
-    ap (λ l. flat_map (λ p. p) (map part l)) more
-    ∙ (ap (flat_map (λ p. p)) (map-append part (take k xs) (x ∷ []))
-    ∙ (flat_map-append (λ p. p) (map part (take k xs)) (part x ∷ []) ∙ ap (λ l. flat_map (λ p. p)
-    (map part (take k xs)) ++ l) (append-nil (part x))))
 
 -- the length of the table
 pub length-plc_bytes : (lens : List ℕ) (pcds : List (List ℕ)) → length pcds ≡ length lens →

@@ -56,9 +56,6 @@ place_front (g ∷ prcs) (suc i) (suc j) low =
       length-append (prc_bytes g) (flat_map prc_bytes (take j prcs)),
     )
 
-pub place_rises : (prcs : List (List ℕ)) (i j : ℕ) → i ≤ j → prc_place prcs i ≤ prc_place prcs j
-place_rises = place_front
-
 pub place_within : (prcs : List (List ℕ)) (i : ℕ) → i ≤ length prcs → prc_place prcs i ≤ length (flat_map prc_bytes
     prcs)
 place_within prcs i low =

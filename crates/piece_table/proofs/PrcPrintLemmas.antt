@@ -1,5 +1,5 @@
 -- The Prcs that are printed for the modifiers of entries.
-use Rattle.std.proofs.Common.{◌≡◌, ◌≢◌, ℕ, ◌+◌, ◌*◌, ◌<◌, ◌≤◌, ◌⊎◌, Bool, true, false, List, [], ◌∷◌, ◌++◌, length}
+use Rattle.std.proofs.Common.{◌≡◌, ◌≢◌, ℕ, ◌+◌, ◌*◌, ◌<◌, ◌≤◌, Bool, true, false, List, [], ◌∷◌, ◌++◌, length}
 use Rattle.std.proofs.Common.{map, flat_map, get_or, slice_get, slice_index, slice_index_or, slice_set, Some, None}
 use Rattle.std.proofs.Common.{Option, inl, inr, sym, ap, subst, ◌∙◌, arith, length-append}
 use Rattle.std.specs.List.{Contains}
@@ -57,34 +57,6 @@ printed_none modifiers entries table count len zeros bytes found = record {
   known = λ number modifier there. absurd (cc (there));
   lists = λ list prm there. let nothing : None ≡ Some prm = sym (ap (λ f. f list) found) ∙ there in
       absurd (cc (nothing));
-}
-
--- an entry whose modifier needs no further Prc
-pub printed_skip : (modifiers : List Modifier) (entries : List Entry) (k : ℕ) (table : PrcTable) (entry : Entry) →
-    ArePrinted modifiers entries k table → slice_get entries k ≡ Some entry → (slice_index table.prms entry.modifier ≢
-    0) ⊎ (slice_index_or modifiers entry.modifier no_modifier ≡ no_modifier) → ArePrinted modifiers entries (k + 1)
-    table
-printed_skip modifiers entries k table entry before there needs_none = record {
-  prcs = before.prcs;
-  count_is = before.count_is;
-  few = let few = before.few in omega arith;
-  each = before.each;
-  one_each = before.one_each;
-  names = before.names;
-  none = λ j other low is z. elim (cases_lt j k) [
-    | inl less ↦ before.none j other less is z
-    | inr most ↦
-        let e : j ≡ k = omega arith in
-        let same : entry ≡ other = sym (get_or_from_slice_get entries k entry entry there) ∙ (ap (λ n. get_or entries
-        n entry) (sym e) ∙ get_or_from_slice_get entries j other entry is) in
-        elim needs_none [
-          | inl some ↦ absurd (some (ap (λ x. slice_index table.prms x.modifier) same ∙ z))
-          | inr nothing ↦ subst (λ x. slice_index_or modifiers x.modifier no_modifier ≡ no_modifier) same nothing
-        ]
-  ];
-  spelt = before.spelt;
-  known = before.known;
-  lists = before.lists;
 }
 
 -- the modifier of an entry is among those of the pieces

@@ -8,9 +8,9 @@ use Rattle.std.proofs.Math.ListN.{length-map}
 use Rattle.std.proofs.Math.Seq.{get_or-append_seam, set-append_seam}
 use Rattle.std.proofs.lemmas.Bool.{cases_lt}
 use Rattle.std.proofs.lemmas.List.{get_or-set_same, get_or-set_other, length-set, append-nil, take_at, drop_at}
-use Rattle.std.proofs.lemmas.List.{get_or_past, take-append-drop, length-take-le, drop_more, map-append, take_all}
+use Rattle.std.proofs.lemmas.List.{get_or_past, length-take-le, drop_more, map-append, take_all}
 use Rattle.std.proofs.lemmas.List.{drop_all}
-use Rattle.std.proofs.lemmas.List.Edits.{split_between, length-between, between_none, between_more}
+use Rattle.std.proofs.lemmas.List.Edits.{split_between, length-between, between_more}
 use Rattle.std.proofs.lemmas.List.Elements.{All-nil, All-cons, All-head, All-tail, All-map, All-take, All-drop}
 use Rattle.std.proofs.lemmas.List.Elements.{All-weaker}
 use Rattle.std.proofs.lemmas.List.Sums.{sum_by-cons, sum_by-append, sum_by-take-drop}
@@ -23,18 +23,15 @@ use Rattle.prop_map.specs.Modifiers.{no_modifier, IsComposed, StaysFormedModifie
 use Rattle.piece_table.specs.declared.pieces.Entry.{Entry}
 use Rattle.piece_table.specs.Piece.{UnitPlace, unit_bytes, unit_places, flat_pieces, IsTextPiece, ArePieces}
 use Rattle.piece_table.specs.Numbering.{text_piece, Extends, AreNumbered}
-use Rattle.piece_table.specs.Changes.{IsModifiedPlace, AreModified}
-use Rattle.piece_table.specs.Cuts.{entry_units, flat_entries, renumbered, IsCutTwice}
-use Rattle.piece_table.specs.Renumbering.{IsComposedAt, HaveComposed, IsCopiedAt, HaveCopied}
+use Rattle.piece_table.specs.Changes.{HasBegin, IsModifiedPlace, AreModified}
+use Rattle.piece_table.specs.Cuts.{entry_units, flat_entries, renumbered, IsSeam, IsCutTwice}
+use Rattle.piece_table.specs.Renumbering.{IsComposedAt, HaveComposed, HaveCopied}
 use Rattle.piece_table.proofs.NumberingLemmas.{in_front, same_or_apart}
 use Rattle.piece_table.proofs.PieceLemmas.{All-seen}
 use Rattle.piece_table.proofs.FlatLemmas.{flat_entries-append, length-flat_entries, total_length-seen, seen-extended}
-use Rattle.piece_table.proofs.SpliceLemmas.{splice_all, splice_units, length-splice, are_pieces}
+use Rattle.piece_table.proofs.SpliceLemmas.{splice_all, splice_units, length-splice, are_pieces, seam_begins}
 
 -- ---- lists that grow
-
-pub extends_itself : (list : List Modifier) → Extends list list
-extends_itself list = record { more = []; joined = sym (append-nil list) }
 
 pub extends_on : (a b c : List Modifier) → Extends a b → Extends b c → Extends a c
 extends_on a b c x y = record {
@@ -42,9 +39,6 @@ extends_on a b c x y = record {
   joined = y.joined ∙ (ap (λ l. l ++ y.more) x.joined ∙
       append_assoc a x.more y.more);
 }
-
-pub extends_push : (old : List Modifier) (modifier : Modifier) → Extends old (old ++ modifier ∷ [])
-extends_push old modifier = record { more = modifier ∷ []; joined = refl }
 
 -- a number beside which something is kept is one of the list
 pub kept_within : (numbers : List ℕ) (number : ℕ) → slice_index numbers number ≢ 0 → number < length numbers
@@ -54,14 +48,6 @@ kept_within numbers number some = elim (cases_lt number (length numbers)) [
 ]
 
 -- ---- composed modifiers
-
-pub composed_none : (by : Modifier) (modifiers : List Modifier) (numbers : List ℕ) → length numbers ≤ length
-    modifiers → ((number : ℕ) → slice_index numbers number ≡ 0) → HaveComposed by modifiers numbers
-composed_none by modifiers numbers short zeros = record {
-  short = short;
-  each = λ number some. absurd (some
-      (zeros number));
-}
 
 composed_on : (by : Modifier) (old more : List Modifier) (number made : ℕ) → number < length old → IsComposedAt by old
     number made → IsComposedAt by (old ++ more) number made
@@ -195,6 +181,44 @@ pub record IsRenewed (old_modifiers new_modifiers : List Modifier) (by : Modifie
   pub total : entry_units new ≡ entry_units old
   pub flat : AreModified by from to (flat_entries old_modifiers old) (flat_entries new_modifiers new)
   pub count : length new ≤ length old + 2
+  pub begins : HasBegin (map (text_piece new_modifiers) new) from
+  pub ends : HasBegin (map (text_piece new_modifiers) new) to
+
+-- a range whose entries have new numbers begins and ends where it did
+range_seams : (numbers : List ℕ) (cut : List Entry) (from to first last : ℕ) → first ≤ last → IsSeam cut from first →
+    IsSeam cut to last → (IsSeam (splice cut first last (map (renumbered numbers) (slice_range cut first last))) from
+    first) × IsSeam (splice cut first last (map (renumbered numbers) (slice_range cut first last))) to last
+range_seams numbers cut from to first last order begins ends =
+    let middle = slice_range cut first last in
+    let made = map (renumbered numbers) middle in
+    let behind = drop last cut in
+    let new = splice cut first last made in
+    let U : Entry → ℕ = λ entry. entry.piece.len in
+    let within = ends.within in
+    let low : length (take first cut) ≡ first = length-take-le first cut (omega arith) in
+    let long : length made ≡ last - first = omega (
+      arith,
+      length-map middle (renumbered numbers),
+      length-between cut first last within,
+    ) in
+    let whole = length-splice cut made first last order within in
+    let front : take first new ≡ take first cut = take_at (take first cut) (made ++ behind) first (omega arith) in
+    let back : take last new ≡ take first cut ++ made = ap (take last) (sym (append_assoc (take first cut) made
+    behind)) ∙ take_at (take first cut ++ made) behind last (omega (arith, length-append (take first cut) made)) in
+    let units : entry_units (take first cut ++ made) ≡ to = omega (
+      arith,
+      begins.units,
+      ends.units,
+      units_renumbered numbers middle,
+      sum_by-append U (take first cut) made,
+      ap entry_units (split_between cut first last order),
+      sum_by-append U (take first cut) (middle ++ behind),
+      sum_by-append U middle behind,
+      sum_by-take-drop U cut last,
+    ) in (
+      record { within = omega arith; units = ap entry_units front ∙ begins.units },
+      record { within = omega arith; units = ap entry_units back ∙ units },
+    )
 
 -- entries of a range, composed
 made_sound : (by : Modifier) (modifiers : List Modifier) (numbers : List ℕ) (entries : List Entry) → IsFormedModifier
@@ -302,6 +326,7 @@ renewed old_modifiers new_modifiers by numbers old cut from to first last number
     ) in
     let within = twice.ends.within in
     let most = are.total in
+    let seams = range_seams numbers cut from to first last twice.order twice.begins twice.ends in
     record {
       named = record {
         first = extended_first old_modifiers new_modifiers no_modifier more numbered.first;
@@ -322,6 +347,8 @@ renewed old_modifiers new_modifiers by numbers old cut from to first last number
         length-map middle (renumbered numbers),
         length-between cut first last within,
       );
+      begins = seam_begins new_modifiers new from first seams.0;
+      ends = seam_begins new_modifiers new to last seams.1;
     }
 
 -- ---- copied modifiers
@@ -363,56 +390,7 @@ copied_named old new numbers entries have =
       | inr some ↦ (have.each number some).within
     ]
 
-pub copied_none : (old : List Modifier) (numbers : List ℕ) → ((number : ℕ) → slice_index numbers number ≡ 0) →
-    HaveCopied old (no_modifier ∷ []) numbers
-copied_none old numbers zeros = record {
-  first = refl;
-  none = zeros 0;
-  each = λ number some. absurd (some
-      (zeros number));
-}
-
-pub copied_put : (old new : List Modifier) (numbers : List ℕ) (number : ℕ) (copy : Modifier) → HaveCopied old new
-    numbers → number < length numbers → number ≢ 0 → copy ≡ slice_index_or old number no_modifier →
-    HaveCopied old (new ++ copy ∷ []) (slice_set numbers number (length new))
-copied_put old new numbers number copy have low some is =
-    let numbers2 = slice_set numbers number (length new) in
-    let long = length-append new (copy ∷ []) in
-    let here : slice_index numbers2 number ≡ length new = get_or-set_same numbers number (length new) 0 low in
-    let front = slice_get_within new 0 no_modifier have.first in
-    record {
-      first = slice_get_before new (copy ∷ []) 0 front ∙ have.first;
-      none = get_or-set_other numbers number 0 (length new) 0 (λ z. some (sym z)) ∙ have.none;
-      each = λ other kept. elim (same_or_apart other number) [
-        | inl e ↦
-            let last : slice_index_or (new ++ copy ∷ []) (length new) no_modifier ≡ copy = get_or-append_seam new copy
-            [] no_modifier in
-            let at : IsCopiedAt old (new ++ copy ∷ []) number (length new) = record {
-              within = omega arith;
-              same = last ∙ is;
-            } in
-            subst (λ n. IsCopiedAt old (new ++ copy ∷ []) n (slice_index numbers2 n)) (sym e)
-            (subst (IsCopiedAt old (new ++ copy ∷ []) number) (sym here) at)
-        | inr apart ↦
-            let same : slice_index numbers2 other ≡ slice_index numbers other = get_or-set_other numbers number other
-            (length new) 0 apart in
-            let before = have.each other (λ z. kept (same ∙ z)) in
-            let within = before.within in
-            let at : IsCopiedAt old (new ++ copy ∷ []) other (slice_index numbers other) = record {
-              within =
-                  omega arith;
-              same = in_front new (copy ∷ []) (slice_index numbers other) within ∙ before.same;
-            } in
-            subst (IsCopiedAt old (new ++ copy ∷ []) other) (sym same) at
-      ];
-    }
-
 -- ---- a loop that gives new numbers
-
-pub renumber_none : (f : Entry → Entry) (entries : List Entry) (first : ℕ) → entries ≡ take first entries ++
-    (map f (slice_range entries first first) ++ drop first entries)
-renumber_none f entries first = sym (take-append-drop first entries) ∙ ap (λ l. take first entries ++ (map f l ++ drop
-    first entries)) (sym (between_none entries first))
 
 pub renumber_more : (f : Entry → Entry) (old new : List Entry) (first k : ℕ) (d : Entry) → first ≤ k →
     k < length old → new ≡ take first old ++ (map f (slice_range old first k) ++ drop k old) → slice_set new k

@@ -10,4 +10,5 @@ pub mod PrintSteps
 pub mod Changes
 pub mod Cuts
 pub mod Renumbering
+pub mod Renewals
 pub mod PrcLists

@@ -12,6 +12,9 @@ use crate::{Piece, PieceList, Spot};
 use doc_bits::Memory;
 use prop_map::Modifier;
 
+/// So many modifiers are kept, whether pieces name them or not.
+const MODIFIERS_KEPT: usize = 64;
+
 impl PieceList {
     /// Takes memory for so many further pieces.
     pub fn reserve(&mut self, n: usize) -> Result<(), Memory>
@@ -71,6 +74,8 @@ impl PieceList {
             (AreModified by.now from to (flat_pieces self.old.pieces) (flat_pieces self.new.pieces)) }
         ensures count { OnOk result (length self.new.pieces ≤ length self.old.pieces + 2) }
         ensures spare { OnOk result (self.old.spare ≤ self.new.spare + 2) }
+        ensures begins { OnOk result (HasBegin self.new.pieces from) }
+        ensures ends { OnOk result (HasBegin self.new.pieces to) }
         ensures err { OnErr result (self.new ≡ self.old) }
     {
         let mut items = copy_of(&self.items)?;
@@ -83,7 +88,19 @@ impl PieceList {
         )?;
         renumber(&mut items, first, last, &numbers);
         self.items = items;
+        self.lighten();
         Ok(())
+    }
+
+    /// Lets go of the modifiers that no piece names, where most of many are such. Where memory is wanting they stay.
+    fn lighten(&mut self)
+        ensures { self.new ≡ self.old }
+    {
+        let count = self.modifiers.len();
+        let pieces = self.items.len();
+        if count > MODIFIERS_KEPT && count.saturating_sub(pieces) > pieces {
+            let _ = self.drop_unused_modifiers();
+        }
     }
 
     /// Lets go of the modifiers that no piece names any longer.

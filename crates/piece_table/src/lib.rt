@@ -15,6 +15,7 @@ mod prc_lists;
 mod prcs;
 mod printing;
 mod reading;
+mod renewal;
 mod renumber;
 
 pub use fault::ClxFault;

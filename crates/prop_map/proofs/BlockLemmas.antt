@@ -243,16 +243,6 @@ pub record HasPushedBelow (entries : Entries) (code : ℕ) (old new : List ℕ) 
   pub formed : AreBlockEntries below
   pub past : (value : List ℕ) → put nat_cmp code value entries ≡ below ++ put nat_cmp code value left
 
-pub none_below : (entries : Entries) (code : ℕ) (old : List ℕ) → AreBlockEntries [] → HasPushedBelow entries code old
-    old entries
-none_below entries code old none = record {
-  below = [];
-  bytes = sym (append-nil old);
-  formed = none;
-  past = λ value.
-      refl;
-}
-
 -- the code stands before what is left, in place of its first entry, or behind all
 pub put_before : (entries rest : Entries) (code other : ℕ) (here : List ℕ) (old new : List ℕ) → HasPushedBelow entries
     code old new ((other, here) ∷ rest) → code < other → IsPutBetween entries code old new ((other, here) ∷ rest)

@@ -10,11 +10,11 @@ use Rattle.sprm_table.specs.Sprm.{Prl}
 use Rattle.prop_map.specs.declared.modifiers.Modifier.{Modifier}
 use Rattle.prop_map.specs.Settings.{Settings}
 use Rattle.prop_map.specs.Acting.{is_kept, left_by, value_after, ArePropertiesAfter}
-use Rattle.prop_map.specs.Modifiers.{IsOver, IsCharacterAfter, IsMarkAfter}
-use Rattle.prop_map.specs.Overlay.{overlay, cleared, cleared_where, modified_characters, modified_paragraph}
+use Rattle.prop_map.specs.Modifiers.{IsCharacterAfter, IsMarkAfter}
+use Rattle.prop_map.specs.Overlay.{cleared, modified_characters, modified_paragraph}
 use Rattle.prop_map.proofs.ActingLemmas.{value_after-append, value_after-set, value_after-clear, sets_not_clears}
 use Rattle.prop_map.proofs.ChangeLemmas.{get-retained}
-use Rattle.prop_map.proofs.MapLemmas.{is_over, is_modified_characters, is_modified_paragraph}
+use Rattle.prop_map.proofs.MapLemmas.{is_modified_characters, is_modified_paragraph}
 
 -- ---- a list of sprms
 
@@ -67,14 +67,6 @@ after_list (prl ∷ prls) groups old =
     }
 
 -- ---- a map over another
-
--- a map over another that may be cleared first
-pub record LiesOver (clear : Bool) (over base : Settings) : Type 0 where
-  pub new : Settings
-  pub is : IsOver clear over base new
-
-pub lies_over : (clear : Bool) (over base : Settings) → LiesOver clear over base
-lies_over clear over base = record { new = overlay over (cleared_where clear base); is = is_over clear over base }
 
 -- a character's map after a modifier, and a mark's
 pub record HasCharacterAfter (modifier : Modifier) (old : Settings) : Type 0 where

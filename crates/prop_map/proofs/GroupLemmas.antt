@@ -1,9 +1,7 @@
 -- The groups that places hold.
-use Rattle.std.proofs.Common.{◌≡◌, ℕ, zero, suc, ◌/◌, ◌%◌, ◌^◌, ◌<◌, ◌==◌, true, false, List, refl, arith}
-use Rattle.std.proofs.lemmas.List.Elements.{All-weaker}
-use Rattle.sprm_table.specs.Codes.{sgc, is_held, IsRefusedIn}
-use Rattle.sprm_table.specs.Sprm.{IsAcceptedList}
-use Rattle.prop_map.specs.Formed.{character_groups, paragraph_groups, prc_groups}
+use Rattle.std.proofs.Common.{◌≡◌, ℕ, zero, suc, ◌/◌, ◌%◌, ◌^◌, ◌<◌, ◌==◌, true, false, refl, arith}
+use Rattle.sprm_table.specs.Codes.{sgc, is_held}
+use Rattle.prop_map.specs.Formed.{character_groups, paragraph_groups}
 
 -- what holds at each group holds at the group of a code
 each_group : (P : ℕ → Type 0) → P 0 → P 1 → P 2 → P 3 → P 4 → P 5 → P 6 → P 7 → (group : ℕ) → group < 8 → P group
@@ -33,24 +31,3 @@ paragraph_apart code =
     each_group (λ g. (paragraph_groups / 2 ^ g % 2 == 1) ≡ true → (character_groups / 2 ^ g % 2 == 1) ≡ false)
     (λ h. refl) (λ h. refl) (λ h. cc) (λ h. refl) (λ h. refl) (λ h. refl) (λ h. refl) (λ h. refl) (sgc code)
     (sgc-bound code)
-
--- a Prc holds both
-pub character_in_prc : (code : ℕ) → is_held character_groups code ≡ true → is_held prc_groups code ≡ true
-character_in_prc code =
-    each_group (λ g. (character_groups / 2 ^ g % 2 == 1) ≡ true → (prc_groups / 2 ^ g % 2 == 1) ≡ true)
-    (λ h. cc) (λ h. refl) (λ h. refl) (λ h. cc) (λ h. cc) (λ h. refl) (λ h. cc) (λ h. cc) (sgc code) (sgc-bound code)
-
-pub paragraph_in_prc : (code : ℕ) → is_held paragraph_groups code ≡ true → is_held prc_groups code ≡ true
-paragraph_in_prc code =
-    each_group (λ g. (paragraph_groups / 2 ^ g % 2 == 1) ≡ true → (prc_groups / 2 ^ g % 2 == 1) ≡ true)
-    (λ h. cc) (λ h. refl) (λ h. refl) (λ h. cc) (λ h. cc) (λ h. refl) (λ h. cc) (λ h. cc) (sgc code) (sgc-bound code)
-
--- a list without a fault at a place has none where fewer groups are held
-pub accepted_within : (bytes : List ℕ) (few groups : ℕ) → ((code : ℕ) → is_held few code ≡ true → is_held groups code
-    ≡ true) → IsAcceptedList bytes groups → IsAcceptedList bytes few
-accepted_within bytes few groups within h = record {
-  list = h.list;
-  spelt = h.spelt;
-  accepted = All-weaker (λ prl. ¬ (IsRefusedIn groups prl.0)) (λ prl. ¬ (IsRefusedIn few prl.0)) (λ prl none refused.
-      none (within prl.0 refused.0, refused.1)) h.list h.accepted;
-}

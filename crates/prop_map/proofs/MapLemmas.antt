@@ -4,24 +4,20 @@ use Rattle.std.proofs.Common.{Option, Some, None}
 use Rattle.std.specs.Ordering.{nat_cmp, eq_by_cmp}
 use Rattle.std.specs.Cmp.{nat_cmp_total}
 use Rattle.std.specs.Option.{option_or}
-use Rattle.std.specs.FinMap.{get, empty, insert, retain_keys, entries, entries_sorted, find, get-empty, get-insert}
+use Rattle.std.specs.FinMap.{get, empty, retain_keys, entries, find, get-empty}
 use Rattle.std.specs.FinMap.{get-entries, get-from_entries, same_map, nat_cmp-IsAntisymmetric}
-use Rattle.sprm_table.specs.Codes.{class_of, is_among}
-use Rattle.sprm_table.specs.Sprm.{IsSetting}
+use Rattle.sprm_table.specs.Codes.{is_among}
 use Rattle.prop_map.specs.declared.modifiers.Modifier.{Modifier}
 use Rattle.prop_map.specs.Settings.{Settings}
 use Rattle.prop_map.specs.Entries.{Entries}
-use Rattle.prop_map.specs.Formed.{IsPropertyMap, character_groups, paragraph_groups}
-use Rattle.prop_map.specs.Acting.{is_kept, ArePropertiesAfter}
-use Rattle.prop_map.specs.Modifiers.{IsOver, IsClearedWhere, IsCharacterAfter, IsMarkAfter, IsComposed}
-use Rattle.prop_map.specs.Modifiers.{IsFormedModifier}
-use Rattle.prop_map.specs.Overlay.{overlay, without, cleared, cleared_where, modified_characters, modified_paragraph}
+use Rattle.prop_map.specs.Formed.{IsPropertyMap}
+use Rattle.prop_map.specs.Acting.{is_kept}
+use Rattle.prop_map.specs.Modifiers.{IsOver, IsCharacterAfter, IsMarkAfter, IsComposed}
+use Rattle.prop_map.specs.Overlay.{overlay, without, cleared_where, modified_characters, modified_paragraph}
 use Rattle.prop_map.specs.Overlay.{composed}
-use Rattle.prop_map.proofs.ActingLemmas.{value_after-set, value_after-clear, sets_not_clears}
 use Rattle.doc_bits.proofs.TestLemmas.{either}
 use Rattle.prop_map.proofs.ChangeLemmas.{get-retained, or_none}
 use Rattle.prop_map.proofs.ModifierLemmas.{IsPropertyMap-over}
-use Rattle.prop_map.proofs.PrintLemmas.{settings_of, value_after-entries_over}
 
 -- maps with the same values are one
 pub same_settings : (one other : Settings) → ((code : ℕ) → get one code ≡ get other code) → one ≡ other
@@ -71,11 +67,6 @@ over_one clear top base made is = same_settings made (overlay top (cleared_where
 pub is_overlay : (top base made : Settings) → IsOver false top base made → made ≡ overlay top base
 is_overlay top base made is = over_one false top base made is
 
-pub is_cleared_where : (clear : Bool) (base made : Settings) → IsClearedWhere clear base made → made ≡ cleared_where
-    clear base
-is_cleared_where clear base made is = same_settings made (cleared_where clear base) (λ code. is code ∙ sym
-    (get-cleared_where clear base code))
-
 -- a character and a mark after a modifier
 pub characters_after : (modifier : Modifier) (chp made : Settings) → IsCharacterAfter modifier chp made →
     made ≡ modified_characters modifier chp
@@ -122,28 +113,6 @@ empty-overlay base = same_settings (overlay empty base) base (λ code. get-overl
 
 -- ---- acting with lists that do nothing else
 
--- the entries of a map put all of it over another
-pub acted_entries : (groups : ℕ) (set base : Settings) → IsPropertyMap groups set → ArePropertiesAfter (entries set)
-    groups base (overlay set base)
-acted_entries groups set base formed code =
-    get-overlay set base code
-    ∙ (ap (λ o. option_or o (get base code)) (get-entries set code)
-    ∙ sym (value_after-entries_over groups code (entries set) (get base code) (entries_sorted set) (settings_of groups
-    set formed)))
-
--- an entry that sets puts its value
-pub acted_setting : (groups code : ℕ) (value : List ℕ) (base : Settings) → IsSetting groups (code, value) →
-    ArePropertiesAfter ((code, value) ∷ []) groups base (insert base code value)
-acted_setting groups code value base setting key =
-    get-insert nat_cmp_total base code value key
-    ∙ value_after-set groups key code value (get base key) setting.held setting.sets (sets_not_clears (class_of code)
-    setting.sets)
-
--- sprmCPlain clears a character
-pub acted_clear : (base : Settings) → ArePropertiesAfter ((0x2A33, 0 ∷ []) ∷ []) character_groups base (cleared base)
-acted_clear base code = get-retained base is_kept code ∙ value_after-clear character_groups code 0x2A33 (0 ∷ [])
-    (get base code) refl refl refl
-
 -- ---- well formed
 
 pub overlay_formed : (groups : ℕ) (set base : Settings) → IsPropertyMap groups set → IsPropertyMap groups base →
@@ -163,15 +132,3 @@ retained_formed groups p map formed code value e = formed code value (where_kept
 pub without_formed : (groups : ℕ) (codes : List ℕ) (map : Settings) → IsPropertyMap groups map → IsPropertyMap groups
     (without codes map)
 without_formed groups codes map formed = retained_formed groups (λ code. not (is_among code codes)) map formed
-
-pub modified_formed : (modifier : Modifier) (chp : Settings) → IsFormedModifier modifier →
-    IsPropertyMap character_groups chp → IsPropertyMap character_groups (modified_characters modifier chp)
-modified_formed modifier chp by formed =
-    IsPropertyMap-over character_groups modifier.clear modifier.chp chp (modified_characters modifier chp)
-    (is_modified_characters modifier chp) by.chp formed
-
-pub modified_paragraph_formed : (modifier : Modifier) (pap : Settings) → IsFormedModifier modifier →
-    IsPropertyMap paragraph_groups pap → IsPropertyMap paragraph_groups (modified_paragraph modifier pap)
-modified_paragraph_formed modifier pap by formed =
-    IsPropertyMap-over paragraph_groups false modifier.pap pap (modified_paragraph modifier pap)
-    (is_modified_paragraph modifier pap) by.pap formed

@@ -1,5 +1,5 @@
 // Places of lists in a stream, each of which is found again by the part where it begins.
-ghost use Rattle.std.specs.Prelude.{◌≡◌, ◌++◌, [], ◌∷◌, length, slice_get, Some, IfSome, OnOk, OnErr};
+ghost use Rattle.std.specs.Prelude.{◌≡◌, ◌++◌, [], ◌∷◌, slice_get, Some, IfSome, OnOk, OnErr};
 
 use doc_bits::Memory;
 use std::alloc::Global;
@@ -48,13 +48,6 @@ impl ListPlaces {
             heads: BTreeMap::new(alloc),
             last_part: 0,
         }
-    }
-
-    /// The number of places.
-    pub fn len(&self) -> usize
-        ensures { result ≡ length self.now }
-    {
-        self.items.len()
     }
 
     /// The number of a place that was added.

@@ -4,7 +4,7 @@ use Rattle.std.proofs.Common.{arith, length-append}
 use Rattle.std.specs.Prelude.{replicate}
 use Rattle.std.proofs.lemmas.List.{length-replicate, append-nil, take_all, take_more}
 use Rattle.std.proofs.lemmas.List.Concat.{flat_map-cons}
-use Rattle.std.proofs.lemmas.List.Sums.{sum_by-cons, sum_by-append, sum_by_push, sum_by-take-le}
+use Rattle.std.proofs.lemmas.List.Sums.{sum_by-cons, sum_by_push, sum_by-take-le}
 use Rattle.std.proofs.lemmas.Grind.{flat_map-append}
 use Rattle.run_lists.specs.declared.runs.Run.{Run}
 use Rattle.run_lists.specs.Spread.{spread, extent}
@@ -34,11 +34,6 @@ extent-nil T = refl
 pub extent-cons : {T : Type 0} (run : Run T) (runs : List (Run T)) → extent (run ∷ runs) ≡ run.count + extent runs
 unfolding extent
 extent-cons run runs = sum_by-cons (λ run. run.count) run runs
-
--- lengths add
-pub extent-append : {T : Type 0} (front back : List (Run T)) → extent (front ++ back) ≡ extent front + extent back
-unfolding extent
-extent-append front back = sum_by-append (λ run. run.count) front back
 
 -- a run more
 pub extent_push : {T : Type 0} (runs : List (Run T)) (run : Run T) → extent (runs ++ run ∷ []) ≡ extent runs + run.count

@@ -24,3 +24,9 @@ pub record IsCut {T : Type 0} (old new : List (Run T)) (begin place k : ℕ) : T
 pub record IsAt {T : Type 0} (runs : List (Run T)) (cursor : Cursor) : Type 0 where
   pub there : cursor.run ≤ length runs
   pub begins : extent (take cursor.run runs) ≡ cursor.begin
+
+-- the run of the cursor has the place
+pub record IsIn {T : Type 0} (runs : List (Run T)) (cursor : Cursor) (place : ℕ) : Type 0 where
+  pub run : Run T
+  pub there : slice_get runs cursor.run ≡ Some run
+  pub inside : place < cursor.begin + run.count

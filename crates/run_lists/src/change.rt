@@ -2,7 +2,7 @@
 ghost use Rattle.std.specs.Prelude.{◌≡◌, ◌≤◌, ◌<◌, ◌^◌, length, slice_range, IfOk, OnOk, OnErr};
 ghost use Rattle.doc_bits.specs.Together.{AreTogether};
 ghost use Rattle.run_lists.specs.Spread.{spread, extent};
-ghost use Rattle.run_lists.specs.Places.{IsAt, IsFound};
+ghost use Rattle.run_lists.specs.Places.{IsAt, IsFound, IsIn};
 ghost use Rattle.run_lists.specs.Changed.{IsChanged};
 
 use crate::cursor::reach;
@@ -80,6 +80,7 @@ pub fn copy_runs<T: Shared>(
     requires few { extent runs.now < 2 ^ 32 }
     ensures at { IsAt runs.now cursor.new }
     ensures ahead { cursor.new.begin ≤ from }
+    ensures stops { from < extent runs.now → IsIn runs.now cursor.new from }
     ensures copy { IfOk result (λ copy. copy ≡ slice_range (spread runs.now) from to) }
 {
     let spot = reach(runs, cursor, from);

@@ -1,7 +1,7 @@
 // A walk over a list of runs.
 ghost use Rattle.std.specs.Prelude.{◌≡◌, ◌<◌, ◌≤◌, slice_get, Some};
 ghost use Rattle.run_lists.specs.Spread.{spread, extent};
-ghost use Rattle.run_lists.specs.Places.{IsAt, IsFound};
+ghost use Rattle.run_lists.specs.Places.{IsAt, IsFound, IsIn};
 
 use crate::{Run, Spot, find};
 
@@ -28,6 +28,7 @@ pub fn seek<'a, T>(runs: &'a [Run<T>], cursor: &mut Cursor, place: usize) -> &'a
     requires within { place < extent runs.now }
     ensures at { IsAt runs.now cursor.new }
     ensures ahead { cursor.new.begin ≤ place }
+    ensures stops { IsIn runs.now cursor.new place }
     ensures value { slice_get (spread runs.now) place ≡ Some result.now }
 {
     let spot = reach(runs, cursor, place);
@@ -41,6 +42,7 @@ pub(crate) fn reach<T>(runs: &[Run<T>], cursor: &mut Cursor, place: usize) -> Sp
     requires within { place ≤ extent runs.now }
     ensures at { IsAt runs.now cursor.new }
     ensures ahead { cursor.new.begin ≤ place }
+    ensures stops { place < extent runs.now → IsIn runs.now cursor.new place }
     ensures found { IsFound runs.now 0 place result }
 {
     let spot = find(runs, cursor.run, place - cursor.begin);

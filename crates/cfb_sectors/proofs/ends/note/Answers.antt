@@ -1,4 +1,4 @@
-use Rattle.std.proofs.Common.{◌≡◌, length, slice_index, sym, ap, ◌∙◌, subst, arith}
+use Rattle.std.proofs.Common.{length, slice_index, sym, ap, ◌∙◌, subst}
 use Rattle.cfb_sectors.specs.Ends.{IsKnown, with_end, before, Remembers}
 use Rattle.cfb_sectors.proofs.EndLemmas.{end_few, end_step, put_step, before_some, kept_known, put_known, not_known}
 use Rattle.cfb_sectors.proofs.EndLemmas.{is_known}

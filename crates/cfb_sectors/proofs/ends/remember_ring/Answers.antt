@@ -1,4 +1,4 @@
-use Rattle.std.proofs.Common.{◌≡◌, ◌<◌, length, slice_index, ◌+◌, refl, sym, subst, arith}
+use Rattle.std.proofs.Common.{length, slice_index, ◌+◌, refl, sym, subst, arith}
 use Rattle.cfb_sectors.proofs.RingLemmas.{IsRingFront, ring_none, ring_inside, ring_step, ring_done, ring_known}
 use Rattle.cfb_sectors.proofs.ends.remember_ring.Goals as goal
 

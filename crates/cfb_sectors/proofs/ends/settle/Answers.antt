@@ -1,4 +1,4 @@
-use Rattle.std.proofs.Common.{◌<◌, ◌≤◌, length, slice_index, sym, subst, arith}
+use Rattle.std.proofs.Common.{◌<◌, length, slice_index, sym, subst, arith}
 use Rattle.cfb_sectors.specs.Ends.{IsEnd, Remembers, GoesOn}
 use Rattle.cfb_sectors.proofs.ends.settle.Goals as goal
 

@@ -1,5 +1,4 @@
-use Rattle.std.proofs.Common.{◌≡◌, length, slice_index, sym, ap, ◌∙◌, subst, arith}
-use Rattle.cfb_sectors.specs.SectorChain.{last_of}
+use Rattle.std.proofs.Common.{length, slice_index, sym, ap, ◌∙◌, subst, arith}
 use Rattle.cfb_sectors.specs.Ends.{IsKnown, IsRingEnd}
 use Rattle.cfb_sectors.proofs.ChainLemmas.{path_short}
 use Rattle.cfb_sectors.proofs.EndLemmas.{not_known}

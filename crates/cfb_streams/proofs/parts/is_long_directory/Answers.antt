@@ -1,25 +1,20 @@
-use Rattle.std.proofs.Common.{length, ap, subst, refl, arith}
+use Rattle.std.proofs.Common.{arith}
 use Rattle.std.proofs.lemmas.Bool.{ltb-true, lt-ltb}
-use Rattle.cfb_sectors.specs.SectorChain.{IsFullPath}
-use Rattle.cfb_sectors.specs.Chain.{fat_table}
-use Rattle.cfb_sectors.specs.Tables.{table_at}
-use Rattle.cfb_sectors.proofs.ChainLemmas.{full_unique}
+use Rattle.cfb_streams.proofs.FoundLemmas.{long_directory, no_directory}
 use Rattle.cfb_streams.proofs.parts.is_long_directory.Goals as goal
 
 pub returns-clause-long : goal.returns-clause-long
 returns-clause-long c =
-    let file = c.args.file.now in
-    let xs = c.in_ok-path.path.items in
-    let full = subst
-    (λ s. IsFullPath (fat_table c.args.file.now).entry (fat_table c.args.file.now).valid s c.in_ok-path.path.items)
-    c.get32-start.ensures
-    (subst (λ t. IsFullPath (table_at t).entry t.valid c.get32-start.result c.in_ok-path.path.items) c.requires.is_fat
-    c.in_ok-path.ensures.path) in (
-      (λ t. let long = ltb-true 256 c.len.result t in record
-          { here = refl; sectors = c.in_ok-path.path.items; full = full; long = omega (arith, c.len.ensures) }),
-      (λ l.
-          let e = full_unique (fat_table c.args.file.now).entry (fat_table c.args.file.now).valid _ l.sectors
-          c.in_ok-path.path.items l.full full in
-          let len = ap length e in
-          let long = l.long in lt-ltb 256 c.len.result (omega (arith, c.len.ensures))),
+    let is = long_directory c.args.file.now c.in_ok-path.path.items c.args.fat.now c.get32-start.result
+    c.requires.is_fat c.get32-start.ensures c.in_ok-path.ensures.path in (
+      (λ t. is.0 (let long = ltb-true 256 c.len.result t in omega (arith, c.len.ensures))),
+      (λ l. let long = is.1 l in lt-ltb 256 c.len.result (omega (arith, c.len.ensures))),
     )
+
+-- no path begins at a sector that is not there
+pub returns-then-start-valid-clause-long : goal.returns-then-start-valid-clause-long
+returns-then-start-valid-clause-long c = (
+  (λ t. absurd (cc (t))),
+  (λ l. absurd (no_directory c.args.file.now c.args.fat.now c.get32-start.result c.requires.is_fat
+      c.get32-start.ensures (omega (arith, c.valid.ensures, c.if-start-valid.true)) l)),
+)

@@ -1,4 +1,4 @@
-use Rattle.std.proofs.Common.{◌≡◌, ◌++◌, ◌<◌, ◌∙◌, Some, [], ◌∷◌, refl, arith, below_more, length-append}
+use Rattle.std.proofs.Common.{◌≡◌, ◌++◌, ◌<◌, ◌∙◌, Some, None, [], ◌∷◌, refl, subst, arith, below_more, length-append}
 use Rattle.doc_parts.specs.Table.{IsRightEntry, entry_at}
 use Rattle.doc_parts.proofs.TableLemmas.{length-plc_entry, each_more}
 use Rattle.doc_parts.proofs.tables.leading_entries.Goals as goal
@@ -20,4 +20,46 @@ loop-k-preserved g c =
           c.args.plc.now) items c.loop-k.invariant.count here c.loop-k.invariant.each;
       right = below_more (IsRightEntry form c.args.cps c.args.plc.now) c.loop-k.k c.loop-k.invariant.right
           (record { in_order = c.if-not-is_kept.ensures.0 refl; spelled = rw here refl });
+    }
+
+-- the entries so far, where the next one is wrong
+pub returns-then-not-is_kept : goal.returns-then-not-is_kept
+returns-then-not-is_kept g c =
+    let form = g.E.TableEntry.form in
+    let so_far = c.loop-k.invariant in
+    let count = so_far.count in
+    record {
+      within = omega (arith, c.len-k-end.ensures);
+      each = λ k low. so_far.each k (omega arith);
+      right = λ k low. so_far.right k (omega arith);
+      stop = λ low right.
+          let here = subst (IsRightEntry form c.args.cps c.args.plc.now) count right in
+          absurd (cc (c.if-not-is_kept.ensures.1 here.in_order));
+    }
+
+pub returns-in-None : goal.returns-in-None
+returns-in-None g c =
+    let form = g.E.TableEntry.form in
+    let so_far = c.loop-k.invariant in
+    let count = so_far.count in
+    let none : entry_at form c.args.plc.now c.loop-k.k ≡ None = cc in
+    record {
+      within = omega (arith, c.len-k-end.ensures);
+      each = λ k low. so_far.each k (omega arith);
+      right = λ k low. so_far.right k (omega arith);
+      stop = λ low right.
+          let here = subst (IsRightEntry form c.args.cps c.args.plc.now) count right in
+          let some = rw none at here.spelled in
+          absurd (cc (some));
+    }
+
+pub returns : goal.returns
+returns g c =
+    let so_far = c.loop-k.invariant in
+    let count = so_far.count in
+    record {
+      within = omega (arith, c.len-k-end.ensures);
+      each = λ k low. so_far.each k (omega arith);
+      right = λ k low. so_far.right k (omega arith);
+      stop = λ low. absurd (omega (arith, c.len-k-end.ensures));
     }

@@ -1,7 +1,8 @@
 -- A place is counted from the start, as the cursor is.
-use Rattle.std.proofs.Common.{◌≡◌, ◌+◌, [], take, arith}
+use Rattle.std.proofs.Common.{◌≡◌, ◌-◌, [], take, arith}
 use Rattle.run_lists.specs.Spread.{extent}
 use Rattle.run_lists.proofs.SpreadLemmas.{extent-nil}
+use Rattle.run_lists.proofs.RunsLemmas.{spot_inside}
 use Rattle.run_lists.proofs.cursor.reach.Goals as goal
 
 pub returns-clause-found : goal.returns-clause-found
@@ -18,3 +19,14 @@ returns-clause-found g c =
       inside = found.inside;
       ended = found.ended;
     }
+
+pub returns-clause-stops : goal.returns-clause-stops
+returns-clause-stops g c = λ less.
+    let spot = c.find-spot.result in
+    let found = c.find-spot.ensures in
+    let begins = c.requires.at.begins in
+    let ahead = c.requires.ahead in
+    let inside = spot_inside c.args.runs.now c.args.cursor.now.run (c.args.place - c.args.cursor.now.begin) spot found
+    (omega arith) in
+    let run = found.inside inside in
+    record { run = run.0; there = run.1; inside = let left = run.2 in omega arith }

@@ -1,4 +1,4 @@
-use Rattle.std.proofs.Common.{◌≡◌, Some, None, ◌+◌, ◌*◌, ◌≤◌, ◌<◌, length, sym, ap, ◌∙◌, subst, arith}
+use Rattle.std.proofs.Common.{◌≡◌, sym, ap, ◌∙◌, subst}
 use Rattle.doc_bits.specs.Rules.{Nowhere}
 use Rattle.cfb_sectors.specs.Chain.{BreaksChain, fat_table}
 use Rattle.cfb_sectors.specs.Claims.{IsClosed}

@@ -1,4 +1,4 @@
-use Rattle.std.proofs.Common.{sym, subst}
+use Rattle.std.proofs.Common.{subst}
 use Rattle.cfb_streams.specs.Layout.{places_of}
 use Rattle.cfb_streams.specs.Gathered.{TakesStream}
 use Rattle.cfb_streams.proofs.GatherLemmas.{takes_nothing}

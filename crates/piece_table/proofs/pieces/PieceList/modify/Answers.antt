@@ -4,11 +4,12 @@ use Rattle.std.specs.List.{splice}
 use Rattle.std.proofs.lemmas.Result.{err_from_is_err_and}
 use Rattle.piece_table.specs.declared.pieces.Entry.{Entry}
 use Rattle.piece_table.specs.Piece.{TextPiece, flat_pieces}
+use Rattle.piece_table.specs.Numbering.{text_piece}
 use Rattle.piece_table.specs.Changes.{AreModified}
 use Rattle.piece_table.specs.Cuts.{IsCutTwice, flat_entries, renumbered}
 use Rattle.piece_table.proofs.CutLemmas.{entries_sound}
 use Rattle.piece_table.proofs.FlatLemmas.{seen-extended, total_length-seen}
-use Rattle.piece_table.proofs.RenumberLemmas.{range_all, extended_numbered, renewed}
+use Rattle.piece_table.proofs.RenumberLemmas.{range_all, extended_numbered, IsRenewed, renewed}
 use Rattle.piece_table.proofs.pieces.PieceList.modify.Goals as goal
 
 pub cut_range-first-requires-clause-sound : goal.cut_range-first-requires-clause-sound
@@ -88,8 +89,10 @@ invariant_of-self-2 c =
       ),
     )
 
-pub returns-clause-text : goal.returns-clause-text
-returns-clause-text c =
+-- what the list is before unused modifiers are let go, and after
+is_renewed : (c : goal.After-drop-numbers) → IsRenewed c.self.inside.modifiers.items c.compose_all.new.modifiers.items
+    c.args.by.now c.args.from c.args.to c.self.inside.items.items c.renumber.new.entries.items
+is_renewed c =
     let old_modifiers = c.self.inside.modifiers.items in
     let modifiers = c.compose_all.new.modifiers.items in
     let old = c.self.inside.items.items in
@@ -103,9 +106,21 @@ returns-clause-text c =
     let all = rw c.deref.ensures.value at c.in_ok-numbers.ensures.all in
     let new : c.renumber.new.entries.items ≡ splice cut first last (map (renumbered numbers) (slice_range cut first
     last)) = rw c.deref-2.ensures.value at c.renumber.ensures.items in
-    let is = renewed old_modifiers modifiers c.args.by.now numbers old cut c.args.from c.args.to first last
-    c.self.invariant.0 c.self.invariant.1.0 twice (omega arith) c.compose_all.ensures.extends c.requires.formed
-    c.in_ok-numbers.ensures.composed all in
-    rw new (subst (λ table. AreModified c.args.by.now c.args.from c.args.to (flat_pieces table.pieces) (flat_entries
-    modifiers (splice cut first last (map (renumbered numbers) (slice_range cut first last))))) c.self.view_is
-    is.flat)
+    subst (IsRenewed old_modifiers modifiers c.args.by.now c.args.from c.args.to old) (sym new) (renewed old_modifiers
+    modifiers c.args.by.now numbers old cut c.args.from c.args.to first last c.self.invariant.0 c.self.invariant.1.0
+    twice (omega arith) c.compose_all.ensures.extends c.requires.formed c.in_ok-numbers.ensures.composed all)
+
+seen : (c : goal.After-drop-numbers) → c.lighten.new.self.pieces ≡ map (text_piece c.compose_all.new.modifiers.items)
+    c.renumber.new.entries.items
+seen c = ap (λ table. table.pieces) c.lighten.ensures
+
+pub returns-clause-text : goal.returns-clause-text
+returns-clause-text c =
+    rw (seen c) (subst (λ table. AreModified c.args.by.now c.args.from c.args.to (flat_pieces table.pieces)
+    (flat_entries c.compose_all.new.modifiers.items c.renumber.new.entries.items)) c.self.view_is (is_renewed c).flat)
+
+pub returns-clause-begins : goal.returns-clause-begins
+returns-clause-begins c = rw (seen c) (is_renewed c).begins
+
+pub returns-clause-ends : goal.returns-clause-ends
+returns-clause-ends c = rw (seen c) (is_renewed c).ends

@@ -1,9 +1,18 @@
-use Rattle.std.proofs.Common.{◌≡◌, ◌+◌, [], ◌∷◌, None, suc, length, reverse, sym, ap, ◌∙◌, subst, arith, length-append}
+use Rattle.std.proofs.Common.{◌≡◌, ◌+◌, [], ◌∷◌, ◌++◌, None, suc, length, reverse, sym, ap, ◌∙◌, subst, arith}
+use Rattle.std.proofs.Common.{length-append}
 use Rattle.std.proofs.lemmas.List.{reverse-reverse, length-reverse}
 use Rattle.style_sheet.specs.Chain.{base_at, IsBaseChain}
-use Rattle.style_sheet.proofs.ChainLemmas.{ups, ups_more, up_more, climbed_more, climbed_chain, length-ups}
+use Rattle.style_sheet.proofs.ChainLemmas.{ups, ups_more, up_more, climbed_none, climbed_more, climbed_chain}
+use Rattle.style_sheet.proofs.ChainLemmas.{length-ups}
 use Rattle.style_sheet.proofs.OneChainLemmas.{climbed_next, next_kind, chain_short}
 use Rattle.style_sheet.proofs.sheet.StyleSheet.chain.Goals as goal
+
+pub loop-base-init : goal.loop-base-init
+loop-base-init c = record {
+  n = 0;
+  climbed = climbed_none c.args.self.now c.args.istd c.requires.settings;
+  items = c.in_ok-push.ensures.items ∙ ap (λ l. l ++ c.args.istd ∷ []) c.new-items.ensures.items;
+}
 
 pub loop-base-smaller : goal.loop-base-smaller
 loop-base-smaller c =
