@@ -1,6 +1,6 @@
 -- What a run of the generator leaves: the bytes of its last save; from 0 there is none.
 use Rattle.std.proofs.Common.{◌≡◌, ◌∙◌, sym, ap, subst, ℕ, zero, suc, ◌≤◌, Bool, true, false}
-use Rattle.std.proofs.Common.{List, [], map, Some, arith}
+use Rattle.std.proofs.Common.{List, [], map, arith}
 use Rattle.std.proofs.lemmas.Option.{none-some}
 use Rattle.edit_guards.specs.Policies.{Policy}
 use Rattle.plain_doc.specs.declared.document.Document.{Document}
@@ -20,7 +20,8 @@ use Rattle.doc_edit.specs.Saves.{save_count}
 use Rattle.doc_edit.specs.States.{start_of, session_in_full}
 use Rattle.doc_edit.specs.Ends.{StopsAt, IsRunFault, EndsInMode, IsLastSave}
 use Rattle.doc_edit.specs.Steps.{IsRunTo}
-use Rattle.doc_edit.specs.GeneratedRuns.{most_seed, generator_start, commands_run, mark_count, IsGeneratedBy}
+use Rattle.doc_edit.specs.GeneratedRuns.{most_seed, generator_start, commands_run, mark_count}
+use Rattle.doc_edit.specs.GeneratedRuns.{IsGeneratedRun, IsGeneratedBy}
 use Rattle.doc_edit.proofs.RunLemmas.{last_saved}
 use Rattle.doc_edit.proofs.EndLemmas.{ends_once}
 use Rattle.doc_edit.proofs.GeneratedRunLemmas.{last_mode, ends_with_save, generator_accepted}
@@ -67,24 +68,29 @@ never_stopped seed index stop session policies fault few is none stops same =
     in
     ends_once.none generator_start (generated seed) index stop (generator_accepted seed few) at
 
--- what it leaves
-pub generated_by : (seed : ℕ) (session : SessionView) (policies : List Policy) (now : SessionView)
-    (told : List Policy) (made : Generated) →
-    seed ≤ most_seed → session ≡ session_in_full blank_document → policies ≡ [] →
-    IsRunTo (start_of session policies) (generated seed) (generated seed).count now told → made.image ≡ now.bytes →
+-- all of them are made
+pub run_of : (seed : ℕ) (session : SessionView) (policies : List Policy) (now : SessionView) (told : List Policy) →
+    session ≡ session_in_full blank_document → policies ≡ [] →
+    IsRunTo (start_of session policies) (generated seed) (generated seed).count now told → IsGeneratedRun seed now
+run_of seed session policies now told is none run =
+    let begun = subst (λ s. IsRunTo (start_of s policies) (generated seed) (generated seed).count now told) is run in (
+      told,
+      subst (λ p. IsRunTo (start_of (session_in_full blank_document) p) (generated seed) (generated seed).count now told)
+          none begun,
+    )
+
+-- what they leave
+pub generated_by : (seed : ℕ) (now : SessionView) (made : Generated) →
+    seed ≤ most_seed → IsGeneratedRun seed now → made.image ≡ now.bytes →
     IsAccepted now.bytes → made.units ≡ item_count now.document → made.paragraphs ≡ mark_count now.document.main →
     made.saves.fast ≡ save_count false (commands_run generator_start (generated seed)) →
     made.saves.full ≡ save_count true (commands_run generator_start (generated seed)) → IsGeneratedBy seed made
-generated_by seed session policies now told made few is none run image accepted units paragraphs fast full =
-    let begun = subst (λ s. IsRunTo (start_of s policies) (generated seed) (generated seed).count now told) is run in
-    let at =
-    subst (λ p. IsRunTo (start_of (session_in_full blank_document) p) (generated seed) (generated seed).count now told)
-    none begun in
-    let document = at.at.document in
+generated_by seed now made few run image accepted units paragraphs fast full =
+    let document = run.1.at.document in
     record {
       accepted = generator_accepted seed few;
-      image = generated_image seed few now told at made.image image accepted;
-      blank = blank_image seed now told at made.image image;
+      image = generated_image seed few now run.0 run.1 made.image image accepted;
+      blank = blank_image seed now run.0 run.1 made.image image;
       units = units ∙ ap item_count document;
       paragraphs = paragraphs ∙ ap (λ (d : Document). mark_count d.main) document;
       fast = fast;

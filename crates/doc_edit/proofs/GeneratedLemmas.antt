@@ -1,28 +1,22 @@
 -- The commands of the generator: how the ledgers grow by each, and that its saves are made.
-use Rattle.std.proofs.Common.{◌≡◌, ◌≢◌, ◌∙◌, refl, sym, ap, subst, ℕ, zero, suc, ◌+◌, ◌*◌, ◌-◌, ◌/◌, ◌%◌, ◌^◌, ◌<◌}
-use Rattle.std.proofs.Common.{◌≤◌, Bool, true, false, cond, List, [], ◌∷◌, ◌++◌, length, map, Option, Some, None}
+use Rattle.std.proofs.Common.{◌≡◌, refl, sym, ap, subst, ℕ, zero, suc, ◌+◌, ◌%◌, ◌^◌, ◌<◌}
+use Rattle.std.proofs.Common.{◌≤◌, Bool, true, false, List, [], ◌∷◌, ◌++◌, length}
 use Rattle.std.proofs.Common.{arith, length-append}
-use Rattle.std.specs.Prelude.{if◌then◌else◌, ◌==◌, ◌||◌}
-use Rattle.std.specs.List.{sum_by}
+use Rattle.std.specs.Prelude.{◌==◌, ◌||◌}
 use Rattle.std.specs.FinMap.{empty}
 use Rattle.std.proofs.lemmas.Bool.{cond_both, eqb-true, eqb-false}
 use Rattle.std.proofs.lemmas.List.{length-map}
-use Rattle.cfb_layout.specs.Counts.{most_sectors}
 use Rattle.plain_doc.specs.declared.item.Item.{Item}
 use Rattle.plain_doc.specs.declared.document.Document.{Document}
-use Rattle.full_save.specs.WordDocument.{full_text, table_stream}
-use Rattle.full_save.specs.Layout.{sectors_of, FitsCompoundFile}
-use Rattle.edit_script.specs.declared.commands.Command.{Command}
-use Rattle.edit_script.specs.declared.commands.Command.TheVariants.{Insert, Char, Style, Split, Save}
+use Rattle.full_save.specs.WordDocument.{table_stream}
+use Rattle.edit_script.specs.declared.commands.Command.TheVariants.{Save}
 use Rattle.edit_ops.specs.Fresh.{base_settings, unit_item, unit_items, plain_end, inserted_items}
 use Rattle.edit_ops.specs.EditFacts.{edit_facts}
-use Rattle.fast_save.specs.declared.ledgers.Counts.{Counts}
-use Rattle.doc_edit.specs.Saves.{save_mode}
 use Rattle.doc_edit.specs.States.{RunState, counts_in_full, fast_sectors, state_after}
-use Rattle.doc_edit.specs.Generated.{line_text, edit_of_rest}
-use Rattle.doc_edit.specs.Ends.{Passes, PassesFastSave}
-use Rattle.doc_edit.specs.GeneratedSaves.{most_full_sectors, sectors_within, HasGrown, IsSmallEdit}
-use Rattle.doc_edit.proofs.GeneratedEditLemmas.{line_short}
+use Rattle.edit_generator.specs.Generated.{line_text, edit_of_rest}
+use Rattle.doc_edit.specs.Ends.{Passes}
+use Rattle.doc_edit.specs.GeneratedSaves.{sectors_within, HasGrown, IsSmallEdit}
+use Rattle.edit_generator.proofs.GeneratedEditLemmas.{line_short}
 use Rattle.doc_edit.proofs.GeneratedFileLemmas.{HasSmallFile}
 use Rattle.doc_edit.proofs.LedgerLemmas.{edit_grows, fast_grows, fast_fits}
 

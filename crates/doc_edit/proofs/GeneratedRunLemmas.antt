@@ -1,5 +1,5 @@
 -- A run of the generator, command by command: each is made, and how many save.
-use Rattle.std.proofs.Common.{◌≡◌, ◌∙◌, refl, sym, ap, subst, ℕ, zero, suc, ◌+◌, ◌-◌, ◌*◌, ◌/◌, ◌%◌, ◌^◌, ◌<◌, ◌≤◌}
+use Rattle.std.proofs.Common.{◌≡◌, ◌∙◌, refl, sym, ap, subst, ℕ, zero, suc, ◌+◌, ◌-◌, ◌/◌, ◌%◌, ◌<◌, ◌≤◌}
 use Rattle.std.proofs.Common.{Bool, true, false, cond, List, [], ◌∷◌, ◌++◌, length, map, Option, Some, None, arith}
 use Rattle.std.specs.Prelude.{if◌then◌else◌, ◌==◌, ◌||◌}
 use Rattle.std.specs.List.{filter_map, range_with_len}
@@ -9,7 +9,6 @@ use Rattle.std.proofs.lemmas.List.FromFn.{map-range_with_len_more}
 use Rattle.std.proofs.lemmas.List.Sums.{sum_by-append}
 use Rattle.edit_guards.specs.declared.facts.Facts.{Facts}
 use Rattle.edit_guards.specs.Policies.{Policy, Grants, AllGrant, policies_after}
-use Rattle.plain_doc.specs.declared.document.Document.{Document}
 use Rattle.plain_doc.specs.Blank.{blank_document}
 use Rattle.edit_script.specs.declared.commands.Command.{Command}
 use Rattle.edit_script.specs.declared.commands.Command.TheVariants.{Save}
@@ -17,15 +16,16 @@ use Rattle.edit_ops.specs.Causes.{IsAcceptedEdit}
 use Rattle.edit_ops.specs.Edits.{document_after}
 use Rattle.edit_ops.specs.EditFacts.{edit_facts}
 use Rattle.doc_edit.specs.Saves.{save_mode, has_mode, save_count}
-use Rattle.doc_edit.specs.States.{RunState, counts_in_full, edited, state_after}
+use Rattle.doc_edit.specs.States.{RunState, edited, state_after}
 use Rattle.doc_edit.specs.Commands.{command_at, state_before}
-use Rattle.doc_edit.specs.Generated.{edit_number, edit_of_rest, generated_edit, generated_count, is_generated_save}
-use Rattle.doc_edit.specs.Generated.{generated_command, generated}
+use Rattle.edit_generator.specs.Generated.{edit_number, edit_of_rest, generated_edit, generated_count, is_generated_save}
+use Rattle.edit_generator.specs.Generated.{generated_command}
+use Rattle.doc_edit.specs.Generated.{generated}
 use Rattle.doc_edit.specs.Ends.{Passes, EndsInMode}
-use Rattle.doc_edit.specs.GeneratedDocuments.{IsGeneratedDocument}
-use Rattle.doc_edit.specs.GeneratedRuns.{most_seed, generator_start, commands_run, GeneratorIsAccepted}
+use Rattle.edit_generator.specs.GeneratedDocuments.{IsGeneratedDocument}
+use Rattle.doc_edit.specs.GeneratedRuns.{generator_start, commands_run, GeneratorIsAccepted}
 use Rattle.doc_edit.proofs.EndLemmas.{state_goes_on}
-use Rattle.doc_edit.proofs.GeneratedEditLemmas.{edit_generated, edit_accepted, blank_generated}
+use Rattle.edit_generator.proofs.GeneratedEditLemmas.{edit_generated, edit_accepted, blank_generated}
 use Rattle.doc_edit.proofs.GeneratedFileLemmas.{document_file}
 use Rattle.doc_edit.proofs.GeneratedLemmas.{IsGrown, edit_goes_on, full_grown, save_goes_on, save_passes, save_behind}
 use Rattle.doc_edit.proofs.GeneratedLemmas.{no_save}

@@ -1,5 +1,5 @@
 -- The session that the generator begins on, and the commands that it is given.
-use Rattle.std.proofs.Common.{◌≡◌, ◌∙◌, refl, sym, ap, subst, ℕ, ◌<◌, ◌≤◌, List, length, Some, arith}
+use Rattle.std.proofs.Common.{◌≡◌, ◌∙◌, refl, sym, ap, subst, ℕ, ◌<◌, List, length, Some, arith}
 use Rattle.std.proofs.lemmas.Bool.{lt-ltb}
 use Rattle.edit_guards.specs.Policies.{Policy}
 use Rattle.doc_bits.specs.declared.places.Where.{Where}
@@ -24,10 +24,11 @@ use Rattle.fast_save.specs.Started.{IsStarted, session_after_full}
 use Rattle.fast_save.proofs.FullFileLemmas.{full_saves_hold}
 use Rattle.doc_edit.specs.States.{RunState, counts_in_full, session_in_full}
 use Rattle.doc_edit.specs.Commands.{command_at}
-use Rattle.doc_edit.specs.Generated.{generated_count, generated_command, generated}
+use Rattle.edit_generator.specs.Generated.{generated_count, generated_command}
+use Rattle.doc_edit.specs.Generated.{generated}
 use Rattle.doc_edit.specs.Ends.{IsUnchanged}
 use Rattle.doc_edit.specs.Steps.{IsAt}
-use Rattle.doc_edit.proofs.GeneratedEditLemmas.{document_sound, blank_generated}
+use Rattle.edit_generator.proofs.GeneratedEditLemmas.{document_sound, blank_generated}
 use Rattle.doc_edit.proofs.GeneratedFileLemmas.{document_savable}
 
 -- ---- the blank document

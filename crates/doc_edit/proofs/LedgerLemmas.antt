@@ -1,5 +1,5 @@
 -- How the ledgers grow. It belongs to fast_save, but for what is generated.
-use Rattle.std.proofs.Common.{◌≡◌, ◌∙◌, refl, sym, ap, subst, ℕ, zero, suc, ◌+◌, ◌*◌, ◌/◌, ◌^◌, ◌-◌, ◌≤◌, min, Bool}
+use Rattle.std.proofs.Common.{◌≡◌, refl, subst, ℕ, zero, suc, ◌+◌, ◌*◌, ◌/◌, ◌^◌, ◌-◌, ◌≤◌, min, Bool}
 use Rattle.std.proofs.Common.{true, false, arith}
 use Rattle.std.specs.Prelude.{if◌then◌else◌}
 use Rattle.std.proofs.Math.Nat.{min-le_left, mul-le-mul_right}
@@ -9,7 +9,8 @@ use Rattle.edit_ops.specs.Runs.{most_runs}
 use Rattle.fast_save.specs.declared.ledgers.Counts.{Counts}
 use Rattle.fast_save.specs.Ledgers.{raised, after_edit, after_fast, sections_set, modifier_bytes, bytes_reckoned}
 use Rattle.fast_save.specs.Ledgers.{sector_bound}
-use Rattle.doc_edit.specs.GeneratedSaves.{most_table_bytes, most_bin_bytes, sectors_within, HasGrown, IsSmallEdit}
+use Rattle.edit_generator.specs.SmallSaves.{most_table_bytes, most_bin_bytes}
+use Rattle.doc_edit.specs.GeneratedSaves.{sectors_within, HasGrown, IsSmallEdit}
 use Rattle.doc_edit.specs.GeneratedSaves.{FitsFast, GeneratedSavesAreSmall}
 
 -- a count rises by no more

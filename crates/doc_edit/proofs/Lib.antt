@@ -1,15 +1,6 @@
 pub mod RefuserLemmas
-pub mod NumberLemmas
 pub mod EndLemmas
 pub mod LedgerLemmas
-pub mod RunCountLemmas
-pub mod EditRunLemmas
-pub mod FullSizeLemmas
-pub mod BoldLemmas
-pub mod GeneratedTextLemmas
-pub mod GeneratedRightLemmas
-pub mod GeneratedTableLemmas
-pub mod GeneratedEditLemmas
 pub mod GeneratedFileLemmas
 pub mod GeneratedLemmas
 pub mod GeneratedRunLemmas

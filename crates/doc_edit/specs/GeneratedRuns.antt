@@ -6,11 +6,14 @@ use Rattle.plain_doc.specs.Blank.{blank_document}
 use Rattle.plain_doc.specs.RulesOfSheet.{item_count}
 use Rattle.full_save.specs.Layout.{full_save_image}
 use Rattle.edit_script.specs.declared.commands.Command.{Command}
+use Rattle.edit_guards.specs.Policies.{Policy}
+use Rattle.fast_save.specs.Session.{SessionView}
 use Rattle.doc_edit.specs.declared.generating.Generated.{Generated}
 use Rattle.doc_edit.specs.Saves.{save_count}
 use Rattle.doc_edit.specs.States.{RunState, start_of, session_in_full}
 use Rattle.doc_edit.specs.Commands.{Commands, command_at, state_before}
 use Rattle.doc_edit.specs.Generated.{generated}
+use Rattle.doc_edit.specs.Steps.{IsRunTo}
 use Rattle.doc_edit.specs.Ends.{IsAcceptedRun, IsLastSave, end_state}
 
 -- Profile: the greatest seed
@@ -25,6 +28,11 @@ abbrev pub commands_run : RunState → Commands → List Command
 commands_run start commands =
     filter_map (λ command. command)
     (map (λ i. command_at commands i (state_before start commands i)) (range_with_len 0 commands.count))
+
+-- a session on which all commands from a seed are made
+abbrev pub IsGeneratedRun : ℕ → SessionView → Type 0
+IsGeneratedRun seed session =
+    (policies : List Policy) × IsRunTo generator_start (generated seed) (generated seed).count session policies
 
 -- the marks of a text
 abbrev pub mark_count : List Item → ℕ

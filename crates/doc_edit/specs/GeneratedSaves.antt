@@ -1,39 +1,13 @@
 -- That no save of the generator is refused, by the ledgers: how far they have grown since the last full save, by the
 -- fast saves since then and the edits since the last save.
-use Rattle.std.specs.Prelude.{◌≡◌, ℕ, zero, suc, ◌+◌, ◌*◌, ◌/◌, ◌≤◌, List, [], length, slice_get, Some}
-use Rattle.doc_bits.specs.declared.places.Story.TheVariants.{Main}
-use Rattle.prop_map.specs.Settings.{Settings}
-use Rattle.prop_map.specs.Overlay.{without}
-use Rattle.fkp_pages.specs.declared.kind.PageKind.{PageKind}
-use Rattle.fkp_pages.specs.declared.kind.PageKind.TheVariants.{Chpx, Papx}
+use Rattle.std.specs.Prelude.{ℕ, zero, suc, ◌+◌, ◌*◌, ◌/◌, ◌≤◌}
 use Rattle.cfb_layout.specs.Counts.{most_sectors}
-use Rattle.plain_doc.specs.declared.item.Item.{Item}
-use Rattle.plain_doc.specs.declared.document.Document.{Document}
-use Rattle.plain_doc.specs.Collected.{sections_of}
-use Rattle.plain_doc.specs.Formed.{IsFormed}
-use Rattle.plain_doc.specs.Sound.{IsSound}
-use Rattle.full_save.specs.Text.{text_items}
-use Rattle.full_save.specs.Sections.{sepxes}
-use Rattle.full_save.specs.WordDocument.{document_runs, full_text, table_stream}
-use Rattle.full_save.specs.Layout.{sectors_of}
 use Rattle.edit_script.specs.declared.commands.Command.{Command}
-use Rattle.edit_script.specs.declared.commands.Command.TheVariants.{Insert, Char, Style, Split}
-use Rattle.edit_ops.specs.Fresh.{special_codes}
-use Rattle.edit_ops.specs.Edits.{document_after}
 use Rattle.edit_ops.specs.Runs.{most_runs}
+use Rattle.edit_generator.specs.SmallSaves.{most_full_sectors, most_bin_bytes, most_table_bytes}
 use Rattle.fast_save.specs.declared.ledgers.Counts.{Counts}
 use Rattle.fast_save.specs.Ledgers.{after_edit, after_fast, sections_set, sector_bound, most_pieces_added}
 use Rattle.fast_save.specs.Fast.{most_pieces}
-
--- Profile: the most sectors and bytes of bin tables of a full save of what is generated, and the most bytes of Table
-abbrev pub most_full_sectors : ℕ
-most_full_sectors = 2650
-
-abbrev pub most_bin_bytes : ℕ
-most_bin_bytes = 19300
-
-abbrev pub most_table_bytes : ℕ
-most_table_bytes = 20000
 
 -- the sectors within which the file stays, after so many fast saves with fifty edits before each: each fast save
 -- is reckoned with 24 units and 3 runs an edit, and 800 bytes a piece
@@ -80,56 +54,3 @@ pub record GeneratedSavesAreSmall : Type 0 where
       (fast edits table_bytes : ℕ) (counts : Counts) →
       HasGrown fast edits counts → edits ≤ 50 → table_bytes ≤ most_table_bytes → fast ≤ 6 →
       FitsFast counts table_bytes
-
--- the runs that the tables of a full save have of a document
-abbrev pub runs_of : PageKind → Document → ℕ
-runs_of kind document = length (document_runs kind document)
-
--- the item stands there, and is no special unit
-pub record IsPlainAt (main : List Item) (at : ℕ) : Type 0 where
-  pub item : Item
-  pub here : slice_get main at ≡ Some item
-  pub plain : without special_codes item.chp ≡ item.chp
-
--- an insertion takes the settings of the item at its place, so it adds no run of characters or of paragraphs; a split
--- adds one paragraph; a command that sets characters adds two runs of characters; one that names a style adds none
-pub record EditsAddFewRuns : Type 0 where
-  pub insertion :
-      (kind : PageKind) (document : Document) (at : ℕ) (text : List ℕ) → IsPlainAt document.main at →
-      runs_of kind (document_after document (Insert Main at text)) ≡ runs_of kind document
-  pub split_characters :
-      (document : Document) (at : ℕ) → IsPlainAt document.main at →
-      runs_of Chpx (document_after document (Split Main at)) ≡ runs_of Chpx document
-  pub split_paragraphs :
-      (document : Document) (at : ℕ) → IsPlainAt document.main at →
-      runs_of Papx (document_after document (Split Main at)) ≤ runs_of Papx document + 1
-  pub characters :
-      (document : Document) (from to : ℕ) (set : Settings) → from ≤ to →
-      runs_of Chpx (document_after document (Char Main from to set)) ≤ runs_of Chpx document + 2
-  pub paragraphs :
-      (document : Document) (from to : ℕ) (set : Settings) → from ≤ to →
-      runs_of Papx (document_after document (Char Main from to set)) ≡ runs_of Papx document
-  pub style :
-      (kind : PageKind) (document : Document) (at istd : ℕ) →
-      runs_of kind (document_after document (Style Main at istd)) ≡ runs_of kind document
-
--- a document whose text and tables are as small as those of what is generated
-pub record IsSmallDocument (document : Document) : Type 0 where
-  pub items : length (text_items document) ≤ 36100
-  pub characters : runs_of Chpx document ≤ 1601
-  pub paragraphs : runs_of Papx document ≤ 802
-  pub sections : length (sepxes (sections_of document.main)) ≤ 503
-  pub table :
-      length (table_stream document)
-      ≤ 600 + (length (full_text document).characters + length (full_text document).paragraphs)
-  pub streams : document.carried.streams ≡ []
-
--- its full save is small
-pub record HasSmallSave (document : Document) : Type 0 where
-  pub sectors : sectors_of document ≤ most_full_sectors
-  pub bins : length (full_text document).characters + length (full_text document).paragraphs ≤ most_bin_bytes
-  pub table : length (table_stream document) ≤ most_table_bytes
-
-abbrev pub SmallDocumentsHaveSmallSaves : Type 0
-SmallDocumentsHaveSmallSaves =
-    (document : Document) → IsFormed document → IsSound document → IsSmallDocument document → HasSmallSave document

@@ -6,6 +6,5 @@ pub mod Generated
 pub mod Ends
 pub mod Steps
 pub mod GeneratedSaves
-pub mod GeneratedDocuments
 pub mod GeneratedRuns
 pub mod Laws

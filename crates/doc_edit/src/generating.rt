@@ -1,21 +1,24 @@
 // A run of the generator.
-ghost use Rattle.std.specs.Prelude.{◌≡◌, ◌≤◌, IfOk, OnOk, map, true, false};
-ghost use Rattle.edit_guards.specs.Policies.{Policy};
+ghost use Rattle.std.specs.Prelude.{◌≡◌, ◌≤◌, IfOk, OnOk, true, false};
 ghost use Rattle.plain_doc.specs.Blank.{blank_document};
+ghost use Rattle.full_save.specs.Layout.{full_save_image};
+ghost use Rattle.fast_save.specs.Started.{IsStarted};
 ghost use Rattle.doc_edit.specs.States.{session_in_full};
 ghost use Rattle.doc_edit.specs.Saves.{save_count};
 ghost use Rattle.doc_edit.specs.Generated.{generated};
-ghost use Rattle.doc_edit.specs.GeneratedRuns.{most_seed, generator_start, commands_run, mark_count, IsGeneratedBy};
+ghost use Rattle.doc_edit.specs.GeneratedRuns.{IsGeneratedRun, IsGeneratedBy};
+ghost use Rattle.doc_edit.specs.GeneratedRuns.{most_seed, generator_start, commands_run, mark_count};
 
-use crate::generated::{Generator, SAVES_IN_TURN, generated_count};
+use crate::generated::Generator;
 use crate::running::run_all;
 use crate::{RunFault, SaveCounts};
 use doc_bits::{Bytes, Memory};
 use doc_read::ReadFault;
+use edit_generator::{SAVES_IN_TURN, generated_count};
 use edit_guards::Guard;
 use fast_save::Session;
 use full_save::{SaveFault, full};
-use plain_doc::{Item, all_items, blank};
+use plain_doc::{Document, Item, all_items, blank};
 use std::alloc::Global;
 
 /// What the generator leaves.
@@ -40,38 +43,85 @@ pub fn generate(alloc: Global, seed: u32) -> Result<Generated, Memory>
     ensures { IfOk result (λ made. IsGeneratedBy seed made) }
 {
     let mut session = blank_session(alloc)?;
+    let made = generate_on(alloc, seed, &mut session);
+    drop(session);
+    made
+}
+
+/// Saves the blank document once more in full, and makes the commands from a seed.
+fn generate_on(alloc: Global, seed: u32, session: &mut Session) -> Result<Generated, Memory>
+    requires few { seed ≤ most_seed }
+    requires started { IsStarted (full_save_image blank_document) session.old }
+    ensures { IfOk result (λ made. IsGeneratedBy seed made) }
+{
+    save_blank(session)?;
     let mut guards: Vec<Box<dyn Guard>> = Vec::new(alloc);
-    match run_all(alloc, &Generator { seed }, &mut session, &mut guards) {
-        Ok(()) => {}
+    match run_all(alloc, &Generator { seed }, session, &mut guards) {
+        Ok(()) => left_by(alloc, seed, session),
         Err(RunFault::Stopped { .. }) => unreachable!(),
-        Err(RunFault::Memory) => return Err(Memory),
+        Err(RunFault::Memory) => Err(Memory),
     }
+}
+
+/// What the commands from a seed have left.
+fn left_by(alloc: Global, seed: u32, session: &Session) -> Result<Generated, Memory>
+    requires few { seed ≤ most_seed }
+    requires run { IsGeneratedRun seed session.now }
+    ensures { IfOk result (λ made. IsGeneratedBy seed made) }
+{
     let document = session.document()?;
+    let units = all_items(&document);
+    let paragraphs = marks_in(document.main.as_slice());
+    drop(document);
     Ok(Generated {
         image: Bytes::from_slice(alloc, session.bytes())?,
-        units: all_items(&document),
-        paragraphs: marks_in(document.main.as_slice()),
+        units,
+        paragraphs,
         saves: generated_saves(seed),
     })
 }
 
 /// A session on the full save of the blank document.
 fn blank_session(alloc: Global) -> Result<Session, Memory>
-    ensures { IfOk result (λ session. session ≡ session_in_full blank_document) }
+    ensures { IfOk result (IsStarted (full_save_image blank_document)) }
+{
+    let file = blank_file(alloc)?;
+    match Session::start(alloc, file.as_slice()) {
+        Ok(session) => Ok(session),
+        Err(ReadFault::Refused { .. }) => unreachable!(),
+        Err(ReadFault::Memory) => Err(Memory),
+    }
+}
+
+/// The full save of the blank document.
+fn blank_file(alloc: Global) -> Result<Bytes, Memory>
+    ensures { IfOk result (λ file. file ≡ full_save_image blank_document) }
 {
     let document = blank(alloc)?;
-    let file = match full(alloc, &document) {
-        Ok(file) => file,
+    let file = saved_blank(alloc, &document);
+    drop(document);
+    file
+}
+
+/// The full save of a document that is the blank one.
+fn saved_blank(alloc: Global, document: &Document) -> Result<Bytes, Memory>
+    requires { document.now ≡ blank_document }
+    ensures { IfOk result (λ file. file ≡ full_save_image blank_document) }
+{
+    match full(alloc, document) {
+        Ok(file) => Ok(file),
         Err(SaveFault::TooLarge { .. }) => unreachable!(),
-        Err(SaveFault::Memory) => return Err(Memory),
-    };
-    let mut session = match Session::start(alloc, file.as_slice()) {
-        Ok(session) => session,
-        Err(ReadFault::Refused { .. }) => unreachable!(),
-        Err(ReadFault::Memory) => return Err(Memory),
-    };
+        Err(SaveFault::Memory) => Err(Memory),
+    }
+}
+
+/// Saves in full on a session that was started on that file.
+fn save_blank(session: &mut Session) -> Result<(), Memory>
+    requires { IsStarted (full_save_image blank_document) session.old }
+    ensures { OnOk result (session.new ≡ session_in_full blank_document) }
+{
     match session.full() {
-        Ok(()) => Ok(session),
+        Ok(()) => Ok(()),
         Err(SaveFault::TooLarge { .. }) => unreachable!(),
         Err(SaveFault::Memory) => Err(Memory),
     }

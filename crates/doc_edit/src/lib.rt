@@ -10,11 +10,7 @@ mod saves;
 mod source;
 
 pub use faults::{RunFault, Stop};
-pub use generated::{generated_command, generated_count};
 pub use generating::{Generated, MOST_SEED, generate};
-pub use laws::{
-    edits_add_few_runs, generated_saves_are_small, generator_is_accepted, script_ends_once,
-    small_documents_have_small_saves,
-};
+pub use laws::{generated_saves_are_small, generator_is_accepted, script_ends_once};
 pub use running::{Saved, run_script};
 pub use saves::{SaveCounts, count_saves};

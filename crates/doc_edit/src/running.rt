@@ -1,10 +1,9 @@
 // Commands run over a session.
-ghost use Rattle.std.specs.Prelude.{◌≡◌, ◌≢◌, ◌<◌, ◌≤◌, ℕ, Some, None, true, false, length, map, IfErr, IfOk, OnErr};
+ghost use Rattle.std.specs.Prelude.{◌≡◌, ◌<◌, ◌≤◌, ℕ, Some, None, true, false, length, map, IfErr, OnErr};
 ghost use Rattle.std.specs.Prelude.{OnOk, MatchResult};
-ghost use Rattle.edit_guards.specs.Policies.{Policy, AllGrant, IsFirstRefuser};
+ghost use Rattle.edit_guards.specs.Policies.{AllGrant, IsFirstRefuser};
 ghost use Rattle.edit_script.specs.Scripts.{EndsWithSave, most_commands};
 ghost use Rattle.edit_ops.specs.Causes.{IsEditFault};
-ghost use Rattle.full_save.specs.Layout.{IsTooLarge};
 ghost use Rattle.fast_save.specs.Edited.{HasRoom, IsPlanned};
 ghost use Rattle.fast_save.specs.Fast.{IsSavedFast};
 ghost use Rattle.doc_edit.specs.declared.faults.RunFault.TheVariants.{Stopped};
@@ -58,7 +57,31 @@ pub fn run_script(
         (map (λ b. policy b) guards.new)) }
 {
     let mut session = session;
-    run_all(alloc, script, &mut session, guards)?;
+    let saved = run_on(alloc, &mut session, script, guards);
+    drop(session);
+    saved
+}
+
+/// Runs a script over a session that is lent.
+fn run_on(
+    alloc: Global,
+    session: &mut Session,
+    script: &Script,
+    guards: &mut [Box<dyn Guard>],
+) -> Result<Saved, RunFault>
+    requires unchanged { IsUnchanged session.old }
+    requires few { length script.now ≤ most_commands }
+    requires saved { EndsWithSave script.now }
+    ensures ends { MatchResult result
+        (IsSavedBy (start_of session.old (map (λ b. policy b) guards.old)) script.now)
+        (IsRunFault (start_of session.old (map (λ b. policy b) guards.old)) (listed script.now)) }
+    ensures guards { MatchResult result
+        (λ _. map (λ b. policy b) guards.new
+        ≡ (end_state (start_of session.old (map (λ b. policy b) guards.old)) (listed script.now)).policies)
+        (λ fault. AreToldUpTo (start_of session.old (map (λ b. policy b) guards.old)) (listed script.now) fault
+        (map (λ b. policy b) guards.new)) }
+{
+    run_all(alloc, script, session, guards)?;
     let image = match Bytes::from_slice(alloc, session.bytes()) {
         Ok(image) => image,
         Err(_) => return Err(RunFault::Memory),

@@ -5,7 +5,7 @@ ghost use Rattle.doc_edit.specs.Saves.{save_mode, has_mode, save_count};
 use edit_ops::{Command, Script};
 
 /// How many saves of each mode a script has.
-#[derive(Clone, Copy, Debug, PartialEq, Eq)]
+#[derive(Clone, Copy)]
 pub struct SaveCounts {
     pub fast: usize,
     pub full: usize,

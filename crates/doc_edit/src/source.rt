@@ -1,6 +1,5 @@
 // What commands come from: a script, or the generator.
 ghost use Rattle.std.specs.Prelude.{◌≡◌, ◌<◌, map, OnErr, IfErr, OnOk};
-ghost use Rattle.edit_guards.specs.Policies.{Policy};
 ghost use Rattle.fast_save.specs.Edited.{HasRoom};
 ghost use Rattle.doc_edit.specs.Commands.{Commands, listed};
 ghost use Rattle.doc_edit.specs.Steps.{MakesNumber, HaltsNumber};

@@ -10,11 +10,10 @@ use Rattle.prop_map.specs.Formed.{IsPropertyMap, character_groups, paragraph_gro
 use Rattle.prop_map.proofs.LawLemmas.{stay_formed}
 use Rattle.plain_doc.specs.declared.item.Item.{Item}
 use Rattle.plain_doc.specs.declared.item.Mark.{Mark}
-use Rattle.plain_doc.specs.Document.{HasPropertyMaps, IsFormedText}
+use Rattle.plain_doc.specs.Document.{IsFormedText}
 use Rattle.plain_doc.proofs.MainLemmas.{maps_there}
 use Rattle.edit_ops.specs.Places.{mark_place, mark_at, section_place, section_at}
-use Rattle.plain_doc.proofs.FormedLemmas.{HasPropertyMaps-from_parts}
-use Rattle.edit_ops.specs.Fresh.{special, unit_item, mark_item}
+use Rattle.edit_ops.specs.Fresh.{special}
 
 -- ---- settings
 
@@ -71,13 +70,6 @@ definition_formed base value short bytes formed =
     })
 
 -- ---- items
-
-pub unit_maps : (chp : Settings) (unit : ℕ) → IsPropertyMap character_groups chp → HasPropertyMaps (unit_item chp unit)
-unit_maps chp unit formed = HasPropertyMaps-from_parts (unit_item chp unit) formed tt tt
-
-pub mark_maps : (chp : Settings) (unit : ℕ) (mark : Mark) → IsPropertyMap character_groups chp →
-    IsPropertyMap paragraph_groups mark.pap → HasPropertyMaps (mark_item chp unit mark)
-mark_maps chp unit mark formed pap = HasPropertyMaps-from_parts (mark_item chp unit mark) formed pap tt
 
 -- ---- maps of items that are there
 

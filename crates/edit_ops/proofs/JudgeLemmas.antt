@@ -1,12 +1,14 @@
 -- What a judged copy says of the edit.
-use Rattle.std.proofs.Common.{◌≡◌, subst}
+use Rattle.std.proofs.Common.{◌≡◌, ◌∙◌, ap, sym, subst, Result, Ok, Err, IsOk, OnOk, IfOk, MatchResult}
 use Rattle.plain_doc.specs.declared.document.Document.{Document}
 use Rattle.plain_doc.specs.Sound.{IsSound, document_rules}
 use Rattle.doc_bits.specs.Places.{IsFirstPlace}
 use Rattle.edit_script.specs.declared.commands.Command.{Command}
 use Rattle.edit_ops.specs.declared.faults.EditFault.{EditFault}
 use Rattle.edit_ops.specs.declared.faults.EditFault.TheVariants.{Range, Code, Rule, Limit, Memory}
+use Rattle.edit_ops.specs.declared.applying.Edit.{Edit}
 use Rattle.edit_ops.specs.Edits.{document_after}
+use Rattle.edit_ops.specs.EditFacts.{edit_facts}
 use Rattle.edit_ops.specs.Causes.{CanBeTried, IsJudged, IsEditFault, IsAcceptedEdit}
 
 pub edit_fault : (document : Document) (command : Command) (made : Document) (fault : EditFault) → CanBeTried document
@@ -34,3 +36,31 @@ edit_fault d c made (Limit rule place at) tried is judged = (
 pub accepted : (document : Document) (command : Command) (made : Document) → CanBeTried document command →
     made ≡ document_after document command → IsSound made → IsAcceptedEdit document command
 accepted d c made tried is sound = record { tried = tried; sound = subst IsSound is sound }
+
+-- what is made, and nothing is said against it
+pub given_right : {T E : Type 0} (made : T) (verdict : Result Unit E) (result : Result T E) (P : T → Type 0) →
+    OnOk verdict (P made) → MatchResult result (λ given. (given ≡ made) × IsOk verdict) (λ fault. verdict ≡ Err fault) →
+    IfOk result P
+given_right made (Ok nothing) (Ok given) P so right = subst P (sym right.0) so
+given_right made (Err fault) (Ok given) P so right = absurd (let none = right.1 in cc (none))
+given_right made verdict (Err fault) P so right = tt
+
+-- an edit that is judged
+pub outcome : (document : Document) (command : Command) (edit : Edit) (verdict : Result Unit EditFault)
+    (result : Result Edit EditFault) → CanBeTried document command →
+    edit.document ≡ document_after document command → edit.facts ≡ edit_facts document command →
+    MatchResult verdict (λ _. IsSound edit.document) (IsJudged edit.document) →
+    MatchResult result (λ given. (given ≡ edit) × IsOk verdict) (λ fault. verdict ≡ Err fault) →
+    MatchResult result
+    (λ made. IsAcceptedEdit document command
+    × ((made.document ≡ document_after document command) × (made.facts ≡ edit_facts document command)))
+    (IsEditFault document command)
+outcome d c edit (Ok nothing) (Ok given) tried document facts judged right = (
+  accepted d c edit.document tried document judged,
+  (ap (λ (e : Edit). e.document) right.0 ∙ document, ap (λ (e : Edit). e.facts) right.0 ∙ facts),
+)
+outcome d c edit (Err fault) (Ok given) tried document facts judged right = absurd (let none = right.1 in cc (none))
+outcome d c edit verdict (Err fault) tried document facts judged right =
+    edit_fault d c edit.document fault tried document
+    (subst (λ (v : Result Unit EditFault). MatchResult v (λ _. IsSound edit.document) (IsJudged edit.document)) right
+    judged)

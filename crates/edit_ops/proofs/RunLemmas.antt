@@ -12,7 +12,7 @@ use Rattle.prop_map.specs.Settings.{Settings}
 use Rattle.plain_doc.specs.declared.item.Item.{Item}
 use Rattle.plain_doc.specs.declared.item.Mark.{Mark}
 use Rattle.plain_doc.specs.declared.document.Document.{Document}
-use Rattle.plain_doc.specs.Stretches.{stretch_from, stretches}
+use Rattle.plain_doc.specs.Stretches.{stretches}
 use Rattle.plain_doc.specs.Settings.{is_alike}
 use Rattle.plain_doc.proofs.SettingsLemmas.{same_settings-Decides}
 use Rattle.plain_doc.proofs.StretchLemmas.{one_more, none_more}

@@ -1,8 +1,7 @@
 -- Sums over the entries so far, and over ranges.
-use Rattle.std.proofs.Common.{◌≡◌, ◌∙◌, ap, ℕ, ◌+◌, ◌-◌, ◌<◌, ◌≤◌, List, length, take, drop, Some, arith}
+use Rattle.std.proofs.Common.{◌≡◌, ◌∙◌, ap, ℕ, ◌+◌, ◌-◌, ◌<◌, ◌≤◌, List, take, drop, Some, arith}
 use Rattle.std.specs.Prelude.{slice_get, slice_range}
 use Rattle.std.specs.List.{sum_by}
-use Rattle.std.proofs.lemmas.List.{take_all}
 use Rattle.std.proofs.lemmas.List.Folds.{drop_split}
 use Rattle.std.proofs.lemmas.List.Sums.{sum_by-append, sum_by_more, sum_by_more_le, sum_by-take-drop}
 use Rattle.std.proofs.lemmas.Option.{slice_get_within, get_or_from_slice_get}
@@ -23,9 +22,6 @@ sum_within f entries i entry there =
     omega arith
 
 -- ---- ranges
-
-pub whole_range : {A : Type 0} (entries : List A) → slice_range entries 0 (length entries) ≡ entries
-whole_range entries = take_all (length entries - 0) entries (omega arith)
 
 pub no_range : {A : Type 0} (f : A → ℕ) (entries : List A) (at : ℕ) → sum_by f (slice_range entries at at) ≡ 0
 no_range f entries at =

@@ -3,7 +3,7 @@ use Rattle.std.proofs.Common.{◌≡◌, ◌∙◌, refl, sym, ap, inl, inr, con
 use Rattle.std.proofs.Common.{true, false, List, [], length, take, drop, get_or, Option, Some, None, arith}
 use Rattle.std.specs.Prelude.{slice_get, is_some, MatchOption}
 use Rattle.std.specs.List.{position_or_len, count_by, sum_by}
-use Rattle.std.specs.Option.{option_map, unwrap_or}
+use Rattle.std.specs.Option.{option_map}
 use Rattle.std.proofs.lemmas.List.{get_or-drop}
 use Rattle.std.proofs.lemmas.List.Sums.{fails_before_first, get_or-le-sum_by, sum_by-take-drop}
 use Rattle.std.proofs.lemmas.Bool.{cases_lt}
@@ -28,10 +28,6 @@ pub text_weaker : {A : Type 0} (o : Option A) (P Q : A → Type 0) → MatchOpti
     Q x) → MatchOption o ⊥ Q
 text_weaker None P Q h more = h
 text_weaker (Some x) P Q h more = more x refl h
-
-pub at_items : (o : Option (List Item)) (P : List Item → Type 0) → MatchOption o ⊥ P → P (unwrap_or o [])
-at_items None P h = absurd h
-at_items (Some x) P h = h
 
 abbrev pub part_of : Story → Where
 part_of Main = part.Main

@@ -1,10 +1,10 @@
 // Edits tried and made. A copy is changed, judged and put in place.
-ghost use Rattle.std.specs.Prelude.{◌≡◌, IfErr, IfOk, OnOk, MatchResult};
+ghost use Rattle.std.specs.Prelude.{◌≡◌, Err, IfErr, IfOk, IsOk, OnOk, MatchResult};
 ghost use Rattle.plain_doc.specs.Sound.{IsSound};
 ghost use Rattle.edit_ops.specs.Causes.{CanBeTried, IsAcceptedEdit, IsEditFault};
 ghost use Rattle.edit_ops.specs.Changes.{all_changed};
 ghost use Rattle.edit_ops.specs.EditFacts.{edit_facts};
-ghost use Rattle.edit_ops.specs.Edits.{document_after, changes_of as planned};
+ghost use Rattle.edit_ops.specs.Edits.{document_after};
 ghost use Rattle.edit_ops.specs.Makes.{CanMakeAll};
 
 use crate::facts::facts_of;
@@ -15,6 +15,7 @@ use crate::{Changes, Command, EditFault, Facts, has_right_codes, is_in_range};
 use doc_bits::Memory;
 use plain_doc::Document;
 use std::alloc::Global;
+use std::mem;
 
 /// An edit that is accepted: the document after it, and what it does.
 #[derive(Drop)]
@@ -31,7 +32,9 @@ pub fn test(alloc: Global, document: &Document, command: &Command) -> Result<Fac
         (IsEditFault document.now command.now) }
 {
     let edit = edit_of(alloc, document, command)?;
-    Ok(edit.facts)
+    let facts = edit.facts;
+    drop(edit);
+    Ok(facts)
 }
 
 /// Makes an edit. A save changes nothing.
@@ -48,7 +51,7 @@ pub fn apply_plain(
     ensures sound { IsSound document.new }
 {
     let edit = edit_of(alloc, document, command)?;
-    *document = edit.document;
+    drop(mem::replace(document, edit.document));
     Ok(())
 }
 
@@ -68,8 +71,20 @@ pub fn edit_of(alloc: Global, document: &Document, command: &Command) -> Result<
         return Err(EditFault::Code);
     }
     let edit = changed(alloc, document, command)?;
-    judged(&edit.document)?;
-    Ok(edit)
+    let verdict = judged(&edit.document);
+    where_right(edit, verdict)
+}
+
+/// What was made, where nothing is said against it.
+fn where_right<T: Drop, E: Drop>(made: T, verdict: Result<(), E>) -> Result<T, E>
+    ensures { MatchResult result
+        (λ given. (given ≡ made) × IsOk verdict)
+        (λ fault. verdict ≡ Err fault) }
+{
+    match verdict {
+        Ok(()) => Ok(made),
+        Err(fault) => Err(fault),
+    }
 }
 
 /// The edit of a command, before the document after it is judged.
@@ -94,6 +109,6 @@ fn with_changes(alloc: Global, document: &Document, changes: Changes) -> Result<
     ensures { IfOk result (λ made. made ≡ all_changed changes document.now) }
 {
     let mut made = document.copy(alloc)?;
-    make_all(alloc, &mut made, changes)?;
-    Ok(made)
+    let verdict = make_all(alloc, &mut made, changes);
+    where_right(made, verdict)
 }

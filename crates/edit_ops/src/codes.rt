@@ -1,5 +1,5 @@
 // Which texts, settings and rows a command may have. No call takes memory.
-ghost use Rattle.std.specs.Prelude.{◌≡◌, ◌+◌, ◌↔◌, ◌≤◌, IsTrue, All, length, List, ℕ};
+ghost use Rattle.std.specs.Prelude.{◌+◌, ◌↔◌, ◌≤◌, IsTrue, All, length};
 ghost use Rattle.std.specs.List.{sum_by};
 ghost use Rattle.edit_ops.specs.Codes.{HasRightCodes, IsPutUnit, IsPutText, IsPutField, IsPutRow, most_units};
 

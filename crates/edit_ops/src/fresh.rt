@@ -1,13 +1,13 @@
 // The items that commands put.
-ghost use Rattle.std.specs.Prelude.{◌≡◌, ℕ, ◌+◌, ◌^◌, ◌<◌, ◌≤◌, [], ◌∷◌, ◌++◌};
-ghost use Rattle.std.specs.Prelude.{length, map, All, IfOk, OnOk, MatchOption, Some, None};
+ghost use Rattle.std.specs.Prelude.{◌≡◌, ◌+◌, ◌^◌, ◌<◌, ◌≤◌, [], ◌∷◌, ◌++◌};
+ghost use Rattle.std.specs.Prelude.{length, map, IfOk, OnOk, Some, None};
 ghost use Rattle.prop_map.specs.Formed.{IsPropertyMap, character_groups, paragraph_groups};
 ghost use Rattle.plain_doc.specs.Document.{IsFormedText, HasPropertyMaps};
 ghost use Rattle.edit_ops.specs.Codes.{most_units};
 ghost use Rattle.edit_ops.specs.Fresh.{base_settings as base_of, special as special_of};
 ghost use Rattle.edit_ops.specs.Fresh.{unit_item as item_of, unit_items};
 ghost use Rattle.edit_ops.specs.Fresh.{mark_item as marked_item, plain_end as end_of, inserted_items as inserted_of};
-ghost use Rattle.edit_ops.specs.Fresh.{field_mark as field_item, field_items as field_of};
+ghost use Rattle.edit_ops.specs.Fresh.{field_items as field_of};
 ghost use Rattle.edit_ops.specs.Fresh.{note_reference as reference_of};
 ghost use Rattle.edit_ops.specs.Fresh.{note_items as note_of};
 

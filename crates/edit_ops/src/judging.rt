@@ -1,5 +1,5 @@
 // A changed document judged.
-ghost use Rattle.std.specs.Prelude.{◌≡◌, ◌↔◌, IsTrue, MatchResult};
+ghost use Rattle.std.specs.Prelude.{◌↔◌, IsTrue, MatchResult};
 ghost use Rattle.plain_doc.specs.declared.document.Document.{Document};
 ghost use Rattle.plain_doc.specs.Sound.{IsSound, NamesFirstRule, document_rules};
 ghost use Rattle.edit_ops.specs.Causes.{IsLimit, IsJudged};

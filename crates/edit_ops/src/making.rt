@@ -1,5 +1,5 @@
 // Changes made. After want of memory a document is what it was.
-ghost use Rattle.std.specs.Prelude.{◌≡◌, ◌<◌, ◌≤◌, length, map, slice_get};
+ghost use Rattle.std.specs.Prelude.{◌≡◌, ◌<◌, length, map, slice_get};
 ghost use Rattle.std.specs.Prelude.{slice_range, option_map, IfOk, OnOk, OnErr, MatchOption};
 ghost use Rattle.std.specs.Option.{ForSome};
 ghost use Rattle.prop_map.specs.Overlay.{overlay};

@@ -2,7 +2,7 @@
 ghost use Rattle.std.specs.Prelude.{◌≡◌, ◌≤◌, [], ◌∷◌, length, IfOk, Some, not};
 ghost use Rattle.std.specs.FinMap.{retain_keys};
 ghost use Rattle.prop_map.specs.Formed.{IsPropertyMap, StaysFormed, paragraph_groups, section_groups};
-ghost use Rattle.plain_doc.specs.Document.{IsFormedText, HasPropertyMaps};
+ghost use Rattle.plain_doc.specs.Document.{IsFormedText};
 ghost use Rattle.edit_ops.specs.Places.{mark_at as mark_there, section_at as section_there};
 ghost use Rattle.edit_ops.specs.Fresh.{is_table_code as of_table, split_mark as mark_split, split_item as item_split};
 ghost use Rattle.edit_ops.specs.Fresh.{section_item as item_of_section, settings_over as over};

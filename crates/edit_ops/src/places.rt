@@ -1,6 +1,5 @@
 // Places of a document that commands speak of. No call takes memory.
-ghost use Rattle.std.specs.Prelude.{◌≡◌, ◌+◌, ◌*◌, ◌^◌, ◌≤◌, ◌<◌, length, max, Some, None, MatchOption, slice_get};
-ghost use Rattle.prop_map.specs.Formed.{IsPropertyMap, paragraph_groups, section_groups};
+ghost use Rattle.std.specs.Prelude.{◌≡◌, ◌+◌, ◌*◌, ◌^◌, ◌≤◌, ◌<◌, length, Some, None, MatchOption, slice_get};
 ghost use Rattle.plain_doc.specs.Document.{IsFormedText};
 ghost use Rattle.edit_ops.specs.Places.{text_at, items_at as items_there, mark_place as place_of_mark};
 ghost use Rattle.edit_ops.specs.Places.{mark_at as mark_there, section_place as place_of_section};

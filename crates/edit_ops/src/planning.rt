@@ -1,5 +1,5 @@
 // What a command changes.
-ghost use Rattle.std.specs.Prelude.{◌≡◌, ◌+◌, ◌<◌, ◌≤◌, [], ◌∷◌, length, replicate, IfOk};
+ghost use Rattle.std.specs.Prelude.{◌≡◌, ◌+◌, ◌<◌, [], ◌∷◌, length, replicate, IfOk};
 ghost use Rattle.prop_map.specs.Formed.{IsPropertyMap, section_groups};
 ghost use Rattle.plain_doc.specs.Document.{IsFormedText};
 ghost use Rattle.edit_script.specs.declared.commands.Command.TheVariants.{Insert};

@@ -1,9 +1,6 @@
 // Which places of a document a command may name. No call takes memory.
-ghost use Rattle.std.specs.Prelude.{◌≡◌, ◌<◌, ◌↔◌, IsTrue, None, Some, IsSome, length, slice_get, MatchOption};
-ghost use Rattle.std.specs.Option.{option_and_then};
+ghost use Rattle.std.specs.Prelude.{◌≡◌, ◌<◌, ◌↔◌, IsTrue, None, Some};
 ghost use Rattle.style_sheet.specs.Chain.{kind_at};
-ghost use Rattle.text_codes.specs.Paragraph.{paragraph_mark};
-ghost use Rattle.edit_ops.specs.Places.{text_at, mark_unit};
 ghost use Rattle.edit_ops.specs.Ranges.{IsInRange, TakesText, HasPlace, HasRange};
 ghost use Rattle.edit_ops.specs.Ranges.{EndsWithMark, BeginsParagraph, HasText};
 

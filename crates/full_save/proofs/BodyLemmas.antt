@@ -3,7 +3,7 @@ use Rattle.std.proofs.Common.{◌≡◌, ◌<◌, ◌≤◌, ◌^◌, ◌+◌, �
 use Rattle.std.proofs.Common.{length, map, arith}
 use Rattle.std.specs.Prelude.{All}
 use Rattle.std.specs.Prelude.{slice_index}
-use Rattle.std.proofs.lemmas.List.{append_assoc, length-append}
+use Rattle.std.proofs.lemmas.List.{append_assoc, length-append, length-map}
 use Rattle.doc_bits.specs.declared.places.Where.TheVariants.{Main}
 use Rattle.doc_bits.proofs.ListLemmas.{All_at, All-from_slice_get}
 use Rattle.prop_map.specs.Formed.{section_groups}
@@ -24,12 +24,20 @@ use Rattle.plain_doc.specs.Formed.{IsFormed}
 use Rattle.plain_doc.specs.RightDocument.{IsRightDocument}
 use Rattle.plain_doc.specs.Stretches.{stretches}
 use Rattle.plain_doc.proofs.CutLemmas.{are_stretches}
+use Rattle.full_save.specs.declared.text.SavedText.{SavedText}
+use Rattle.full_save.specs.RunsSoFar.{IsTextOf}
 use Rattle.full_save.specs.Runs.{joins_run, run_at, runs_from, text_runs}
 use Rattle.full_save.specs.Text.{text_items}
 use Rattle.full_save.specs.Sections.{sepxes, HasSavableSection}
 use Rattle.full_save.specs.WordDocument.{text_at, text_bytes, document_runs, document_pages, pages_end, wd_body}
 use Rattle.full_save.proofs.StreamLengths.{length-runs_from, short_body}
 use Rattle.full_save.proofs.TextLaidOut.{few_items, runs_are, pages_are, length-pages, length-text}
+
+-- a text has a unit for each item
+pub length-units : (document : Document) (text : SavedText) → IsTextOf document text →
+    length text.units.items ≡ length (text_items document)
+length-units document text is =
+    ap length is.units ∙ length-map (text_items document) (λ (item : Item). item.unit)
 
 last_of : (kind : PageKind) (at : ℕ) (part : List Item) (parts : List (List Item)) →
     last_fc (runs_from kind at (part ∷ parts)) ≡ at + 2 * length (joined_texts (part ∷ parts))

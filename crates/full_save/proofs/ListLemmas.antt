@@ -20,13 +20,6 @@ pub record IsListedUpTo {A B : Type 0} (what : Item → Option A) (entry : ℕ �
     (i : ℕ) (old new : List B) : Type 0 where
   pub rest : new ++ map entry (collected what (from + i) (drop i items)) ≡ old ++ map entry (collected what from items)
 
-pub listed_start :
-    {A B : Type 0} (what : Item → Option A) (entry : ℕ × A → B) (from : ℕ) (items : List Item) (old : List B) →
-    IsListedUpTo what entry from items 0 old old
-listed_start what entry from items old =
-    let e : from + 0 ≡ from = omega arith in
-    record { rest = ap (λ (n : ℕ). old ++ map entry (collected what n items)) e }
-
 -- what is left is that of the item, and that of the rest
 left_here :
     {A : Type 0} (what : Item → Option A) (from : ℕ) (items : List Item) (i : ℕ) (d : Item) → i < length items →
@@ -79,9 +72,6 @@ listed_all what entry from items i old new h listed =
 pub record IsAtText (texts : List (List Item)) (k cp : ℕ) : Type 0 where
   pub place : cp + length (joined_texts (drop k texts)) ≡ length (joined_texts texts)
 
-pub at_first : (texts : List (List Item)) → IsAtText texts 0 0
-at_first texts = record { place = omega arith }
-
 pub at_next :
     (texts : List (List Item)) (k cp : ℕ) → k < length texts → IsAtText texts k cp →
     IsAtText texts (k + 1) (cp + length (get_or texts k []))
@@ -110,9 +100,6 @@ at_last texts k cp h is =
 pub record IsCutUpTo (texts : List (List Item)) (k cp : ℕ) (cuts : List ℕ) : Type 0 where
   pub rest : cuts ++ cuts_from cp (drop k texts) ≡ cuts_from 0 texts
 
-pub cut_first : (texts : List (List Item)) → IsCutUpTo texts 0 0 []
-cut_first texts = record { rest = refl }
-
 pub cut_next :
     (texts : List (List Item)) (k cp : ℕ) (cuts more : List ℕ) → k < length texts → more ≡ cuts ++ cp ∷ [] →
     IsCutUpTo texts k cp cuts → IsCutUpTo texts (k + 1) (cp + length (get_or texts k [])) more
@@ -133,11 +120,6 @@ unfolding cuts_from
 cut_last texts k cp cuts h cut =
     ap (λ (xs : List (List Item)). cuts ++ cuts_from cp xs) (sym (drop_all k texts h)) ∙ cut.rest
 
--- texts without items are not cut
-pub none_cut : (items : List Item) (texts : List (List Item)) → length items ≡ 0 → cuts_of items texts ≡ []
-none_cut [] texts none = refl
-none_cut (item ∷ items) texts none = absurd (omega arith)
-
 pub some_cut : (items : List Item) (texts : List (List Item)) → 1 ≤ length items → cuts_of items texts ≡ cuts_from 0
     texts
 some_cut [] texts some = absurd (omega arith)
@@ -146,9 +128,6 @@ some_cut (item ∷ items) texts some = refl
 -- the field characters of the texts before a number
 pub record HasFieldsUpTo (texts : List (List Item)) (k cp : ℕ) (fields : List Fld) : Type 0 where
   pub rest : fields ++ fields_from cp (joined_texts (drop k texts)) ≡ fields_from 0 (joined_texts texts)
-
-pub fields_first : (texts : List (List Item)) → HasFieldsUpTo texts 0 0 []
-fields_first texts = record { rest = refl }
 
 map-append : {A B : Type 0} (f : A → B) (xs ys : List A) → map f (xs ++ ys) ≡ map f xs ++ map f ys
 map-append f [] ys = refl

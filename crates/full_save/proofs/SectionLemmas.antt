@@ -1,5 +1,5 @@
 -- Sepxes and Seds that are made as the items of a main text are gone through.
-use Rattle.std.proofs.Common.{◌≡◌, ◌<◌, ◌≤◌, ◌+◌, ◌*◌, ◌∙◌, ap, refl, sym, ℕ, List, [], ◌∷◌, ◌++◌, length, drop}
+use Rattle.std.proofs.Common.{◌≡◌, ◌<◌, ◌≤◌, ◌+◌, ◌*◌, ◌∙◌, ap, sym, ℕ, List, [], ◌∷◌, ◌++◌, length, drop}
 use Rattle.std.proofs.Common.{get_or, Option, Some, None, arith}
 use Rattle.std.proofs.lemmas.List.{append_assoc, length-append, append-nil, drop_all}
 use Rattle.prop_map.specs.Settings.{Settings}
@@ -24,13 +24,6 @@ pub record AreSepxesUpTo (main : List Item) (base : ℕ) (old : List ℕ) (cp : 
   pub places : so.seds ++ seds_from so.start (base + length so.out) (left main cp) ≡ seds_from 0 (base + length old)
       (sections_of main)
   pub few : length so.out ≤ length old + 504 * cp
-
-pub sepxes_start : (main : List Item) (base : ℕ) (old : List ℕ) → AreSepxesUpTo main base old 0 (record {
-  start = 0;
-  out = old;
-  seds = [];
-})
-sepxes_start main base old = record { bytes = refl; places = refl; few = omega arith }
 
 left_here : (main : List Item) (cp : ℕ) (d : Item) → cp < length main →
     left main cp ≡ entry_before (get_or main cp d).sect cp (left main (cp + 1))

@@ -13,7 +13,7 @@ use Rattle.fkp_pages.specs.declared.lists.Run.{Run}
 use Rattle.plain_doc.specs.declared.item.Mark.{Mark}
 use Rattle.plain_doc.specs.declared.item.Item.{Item}
 use Rattle.plain_doc.specs.Settings.{is_alike, is_inside, same_settings}
-use Rattle.plain_doc.specs.Stretches.{joins_next, goes_over, IsJoined}
+use Rattle.plain_doc.specs.Stretches.{joins_next, goes_over}
 use Rattle.plain_doc.proofs.SettingsLemmas.{same_settings-Decides}
 use Rattle.full_save.specs.declared.runs.CharacterRuns.{CharacterRuns}
 use Rattle.full_save.specs.declared.runs.ParagraphRuns.{ParagraphRuns}
@@ -33,9 +33,6 @@ last_is xs some = there_is xs (length xs - 1) (omega arith)
 ends_push : (IsSuch : Item → Type 0) (part : List Item) (x : Item) → IsSuch x → EndsWith IsSuch (part ++ x ∷ [])
 ends_push IsSuch part x such item here = subst IsSuch (same_Some x item (sym (last_push part x) ∙ here)) such
 
-one_joined : {A : Type 0} (joins : A → A → Bool) (x : A) → IsJoined joins (x ∷ [])
-one_joined joins x k h = absurd (omega arith)
-
 -- a run by what it has
 run_is :
     (kind : PageKind) (from end : ℕ) (part : List Item) (settings : ℕ × Settings) →
@@ -46,34 +43,6 @@ run_is kind from end part settings has place =
     ap (λ (s : ℕ × Settings). run s (from + 2 * length part)) has ∙ ap (λ (to : ℕ). run settings to) (sym place)
 
 -- ---- characters
-
--- the first item
-pub characters_begin :
-    (at : ℕ) (done : List Item) (item : Item) (old new : CharacterRuns) → old.from ≡ at + 2 * length done →
-    new.closed ≡ old.closed → new.from ≡ old.from → new.chp ≡ item.chp →
-    AreCharactersSoFar at done old → AreCharactersSoFar at (done ++ item ∷ []) new
-characters_begin at done item old new here closed from chp so =
-    let stands = so.are.stands in
-    let none : length so.part ≡ 0 = omega arith in
-    let grown =
-    grow_part Chpx at done old.closed old.from so.part item
-    (joined_more is_alike so.part item so.are.joined (λ some. absurd (omega arith))) so.are in
-    record {
-      part = so.part ++ item ∷ [];
-      are = subst (λ (runs : List Run). AreRunsSoFar Chpx at (done ++ item ∷ []) (record {
-        closed = runs;
-        from = new.from;
-        part = so.part ++ item ∷ [];
-      }))
-          (sym closed)
-          (subst (λ (place : ℕ). AreRunsSoFar Chpx at (done ++ item ∷ []) (record {
-            closed = old.closed;
-            from = place;
-            part = so.part ++ item ∷ [];
-          }))
-          (sym from) grown);
-      last = ends_push (λ (x : Item). x.chp ≡ new.chp) so.part item (sym chp);
-    }
 
 -- an item with the settings of the last run
 pub characters_go_on :

@@ -1,10 +1,13 @@
 -- A table stream that grows part by part.
-use Rattle.std.proofs.Common.{◌≡◌, ◌+◌, ◌∙◌, ap, refl, sym, ℕ, List, [], ◌∷◌, ◌++◌, length, arith}
-use Rattle.std.proofs.lemmas.List.{append_assoc, length-append, append-nil}
+use Rattle.std.proofs.Common.{◌≡◌, ◌+◌, ◌∙◌, ap, refl, sym, ℕ, List, [], ◌∷◌, ◌++◌, length, arith, map, take, get_or, ◌<◌, ◌≤◌, subst}
+use Rattle.std.proofs.lemmas.List.{append_assoc, length-append, append-nil, map_more, take_all, take-map, length-map, get_or-map}
+use Rattle.std.proofs.lemmas.List.Folds.{length-flat_map-take}
+use Rattle.std.specs.Borrow.{Bor}
+use Rattle.fib_form.specs.declared.table_parts.TablePart.{TablePart}
 use Rattle.fib_form.specs.FibFields.{empty_pairs}
 use Rattle.fib_form.specs.TableEntries.{TableEntry}
 use Rattle.full_save.specs.declared.table_parts.TableParts.{TableParts}
-use Rattle.full_save.specs.TableStream.{entry_bytes, entries_bytes, put_pair, pairs_from, AreWritten}
+use Rattle.full_save.specs.TableStream.{entry_bytes, entries_bytes, named_entry, WritesPart, WritesParts, put_pair, pairs_from, AreWritten}
 
 -- the pairs with one part more
 pairs_more :
@@ -55,3 +58,51 @@ length-entries [] = refl
 length-entries (part ∷ parts) =
     let rest = length-entries parts in
     omega (arith, length-append (entry_bytes part) (entries_bytes parts), length-append part.bytes part.behind, rest)
+
+-- how far parts are written one by one
+pub record AreWrittenUpTo (parts : List (TablePart × Bor (List ℕ))) (count : ℕ) (old new : TableParts) : Type 0 where
+  pub written : WritesParts (map named_entry (take count parts)) old new
+  pub len : length new.bytes ≡ length old.bytes + length (entries_bytes (map named_entry (take count parts)))
+
+-- one part more fits, where all of them do
+pub part_fits :
+    (parts : List (TablePart × Bor (List ℕ))) (count : ℕ) (d : TablePart × Bor (List ℕ)) → count < length parts →
+    length (entries_bytes (map named_entry (take count parts))) + length (get_or parts count d).1.now
+    ≤ length (entries_bytes (map named_entry parts))
+part_fits parts count d within =
+    let here : count < length (map named_entry parts) = omega (arith, length-map parts named_entry) in
+    let fits = length-flat_map-take entry_bytes (map named_entry parts) count (named_entry d) here in
+    let front = ap (λ (xs : List TableEntry). length (entries_bytes xs)) (take-map named_entry count parts) in
+    let part = ap (λ (x : TableEntry). length (entry_bytes x)) (get_or-map named_entry parts count d (named_entry d)
+    within) in
+    let bytes = ap length (append-nil (get_or parts count d).1.now) in
+    omega (arith, fits, front, part, bytes)
+
+-- one part more
+pub up_to_next :
+    (parts : List (TablePart × Bor (List ℕ))) (count : ℕ) (d : TablePart × Bor (List ℕ)) (old now new : TableParts) →
+    count < length parts → WritesPart (named_entry (get_or parts count d)) now new →
+    length new.bytes ≡ length now.bytes + length (get_or parts count d).1.now → AreWrittenUpTo parts count old now →
+    AreWrittenUpTo parts (count + 1) old new
+up_to_next parts count d old now new within writes len before =
+    let named = map named_entry (take count parts) in
+    let part = named_entry (get_or parts count d) in
+    let more : named ++ part ∷ [] ≡ map named_entry (take (count + 1) parts) = sym (map_more named_entry parts count d
+    within) in
+    record {
+      written = λ front are. subst (λ (all : List TableEntry). AreWritten all new)
+          (append_assoc front named (part ∷ []) ∙ ap (λ (xs : List TableEntry). front ++ xs) more)
+          (writes (front ++ named) (before.written front are));
+      len =
+          let all = ap (λ (xs : List TableEntry). length (entries_bytes xs)) more in
+          let last = ap length (bytes_more named part) in
+          let bytes = ap length (append-nil (get_or parts count d).1.now) in
+          omega (arith, all, last, bytes, before.len, length-append (entries_bytes named) (entry_bytes part));
+    }
+
+-- all of them
+pub up_to_all : (parts : List (TablePart × Bor (List ℕ))) (count : ℕ) (old new : TableParts) → length parts ≤ count →
+    AreWrittenUpTo parts count old new → WritesParts (map named_entry parts) old new
+up_to_all parts count old new all before =
+    subst (λ (some : List (TablePart × Bor (List ℕ))). WritesParts (map named_entry some) old new) (take_all count
+    parts all) before.written

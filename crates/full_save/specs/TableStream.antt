@@ -1,8 +1,11 @@
 -- The table stream: its parts in the order of their pairs, each right after the last, and the pairs that name them.
 use Rattle.std.specs.Prelude.{◌≡◌, ℕ, ◌+◌, ◌==◌, List, [], ◌∷◌, ◌++◌, length, slice_set, if◌then◌else◌}
 use Rattle.std.specs.List.{flat_map}
+use Rattle.std.specs.Borrow.{Bor}
+use Rattle.fib_form.specs.TableParts.{pair_of}
+use Rattle.fib_form.specs.declared.table_parts.TablePart.{TablePart}
 use Rattle.fib_form.specs.FibFields.{empty_pairs}
-use Rattle.fib_form.specs.TableEntries.{TableEntry}
+use Rattle.fib_form.specs.TableEntries.{TableEntry, entry}
 use Rattle.full_save.specs.declared.table_parts.TableParts.{TableParts}
 
 -- the bytes of a part, and those that its pair does not count
@@ -34,3 +37,11 @@ pub record AreWritten (parts : List TableEntry) (table : TableParts) : Type 0 wh
 -- a part is written behind those that are
 abbrev pub WritesPart : TableEntry → TableParts → TableParts → Type 0
 WritesPart part old new = (parts : List TableEntry) → AreWritten parts old → AreWritten (parts ++ part ∷ []) new
+
+-- parts are written behind those that are
+abbrev pub WritesParts : List TableEntry → TableParts → TableParts → Type 0
+WritesParts more old new = (parts : List TableEntry) → AreWritten parts old → AreWritten (parts ++ more) new
+
+-- a part by its name, with its bytes
+abbrev pub named_entry : TablePart × Bor (List ℕ) → TableEntry
+named_entry part = entry (pair_of part.0) part.1.now

@@ -1,8 +1,11 @@
 // The table stream of a document: its parts that are made of it, those that are carried along, and what is said of the
 // text.
 ghost use Rattle.std.specs.Prelude.{◌≡◌, ◌+◌, ◌^◌, ◌<◌, length, IfOk};
+ghost use Rattle.doc_parts.specs.Fields.{printed_fields};
+ghost use Rattle.doc_parts.specs.Stories.{printed_refs, printed_texts};
 ghost use Rattle.style_sheet.specs.Written.{IsWritable};
-ghost use Rattle.plain_doc.specs.Collected.{joined_texts};
+ghost use Rattle.plain_doc.specs.Collected.{joined_texts, fields_of, refs_of};
+ghost use Rattle.plain_doc.specs.TextLists.{cuts_of};
 ghost use Rattle.full_save.specs.TableText.{table_entries};
 ghost use Rattle.full_save.specs.TableStream.{entries_bytes, AreWritten};
 ghost use Rattle.full_save.specs.Made.{AreMadeOf, made_length, carried_length};
@@ -13,7 +16,7 @@ use crate::table_text::TableText;
 use doc_bits::{Bytes, Memory};
 use doc_parts::{print_fields, print_refs, print_sections, print_texts};
 use fib_form::TablePart;
-use plain_doc::{Carried, Document};
+use plain_doc::{Carried, Document, Item, Texts};
 use std::alloc::Global;
 
 /// The parts that are made of a document.
@@ -39,22 +42,15 @@ impl MadeParts {
     {
         let [main, notes, heads] = text.counts;
         let items = document.main.as_slice();
-        let sheet = document.sheet.print(alloc)?;
-        let refs = refs_of(alloc, items)?;
-        let note_cuts = cuts_of(alloc, &document.notes)?;
-        let head_cuts = cuts_of(alloc, &document.heads)?;
-        let main_fields = fields_of(alloc, items)?;
-        let head_fields = fields_of_texts(alloc, &document.heads)?;
-        let note_fields = fields_of_texts(alloc, &document.notes)?;
         Ok(MadeParts {
-            sheet,
-            refs: print_refs(alloc, &refs, main)?,
-            note_cuts: print_texts(alloc, &note_cuts, notes)?,
+            sheet: document.sheet.print(alloc)?,
+            refs: refs_part(alloc, items, main)?,
+            note_cuts: cuts_part(alloc, &document.notes, notes)?,
             sections: print_sections(alloc, &text.seds, main)?,
-            head_cuts: print_texts(alloc, &head_cuts, heads)?,
-            main_fields: print_fields(alloc, &main_fields, main)?,
-            head_fields: print_fields(alloc, &head_fields, heads)?,
-            note_fields: print_fields(alloc, &note_fields, notes)?,
+            head_cuts: cuts_part(alloc, &document.heads, heads)?,
+            main_fields: fields_part(alloc, items, main)?,
+            head_fields: fields_of_texts_part(alloc, &document.heads, heads)?,
+            note_fields: fields_of_texts_part(alloc, &document.notes, notes)?,
         })
     }
 
@@ -74,6 +70,46 @@ impl MadeParts {
     }
 }
 
+/// PlcffndRef: the references of the main text to notes, up to a last CP.
+fn refs_part(alloc: Global, main: &[Item], end: u32) -> Result<Bytes, Memory>
+    requires { length main.now < 2 ^ 32 }
+    ensures { IfOk result (λ bytes. bytes ≡ printed_refs (refs_of main.now) end) }
+{
+    let refs = refs_of(alloc, main)?;
+    let bytes = print_refs(alloc, &refs, end)?;
+    Ok(bytes)
+}
+
+/// PlcffndTxt or PlcfHdd: where these texts are cut, up to a last CP.
+fn cuts_part(alloc: Global, texts: &Texts, end: u32) -> Result<Bytes, Memory>
+    requires { length (joined_texts texts.now) < 2 ^ 32 }
+    ensures { IfOk result (λ bytes. bytes ≡ printed_texts (cuts_of (joined_texts texts.now) texts.now) end) }
+{
+    let cuts = cuts_of(alloc, texts)?;
+    let bytes = print_texts(alloc, &cuts, end)?;
+    Ok(bytes)
+}
+
+/// PlcfFldMom: the field characters of the main text, up to a last CP.
+fn fields_part(alloc: Global, main: &[Item], end: u32) -> Result<Bytes, Memory>
+    requires { length main.now < 2 ^ 32 }
+    ensures { IfOk result (λ bytes. bytes ≡ printed_fields (fields_of main.now) end) }
+{
+    let fields = fields_of(alloc, main)?;
+    let bytes = print_fields(alloc, &fields, end)?;
+    Ok(bytes)
+}
+
+/// PlcfFldHdr or PlcfFldFtn: the field characters of these texts, up to a last CP.
+fn fields_of_texts_part(alloc: Global, texts: &Texts, end: u32) -> Result<Bytes, Memory>
+    requires { length (joined_texts texts.now) < 2 ^ 32 }
+    ensures { IfOk result (λ bytes. bytes ≡ printed_fields (fields_of (joined_texts texts.now)) end) }
+{
+    let fields = fields_of_texts(alloc, texts)?;
+    let bytes = print_fields(alloc, &fields, end)?;
+    Ok(bytes)
+}
+
 /// The table stream of a document with this text, and the pairs of its parts.
 pub fn write_table(
     alloc: Global,
@@ -87,22 +123,40 @@ pub fn write_table(
     ensures { IfOk result (AreWritten (table_entries document.now text.now)) }
 {
     let made = MadeParts::of(alloc, document, text)?;
+    let table = table_of(alloc, document, text, &made);
+    drop(made);
+    table
+}
+
+/// The table stream of a document of which these parts are made.
+fn table_of(
+    alloc: Global,
+    document: &Document,
+    text: &TableText,
+    made: &MadeParts,
+) -> Result<TableParts, Memory>
+    requires made { AreMadeOf document.now text.now made.now }
+    requires small { length (entries_bytes (table_entries document.now text.now)) < 2 ^ 32 }
+    ensures { IfOk result (AreWritten (table_entries document.now text.now)) }
+{
     let carried = &document.carried;
     let mut table = TableParts::new(alloc);
-    table.put(TablePart::Stshf, made.sheet.as_slice())?;
-    table.put(TablePart::PlcffndRef, made.refs.as_slice())?;
-    table.put(TablePart::PlcffndTxt, made.note_cuts.as_slice())?;
-    table.put(TablePart::PlcfSed, made.sections.as_slice())?;
-    table.put(TablePart::PlcfHdd, made.head_cuts.as_slice())?;
-    table.put(TablePart::PlcfBteChpx, text.characters.as_slice())?;
-    table.put(TablePart::PlcfBtePapx, text.paragraphs.as_slice())?;
-    table.put(TablePart::SttbfFfn, carried.fonts.as_slice())?;
-    table.put(TablePart::PlcfFldMom, made.main_fields.as_slice())?;
-    table.put(TablePart::PlcfFldHdr, made.head_fields.as_slice())?;
-    table.put(TablePart::PlcfFldFtn, made.note_fields.as_slice())?;
-    table.put(TablePart::Dop, carried.dop.as_slice())?;
-    table.put(TablePart::SttbfAssoc, carried.assoc.as_slice())?;
-    table.put(TablePart::Clx, text.clx.as_slice())?;
+    table.put_all(&[
+        (TablePart::Stshf, made.sheet.as_slice()),
+        (TablePart::PlcffndRef, made.refs.as_slice()),
+        (TablePart::PlcffndTxt, made.note_cuts.as_slice()),
+        (TablePart::PlcfSed, made.sections.as_slice()),
+        (TablePart::PlcfHdd, made.head_cuts.as_slice()),
+        (TablePart::PlcfBteChpx, text.characters.as_slice()),
+        (TablePart::PlcfBtePapx, text.paragraphs.as_slice()),
+        (TablePart::SttbfFfn, carried.fonts.as_slice()),
+        (TablePart::PlcfFldMom, made.main_fields.as_slice()),
+        (TablePart::PlcfFldHdr, made.head_fields.as_slice()),
+        (TablePart::PlcfFldFtn, made.note_fields.as_slice()),
+        (TablePart::Dop, carried.dop.as_slice()),
+        (TablePart::SttbfAssoc, carried.assoc.as_slice()),
+        (TablePart::Clx, text.clx.as_slice()),
+    ])?;
     table.put_lists(carried.lst.as_slice(), carried.levels.as_slice())?;
     table.put(TablePart::PlfLfo, carried.lfo.as_slice())?;
     Ok(table)

@@ -1,5 +1,5 @@
 // The full save of a document.
-ghost use Rattle.std.specs.Prelude.{◌≡◌, ◌+◌, ◌^◌, ◌<◌, length, IfOk, MatchResult};
+ghost use Rattle.std.specs.Prelude.{◌≡◌, ◌<◌, length, IfOk, MatchResult};
 ghost use Rattle.plain_doc.specs.Sound.{IsSound};
 ghost use Rattle.full_save.specs.WordDocument.{table_stream};
 ghost use Rattle.full_save.specs.Layout.{full_save_image, sectors_of, FitsCompoundFile, IsTooLarge};

@@ -1,6 +1,5 @@
 // [MS-DOC] Sepx and Sed of the sections of a main text.
-ghost use Rattle.std.specs.Prelude.{◌≡◌, ◌+◌, ◌*◌, ◌^◌, ◌<◌, ◌≤◌, ◌++◌, length, All, OnOk, IfOk};
-ghost use Rattle.prop_map.specs.Formed.{IsFormedMap};
+ghost use Rattle.std.specs.Prelude.{◌≡◌, ◌+◌, ◌^◌, ◌<◌, ◌++◌, length, All, OnOk, IfOk};
 ghost use Rattle.style_sheet.specs.Counted.{written_counted};
 ghost use Rattle.plain_doc.specs.Collected.{sections_of};
 ghost use Rattle.full_save.specs.Sections.{sepx_bytes, sepxes, fc_sepx, seds_from, HasSavableSection, IsSavableSection};

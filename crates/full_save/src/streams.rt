@@ -1,6 +1,6 @@
 // The streams of a full save in the order of their names.
-ghost use Rattle.std.specs.Prelude.{◌≡◌, ◌↔◌, ℕ, ◌<◌, ◌≤◌, List, ◌++◌, length};
-ghost use Rattle.std.specs.Prelude.{take, drop, map, slice_range, IsTrue, OnOk, IfOk};
+ghost use Rattle.std.specs.Prelude.{◌≡◌, ℕ, ◌<◌, ◌≤◌, List, ◌++◌, length};
+ghost use Rattle.std.specs.Prelude.{slice_range, OnOk, IfOk};
 ghost use Rattle.cfb_streams.specs.Contents.{AreStreams};
 ghost use Rattle.cfb_layout.specs.Layout.{lengths_of};
 ghost use Rattle.full_save.specs.Streams.{saved_streams, IsPlaceFor};

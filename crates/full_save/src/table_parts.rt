@@ -1,9 +1,10 @@
 // A table stream that grows part by part, and the pairs that name the parts.
-ghost use Rattle.std.specs.Prelude.{◌≡◌, ◌+◌, ◌^◌, ◌<◌, [], ◌∷◌, length, slice_set, OnOk, OnErr, if◌then◌else◌, ◌==◌};
+ghost use Rattle.std.specs.Prelude.{◌≡◌, ◌+◌, ◌^◌, ◌<◌, [], length, map, slice_set, OnOk, OnErr};
+ghost use Rattle.std.specs.Prelude.{if◌then◌else◌, ◌==◌};
 ghost use Rattle.std.specs.Io.{StartsWith};
 ghost use Rattle.fib_form.specs.TableParts.{pair_of};
 ghost use Rattle.fib_form.specs.TableEntries.{entry};
-ghost use Rattle.full_save.specs.TableStream.{AreWritten, WritesPart};
+ghost use Rattle.full_save.specs.TableStream.{entries_bytes, AreWritten, WritesPart, WritesParts, named_entry};
 
 use doc_bits::{Bytes, Memory};
 use fib_form::{Pairs, TablePart};
@@ -37,6 +38,17 @@ impl TableParts {
         let at = self.bytes.as_slice().len();
         self.bytes.push_all(bytes)?;
         put_pair(&mut self.pairs, part, at as u32, bytes.len() as u32);
+        Ok(())
+    }
+
+    /// Appends parts by their names, one right behind another. After want of memory some of them may stand there.
+    pub(crate) fn put_all(&mut self, parts: &[(TablePart, &[u8])]) -> Result<(), Memory>
+        requires { length self.old.bytes + length (entries_bytes (map named_entry parts.now)) < 2 ^ 32 }
+        ensures { OnOk result (WritesParts (map named_entry parts.now) self.old self.new) }
+    {
+        for (part, bytes) in parts {
+            self.put(*part, bytes)?;
+        }
         Ok(())
     }
 

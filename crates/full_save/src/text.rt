@@ -1,6 +1,6 @@
 // The text of a document, as units and runs: the main text, the notes and the header texts, with the marks behind
 // stories.
-ghost use Rattle.std.specs.Prelude.{◌≡◌, ◌+◌, ◌^◌, ◌<◌, ◌≤◌, List, [], ◌∷◌, ◌++◌, length, nat_lt, OnOk, IfOk};
+ghost use Rattle.std.specs.Prelude.{◌≡◌, ◌+◌, ◌^◌, ◌<◌, ◌≤◌, List, [], ◌∷◌, length, nat_lt, OnOk, IfOk};
 ghost use Rattle.plain_doc.specs.Collected.{joined_texts};
 ghost use Rattle.full_save.specs.Text.{extra_mark, mark_if, with_mark, text_items};
 ghost use Rattle.full_save.specs.RunsSoFar.{IsTextSoFar, GoesOnBy, IsWholeText, IsTextOf};

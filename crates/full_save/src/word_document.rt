@@ -1,18 +1,18 @@
 // `WordDocument` of a full save.
 ghost use Rattle.std.specs.Prelude.{◌≡◌, ◌+◌, ◌-◌, ◌*◌, ◌^◌, ◌<◌, ◌≤◌, ◌++◌, max, length, replicate, OnOk, IfOk};
-ghost use Rattle.std.specs.List.{flat_map};
 ghost use Rattle.fib_form.specs.FibBytes.{written_fib};
 ghost use Rattle.cfb_layout.specs.Sectors.{units_for, filled, padded};
 ghost use Rattle.full_save.specs.WordDocument.{units_bytes, one_piece_clx, least_length};
 ghost use Rattle.plain_doc.specs.Formed.{IsFormed};
 ghost use Rattle.plain_doc.specs.RightDocument.{IsRightDocument};
 ghost use Rattle.full_save.specs.Made.{IsBodyOf};
+ghost use Rattle.full_save.specs.RunsSoFar.{IsTextOf};
 
 use crate::pages::{append_chpx_pages, append_papx_pages, append_units};
 use crate::runs::UNIT_LEN;
 use crate::sections::append_sepxes;
 use crate::table_text::TableText;
-use crate::text::{TEXT_AT, text_of};
+use crate::text::{SavedText, TEXT_AT, text_of};
 use doc_bits::{Bytes, Memory};
 use fib_form::Fib;
 use fkp_pages::{Bins, PAGE_LEN, write_bin};
@@ -38,6 +38,18 @@ impl WordBody {
         ensures { IfOk result (IsBodyOf document.now) }
     {
         let text = text_of(alloc, document)?;
+        let body = WordBody::of_text(alloc, document, &text);
+        drop(text);
+        body
+    }
+
+    /// That of a document with this text.
+    fn of_text(alloc: Global, document: &Document, text: &SavedText) -> Result<WordBody, Memory>
+        requires formed { IsFormed document.now }
+        requires right { IsRightDocument document.now }
+        requires text { IsTextOf document.now text.now }
+        ensures { IfOk result (IsBodyOf document.now) }
+    {
         let len = text.units.len() as u32;
         let end = TEXT_AT + UNIT_LEN * len;
         let mut bytes = Bytes::new(alloc);

@@ -1,0 +1,9 @@
+pub mod NumberLemmas
+pub mod RunCountLemmas
+pub mod EditRunLemmas
+pub mod FullSizeLemmas
+pub mod BoldLemmas
+pub mod GeneratedTextLemmas
+pub mod GeneratedRightLemmas
+pub mod GeneratedTableLemmas
+pub mod GeneratedEditLemmas

@@ -1,0 +1,4 @@
+pub mod Generated
+pub mod FewRuns
+pub mod GeneratedDocuments
+pub mod SmallSaves
