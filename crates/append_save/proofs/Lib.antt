@@ -1,7 +1,7 @@
-pub mod JoinLemmas
 pub mod MarkLemmas
-pub mod JoinSteps
-pub mod SameRuns
+pub mod MarkSteps
+pub mod AddedRuns
+pub mod MarkEnds
 pub mod KeptBinLemmas
 pub mod PlannedLemmas
 pub mod StreamLemmas
@@ -15,3 +15,5 @@ pub mod AppendSteps
 pub mod RunLengths
 pub mod StreamLengths
 pub mod ShortLemmas
+pub mod RunTransfer
+pub mod FastByRuns

@@ -37,12 +37,6 @@ pub record ArePlannedUpTo
   pub few : length so.out ≤ length old + 504 * cp
   pub count : number + length (left main cp) ≡ length places
 
-pub planned_start : (main : List Item) (places : List (Option ℕ)) (base : ℕ) (old : List ℕ) →
-    length places ≡ length (sections_of main) →
-    ArePlannedUpTo main places base old 0 0 (record { start = 0; out = old; seds = [] })
-planned_start main places base old count =
-    record { bytes = refl; seds = refl; few = omega arith; count = omega (arith, count) }
-
 left_here : (main : List Item) (cp : ℕ) (d : Item) → cp < length main →
     left main cp ≡ entry_before (get_or main cp d).sect cp (left main (cp + 1))
 unfolding collected

@@ -48,17 +48,20 @@ use Rattle.doc_read.proofs.ExistFits.{text_held}
 use Rattle.full_save.specs.Runs.{joins_run, runs_from, text_runs}
 use Rattle.full_save.proofs.BodyLemmas.{last_fc-text_runs}
 use Rattle.full_save.proofs.StretchRuns.{IsWritableItem, AreTextRuns, text_runs_right}
+use Rattle.full_save.proofs.StreamLengths.{length-runs_from}
+use Rattle.save_bounds.proofs.RunLemmas.{few_stretches}
 use Rattle.save_laws.specs.Places.{PagedStream}
 use Rattle.save_laws.specs.GivenFiles.{stream_of}
 use Rattle.append_save.specs.Saves.{FastSave}
-use Rattle.append_save.specs.JoinedRuns.{joined_runs}
-use Rattle.append_save.specs.MarkRuns.{begun, runs_end}
+use Rattle.append_save.specs.MarkRuns.{mark_runs, runs_end}
 use Rattle.append_save.specs.RenewedStreams.{bytes_named}
 use Rattle.append_save.specs.OldParts.{StaysWithin, named_part}
 use Rattle.append_save.specs.Appended.{old_wd, old_table, old_bins, old_stream, added_end, added_runs, added_pages}
-use Rattle.append_save.specs.Appended.{run_items, runs_begin, bins_end, first_page}
+use Rattle.append_save.specs.Appended.{page_count, runs_begin, bins_end, first_page}
 use Rattle.append_save.specs.Kept.{CanBeAppended}
-use Rattle.append_save.proofs.MarkLemmas.{up_to_mark-all, length-up_to_mark, end_is, AreBegun, begun_are}
+use Rattle.append_save.proofs.MarkLemmas.{AreMade, made_first, length-made, end_is}
+use Rattle.append_save.proofs.AddedRuns.{writable_items, text_right, text_first, kept_end_low, marks_made, no_text}
+use Rattle.append_save.proofs.AddedRuns.{no_marks, characters_right, marks_right}
 use Rattle.append_save.proofs.StreamLemmas.{named_is}
 use Rattle.save_laws.proofs.GivenFiles.{AreHeld, held_rules}
 
@@ -201,25 +204,7 @@ base_is r =
 -- ---- the runs that are added
 
 pub items_writable : (r : Ready) → All IsWritableItem r.save.added
-items_writable r = All-from_slice_get IsWritableItem r.save.added (λ k item here.
-    let formed = All_at IsFormedItem r.save.added k item r.items.each here in
-    let short = All_at HasShortSettings r.save.added k item r.can.short here in
-    record {
-      unit = formed.unit;
-      formed = formed.maps.chp;
-      short = short.chp;
-      mark = λ mark has. record {
-        istd = formed.style mark has;
-        formed = formed.maps.pap mark has;
-        short = short.pap mark has;
-      };
-    })
-
-first_of : (kind : PageKind) (at : ℕ) (parts : List (List Item)) → 0 < length (joined_texts parts) →
-    first_fc (runs_from kind at parts) ≡ at
-unfolding runs_from
-first_of kind at [] some = absurd (omega (arith, some))
-first_of kind at (part ∷ parts) some = refl
+items_writable r = writable_items r.save.added r.items r.can.short
 
 -- runs of items, of which there are some
 pub record AreAdded (kind : PageKind) (r : Ready) : Type 0 where
@@ -229,111 +214,68 @@ pub record AreAdded (kind : PageKind) (r : Ready) : Type 0 where
   pub first : first_fc (added_runs kind r.save) ≡ runs_begin kind r.save
   pub last : last_fc (added_runs kind r.save) ≡ bins_end kind r.save
 
--- the items that have runs are well formed, and are few
-run_items_writable : (kind : PageKind) (r : Ready) → All IsWritableItem (run_items kind r.save)
-run_items_writable Chpx r = items_writable r
-run_items_writable Papx r = up_to_mark-all IsWritableItem r.save.added (items_writable r)
+-- what is added is small, with a unit more
+pub text_small : (r : Ready) → r.save.base + 2 * length r.save.added + 2 < 2 ^ 32
+text_small r = let small = (base_is r).small in omega (arith, small)
 
-few_run_items : (kind : PageKind) (r : Ready) → length (run_items kind r.save) ≤ length r.save.added
-few_run_items Chpx r = omega arith
-few_run_items Papx r = length-up_to_mark r.save.added
-
--- their runs before any are joined
-abbrev pub text_of : PageKind → Ready → List Run
-text_of kind r = text_runs kind r.save.base (run_items kind r.save)
-
-pub text_added : (kind : PageKind) (r : Ready) → 0 < length (run_items kind r.save) → AreTextRuns kind (text_of kind r)
-text_added kind r some =
-    let small = (base_is r).small in
-    let few = few_run_items kind r in
-    text_runs_right kind r.save.base (run_items kind r.save) (run_items_writable kind r) some
-    (omega (arith, small, few))
-
-text_first : (kind : PageKind) (r : Ready) → 0 < length (run_items kind r.save) →
-    first_fc (text_of kind r) ≡ r.save.base
-text_first kind r some =
-    let parts = stretches (joins_run kind) (run_items kind r.save) in
-    let len = ap length (are_stretches (joins_run kind) (run_items kind r.save)).whole in
-    first_of kind r.save.base parts (omega (arith, some, len))
-
--- the runs of paragraphs begin at the added text or before it
-begin_low : (r : Ready) → runs_begin Papx r.save ≤ r.save.base
-begin_low r = min-le_right (plc_cp (old_bins Papx r.save) (bin_count (old_bins Papx r.save))) r.save.base
-
-pub marks_added : (r : Ready) → 0 < length (run_items Papx r.save) →
-    AreBegun Papx (runs_begin Papx r.save) (text_of Papx r) (added_runs Papx r.save)
+pub marks_added : (r : Ready) → 0 < length r.save.added →
+    AreMade Papx (text_runs Papx r.save.base r.save.added) (added_runs Papx r.save)
 marks_added r some =
-    let runs = text_added Papx r some in
-    let first = text_first Papx r some in
-    let low = begin_low r in
-    begun_are Papx (runs_begin Papx r.save) (text_of Papx r) (omega (arith, first, low)) runs.right runs.numbers
-    runs.some
+    marks_made r.save.base r.save.added (items_writable r) (text_small r) (old_bins Papx r.save) some
 
-pub added_are : (kind : PageKind) (r : Ready) → 0 < length (run_items kind r.save) → AreAdded kind r
+pub added_are : (kind : PageKind) (r : Ready) → 0 < length r.save.added → AreAdded kind r
 added_are Chpx r some =
-    let runs = text_added Chpx r some in
+    let runs = text_right r.save.base r.save.added (items_writable r) (text_small r) Chpx some in
     record {
       right = runs.right;
       numbers = runs.numbers;
       some = runs.some;
-      first = text_first Chpx r some;
+      first = text_first Chpx r.save.base r.save.added some;
       last = last_fc-text_runs Chpx r.save.base r.save.added some;
     }
 added_are Papx r some =
     let made = marks_added r some in
+    let runs = text_right r.save.base r.save.added (items_writable r) (text_small r) Papx some in
     record {
       right = made.right;
       numbers = made.numbers;
       some = made.some;
-      first = made.first;
+      first = made_first (runs_begin Papx r.save) r.save.added (text_runs Papx r.save.base r.save.added) runs.some;
       last = end_is (runs_begin Papx r.save) (added_runs Papx r.save) made.some;
     }
 
--- without items there are none
-no_text : (kind : PageKind) (at : ℕ) → text_runs kind at [] ≡ []
-unfolding stretches runs_from
-no_text kind at = refl
-
-none_added : (kind : PageKind) (save : FastSave) → run_items kind save ≡ [] → added_runs kind save ≡ []
+none_added : (kind : PageKind) (save : FastSave) → save.added ≡ [] → added_runs kind save ≡ []
 none_added Chpx save none = ap (λ (items : List Item). text_runs Chpx save.base items) none ∙ no_text Chpx save.base
 none_added Papx save none =
-    ap (λ (items : List Item). joined_runs (begun (runs_begin Papx save) (text_runs Papx save.base items))) none
-    ∙ ap (λ (runs : List Run). joined_runs (begun (runs_begin Papx save) runs)) (no_text Papx save.base)
-
-no_runs : (kind : PageKind) → AreRuns kind []
-no_runs kind =
-    record { writable = All-nil (IsWritableRun kind); touch = λ k run next here there. absurd (none-some run here) }
+    ap (λ (items : List Item). mark_runs (old_bins Papx save) save.base items) none
+    ∙ no_marks (old_bins Papx save) save.base
 
 -- there are no runs where there are no items
-pub none_there : (kind : PageKind) (r : Ready) → length (run_items kind r.save) ≤ 0 → added_runs kind r.save ≡ []
-none_there kind r none = none_added kind r.save (nil_from_length (run_items kind r.save) (omega (arith, none)))
+pub none_there : (kind : PageKind) (r : Ready) → length r.save.added ≤ 0 → added_runs kind r.save ≡ []
+none_there kind r none = none_added kind r.save (nil_from_length r.save.added (omega (arith, none)))
 
 pub runs_right : (kind : PageKind) (r : Ready) → AreRuns kind (added_runs kind r.save)
-runs_right kind r = elim (cases_lt 0 (length (run_items kind r.save))) [
-  | inl some ↦ (added_are kind r some).right
-  | inr none ↦ subst (AreRuns kind) (sym (none_there kind r none)) (no_runs kind)
-]
+runs_right Chpx r = characters_right r.save.base r.save.added (items_writable r) (text_small r)
+runs_right Papx r =
+    marks_right r.save.base r.save.added (items_writable r) (text_small r) (old_bins Papx r.save)
 
--- where the bin table ends
-pub end_low : (kind : PageKind) (r : Ready) → bins_end kind r.save ≤ added_end r.save
+-- where the bin table ends: one unit behind the text at most
+pub end_low : (kind : PageKind) (r : Ready) → bins_end kind r.save ≤ added_end r.save + 2
 end_low Chpx r = omega arith
-end_low Papx r = elim (cases_lt 0 (length (run_items Papx r.save))) [
+end_low Papx r = elim (cases_lt 0 (length r.save.added)) [
   | inl some ↦
-      let made = marks_added r some in
-      let last = made.last in
+      let high = (marks_added r some).high in
       let own = (added_are Papx r some).last in
-      let text = last_fc-text_runs Papx r.save.base (run_items Papx r.save) some in
-      let few = few_run_items Papx r in
-      omega (arith, last, own, text, few)
+      let text = last_fc-text_runs Papx r.save.base r.save.added some in
+      omega (arith, high, own, text)
   | inr none ↦
       let begins = ap (runs_end (runs_begin Papx r.save)) (none_there Papx r none) in
-      let low = begin_low r in
+      let low = kept_end_low (old_bins Papx r.save) r.save.base in
       omega (arith, begins, low)
 ]
 
 -- without runs that is where they would begin, or behind it
-pub end_high : (kind : PageKind) (r : Ready) → length (run_items kind r.save) ≤ 0 →
-    runs_begin kind r.save ≤ bins_end kind r.save
+pub end_high : (kind : PageKind) (r : Ready) → length r.save.added ≤ 0 → runs_begin kind r.save ≤ bins_end kind r.save
 end_high Chpx r none = omega arith
 end_high Papx r none =
     let begins = ap (runs_end (runs_begin Papx r.save)) (none_there Papx r none) in omega (arith, begins)
@@ -348,6 +290,22 @@ pub pages_whole : (kind : PageKind) (r : Ready) → AreWholePages (added_runs ki
 pages_whole kind r =
     pages_are_whole kind (added_runs kind r.save) (added_pages kind r.save) (runs_right kind r) (pages_are kind r)
 
+-- there are no more runs than items
+few_runs : (kind : PageKind) (r : Ready) → length (added_runs kind r.save) ≤ length r.save.added
+few_runs Chpx r =
+    omega (
+      arith,
+      length-runs_from Chpx r.save.base (stretches (joins_run Chpx) r.save.added),
+      few_stretches (joins_run Chpx) r.save.added,
+    )
+few_runs Papx r =
+    omega (
+      arith,
+      length-made (runs_begin Papx r.save) r.save.added (text_runs Papx r.save.base r.save.added),
+      length-runs_from Papx r.save.base (stretches (joins_run Papx) r.save.added),
+      few_stretches (joins_run Papx) r.save.added,
+    )
+
 -- the numbers of pages are small
 pub record HaveRoom (r : Ready) : Type 0 where
   pub characters : first_page Chpx r.save + length (added_runs Chpx r.save) ≤ 2 ^ 22
@@ -355,19 +313,18 @@ pub record HaveRoom (r : Ready) : Type 0 where
   pub low : 2 ≤ first_page Chpx r.save
   pub pages :
       512 * (first_page Papx r.save + length (added_pages Papx r.save).starts)
-      ≤ r.save.base + 2 * length r.save.added + 511
-      + 512 * (length (added_runs Chpx r.save) + length (added_runs Papx r.save))
+      ≤ r.save.base + 2 * length r.save.added + 511 + 512 * page_count r.save
 
 pub have_room : (r : Ready) → HaveRoom r
 have_room r =
     let room = r.can.room in
-    let few_chp = (pages_whole Chpx r).few in
-    let few_pap = (pages_whole Papx r).few in
-    let base = base_is r in
-    let low = base.low in
+    let few = r.can.few_added in
+    let chp = few_runs Chpx r in
+    let pap = few_runs Papx r in
+    let low = (base_is r).low in
     record {
-      characters = omega (arith, room);
-      paragraphs = omega (arith, room, few_chp);
+      characters = omega (arith, room, few, chp);
+      paragraphs = omega (arith, room, few, pap);
       low = omega (arith, low);
-      pages = omega (arith, few_chp, few_pap);
+      pages = omega arith;
     }

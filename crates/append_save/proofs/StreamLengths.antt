@@ -42,7 +42,7 @@ use Rattle.append_save.specs.OldParts.{named_pair, named_part, StaysWithin}
 use Rattle.append_save.specs.PlannedSections.{new_sepx, planned_seds, planned_sepxes}
 use Rattle.append_save.specs.RenewedStreams.{renewed_bytes, renewed_streams}
 use Rattle.append_save.specs.Appended.{table_name_of, old_wd, old_table, old_bins, bins_end, added_pages, first_page}
-use Rattle.append_save.specs.Appended.{pages_end, added_bytes, fast_bin_table, fast_text, fast_entries}
+use Rattle.append_save.specs.Appended.{page_count, pages_end, added_bytes, fast_bin_table, fast_text, fast_entries}
 use Rattle.append_save.specs.Appended.{fast_table, fast_fib, fast_wd, fast_streams}
 use Rattle.append_save.specs.KeptBins.{kept_bins}
 use Rattle.append_save.specs.AppendedLengths.{bin_bytes_of, IsCounted}
@@ -51,16 +51,16 @@ use Rattle.append_save.proofs.ReadyLemmas.{Ready, the_text, wd_is, table_is, old
 use Rattle.append_save.proofs.ReadyLemmas.{paragraphs_within, characters_named, paragraphs_named}
 use Rattle.append_save.proofs.BodyLemmas.{text_and_pages, body_sizes, body_is}
 use Rattle.append_save.proofs.WrittenLemmas.{sections_fit}
-use Rattle.append_save.proofs.RunLengths.{page_count, pages_are_counted, sepxes_are_counted}
+use Rattle.append_save.proofs.RunLengths.{sepxes_are_counted}
 
 -- ---- WordDocument
 
 abbrev pub sepxes : Ready → List ℕ
 sepxes r = planned_sepxes r.save.places (sections_of r.save.document.main)
 
-length-added : (r : Ready) →
+pub length-added : (r : Ready) →
     length (added_bytes r.save)
-    ≡ 512 * ((2 * length r.save.added + 511) / 512) + 512 * page_count r + length (sepxes r)
+    ≡ 512 * ((2 * length r.save.added + 511) / 512) + 512 * page_count r.save + length (sepxes r)
 length-added r =
     let size = body_sizes r in
     omega (
@@ -78,7 +78,7 @@ fib_pairs_count save clx =
     record { bookmarks = refl; main_drawings = refl; header_drawings = refl; endnotes = refl } in
     (entries_are_pairs (fast_entries save clx) allowed).count
 
-length-fast_wd : (r : Ready) (clx : List ℕ) →
+pub length-fast_wd : (r : Ready) (clx : List ℕ) →
     length (fast_wd r.save clx) ≡ r.save.base + length (added_bytes r.save)
 unfolding fast_wd
 length-fast_wd r clx =
@@ -125,7 +125,7 @@ table_longer kind r =
 abbrev pub new_bin_bytes : Ready → ℕ
 new_bin_bytes r = length (fast_bin_table Chpx r.save) + length (fast_bin_table Papx r.save)
 
-new_bins_length : (r : Ready) → new_bin_bytes r ≤ bin_bytes_of r.save.fib + 8 * page_count r
+new_bins_length : (r : Ready) → new_bin_bytes r ≤ bin_bytes_of r.save.fib + 8 * page_count r.save
 new_bins_length r = omega (arith, table_longer Chpx r, table_longer Papx r, old_bins_length r)
 
 -- ---- the table stream
@@ -156,7 +156,7 @@ ready_of counts save is = record { save = save; can = is.can; formed = is.formed
 abbrev pub written_of : Ready → List ℕ → WrittenLengths
 written_of r clx = record {
   units = length r.save.added;
-  pages = page_count r;
+  pages = page_count r.save;
   sepx_bytes = length (sepxes r);
   bin_bytes = new_bin_bytes r;
   clx_bytes = length clx;
@@ -166,7 +166,6 @@ pub is_counted : (counts : SaveCounts) (save : FastSave) (clx : List ℕ) (is : 
     IsPrintedClx save.pieces clx → AreCounted counts (written_of (ready_of counts save is) clx)
 is_counted counts save clx is printed =
     let r = ready_of counts save is in
-    let pages = pages_are_counted r in
     let text = is.text in
     let runs = is.runs in
     let sections = is.sections in
@@ -176,9 +175,9 @@ is_counted counts save clx is printed =
     let least = clx_is_short save.pieces clx counts.prc_bytes printed is.prcs in
     let most = mul-le-mul_left (12 + counts.prc_bytes) is.pieces in
     record {
-      text = omega (arith, text, pages);
+      text = omega (arith, text);
       sepxes = omega (arith, sepx, sections);
-      bins = omega (arith, new_bins_length r, bins, pages, runs);
+      bins = omega (arith, new_bins_length r, bins, runs);
       clx = omega (arith, least, most);
     }
 

@@ -28,10 +28,8 @@ use Rattle.save_laws.proofs.PlaceLemmas.{mark_before}
 use Rattle.save_laws.proofs.SlotLemmas.{main_slot}
 use Rattle.append_save.specs.Saves.{FastSave, plan_of}
 use Rattle.append_save.specs.KeptBins.{kept_bins}
-use Rattle.append_save.specs.MarkRuns.{up_to_mark}
 use Rattle.append_save.specs.Appended.{old_bins, old_stream, added_runs, added_pages, first_page}
-use Rattle.append_save.specs.Appended.{run_items, runs_begin, bins_end, fast_bins, fast_bin_table}
-use Rattle.append_save.proofs.MarkLemmas.{up_to_mark-at}
+use Rattle.append_save.specs.Appended.{runs_begin, bins_end, fast_bins, fast_bin_table}
 use Rattle.append_save.proofs.KeptBinLemmas.{AreFirstRanges, MayFollow, kept_are_first, first_are_before}
 use Rattle.append_save.proofs.KeptBinLemmas.{first_before_end, kept_further, printable_with}
 use Rattle.fkp_pages.proofs.LongerLemmas.{ranges_kept}
@@ -83,23 +81,13 @@ range_kept kind r at number page below =
           absurd (omega (arith, high, from, below))
     ]
 
--- an added item with a mark has a run
-mark_has_run : (kind : PageKind) (save : FastSave) (k : ℕ) (item : Item) (mark : Mark) →
-    slice_get save.added k ≡ Some item → item.mark ≡ Some mark → 0 < length (run_items kind save)
-mark_has_run Chpx save k item mark here has = omega (arith, slice_get_within save.added k item here)
-mark_has_run Papx save k item mark here has =
-    let there = up_to_mark-at save.added k item mark here has in
-    omega (arith, slice_get_within (up_to_mark save.added) k item there)
-
--- where no item has a run, each place of a mark stands in the old stream
-old_gives : (kind : PageKind) (r : Ready) (at : ℕ) (wide : Bool) (given : Given) (mark : Mark) →
-    given.mark ≡ Some mark → length (run_items kind r.save) ≤ 0 →
+-- where nothing is added, each place stands in the old stream
+old_gives : (r : Ready) (at : ℕ) (wide : Bool) (given : Given) → length r.save.added ≤ 0 →
     IsGivenBy (old_stream r.save) (plan_of r.save) at wide given → GivesAt (old_stream r.save) at wide given
-old_gives kind r at wide given mark marked none (inl gives) = gives
-old_gives kind r at wide given mark marked none (inr planned) =
+old_gives r at wide given none (inl gives) = gives
+old_gives r at wide given none (inr planned) =
     let found = from_map given_of r.save.added planned.number given planned.there in
-    let has = ap (λ (g : Given). g.mark) found.1.1 ∙ marked in
-    let some = mark_has_run kind r.save planned.number found.0 mark found.1.0 has in
+    let some = slice_get_within r.save.added planned.number found.0 found.1.0 in
     absurd (omega (arith, some, none))
 
 -- the last item of the main text has a mark, and so has the page of its place
@@ -152,10 +140,10 @@ some_kept_by Chpx r at mark chp below characters paragraph =
 some_kept_by Papx r at mark chp below characters paragraph =
     range_kept Papx r at paragraph.has.number paragraph.has.named below
 
-some_kept : (kind : PageKind) (r : Ready) → length (run_items kind r.save) ≤ 0 → 0 < length (kept kind r)
+some_kept : (kind : PageKind) (r : Ready) → length r.save.added ≤ 0 → 0 < length (kept kind r)
 some_kept kind r none =
     let last = last_mark r in
-    let gives = old_gives kind r last.at last.wide last.given last.mark last.marked none last.gives in
+    let gives = old_gives r last.at last.wide last.given none last.gives in
     let inside = gives.stands.inside in
     let width = unit_some last.wide in
     let behind = (base_is r).behind in
@@ -165,7 +153,7 @@ some_kept kind r none =
 pub some_ranges : (kind : PageKind) (r : Ready) → 0 < length (fast_bins kind r.save)
 some_ranges kind r =
     let len = length-append (kept kind r) (later kind r) in
-    elim (cases_lt 0 (length (run_items kind r.save))) [
+    elim (cases_lt 0 (length r.save.added)) [
       | inl some ↦
           let pages = (pages_whole kind r).some (added_are kind r some).some in
           let count = length-later kind r in
@@ -178,7 +166,7 @@ some_ranges kind r =
 -- ---- the ranges of the new pages
 
 may_follow : (kind : PageKind) (r : Ready) → MayFollow (later kind r) (bins_end kind r.save)
-may_follow kind r some = elim (cases_lt 0 (length (run_items kind r.save))) [
+may_follow kind r some = elim (cases_lt 0 (length r.save.added)) [
   | inl any ↦
       let added = added_are kind r any in
       subst (ArePrintableBins (later kind r)) added.last
@@ -206,7 +194,7 @@ no_number number end (start ∷ starts) none = absurd (omega (arith, none))
 -- the first new range begins where the runs do, and without one the table ends there or behind it
 pub begins_there : (kind : PageKind) (r : Ready) →
     runs_begin kind r.save ≤ slice_index (bin_fcs (later kind r) (bins_end kind r.save)) 0
-begins_there kind r = elim (cases_lt 0 (length (run_items kind r.save))) [
+begins_there kind r = elim (cases_lt 0 (length r.save.added)) [
   | inl any ↦
       let added = added_are kind r any in
       let whole = pages_whole kind r in
@@ -239,7 +227,7 @@ bins_printable kind r =
     printable_with (old_bins kind r.save) (runs_begin kind r.save) (kept kind r) (later kind r) (bins_end kind r.save)
     (old_table_is kind r) (kept_low kind r) (may_follow kind r) (begins_there kind r) (some_ranges kind r)
 
-end_small : (kind : PageKind) (r : Ready) → bins_end kind r.save < 2 ^ 32
+pub end_small : (kind : PageKind) (r : Ready) → bins_end kind r.save < 2 ^ 32
 end_small kind r =
     let small = (base_is r).small in
     let low = end_low kind r in

@@ -52,12 +52,10 @@ use Rattle.save_laws.proofs.SlotLemmas.{length-story_slots, length-loose_if}
 use Rattle.append_save.specs.Saves.{FastSave, plan_of}
 use Rattle.append_save.specs.KeptBins.{kept_bins}
 use Rattle.append_save.specs.PlannedSections.{planned_sepxes}
-use Rattle.append_save.specs.MarkRuns.{up_to_mark}
-use Rattle.append_save.specs.Appended.{old_wd, old_bins, old_stream, run_items, runs_begin, bins_end, added_runs}
+use Rattle.append_save.specs.Appended.{old_wd, old_bins, old_stream, runs_begin, bins_end, added_runs}
 use Rattle.append_save.specs.Appended.{added_pages, first_page}
 use Rattle.append_save.specs.Appended.{pages_end, added_bytes, fast_bin_table, fast_entries, fast_table}
 use Rattle.append_save.specs.Appended.{fast_fib, fast_wd, fast_saved_text}
-use Rattle.append_save.proofs.MarkLemmas.{up_to_mark-at}
 use Rattle.append_save.proofs.PlannedLemmas.{length-planned}
 use Rattle.append_save.proofs.KeptBinLemmas.{first_are_before}
 use Rattle.append_save.proofs.ReadyLemmas.{Ready, is_right, base_is, the_text, items_writable, added_are, none_there}
@@ -260,13 +258,11 @@ short_added m =
     let r = m.ready in
     let size = sizes m in
     let room = r.can.room in
-    let chp = (pages_whole Chpx r).few in
-    let pap = (pages_whole Papx r).few in
     let sepx = short_sepxes m in
     let a1 = length-append p.text (p.chp ++ (p.pap ++ p.sepx)) in
     let a2 = length-append p.chp (p.pap ++ p.sepx) in
     let a3 = length-append p.pap p.sepx in
-    omega (arith, a1, a2, a3, size.text, size.chp, size.pap, room, chp, pap, sepx)
+    omega (arith, a1, a2, a3, size.text, size.chp, size.pap, room, sepx)
 
 pub length-new_wd : (m : Made) → length (new_wd m) ≡ (the_save m).base + length (added_bytes (the_save m))
 unfolding fast_wd
@@ -415,21 +411,14 @@ runs_of m =
       paragraph = λ k given mark here marked.
           let found = from_map given_of items k given here in
           let own = ap (λ (g : Given). g.mark) found.1.1 ∙ marked in
-          let there = up_to_mark-at items k found.0 mark found.1.0 own in
-          let run = paragraph_run save.base (up_to_mark items) k found.0 mark there own in
-          let some : 0 < length (up_to_mark items) =
-          omega (arith, slice_get_within (up_to_mark items) k found.0 there) in
-          let covers = (marks_added m.ready some).covers (save.base + 2 * k) run.0 run.1.0 in (
-            covers.wide,
-            (
-              record { number = covers.number; there = covers.there; from = covers.from; to = covers.to },
-              (covers.istd ∙ run.1.1.0, covers.maps ∙ run.1.1.1),
-            ),
-          );
+          let run = paragraph_run save.base items k found.0 mark found.1.0 own in
+          let some : 0 < length items = omega (arith, slice_get_within items k found.0 found.1.0) in
+          let holds = (marks_added m.ready some).holds (save.base + 2 * k) run.0 run.1.0 in
+          (holds.wide, (holds.in_run, (holds.istd ∙ run.1.1.0, holds.maps ∙ run.1.1.1)));
     }
 
-some_items : (kind : PageKind) (r : Ready) → 0 < length (added_runs kind r.save) → 0 < length (run_items kind r.save)
-some_items kind r some = elim (cases_lt 0 (length (run_items kind r.save))) [
+some_items : (kind : PageKind) (r : Ready) → 0 < length (added_runs kind r.save) → 0 < length r.save.added
+some_items kind r some = elim (cases_lt 0 (length r.save.added)) [
   | inl any ↦ any
   | inr none ↦
       let runs = ap length (none_there kind r none) in
@@ -506,7 +495,7 @@ named kind m some row same =
     (λ i. printed_bin (bins ++ sym more i) (sym end i)) in
     subst (λ (t : List ℕ). NamesRow row t) table both.names
 
-have_row : (kind : PageKind) (m : Made) →
+pub have_row : (kind : PageKind) (m : Made) →
     HaveRow kind (new_wd m) (fast_bin_table kind (the_save m)) (added_runs kind (the_save m))
 unfolding row_there
 have_row Chpx m some =

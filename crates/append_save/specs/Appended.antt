@@ -19,7 +19,6 @@ use Rattle.fkp_pages.specs.declared.packing.Pages.{Pages}
 use Rattle.fkp_pages.specs.Bin.{printed_bin}
 use Rattle.fkp_pages.specs.Packed.{pages_of}
 use Rattle.fkp_pages.specs.InARow.{numbered_bins}
-use Rattle.plain_doc.specs.declared.item.Item.{Item}
 use Rattle.plain_doc.specs.Collected.{sections_of}
 use Rattle.doc_parts.specs.declared.lists.Sed.{Sed}
 use Rattle.full_save.specs.declared.table_text.TableText.{TableText}
@@ -32,7 +31,7 @@ use Rattle.save_laws.specs.Slots.{story_counts}
 use Rattle.save_laws.specs.Saves.{SavedText}
 use Rattle.append_save.specs.Saves.{FastSave}
 use Rattle.append_save.specs.KeptBins.{kept_bins, kept_end}
-use Rattle.append_save.specs.MarkRuns.{up_to_mark, mark_runs, mark_runs_end}
+use Rattle.append_save.specs.MarkRuns.{mark_runs, mark_runs_end}
 use Rattle.append_save.specs.PlannedSections.{planned_sepxes, planned_seds}
 use Rattle.append_save.specs.RenewedStreams.{bytes_named, renewed_streams}
 
@@ -62,11 +61,6 @@ old_stream save = record { wd = old_wd save; characters = old_bins Chpx save; pa
 abbrev pub added_end : FastSave → ℕ
 added_end save = save.base + 2 * length save.added
 
--- those that have runs: of characters all, of paragraphs the ones up to the last mark
-abbrev pub run_items : PageKind → FastSave → List Item
-run_items Chpx save = save.added
-run_items Papx save = up_to_mark save.added
-
 -- where the runs of a kind begin, and where its bin table ends, which is where its last run does
 abbrev pub runs_begin : PageKind → FastSave → ℕ
 runs_begin Chpx save = save.base
@@ -76,13 +70,17 @@ abbrev pub bins_end : PageKind → FastSave → ℕ
 bins_end Chpx save = added_end save
 bins_end Papx save = mark_runs_end (old_bins Papx save) save.base save.added
 
--- the runs: of characters, and of paragraphs, of which those with equal marks are one
+-- the runs: of characters, and of paragraphs, each up to its mark
 abbrev pub added_runs : PageKind → FastSave → List Run
 added_runs Chpx save = text_runs Chpx save.base save.added
 added_runs Papx save = mark_runs (old_bins Papx save) save.base save.added
 
 abbrev pub added_pages : PageKind → FastSave → Pages
 added_pages kind save = pages_of kind (added_runs kind save)
+
+-- how many they are
+abbrev pub page_count : FastSave → ℕ
+page_count save = length (added_pages Chpx save).starts + length (added_pages Papx save).starts
 
 -- the number of the first page of a kind: a page stands at 512 times its number
 abbrev pub first_page : PageKind → FastSave → ℕ
@@ -107,7 +105,7 @@ abbrev pub fast_bins : PageKind → FastSave → List Bin
 fast_bins kind save =
     kept_bins (old_bins kind save) save.base ++ numbered_bins (first_page kind save) (added_pages kind save).starts
 
--- the last old range ends at the first new one. Of paragraphs, without one, the table ends where the old one did
+-- the last old range ends at the first new one. Of paragraphs, without an item, the table ends where the old one did
 unfoldable pub fast_bin_table : PageKind → FastSave → List ℕ
 fast_bin_table kind save = printed_bin (fast_bins kind save) (bins_end kind save)
 

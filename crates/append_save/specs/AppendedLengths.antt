@@ -3,6 +3,7 @@ use Rattle.std.specs.Prelude.{ℕ, ◌+◌, ◌*◌, ◌≤◌, List, length, Op
 use Rattle.std.specs.List.{count_by}
 use Rattle.cfb_sectors.specs.Header.{sector_count}
 use Rattle.cfb_layout.specs.Counts.{most_sectors}
+use Rattle.cfb_layout.specs.Sectors.{units_for}
 use Rattle.fib_form.specs.FibFields.{FibFields, fib_fields}
 use Rattle.fib_form.specs.declared.table_parts.TablePart.TheVariants.{PlcfBteChpx, PlcfBtePapx}
 use Rattle.fkp_pages.specs.declared.kind.PageKind.TheVariants.{Chpx, Papx}
@@ -11,12 +12,11 @@ use Rattle.plain_doc.specs.Document.{IsFormedText}
 use Rattle.plain_doc.specs.Formed.{IsFormed}
 use Rattle.full_save.specs.WordDocument.{table_stream}
 use Rattle.save_bounds.specs.ClxLengths.{HaveShortPrcs}
-use Rattle.save_bounds.specs.RunCounts.{joined_run_count}
 use Rattle.save_bounds.specs.FastSizes.{SaveCounts, reckoned_sectors}
 use Rattle.append_save.specs.declared.fault.AppendFault.TheVariants.{TooLarge}
 use Rattle.append_save.specs.Saves.{FastSave}
 use Rattle.append_save.specs.OldParts.{named_pair}
-use Rattle.append_save.specs.Appended.{old_wd, fast_bin_table, fast_table, fast_wd}
+use Rattle.append_save.specs.Appended.{page_count, old_wd, fast_bin_table, fast_table, fast_wd}
 use Rattle.append_save.specs.Kept.{CanBeAppended}
 use Rattle.append_save.specs.Answers.{IsAppended, IsAppendFault, sectors_of}
 
@@ -28,16 +28,17 @@ bin_bytes_of fib = (named_pair fib PlcfBteChpx).1 + (named_pair fib PlcfBtePapx)
 abbrev pub unwritten_count : List (Option ℕ) → ℕ
 unwritten_count places = count_by (λ place. not (is_some place)) places
 
--- a save that can be appended is within what is counted: its added units with a page for each of their runs, and these
--- runs; the sections to be written; the pieces with their modifiers; the table stream of the full save; and of the file
--- that is there the bytes of the bin tables and the sectors
+-- a save that can be appended is within what is counted: its added units, as whole pages, with the pages of their runs,
+-- and these pages; the sections to be written; the pieces with their modifiers; the table stream of the full save; and
+-- of the file that is there the bytes of the bin tables and the sectors
 pub record IsCounted (counts : SaveCounts) (save : FastSave) : Type 0 where
   pub can : CanBeAppended save
   pub formed : IsFormed save.document
   pub items : IsFormedText save.added
   pub text :
-      2 * length save.added + 512 * joined_run_count save.added ≤ 2 * counts.units + 512 * counts.runs
-  pub runs : joined_run_count save.added ≤ counts.runs
+      512 * units_for 512 (2 * length save.added) + 512 * page_count save
+      ≤ 2 * counts.units + 512 * counts.runs + 1536
+  pub runs : 8 * page_count save ≤ 16 * counts.runs + 256
   pub sections : unwritten_count save.places ≤ counts.sections
   pub pieces : length save.pieces ≤ counts.pieces
   pub prcs : HaveShortPrcs counts.prc_bytes save.pieces

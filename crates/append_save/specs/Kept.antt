@@ -5,7 +5,6 @@ use Rattle.doc_bits.specs.Number.{AreBytes}
 use Rattle.doc_bits.specs.Together.{AreTogether}
 use Rattle.cfb_layout.specs.Sectors.{units_for}
 use Rattle.fib_form.specs.FibFields.{fib_fields}
-use Rattle.fkp_pages.specs.declared.kind.PageKind.TheVariants.{Chpx, Papx}
 use Rattle.piece_table.specs.Piece.{flat_pieces, ArePieces}
 use Rattle.piece_table.specs.ClxRules.{FitsPages}
 use Rattle.piece_table.specs.Printing.{IsPrintedClx}
@@ -19,7 +18,7 @@ use Rattle.save_laws.specs.GivenFiles.{stream_of}
 use Rattle.save_laws.specs.Saves.{HasSettingsAt}
 use Rattle.save_laws.specs.FastSaves.{StandsInSession}
 use Rattle.append_save.specs.Saves.{FastSave, plan_of}
-use Rattle.append_save.specs.Appended.{added_runs, fast_table}
+use Rattle.append_save.specs.Appended.{page_count, fast_table}
 
 -- the old file holds a document, which has what this one carries along; each unit of the text stands in its
 -- WordDocument
@@ -44,7 +43,6 @@ pub record CanBeAppended (save : FastSave) : Type 0 where
       save.places (sections_of save.document.main)
   pub pieces : ArePieces save.pieces
   pub few : length save.pieces ≤ 16384
-  pub room :
-      save.base + 2 * length save.added + 512 * (length (added_runs Chpx save) + length (added_runs Papx save))
-      ≤ 2 ^ 28
+  pub few_added : length save.added ≤ 3600000
+  pub room : save.base + 2 * length save.added + 512 * page_count save ≤ 2 ^ 28
   pub table : (clx : List ℕ) → IsPrintedClx save.pieces clx → length (fast_table save clx) < 2 ^ 32

@@ -1,7 +1,7 @@
 pub mod Saves
-pub mod JoinedRuns
 pub mod KeptBins
 pub mod MarkRuns
+pub mod RunsSoFar
 pub mod PlannedSections
 pub mod RenewedStreams
 pub mod OldParts
@@ -10,3 +10,6 @@ pub mod Kept
 pub mod Bodies
 pub mod Answers
 pub mod AppendedLengths
+pub mod AddedPages
+pub mod MarkEnds
+pub mod FastByRuns

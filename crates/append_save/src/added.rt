@@ -18,10 +18,9 @@ ghost use Rattle.append_save.specs.MarkRuns.{mark_runs, mark_runs_end};
 ghost use Rattle.append_save.specs.Kept.{CanBeAppended};
 ghost use Rattle.append_save.specs.Bodies.{IsAddedBody};
 
-use crate::joined_runs::{end_of, join_runs};
 use crate::kept_bins::{keep_bins, kept_end};
 use crate::old_streams::old_part;
-use crate::runs::{UNIT_LEN, character_runs, paragraph_runs};
+use crate::runs::{UNIT_LEN, character_runs, end_of, paragraph_runs};
 use crate::saving::{EditedText, SavedFile};
 use crate::sections::append_sections;
 use crate::word_document::push_zeros;
@@ -119,9 +118,8 @@ fn add_characters(
     Ok(BinTable { table, next })
 }
 
-/// Appends the pages of the runs of paragraphs, as `add_characters` does. Equal paragraphs that follow one another are
-/// one run, the first one goes on from where the old ranges end, and what no mark ends has none: without a mark there
-/// is no page, and the bin table ends where the old one did.
+/// Appends the pages of the runs of paragraphs, as `add_characters` does. The first one goes on from where the old
+/// ranges end; without an item there is no page, and the bin table ends there.
 fn add_paragraphs(
     alloc: Global,
     out: &mut Bytes,
@@ -131,7 +129,7 @@ fn add_paragraphs(
     number: u32,
 ) -> Result<BinTable, Memory>
     requires old { IsBinTable old.now }
-    requires small { base + 2 * length items.now < 2 ^ 32 }
+    requires small { base + 2 * length items.now + 2 < 2 ^ 32 }
     requires runs { AreRuns PageKind.Papx (mark_runs old.now base items.now) }
     requires room { number + length (mark_runs old.now base items.now) ≤ 2 ^ 22 }
     requires printable { ArePrintableBins (kept_bins old.now base
@@ -144,8 +142,7 @@ fn add_paragraphs(
         (mark_runs_end old.now base items.now)) }
 {
     let start = kept_end(old, base);
-    let runs = paragraph_runs(alloc, items, base)?;
-    let runs = join_runs(alloc, &runs, start)?;
+    let runs = paragraph_runs(alloc, items, base, start)?;
     let mut bins = Bins::new(alloc);
     keep_bins(&mut bins, old, base)?;
     let next = append_papx_pages(alloc, out, &mut bins, &runs, number)?;

@@ -1,5 +1,7 @@
 // Laws over the definitions alone.
 ghost use Rattle.append_save.specs.AppendedLengths.{AppendedSavesAreShort, AppendedFilesAreShort, CountedSavesFit};
+ghost use Rattle.append_save.specs.MarkEnds.{RunsEndWithMarks};
+ghost use Rattle.append_save.specs.FastByRuns.{FastSavesAreBounded};
 
 /// The streams of a save are short by what is counted of it, and need few sectors.
 pub fn appended_saves_are_short()
@@ -14,4 +16,14 @@ pub fn appended_files_are_short()
 /// Where the sectors that are reckoned are in a file, a save is never refused as too large.
 pub fn counted_saves_fit()
     ensures { CountedSavesFit }
+{}
+
+/// The run of an added unit ends with it where a mark does, and beyond it where none does.
+pub fn runs_end_with_marks()
+    ensures { RunsEndWithMarks }
+{}
+
+/// Where the units that stand in the old stream are bounded there, all units of a save are in the new one.
+pub fn fast_saves_are_bounded()
+    ensures { FastSavesAreBounded }
 {}

@@ -2,8 +2,8 @@
 #![tactic(auto)]
 
 mod added;
+mod counted;
 mod fault;
-mod joined_runs;
 mod kept_bins;
 mod laws;
 mod old_streams;
@@ -13,6 +13,10 @@ mod saving;
 mod sections;
 mod word_document;
 
+pub use counted::added_pages;
 pub use fault::AppendFault;
-pub use laws::{appended_files_are_short, appended_saves_are_short, counted_saves_fit};
+pub use laws::{
+    appended_files_are_short, appended_saves_are_short, counted_saves_fit, fast_saves_are_bounded,
+    runs_end_with_marks,
+};
 pub use saving::{EditedText, SavedFile, append};

@@ -3,7 +3,7 @@ use Rattle.std.proofs.Common.{◌≡◌, ◌≢◌, ◌⊎◌, ◌∙◌, inl, i
 use Rattle.doc_bits.specs.Rules.{Rules}
 use Rattle.doc_bits.specs.Places.{Place}
 use Rattle.doc_outer.specs.Counts.{GoesOn}
-use Rattle.doc_outer.specs.Held.{Files, Told, IsWhole}
+use Rattle.doc_outer.specs.Held.{Files, Told, IsLonger, IsWhole}
 use Rattle.doc_outer.proofs.CountLemmas.{Rose-after}
 use Rattle.plain_doc.specs.declared.document.Document.{Document}
 use Rattle.doc_load.specs.declared.fault.ReadFault.{ReadFault}
@@ -16,7 +16,7 @@ use Rattle.full_save.specs.Layout.{IsTooLarge}
 use Rattle.doc_run.specs.declared.command.View.{View}
 use Rattle.doc_run.specs.declared.command.View.TheVariants.{Text, Check, Show, Props}
 use Rattle.doc_run.specs.declared.stage.Taken.{Taken}
-use Rattle.doc_run.specs.declared.stage.Taken.TheVariants.{Whole, Stopped}
+use Rattle.doc_run.specs.declared.stage.Taken.TheVariants.{Whole, Overlong, Stopped}
 use Rattle.doc_run.specs.declared.stage.Reached.{Reached}
 use Rattle.doc_run.specs.declared.stage.Reached.TheVariants as reached
 use Rattle.edit_script.specs.declared.commands.Command.{Command}
@@ -25,9 +25,9 @@ use Rattle.doc_edit.specs.declared.faults.Stop.TheVariants as stops
 use Rattle.doc_edit.specs.States.{RunState}
 use Rattle.doc_run.specs.Lines.{too_large_line}
 use Rattle.doc_run.specs.Outcomes.{Outcome, says, puts, HasCause}
-use Rattle.doc_run.specs.Stages.{IsMissing, IsShelfFault, Reads, IsRefused, Judges, ReadsFile}
+use Rattle.doc_run.specs.Stages.{longest_file, IsMissing, IsShelfFault, Reads, IsRefused, Judges, ReadsFile}
 use Rattle.doc_run.specs.Reading.{IsTaken, IsOpenedAt, EndsAt, IsReached, IsJudged, status_reached}
-use Rattle.doc_run.specs.Edits.{stop_status, Edits, EditsBy}
+use Rattle.doc_run.specs.Edits.{stop_status, Edits, EditsBy, IsOverlongScript}
 use Rattle.doc_run.specs.Endings.{NamesRule, ListsStreams, Shows, ShowsFile, Saves, Compares}
 
 -- the line of a refusal names the first broken rule
@@ -53,6 +53,12 @@ pub told_whole :
     taken ≡ Whole bytes → read ≡ bytes → Told held name (IsWhole read)
 told_whole name held taken bytes read is whole same =
     subst (λ b. Told held name (IsWhole b)) (sym same) (subst (λ t. IsTaken name held t) whole is)
+
+-- a name that was found too long holds more bytes than any file
+pub told_longer :
+    (name : List ℕ) (held : Option Files) (taken : Taken) → IsTaken name held taken → taken ≡ Overlong →
+    Told held name (IsLonger longest_file)
+told_longer name held taken is e = subst (λ t. IsTaken name held t) e is
 
 -- what judging came to is what opening came to
 pub judged_reached :
@@ -165,6 +171,10 @@ pub edits_by_status :
     IsAfterReading outcome.status
 edits_by_status start out bytes outcome (inl x) = said_inside 7 _ outcome x.ends (inr (omega arith))
 edits_by_status start out bytes outcome (inr x) = edits_status start x.commands out outcome x.edits
+
+-- as has the ending of a script that is too long
+pub overlong_status : (outcome : Outcome) → IsOverlongScript outcome → IsAfterReading outcome.status
+overlong_status outcome is = said_inside 7 _ outcome is (inr (omega arith))
 
 -- such a status is none of what happens outside
 pub after_reading_inside : (status : ℕ) → IsAfterReading status → (status ≢ 5) × (status ≢ 6)

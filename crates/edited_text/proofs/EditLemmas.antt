@@ -42,18 +42,20 @@ use Rattle.edited_text.specs.SessionText.{IsSessionText, HaveFitModifiers, HaveN
 use Rattle.edited_text.specs.SessionChanges.{text_begin}
 use Rattle.edited_text.specs.EditSteps.{ActsOnNone, AreEditSteps, ArePutSteps, IsActStep, IsBlockOf, HasGrownBy}
 use Rattle.edited_text.specs.EditSteps.{items_put, pieces_added, growth_of}
+use Rattle.edited_text.specs.OldUnits.{IsOldBounded, OldUnitsAreBounded}
 use Rattle.edited_text.specs.TextEdits.{IsTextEdit}
 use Rattle.edited_text.specs.Puts.{all_places_after, ends_after_all, pieces_cut, ArePuts, HavePuts}
+use Rattle.edited_text.proofs.OldLemmas.{modified_old}
 use Rattle.edited_text.proofs.TextLemmas.{All-front, All-back, none_fits, none_printed, fresh_have}
 use Rattle.edited_text.proofs.ModifyLemmas.{modifiers_act, acted_range}
-use Rattle.edited_text.proofs.PutLemmas.{changes_of_puts, blocks_of_puts, puts_stand, puts_counted}
+use Rattle.edited_text.proofs.PutLemmas.{changes_of_puts, blocks_of_puts, puts_stand, puts_counted, puts_old}
 use Rattle.edited_text.proofs.PutLemmas.{blocks_together, all_after}
 use Rattle.edited_text.proofs.FitLemmas.{range_fits, modified_all, modified_printed, all_weaker}
 
 -- ---- puts
 
 -- what stands in added text stands there where it has grown
-grown_stands : (stream : PagedStream) (old new : Added) (more : List Item) (places : List UnitPlace)
+pub grown_stands : (stream : PagedStream) (old new : Added) (more : List Item) (places : List UnitPlace)
     (slots : List Slot) → new.base ≡ old.base → new.items ≡ old.items ++ more →
     StandInSession stream (plan_of old) places slots → StandInSession stream (plan_of new) places slots
 grown_stands stream old new more places slots base items stands =
@@ -108,6 +110,38 @@ puts_text stream document changes old new splices have base places ends before =
       base = omega (arith, behind, base);
     }
 
+puts_bounded : (stream : PagedStream) (document : Document) (changes : List Change) (old new : SessionText)
+    (splices : List TextSplice) → HavePuts document old.ends changes old.added new.added splices →
+    new.added.base ≡ old.added.base →
+    flat_pieces new.pieces.pieces ≡ all_places_after (flat_pieces old.pieces.pieces) splices →
+    new.ends ≡ ends_after_all old.ends splices → OldUnitsAreBounded stream document old →
+    OldUnitsAreBounded stream (all_changed changes document) new
+puts_bounded stream document changes old new splices have base places ends before =
+    let puts = have.puts in
+    let flat : List UnitPlace = flat_pieces old.pieces.pieces in
+    let P : UnitPlace → Slot → Type 0 = IsOldBounded stream old.added.base in
+    let after =
+    puts_old stream old.added.base document old.added.items document old.ends puts flat have.each before in
+    let by_splices : AreTogether P (all_places_after flat splices)
+    (whole_text (all_changed (changes_of_puts puts) document) (ends_of (ends_after_all old.ends splices))) =
+    subst
+    (λ l. AreTogether P (all_places_after flat l)
+    (whole_text (all_changed (changes_of_puts puts) document) (ends_of (ends_after_all old.ends l))))
+    have.splices_are after in
+    let by_changes : AreTogether P (all_places_after flat splices)
+    (whole_text (all_changed changes document) (ends_of (ends_after_all old.ends splices))) =
+    subst
+    (λ l. AreTogether P (all_places_after flat splices)
+    (whole_text (all_changed l document) (ends_of (ends_after_all old.ends splices)))) have.changes_are by_splices in
+    subst
+    (λ n. AreTogether (IsOldBounded stream n) (flat_pieces new.pieces.pieces)
+    (whole_text (all_changed changes document) (ends_of new.ends))) (sym base)
+    (subst
+    (λ l. AreTogether P l (whole_text (all_changed changes document) (ends_of new.ends))) (sym places)
+    (subst
+    (λ e. AreTogether P (all_places_after flat splices) (whole_text (all_changed changes document) (ends_of e)))
+    (sym ends) by_changes))
+
 pub puts_edit : (document : Document) (changes : List Change) (old new : SessionText) (splices : List TextSplice) →
     HavePuts document old.ends changes old.added new.added splices → new.added.base ≡ old.added.base →
     flat_pieces new.pieces.pieces ≡ all_places_after (flat_pieces old.pieces.pieces) splices →
@@ -119,6 +153,7 @@ puts_edit document changes old new splices have base places count ends =
     let counted = puts_counted document old.added.base old.added.items document old.ends puts have.each in
     record {
       text = λ stream before. puts_text stream document changes old new splices have base places ends before;
+      bounded = λ stream before. puts_bounded stream document changes old new splices have base places ends before;
       fit = λ stream before fit.
           subst (All (λ (p : UnitPlace). FitsPages p.modifier)) (sym places)
           (all_after (λ (p : UnitPlace). FitsPages p.modifier) (fresh_have FitsPages none_fits) splices flat fit);
@@ -161,7 +196,7 @@ one_at P x y is zero one other here there =
     subst (λ a. P a other) (same_Some x one here) (subst (P x) (same_Some y other there) is)
 one_at P x y is (suc k) one other here there = absurd (none-some one here)
 
-one_together : {A B : Type 0} (P : A → B → Type 0) (x : A) (y : B) → P x y → AreTogether P (x ∷ []) (y ∷ [])
+pub one_together : {A B : Type 0} (P : A → B → Type 0) (x : A) (y : B) → P x y → AreTogether P (x ∷ []) (y ∷ [])
 one_together P x y is = record { len = refl; each = one_at P x y is }
 
 no_block : (document : Document) (change : Change) → items_put change ≡ [] → IsBlockOf document change []
@@ -205,6 +240,31 @@ act_text stream document story from to begin end by old new act first last modif
       short = subst (λ (p : Added). All HasShortSettings p.items) (sym added) before.short;
       base = omega (arith, behind, ap (λ (p : Added). p.base) added);
     }
+
+act_bounded : (stream : PagedStream) (document : Document) (story : Story) (from to begin end : ℕ) (by : Modifier)
+    (old new : SessionText) → IsActStep document story from to by →
+    begin ≡ text_begin document (ends_of old.ends) story + from →
+    end ≡ text_begin document (ends_of old.ends) story + to →
+    AreModified by begin end (flat_pieces old.pieces.pieces) (flat_pieces new.pieces.pieces) →
+    new.added ≡ old.added → new.ends ≡ old.ends → OldUnitsAreBounded stream document old →
+    OldUnitsAreBounded stream (changed (ModifyItems story from to by) document) new
+act_bounded stream document story from to begin end by old new act first last modified added ends before =
+    let e = ends_of old.ends in
+    let a : ℕ = text_begin document e story + from in
+    let b : ℕ = text_begin document e story + to in
+    let some = act.range.0 in
+    let flat : List UnitPlace = flat_pieces old.pieces.pieces in
+    let made : List UnitPlace = flat_pieces new.pieces.pieces in
+    let after : Document = changed (ModifyItems story from to by) document in
+    let at : AreModified by a b flat made =
+    subst (λ n. AreModified by n b flat made) first (subst (λ n. AreModified by begin n flat made) last modified) in
+    let stay : AreTogether (IsOldBounded stream old.added.base) made (whole_text after e) =
+    modified_old stream old.added.base by a b flat made (whole_text document e) (whole_text after e)
+    (omega (arith, some)) before at (modifiers_act document e story from to by act.text act.there some act.range.1) in
+    subst
+    (λ (p : Added). AreTogether (IsOldBounded stream p.base) made (whole_text after (ends_of new.ends))) (sym added)
+    (subst
+    (λ n. AreTogether (IsOldBounded stream old.added.base) made (whole_text after (ends_of n))) (sym ends) stay)
 
 act_fit : (stream : PagedStream) (document : Document) (story : Story) (from to begin end : ℕ) (by : Modifier)
     (old new : SessionText) → IsActStep document story from to by →
@@ -254,6 +314,8 @@ act_edit document story from to begin end by old new act first last modified cou
     record {
       text = λ stream before.
           act_text stream document story from to begin end by old new act first last modified added ends before;
+      bounded = λ stream before.
+          act_bounded stream document story from to begin end by old new act first last modified added ends before;
       fit = λ stream before fit.
           act_fit stream document story from to begin end by old new act first last modified ends
           (act_text stream document story from to begin end by old new act first last modified added ends before) fit;
@@ -318,12 +380,28 @@ session_same stream document old new pieces added ends is =
       base = omega (arith, behind, ap (λ (p : Added). p.base) added);
     }
 
+bounded_same : (stream : PagedStream) (document : Document) (old new : SessionText) → new.pieces ≡ old.pieces →
+    new.added ≡ old.added → new.ends ≡ old.ends → OldUnitsAreBounded stream document old →
+    OldUnitsAreBounded stream document new
+bounded_same stream document old new pieces added ends is =
+    subst
+    (λ (p : PieceTable). AreTogether (IsOldBounded stream new.added.base) (flat_pieces p.pieces)
+    (whole_text document (ends_of new.ends))) (sym pieces)
+    (subst
+    (λ (a : Added). AreTogether (IsOldBounded stream a.base) (flat_pieces old.pieces.pieces)
+    (whole_text document (ends_of new.ends))) (sym added)
+    (subst
+    (λ e. AreTogether (IsOldBounded stream old.added.base) (flat_pieces old.pieces.pieces)
+    (whole_text document (ends_of e))) (sym ends) is))
+
 pub beside_sections : (document : Document) (changes : List Change) (old made new : SessionText) →
     new.pieces ≡ made.pieces → new.added ≡ made.added → new.ends ≡ made.ends → IsTextEdit document changes old made →
     IsTextEdit document changes old new
 beside_sections document changes old made new pieces added ends is = record {
   text = λ stream before.
       session_same stream (all_changed changes document) made new pieces added ends (is.text stream before);
+  bounded = λ stream before.
+      bounded_same stream (all_changed changes document) made new pieces added ends (is.bounded stream before);
   fit = λ stream before fit.
       subst (λ (p : PieceTable). HaveFitModifiers p.pieces) (sym pieces) (is.fit stream before fit);
   pieces =

@@ -119,7 +119,7 @@ all_weaker P Q places weaken all =
     All-from_slice_get Q places (λ k place here. weaken place (All_at P places k place all here))
 
 -- a list is its three parts
-in_parts : {A : Type 0} (xs : List A) (from to : ℕ) → from ≤ to →
+pub in_parts : {A : Type 0} (xs : List A) (from to : ℕ) → from ≤ to →
     take from xs ++ (slice_range xs from to ++ drop to xs) ≡ xs
 in_parts xs from to order =
     ap (λ l. take from xs ++ l) (sym (drop_split xs from to order)) ∙ take-append-drop from xs

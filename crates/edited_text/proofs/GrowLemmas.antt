@@ -179,7 +179,7 @@ piece_right : (at n : ℕ) → at + 2 * n < 2 ^ 32 → MatchOption (added_piece 
 piece_right at zero within = tt
 piece_right at (suc n) within = record { some = omega arith; end = omega (arith, within) }
 
-mark_short : HasShortSettings extra_mark
+pub mark_short : HasShortSettings extra_mark
 mark_short = record {
   chp = rw entries-empty (omega arith);
   pap = λ mark is.

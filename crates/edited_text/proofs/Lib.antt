@@ -13,3 +13,5 @@ pub mod EditLemmas
 pub mod PlanLemmas
 pub mod CommandLemmas
 pub mod StartLemmas
+pub mod WritingLemmas
+pub mod OldLemmas

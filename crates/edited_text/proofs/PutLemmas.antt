@@ -38,6 +38,8 @@ use Rattle.edited_text.specs.AddedText.{plan_of, added_piece, marked_block}
 use Rattle.edited_text.specs.EditSteps.{IsBlockOf, block_pieces, cuts_of, pieces_added, items_put}
 use Rattle.edited_text.specs.Puts.{CanPut, CanPutAll, places_after, all_places_after, ends_after_all, pieces_cut, Put}
 use Rattle.edited_text.specs.Puts.{IsPut, ArePuts}
+use Rattle.edited_text.specs.OldUnits.{IsOldBounded}
+use Rattle.edited_text.proofs.OldLemmas.{fresh_old, alike_old, spliced_old}
 use Rattle.edited_text.proofs.BlockLemmas.{blocks_stand}
 use Rattle.edited_text.proofs.TextLemmas.{All-front, All-back}
 use Rattle.std.proofs.Common.{replicate, get_or}
@@ -111,6 +113,33 @@ puts_stand document old added before now ends (put ∷ more) places are items st
     puts_stand document old added (before ++ put.block) (changed put.change now) put.splice.ends more
     (places_after places put.splice) are.1 (here ∙ sym (append_assoc before put.block behind))
     (put_stands document old added before behind now ends put places are.0 here stands)
+
+-- the units that stand before added text stay bounded
+put_old : (stream : PagedStream) (base : ℕ) (document : Document) (before : List Item) (now : Document) (ends : Ends)
+    (put : Put) (places : List UnitPlace) → IsPut document base before now ends put →
+    AreTogether (IsOldBounded stream base) places (whole_text now (ends_of ends)) →
+    AreTogether (IsOldBounded stream base) (places_after places put.splice)
+    (whole_text (changed put.change now) (ends_of put.splice.ends))
+put_old stream base document before now ends put places is old =
+    let whole = is.whole.whole in
+    let fresh : AreTogether (IsOldBounded stream base) (fresh_places put.splice.block) is.slots =
+    subst (λ o. AreTogether (IsOldBounded stream base) (fresh_places o) is.slots) (sym is.piece)
+    (fresh_old stream base (base + 2 * length before) (length put.block) is.slots (omega arith) is.added.len) in
+    alike_old stream base (places_after places put.splice) (whole_text is.whole.made (ends_of put.splice.ends))
+    (whole_text (changed put.change now) (ends_of put.splice.ends)) is.whole.alike.marks
+    (subst (AreTogether (IsOldBounded stream base) (places_after places put.splice)) (sym whole.whole)
+    (spliced_old stream base places (fresh_places put.splice.block) (whole_text now (ends_of ends)) is.slots
+    put.splice.from put.splice.to old fresh))
+
+pub puts_old : (stream : PagedStream) (base : ℕ) (document : Document) (before : List Item) (now : Document)
+    (ends : Ends) (puts : List Put) (places : List UnitPlace) → ArePuts document base before now ends puts →
+    AreTogether (IsOldBounded stream base) places (whole_text now (ends_of ends)) →
+    AreTogether (IsOldBounded stream base) (all_places_after places (splices_of_puts puts))
+    (whole_text (all_changed (changes_of_puts puts) now) (ends_of (ends_after_all ends (splices_of_puts puts))))
+puts_old stream base document before now ends [] places are old = old
+puts_old stream base document before now ends (put ∷ more) places are old =
+    puts_old stream base document (before ++ put.block) (changed put.change now) put.splice.ends more
+    (places_after places put.splice) are.1 (put_old stream base document before now ends put places are.0 old)
 
 -- ---- when the splices can be made
 

@@ -75,7 +75,7 @@ whole_range items len is =
 
 -- what stands for the whole text stands for it
 pub same_stands : (document : Document) (ends : StoryEnds) → StandAlike document document ends
-same_stands document ends = record { len = refl; stand = λ old plan places stands. stands }
+same_stands document ends = record { len = refl; marks = refl; stand = λ old plan places stands. stands }
 
 pub spliced_text : (document changed : Document) (ends after : StoryEnds) (from to : ℕ) (slots : List Slot) →
     IsSplicedWhole document ends changed after from to slots → IsSplicedText document ends changed after from to slots

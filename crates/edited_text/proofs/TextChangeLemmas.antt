@@ -1,5 +1,5 @@
 -- The step of a text for each change of its document.
-use Rattle.std.specs.Prelude.{slice_get, slice_set, MatchOption}
+use Rattle.std.specs.Prelude.{slice_get, slice_set, is_some, Bool, MatchOption}
 use Rattle.std.specs.List.{splice}
 use Rattle.std.proofs.Common.{◌≡◌, ◌∙◌, ◌+◌, ◌<◌, ◌≤◌, refl, sym, ap, subst, ℕ, List, Option, Some, None, length}
 use Rattle.std.proofs.Common.{arith}
@@ -15,7 +15,9 @@ use Rattle.edit_ops.specs.declared.changes.Change.TheVariants.{SpliceHeads, SetS
 use Rattle.edit_ops.specs.Changes.{changed, changed_at, with_section}
 use Rattle.edit_ops.specs.Makes.{CanSplice}
 use Rattle.edit_ops.specs.Ranges.{HasRange}
-use Rattle.save_laws.specs.Slots.{StoryEnds, shown, note_slots, head_slots, last_slots, whole_text}
+use Rattle.save_laws.specs.Places.{Given, given_of}
+use Rattle.save_laws.specs.ByRuns.{slot_end}
+use Rattle.save_laws.specs.Slots.{Slot, StoryEnds, shown, note_slots, head_slots, last_slots, whole_text}
 use Rattle.save_laws.specs.Ends.{ends_of}
 use Rattle.save_laws.specs.FastSaves.{StandsInEither, IsGivenBy}
 use Rattle.edited_text.specs.declared.stories.Stories.{Stories}
@@ -25,7 +27,8 @@ use Rattle.edited_text.specs.EditSteps.{KeepsNamed, IsPutStep}
 use Rattle.edited_text.specs.TextSteps.{AreStories, StandAlike, IsTextStep, IsRangeOf, AreCounted, IsCountedText}
 use Rattle.edited_text.specs.TextSteps.{CanStep}
 use Rattle.std.proofs.Common.{[], ◌++◌, map}
-use Rattle.std.proofs.lemmas.List.{length-map, length-append}
+use Rattle.std.proofs.lemmas.List.{length-map, length-append, map-append}
+use Rattle.doc_bits.proofs.ListLemmas.{map-map}
 use Rattle.edited_text.proofs.MarkLemmas.{one_text_splices, texts_splice}
 use Rattle.edited_text.proofs.ModifyLemmas.{put_text}
 use Rattle.edited_text.proofs.SectionLemmas.{given_stays, put_given, length-put}
@@ -111,6 +114,17 @@ texts_range texts from to first last begin end order within =
 
 -- ---- a change that leaves the text
 
+-- items that are given alike end paragraphs alike
+marks_stay : (main new : List Item) (rest : List Slot) → map given_of new ≡ map given_of main →
+    map slot_end (map shown new ++ rest) ≡ map slot_end (map shown main ++ rest)
+marks_stay main new rest same =
+    let ends : Given → Option Bool = λ given. Some (is_some given.mark) in
+    let both : (items : List Item) → map slot_end (map shown items) ≡ map ends (map given_of items) = λ items.
+    map-map slot_end shown items ∙ sym (map-map ends given_of items) in
+    map-append slot_end (map shown new) rest
+    ∙ (ap (λ l. l ++ map slot_end rest) (both new ∙ (ap (map ends) same ∙ sym (both main)))
+    ∙ sym (map-append slot_end (map shown main) rest))
+
 pub section_alike : (document : Document) (ends : StoryEnds) (at : ℕ) (set : Settings) →
     StandAlike document (changed (SetSection at set) document) ends
 unfolding whole_text
@@ -129,6 +143,7 @@ section_alike document ends at set =
             length-map new shown,
             length-put document.main at set,
           );
+      marks = marks_stay document.main new rest (put_given document.main at set (slice_get document.main at) refl);
       stand = λ old plan places stands.
           given_stays (StandsInEither old plan) (IsGivenBy old plan) places document.main new rest
           (put_given document.main at set (slice_get document.main at) refl) stands;
@@ -147,7 +162,7 @@ pub characters_step : (now : Document) (stories : Stories) (step : TextStep) (is
 unfolding whole_text
 characters_step now stories step istd set are is =
     nothing_put now (changed (SetStyleCharacters istd set) now) stories step
-    (record { len = refl; stand = λ old plan places stands. stands })
+    (record { len = refl; marks = refl; stand = λ old plan places stands. stands })
     (record { main = are.main; notes = are.notes; heads = are.heads }) is
 
 pub paragraphs_step : (now : Document) (stories : Stories) (step : TextStep) (istd : ℕ) (set : Settings) →
@@ -156,7 +171,7 @@ pub paragraphs_step : (now : Document) (stories : Stories) (step : TextStep) (is
 unfolding whole_text
 paragraphs_step now stories step istd set are is =
     nothing_put now (changed (SetStyleParagraphs istd set) now) stories step
-    (record { len = refl; stand = λ old plan places stands. stands })
+    (record { len = refl; marks = refl; stand = λ old plan places stands. stands })
     (record { main = are.main; notes = are.notes; heads = are.heads }) is
 
 -- ---- when a change has a step

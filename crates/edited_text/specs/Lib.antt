@@ -7,5 +7,7 @@ pub mod TextSteps
 pub mod EditSteps
 pub mod Puts
 pub mod Starts
+pub mod OldUnits
 pub mod TextEdits
+pub mod WrittenAgain
 pub mod SectionPlans

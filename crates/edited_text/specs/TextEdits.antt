@@ -8,6 +8,7 @@ use Rattle.edit_ops.specs.Changes.{all_changed}
 use Rattle.save_laws.specs.Places.{PagedStream}
 use Rattle.edited_text.specs.SessionText.{IsSessionText, HaveFitModifiers, HaveNoModifiers, HaveModifiersWithin}
 use Rattle.edited_text.specs.SessionText.{ArePlannedSections, unwritten_count}
+use Rattle.edited_text.specs.OldUnits.{OldUnitsAreBounded}
 use Rattle.edited_text.specs.EditSteps.{ActsOnNone, HasGrownBy, pieces_added, growth_of, sections_put}
 use Rattle.edited_text.specs.declared.session_text.SessionText.{SessionText}
 
@@ -15,6 +16,9 @@ pub record IsTextEdit (document : Document) (changes : List Change) (old new : S
   pub text :
       (stream : PagedStream) → IsSessionText stream document old →
       IsSessionText stream (all_changed changes document) new
+  pub bounded :
+      (stream : PagedStream) → OldUnitsAreBounded stream document old →
+      OldUnitsAreBounded stream (all_changed changes document) new
   pub fit :
       (stream : PagedStream) → IsSessionText stream document old → HaveFitModifiers old.pieces.pieces →
       HaveFitModifiers new.pieces.pieces

@@ -1,5 +1,6 @@
 -- The step of a session's text that a change of the document is: slots in place of a range of CPs.
-use Rattle.std.specs.Prelude.{◌≡◌, ◌⊎◌, ℕ, ◌+◌, ◌<◌, ◌≤◌, List, [], ◌∷◌, length, Bool, true, false, slice_get}
+use Rattle.std.specs.Prelude.{◌≡◌, ◌⊎◌, ℕ, ◌+◌, ◌<◌, ◌≤◌, List, [], ◌∷◌, length, map, Bool, true, false}
+use Rattle.std.specs.Prelude.{slice_get}
 use Rattle.std.specs.Prelude.{MatchOption, ⊤}
 use Rattle.doc_bits.specs.declared.places.Story.{Story}
 use Rattle.doc_bits.specs.declared.places.Story.TheVariants.{Main, Note, Head}
@@ -16,6 +17,7 @@ use Rattle.save_laws.specs.Places.{PagedStream}
 use Rattle.save_laws.specs.Plans.{Plan}
 use Rattle.save_laws.specs.Sessions.{StandInSession}
 use Rattle.save_laws.specs.Slots.{Slot, StoryEnds, whole_text}
+use Rattle.save_laws.specs.ByRuns.{slot_end}
 use Rattle.save_laws.specs.Ends.{ends_of}
 use Rattle.save_laws.specs.declared.ends.Ends.{Ends}
 use Rattle.edited_text.specs.declared.stories.Stories.{Stories}
@@ -114,6 +116,7 @@ CanStep document stories (SetStyleParagraphs istd set) = ⊤
 -- places that stand for the whole text of the one document stand for that of the other, whose whole text is as long
 pub record StandAlike (one other : Document) (ends : StoryEnds) : Type 0 where
   pub len : length (whole_text other ends) ≡ length (whole_text one ends)
+  pub marks : map slot_end (whole_text other ends) ≡ map slot_end (whole_text one ends)
   pub stand :
       (old : PagedStream) (plan : Plan) (places : List UnitPlace) →
       StandInSession old plan places (whole_text one ends) → StandInSession old plan places (whole_text other ends)

@@ -64,7 +64,7 @@ fn with_marks(alloc: Global, mut items: Items, marks: usize) -> Result<Items, Me
 }
 
 /// A mark of style 0, without settings.
-fn extra_mark(alloc: Global) -> Item
+pub(crate) fn extra_mark(alloc: Global) -> Item
     ensures mark { result ≡ mark_behind }
     ensures maps { HasPropertyMaps result }
 {

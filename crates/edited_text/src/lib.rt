@@ -10,6 +10,7 @@ mod session_text;
 mod steps;
 mod stories;
 mod text_changes;
+mod writing;
 
 pub use added::Added;
 pub use session_laws::{

@@ -1,28 +1,28 @@
--- What the text that a command adds takes in a fast save: two bytes a unit, and a page a run, where equal marks in a
--- row
--- are one run. It is no more than is reckoned for the command: where marks behind a story come, a reckoned run is
--- missing.
+-- What the text that a command adds takes in a fast save: two bytes a unit, and the pages of its runs. It is no more
+-- than is reckoned for the command: where marks behind a story come, they share a page with the mark before them.
 use Rattle.std.specs.Prelude.{ℕ, List, Option, ◌⊎◌, MatchOption, slice_get}
-use Rattle.std.specs.List.{sum_by, filter_map}
+use Rattle.std.specs.List.{sum_by}
 use Rattle.std.specs.FinMap.{empty}
-use Rattle.std.proofs.Common.{◌≡◌, ◌∙◌, ◌∷◌, ◌++◌, ◌+◌, ◌*◌, ◌<◌, ◌≤◌, [], refl, sym, ap, subst, inl, inr, zero, suc}
-use Rattle.std.proofs.Common.{Bool, true, false, Some, None, length, replicate, arith, All}
+use Rattle.std.proofs.Common.{◌≡◌, ◌∙◌, ◌∷◌, ◌++◌, ◌+◌, ◌*◌, ◌<◌, ◌≤◌, [], refl, ap, inl, inr, zero, suc}
+use Rattle.std.proofs.Common.{Bool, true, false, Some, None, length, map, replicate, arith, All, ◌==◌}
 use Rattle.std.specs.Option.{unwrap_or}
 use Rattle.std.proofs.lemmas.Bool.{cases_lt}
 use Rattle.std.proofs.lemmas.Option.{none-some, same_Some}
 use Rattle.std.proofs.lemmas.List.{length-append, length-replicate, append_assoc, append-nil}
-use Rattle.std.proofs.lemmas.List.Elements.{All-nil, All-cons, All-append, All-head, All-tail, filter_map-append}
+use Rattle.std.proofs.lemmas.List.{replicate-append-replicate}
+use Rattle.std.proofs.lemmas.List.Elements.{All-nil, All-cons, All-append, All-head, All-tail}
 use Rattle.std.proofs.lemmas.List.Sums.{sum_by-cons}
 use Rattle.doc_bits.specs.Together.{AreTogether}
 use Rattle.doc_bits.specs.declared.places.Story.{Story}
 use Rattle.doc_bits.specs.declared.places.Story.TheVariants.{Main, Note as NoteText, Head as HeadText}
+use Rattle.sprm_table.specs.Sprm.{Prl}
 use Rattle.prop_map.specs.Settings.{Settings}
+use Rattle.prop_map.proofs.EntriesLemmas.{entries-empty}
 use Rattle.plain_doc.specs.declared.item.Item.{Item}
 use Rattle.plain_doc.specs.declared.item.Mark.{Mark}
 use Rattle.plain_doc.specs.declared.document.Document.{Document}
 use Rattle.plain_doc.specs.Collected.{joined_texts}
 use Rattle.plain_doc.specs.Stretches.{stretches}
-use Rattle.plain_doc.specs.Settings.{is_alike}
 use Rattle.plain_doc.proofs.TextListLemmas.{empty_joined, length-joined}
 use Rattle.full_save.specs.Text.{extra_mark}
 use Rattle.edit_script.specs.declared.commands.Command.{Command}
@@ -39,31 +39,32 @@ use Rattle.edit_ops.specs.Fresh.{inserted_items, base_settings, field_items, spl
 use Rattle.edit_ops.specs.EditFacts.{edit_facts, items_added}
 use Rattle.edit_ops.specs.Edits.{erased, section_changes, changes_of, setting_characters, setting_paragraphs, clearing}
 use Rattle.edit_ops.specs.Edits.{naming_style}
-use Rattle.edit_ops.specs.Runs.{run_count, texts_put, runs_put, most_runs}
+use Rattle.edit_ops.specs.Runs.{run_count, texts_put, most_runs}
 use Rattle.edit_ops.proofs.RunLemmas.{few_runs}
 use Rattle.edited_text.specs.AddedText.{marked_block}
 use Rattle.edited_text.specs.EditSteps.{HasGrownBy, IsBlockOf, NamesEmptyStory, items_put}
-use Rattle.save_bounds.specs.RunCounts.{joined_run_count, marks_of, same_marks}
-use Rattle.save_bounds.proofs.JoinedRunLemmas.{joined_runs_are_fewer, joined_run_counts_add, ends_add_no_run}
+use Rattle.save_bounds.specs.SharedPages.{pages_begun, marks_of, is_bare_mark, page_bound}
+use Rattle.save_bounds.proofs.MarkRunLemmas.{both_marks}
+use Rattle.save_bounds.proofs.PageBoundLemmas.{page_bounds_are_fewer, page_bounds_add, bare_marks_share}
 use Rattle.fast_save.proofs.GrownLemmas.{together_tail, joined_sum}
 use Rattle.edit_ops.proofs.RunLemmas.{HasChp, one_run, units_have}
 
 abbrev pub bytes_of : List Item → ℕ
-bytes_of items = 2 * length items + 512 * joined_run_count items
+bytes_of items = 2 * length items + 512 * page_bound items
 
 pub bytes-append : (one other : List Item) → bytes_of (one ++ other) ≤ bytes_of one + bytes_of other
 bytes-append one other =
-    let runs = joined_run_counts_add one other in omega (arith, length-append one other, runs)
+    let runs = page_bounds_add one other in omega (arith, length-append one other, runs)
 
 -- ---- texts without marks behind them
 
-joined_runs_within : (texts : List (List Item)) → joined_run_count (joined_texts texts) ≤ sum_by run_count texts
-unfolding stretches
-joined_runs_within [] = omega arith
-joined_runs_within (text ∷ texts) =
-    let both = joined_run_counts_add text (joined_texts texts) in
-    let fewer = joined_runs_are_fewer text in
-    let more = joined_runs_within texts in
+pages_within : (texts : List (List Item)) → page_bound (joined_texts texts) ≤ sum_by run_count texts
+unfolding stretches pages_begun
+pages_within [] = omega arith
+pages_within (text ∷ texts) =
+    let both = page_bounds_add text (joined_texts texts) in
+    let fewer = page_bounds_are_fewer text in
+    let more = pages_within texts in
     omega (arith, both, fewer, more, sum_by-cons run_count text texts)
 
 -- the items that a change puts are those that are counted
@@ -81,7 +82,7 @@ change_runs change = sum_by run_count (texts_put change)
 
 put_bytes : (change : Change) → bytes_of (items_put change) ≤ 2 * items_added change + 512 * change_runs change
 put_bytes change =
-    let runs = joined_runs_within (texts_put change) in omega (arith, put_length change, runs)
+    let runs = pages_within (texts_put change) in omega (arith, put_length change, runs)
 
 -- ---- a block has marks where its story had no items
 
@@ -109,7 +110,7 @@ IsUnmarked document change = (block : List Item) → IsBlockOf document change b
 unmarked_bytes : (document : Document) (changes : List Change) (blocks : List (List Item)) →
     AreTogether (IsBlockOf document) changes blocks → All (IsUnmarked document) changes →
     bytes_of (joined_texts blocks) ≤ 2 * sum_by items_added changes + 512 * sum_by change_runs changes
-unfolding stretches
+unfolding stretches pages_begun
 unmarked_bytes document [] [] together all = omega arith
 unmarked_bytes document [] (block ∷ blocks) together all = let len = together.len in absurd (omega (arith, len))
 unmarked_bytes document (change ∷ changes) [] together all = let len = together.len in absurd (omega (arith, len))
@@ -130,44 +131,57 @@ unmarked_bytes document (change ∷ changes) (block ∷ blocks) together all =
       sum_by-cons change_runs change changes,
     )
 
--- ---- a block that ends as the marks behind it
+-- ---- a block that ends with plain marks
 
-ended_bytes : (front : List Item) (marks : ℕ) → marks ≤ 2 →
-    bytes_of (marked_block (front ++ extra_mark ∷ []) marks)
-    ≤ 2 * length (front ++ extra_mark ∷ []) + 4 + 512 * joined_run_count (front ++ extra_mark ∷ [])
-ended_bytes front marks few =
-    let items = front ++ extra_mark ∷ [] in
-    let same : marked_block items marks ≡ front ++ extra_mark ∷ replicate marks extra_mark =
-    append_assoc front (extra_mark ∷ []) (replicate marks extra_mark) in
-    omega (
-      arith,
-      ap joined_run_count same,
-      ends_add_no_run front extra_mark marks,
-      length-append items (replicate marks extra_mark),
-      length-replicate marks extra_mark,
-      few,
-    )
+abbrev ends_of : ℕ → List Item
+ends_of count = replicate count plain_end
 
--- units without settings and a plain mark: two runs
+ends_have : (count : ℕ) → All (HasChp empty) (ends_of count)
+ends_have zero = All-nil (HasChp empty)
+ends_have (suc count) = All-cons (HasChp empty) plain_end (ends_of count) refl (ends_have count)
+
+abbrev IsBareMark : Mark → Type 0
+IsBareMark mark = is_bare_mark mark ≡ true
+
+plain_is_bare : IsBareMark (mark_with empty)
+plain_is_bare = ap (λ (list : List Prl). length list == 0) entries-empty
+
+-- their marks are bare, and no more than they are
+record AreBareMarks (marks : List Mark) (count : ℕ) : Type 0 where
+  bare : All IsBareMark marks
+  few : length marks ≤ count
+
+ends_bare : (count : ℕ) → AreBareMarks (marks_of (ends_of count)) count
+ends_bare zero = record { bare = All-nil IsBareMark; few = omega arith }
+ends_bare (suc count) =
+    let rest = ends_bare count in
+    let few = rest.few in
+    record {
+      bare = All-cons IsBareMark (mark_with empty) (marks_of (ends_of count)) plain_is_bare rest.bare;
+      few = omega (arith, few);
+    }
+
 unit_marks : (chp : Settings) (units : List ℕ) → marks_of (unit_items chp units) ≡ []
 unit_marks chp [] = refl
 unit_marks chp (unit ∷ units) = unit_marks chp units
 
-plain_text : (units : List ℕ) → joined_run_count (unit_items empty units ++ plain_end ∷ []) ≤ 2
-unfolding stretches
-plain_text units =
-    let items = unit_items empty units ++ plain_end ∷ [] in
+-- units without settings and some plain marks: a page of characters and one of paragraphs
+plain_text : (units : List ℕ) (count : ℕ) → count ≤ 29 → page_bound (unit_items empty units ++ ends_of count) ≤ 2
+plain_text units count small =
+    let items = unit_items empty units ++ ends_of count in
     let all =
-    All-append (HasChp empty) (unit_items empty units) (plain_end ∷ []) (units_have empty units)
-    (All-cons (HasChp empty) plain_end [] refl (All-nil (HasChp empty))) in
+    All-append (HasChp empty) (unit_items empty units) (ends_of count) (units_have empty units) (ends_have count) in
     let one = one_run empty items all in
-    let marks : marks_of items ≡ mark_with empty ∷ [] =
-    filter_map-append (λ (item : Item). item.mark) (unit_items empty units) (plain_end ∷ [])
-    ∙ ap (λ (list : List Mark). list ++ mark_with empty ∷ []) (unit_marks empty units) in
-    omega (arith, one, ap (λ (list : List Mark). length (stretches same_marks list)) marks)
+    let marks : marks_of items ≡ marks_of (ends_of count) =
+    both_marks (unit_items empty units) (ends_of count)
+    ∙ ap (λ (list : List Mark). list ++ marks_of (ends_of count)) (unit_marks empty units) in
+    let bare = ends_bare count in
+    let few = bare.few in
+    let share = bare_marks_share (marks_of (ends_of count)) bare.bare (omega (arith, few, small)) in
+    omega (arith, one, ap (λ (list : List Mark). pages_begun 0 (map is_bare_mark list)) marks, share)
 
-one_unit : (item : Item) → item.mark ≡ None → joined_run_count (item ∷ []) ≤ 1
-unfolding stretches
+one_unit : (item : Item) → item.mark ≡ None → page_bound (item ∷ []) ≤ 1
+unfolding stretches pages_begun
 one_unit item none = rw none (omega arith)
 
 -- ---- stories that have items
@@ -235,47 +249,47 @@ section_unmarked document at true set =
 
 -- ---- an insertion into an empty header text, and a note
 
--- two paragraph marks behind units
-first_text : (units : List ℕ) →
-    unit_items empty units ++ plain_end ∷ plain_end ∷ []
-    ≡ (unit_items empty units ++ plain_end ∷ []) ++ extra_mark ∷ []
-first_text units = sym (append_assoc (unit_items empty units) (plain_end ∷ []) (extra_mark ∷ []))
+-- some items, and the marks behind them
+block_length : (items : List Item) (marks : ℕ) → length (marked_block items marks) ≡ length items + marks
+block_length items marks =
+    omega (arith, length-append items (replicate marks extra_mark), length-replicate marks extra_mark)
 
-block_ended : (front : List Item) (document : Document) (change : Change) (block : List Item) →
-    items_put change ≡ front ++ extra_mark ∷ [] → IsBlockOf document change block →
-    bytes_of block ≤ 2 * length (front ++ extra_mark ∷ []) + 4 + 512 * joined_run_count (front ++ extra_mark ∷ [])
-block_ended front document change block put is =
-    let same : block ≡ marked_block (front ++ extra_mark ∷ []) is.marks =
-    is.is ∙ ap (λ (items : List Item). marked_block items is.marks) put in
-    let bytes = ended_bytes front is.marks is.few in
-    omega (arith, ap bytes_of same, bytes)
+-- units, plain marks and the marks behind them
+more_ends : (units : List ℕ) (count marks : ℕ) →
+    (unit_items empty units ++ ends_of count) ++ replicate marks extra_mark
+    ≡ unit_items empty units ++ ends_of (count + marks)
+more_ends units count marks =
+    append_assoc (unit_items empty units) (ends_of count) (replicate marks extra_mark)
+    ∙ ap (λ (list : List Item). unit_items empty units ++ list) (replicate-append-replicate count marks plain_end)
 
 first_bytes : (document : Document) (story : Story) (at : ℕ) (units : List ℕ) (items : List Item) (block : List Item) →
     items ≡ unit_items empty units ++ plain_end ∷ plain_end ∷ [] → IsBlockOf document (SpliceText story at at items)
     block →
     bytes_of block ≤ 2 * length items + 1028
 first_bytes document story at units items block are is =
-    let front = unit_items empty units ++ plain_end ∷ [] in
-    let ended : items ≡ front ++ extra_mark ∷ [] = are ∙ first_text units in
-    let put : items_put (SpliceText story at at items) ≡ front ++ extra_mark ∷ [] = append-nil items ∙ ended in
-    let bytes = block_ended front document (SpliceText story at at items) block put is in
-    let again = ends_add_no_run (unit_items empty units) plain_end 1 in
-    let runs = plain_text units in
-    omega (arith, bytes, again, runs, ap joined_run_count (first_text units), ap length ended)
+    let few = is.few in
+    let same : block ≡ marked_block items is.marks =
+    is.is ∙ ap (λ (list : List Item). marked_block list is.marks) (append-nil items) in
+    let whole : block ≡ unit_items empty units ++ ends_of (2 + is.marks) =
+    same ∙ (ap (λ (list : List Item). list ++ replicate is.marks extra_mark) are ∙ more_ends units 2 is.marks) in
+    let pages = plain_text units (2 + is.marks) (omega (arith, few)) in
+    omega (arith, ap length same, block_length items is.marks, few, ap page_bound whole, pages)
 
 note_bytes : (document : Document) (number : ℕ) (units : List ℕ) (block : List Item) →
     IsBlockOf document (SpliceNotes number number (note_items units ∷ [])) block →
     bytes_of block ≤ 2 * length (note_items units) + 4 + 512 * 3
 note_bytes document number units block is =
     let first = unit_item (special empty) 0x02 in
-    let front = first ∷ unit_items empty units in
-    let bytes =
-    block_ended front document (SpliceNotes number number (note_items units ∷ [])) block
-    (append-nil (note_items units)) is in
-    let both = joined_run_counts_add (first ∷ []) (unit_items empty units ++ plain_end ∷ []) in
+    let few = is.few in
+    let same : block ≡ marked_block (note_items units) is.marks =
+    is.is ∙ ap (λ (list : List Item). marked_block list is.marks) (append-nil (note_items units)) in
+    let rest = unit_items empty units ++ ends_of (1 + is.marks) in
+    let whole : block ≡ first ∷ rest =
+    same ∙ ap (λ (list : List Item). first ∷ list) (more_ends units 1 is.marks) in
+    let both = page_bounds_add (first ∷ []) rest in
     let one = one_unit first refl in
-    let runs = plain_text units in
-    omega (arith, bytes, both, one, runs)
+    let pages = plain_text units (1 + is.marks) (omega (arith, few)) in
+    omega (arith, ap length same, block_length (note_items units) is.marks, few, ap page_bound whole, both, one, pages)
 
 one_block : (document : Document) (change : Change) (blocks : List (List Item)) (most : ℕ) →
     ((block : List Item) → IsBlockOf document change block → bytes_of block ≤ most) →
@@ -448,12 +462,12 @@ long_blocks document (change ∷ changes) (block ∷ blocks) together =
 -- the runs of added text after a command
 pub runs_after : (document : Document) (command : Command) (old new : List Item) → IsInRange document command →
     HasGrownBy document (changes_of document command) old new →
-    joined_run_count new ≤ joined_run_count old + most_runs command
+    page_bound new ≤ page_bound old + most_runs command
 runs_after document command old new range grown =
     let within = added_within document command range grown.blocks grown.each in
     let long = long_blocks document (changes_of document command) grown.blocks grown.each in
-    let both = joined_run_counts_add old (joined_texts grown.blocks) in
-    omega (arith, ap joined_run_count grown.items, within, long, both)
+    let both = page_bounds_add old (joined_texts grown.blocks) in
+    omega (arith, ap page_bound grown.items, within, long, both)
 
 -- what added text takes after a command
 pub bytes_after : (document : Document) (command : Command) (old new : List Item) → IsInRange document command →

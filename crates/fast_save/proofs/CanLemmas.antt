@@ -4,8 +4,8 @@
 use Rattle.std.specs.Prelude.{slice_range, min, filter, nat_lt}
 use Rattle.std.specs.List.{range_with_len}
 use Rattle.std.specs.Option.{ForSome}
-use Rattle.std.proofs.Common.{◌≡◌, ◌∙◌, refl, sym, ap, subst, inl, inr, ℕ, suc, ◌+◌, ◌-◌, ◌*◌, ◌/◌, ◌^◌, ◌<◌, ◌≤◌}
-use Rattle.std.proofs.Common.{Bool, true, false, cond, List, [], ◌∷◌, ◌++◌, length, map, drop, Option, All, arith}
+use Rattle.std.proofs.Common.{◌≡◌, ◌∙◌, refl, ap, subst, ℕ, suc, ◌+◌, ◌-◌, ◌*◌, ◌/◌, ◌^◌, ◌<◌, ◌≤◌}
+use Rattle.std.proofs.Common.{Bool, true, false, cond, List, [], ◌∷◌, length, map, drop, arith}
 use Rattle.std.proofs.Common.{length-append, length-take, length-drop}
 use Rattle.std.proofs.lemmas.List.{length-map}
 use Rattle.std.proofs.lemmas.List.FromFn.{length-range_with_len}
@@ -14,54 +14,48 @@ use Rattle.doc_bits.specs.Together.{AreTogether}
 use Rattle.doc_bits.proofs.ListLemmas.{get-map}
 use Rattle.prop_map.specs.Settings.{Settings}
 use Rattle.cfb_streams.specs.Names.{wd_name, table_name}
-use Rattle.cfb_sectors.specs.Header.{sector_count}
 use Rattle.fib_form.specs.Fib.{fib_pair, table_part}
 use Rattle.fib_form.specs.FibFields.{fib_fields}
+use Rattle.fib_form.specs.TableParts.{pair_of}
+use Rattle.fib_form.specs.declared.table_parts.TablePart.TheVariants.{PlcfBteChpx, PlcfBtePapx}
 use Rattle.fkp_pages.specs.declared.kind.PageKind.{PageKind}
 use Rattle.fkp_pages.specs.declared.kind.PageKind.TheVariants.{Chpx, Papx}
-use Rattle.fkp_pages.specs.declared.lists.Run.{Run}
 use Rattle.fkp_pages.specs.Bin.{bin_count}
 use Rattle.fkp_pages.specs.InARow.{numbered_bins}
-use Rattle.fkp_pages.specs.Packed.{fits_page, packed_from, packed, pages_of}
-use Rattle.fkp_pages.specs.Pages.{first_fc}
 use Rattle.fkp_pages.proofs.PrintedBinLemmas.{length-printed_bin}
 use Rattle.fkp_pages.proofs.RowLemmas.{length-numbered_bins}
-use Rattle.piece_table.specs.Piece.{ArePieces, flat_pieces}
+use Rattle.piece_table.specs.Piece.{ArePieces}
 use Rattle.piece_table.specs.Printing.{IsPrintedClx}
 use Rattle.plain_doc.specs.declared.document.Document.{Document}
 use Rattle.plain_doc.specs.Collected.{sections_of}
 use Rattle.plain_doc.specs.Document.{IsFormedText}
 use Rattle.plain_doc.specs.Formed.{IsFormed}
-use Rattle.plain_doc.specs.Settings.{is_alike}
-use Rattle.plain_doc.specs.Stretches.{stretches}
 use Rattle.doc_load.specs.FileRules.{table_stream_name}
 use Rattle.full_save.specs.WordDocument.{table_stream}
-use Rattle.full_save.proofs.StreamLengths.{length-runs_from}
 use Rattle.save_laws.specs.Saves.{HasSettingsAt}
 use Rattle.save_bounds.specs.ClxLengths.{HaveShortPrcs}
-use Rattle.save_bounds.specs.RunCounts.{joined_run_count}
-use Rattle.save_bounds.specs.FastSizes.{SaveCounts, reckoned_sectors}
+use Rattle.save_bounds.specs.FastSizes.{reckoned_sectors}
 use Rattle.save_bounds.proofs.ClxLemmas.{clx_is_short, reckoned_prcs_are_short}
 use Rattle.save_bounds.proofs.TableLemmas.{tables_are_short}
-use Rattle.append_save.specs.Appended.{old_wd, old_table, old_bins, bins_end, added_runs, added_pages, first_page}
+use Rattle.append_save.specs.Appended.{old_stream, old_wd, old_table, old_bins, bins_end, added_pages, page_count, first_page}
 use Rattle.append_save.specs.Appended.{pages_end}
-use Rattle.append_save.specs.Appended.{fast_bins, fast_bin_table, fast_text, fast_table, table_name_of}
+use Rattle.append_save.specs.Appended.{fast_bins, fast_bin_table, fast_text, fast_table}
 use Rattle.append_save.specs.AppendedLengths.{IsCounted as IsCountedSave}
 use Rattle.append_save.specs.Kept.{CanBeAppended}
 use Rattle.append_save.specs.KeptBins.{bin_of, bins_of, kept_bins}
 use Rattle.append_save.specs.RenewedStreams.{bytes_named}
 use Rattle.append_save.specs.Saves.{FastSave}
-use Rattle.append_save.proofs.RunLengths.{mark_runs_are_few}
+use Rattle.append_save.proofs.RunLengths.{pages_are_few}
 use Rattle.append_save.proofs.StreamLemmas.{named_is}
 use Rattle.append_save.proofs.StreamLengths.{length-seds}
-use Rattle.edited_text.specs.SessionText.{IsSectionPlan, ArePlannedSections}
+use Rattle.edited_text.specs.SessionText.{IsSectionPlan}
 use Rattle.edited_text.proofs.StartLemmas.{settings_are_listed}
 use Rattle.fast_save.specs.declared.ledgers.Counts.{Counts}
 use Rattle.fast_save.specs.declared.parts.SessionParts.{SessionParts}
 use Rattle.fast_save.specs.Ledgers.{modifier_bytes, bytes_reckoned, sector_bound}
-use Rattle.fast_save.specs.Session.{IsSession, text_base}
+use Rattle.fast_save.specs.Session.{IsCounted, saved_stream}
 use Rattle.fast_save.specs.Started.{IsReadFile}
-use Rattle.fast_save.specs.Fast.{IsJudged, CanSaveFast, save_in, save_counts}
+use Rattle.fast_save.specs.Fast.{IsCountedText, CanSaveFast, save_in, save_counts}
 use Rattle.fast_save.proofs.OpenLemmas.{named_short}
 
 -- ---- what is reckoned is small
@@ -102,28 +96,7 @@ are_small counts table_bytes few =
       exact = bound_exact counts.sectors bytes few;
     }
 
--- ---- pages are no more than runs, and ranges that are kept no more than there are
-
-few_packed : (kind : PageKind) (front runs : List Run) → length (packed_from kind front runs) ≤ suc (length runs)
-unfolding packed_from
-few_packed kind front [] = omega arith
-few_packed kind front (run ∷ runs) =
-    let stays = few_packed kind (front ++ run ∷ []) runs in
-    let next = few_packed kind (run ∷ []) runs in
-    elim (fits_page kind (front ++ run ∷ [])) as
-    (λ b.
-    length (cond b (packed_from kind (front ++ run ∷ []) runs) (front ∷ packed_from kind (run ∷ []) runs))
-    ≤ suc (suc (length runs))) [
-      | true ↦ omega (arith, stays)
-      | false ↦ omega (arith, next)
-    ]
-
-few_parts : (kind : PageKind) (runs : List Run) → length (packed kind runs) ≤ length runs
-few_parts kind [] = omega arith
-few_parts kind (run ∷ runs) = let few = few_packed kind (run ∷ []) runs in omega (arith, few)
-
-few_pages : (kind : PageKind) (runs : List Run) → length (pages_of kind runs).starts ≤ length runs
-few_pages kind runs = omega (arith, length-map (packed kind runs) first_fc, few_parts kind runs)
+-- ---- ranges that are kept are no more than there are
 
 few_left : {A : Type 0} (test : A → Bool) (xs : List A) → length (filter test xs) ≤ length xs
 few_left test [] = omega arith
@@ -146,6 +119,23 @@ range_short : (xs : List ℕ) (from to : ℕ) → length (slice_range xs from to
 range_short xs from to = omega (arith, length-take (to - from) (drop from xs), length-drop from xs)
 
 -- ---- the save
+
+-- the text as it was added: what is counted of a session is what a save needs
+pub counted_as_added : (file : List ℕ) (document : Document) (parts : SessionParts) (counts : Counts) →
+    IsCounted file parts counts → IsCountedText file document parts counts
+counted_as_added file document parts counts is =
+    let few = pages_are_few (save_in document parts) in
+    record {
+      pieces = is.pieces;
+      modified = is.modified;
+      printed = is.printed;
+      sectors = is.sectors;
+      few = is.few;
+      bins = is.bins;
+      pages = omega (arith, few, is.pages);
+      text = omega (arith, few, is.text);
+      unwritten = is.unwritten;
+    }
 
 module _ (document : Document) (parts : SessionParts) (can : CanSaveFast document parts) (formed : IsFormed document)
     (items : IsFormedText parts.text.added.items) (pieces : ArePieces parts.text.pieces.pieces) where
@@ -193,6 +183,13 @@ module _ (document : Document) (parts : SessionParts) (can : CanSaveFast documen
       start
       ∙ named_is can.file held.parts.contents wd_name held.parts.text.wd has.has_contents has.has_text.has_wd
 
+  pub old_stream_is : old_stream the_save ≡ saved_stream can.session.held
+  old_stream_is = λ i. record {
+    wd = wd_is i;
+    characters = table_part (wd_is i) (table_is i) (pair_of PlcfBteChpx);
+    paragraphs = table_part (wd_is i) (table_is i) (pair_of PlcfBtePapx);
+  }
+
   table_short : length (old_table the_save) ≤ 7143936
   table_short =
       let held = can.session.held in
@@ -208,30 +205,16 @@ module _ (document : Document) (parts : SessionParts) (can : CanSaveFast documen
       let pair = fib_pair (old_wd the_save) 13 in
       omega (arith, range_short (old_table the_save) pair.0 (pair.0 + pair.1), table_short)
 
-  -- the runs that are added
-  few_runs : length (added_runs Chpx the_save) + length (added_runs Papx the_save)
-      ≤ joined_run_count parts.text.added.items + 1
-  few_runs =
-      let base = parts.text.added.base in
-      let added = parts.text.added.items in
-      let marks = mark_runs_are_few (old_bins Papx the_save) base added in
-      omega (arith, length-runs_from Chpx base (stretches is_alike added), marks)
+  room : parts.text.added.base + 2 * length parts.text.added.items + 512 * page_count the_save ≤ 2 ^ 28
+  room = omega (arith, can.session.base, wd_short, can.counted.text, small.text)
 
-  room : parts.text.added.base
-      + 2 * length parts.text.added.items
-      + 512 * (length (added_runs Chpx the_save) + length (added_runs Papx the_save))
-      ≤ 2 ^ 28
-  room =
-      omega (arith, can.session.base, wd_short, few_runs, can.counted.text, small.text)
-
-  bin_table_short : (kind : PageKind) → length (added_runs kind the_save) ≤ 20000 →
+  bin_table_short : (kind : PageKind) → length (added_pages kind the_save).starts ≤ 20000 →
       length (fast_bin_table kind the_save) ≤ 60000000
   unfolding fast_bin_table
   bin_table_short kind few =
       let old = old_bins kind the_save in
       let kept = few_left (λ bin. nat_lt bin.first parts.text.added.base) (bins_of old) in
       let starts = (added_pages kind the_save).starts in
-      let pages = few_pages kind (added_runs kind the_save) in
       let bins = numbered_bins (first_page kind the_save) starts in
       omega (
         arith,
@@ -239,7 +222,6 @@ module _ (document : Document) (parts : SessionParts) (can : CanSaveFast documen
         kept,
         few_ranges old,
         bins_short kind,
-        pages,
         length-printed_bin (fast_bins kind the_save) (bins_end kind the_save),
         length-append (kept_bins old parts.text.added.base) bins,
         length-numbered_bins (first_page kind the_save) starts,
@@ -279,11 +261,10 @@ module _ (document : Document) (parts : SessionParts) (can : CanSaveFast documen
       let seds = length-seds 0 (pages_end the_save) parts.text.sections.items (sections_of document.main)
       settings_of.len in
       let short = tables_are_short document (fast_text the_save clx) seds in
-      let few = few_runs in
       let text = small.text in
-      let joined = can.counted.joined in
-      let characters = bin_table_short Chpx (omega (arith, few, text, joined)) in
-      let paragraphs = bin_table_short Papx (omega (arith, few, text, joined)) in
+      let pages = can.counted.text in
+      let characters = bin_table_short Chpx (omega (arith, text, pages)) in
+      let paragraphs = bin_table_short Papx (omega (arith, text, pages)) in
       omega (arith, short, characters, paragraphs, clx_small clx printed, small.table)
 
   pub can_append : CanBeAppended the_save
@@ -303,6 +284,7 @@ module _ (document : Document) (parts : SessionParts) (can : CanSaveFast documen
     sections = settings_of;
     pieces = pieces;
     few = omega (arith, can.counted.pieces, can.judged.pieces);
+    few_added = omega (arith, can.counted.text, small.text);
     room = room;
     table = table_small;
   }
@@ -315,7 +297,7 @@ module _ (document : Document) (parts : SessionParts) (can : CanSaveFast documen
     formed = formed;
     items = items;
     text = can.counted.text;
-    runs = can.counted.joined;
+    runs = can.counted.pages;
     sections = can.counted.unwritten;
     pieces = can.counted.pieces;
     prcs = prcs;

@@ -1,19 +1,15 @@
 -- What the changes of a command add, by the command alone.
-use Rattle.std.specs.Prelude.{ℕ, List, Option, ◌==◌, if◌then◌else◌, is_some}
-use Rattle.std.specs.List.{flat_map, sum_by, filter_map}
-use Rattle.std.specs.FinMap.{empty, entries}
-use Rattle.std.proofs.lemmas.Grind.{flat_map-append}
-use Rattle.std.proofs.Common.{◌≡◌, ◌∙◌, ◌∷◌, ◌++◌, ◌+◌, ◌*◌, ◌<◌, ◌≤◌, [], refl, sym, ap, subst, Bool, true, false}
-use Rattle.std.proofs.Common.{None, Some, length, map, replicate, arith, All}
+use Rattle.std.specs.Prelude.{ℕ, List, ◌==◌, if◌then◌else◌}
+use Rattle.std.specs.List.{flat_map, sum_by}
+use Rattle.std.specs.FinMap.{empty}
+use Rattle.std.proofs.Common.{◌≡◌, ◌∙◌, ◌∷◌, ◌++◌, ◌+◌, ◌≤◌, [], refl, ap, Bool, true, false}
+use Rattle.std.proofs.Common.{length, replicate, arith, All}
 use Rattle.std.proofs.lemmas.List.Elements.{filter_map-append, All-cons, All-nil}
-use Rattle.std.proofs.lemmas.List.{length-append}
 use Rattle.doc_bits.specs.declared.places.Story.{Story}
 use Rattle.doc_bits.specs.declared.places.Story.TheVariants.{Main, Note as NoteText, Head as HeadText}
 use Rattle.text_codes.specs.Paragraph.{cell_mark}
 use Rattle.prop_map.specs.Settings.{Settings}
-use Rattle.sprm_table.specs.Sprm.{Prl, spelling}
-use Rattle.prop_map.specs.declared.modifiers.Modifier.{Modifier}
-use Rattle.prop_map.specs.Modifiers.{no_modifier, style_prls, clear_prls, printed_modifier}
+use Rattle.prop_map.specs.Modifiers.{no_modifier, printed_modifier}
 use Rattle.prop_map.specs.Printing.{printed_list}
 use Rattle.prop_map.proofs.EntriesLemmas.{entries-empty}
 use Rattle.prop_map.proofs.PrintedLemmas.{length-style, length-clear}

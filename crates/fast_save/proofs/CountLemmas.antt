@@ -8,30 +8,28 @@ use Rattle.std.proofs.lemmas.Option.{none-some, same_Some, slice_get_within, get
 use Rattle.std.proofs.Common.{inl, inr}
 use Rattle.std.proofs.lemmas.Bool.{cases_lt}
 use Rattle.doc_bits.proofs.ListLemmas.{get-map, All_at, All-from_slice_get}
-use Rattle.std.proofs.Common.{◌≡◌, ◌∙◌, ◌∷◌, ◌+◌, ◌*◌, ◌-◌, ◌/◌, ◌^◌, ◌<◌, ◌≤◌, ◌||◌, [], refl, sym, ap, subst, Bool}
+use Rattle.std.proofs.Common.{◌≡◌, ◌∙◌, ◌∷◌, ◌+◌, ◌*◌, ◌-◌, ◌^◌, ◌<◌, ◌≤◌, ◌||◌, [], refl, sym, ap, subst, Bool}
 use Rattle.std.proofs.Common.{true, false, Some, length, map, arith, All}
 use Rattle.std.proofs.lemmas.List.Elements.{All-nil, All-cons, All-head, All-tail}
 use Rattle.cfb_sectors.specs.Opening.{IsWhole}
 use Rattle.prop_map.specs.declared.modifiers.Modifier.{Modifier}
 use Rattle.prop_map.specs.Modifiers.{no_modifier, printed_modifier}
-use Rattle.piece_table.specs.Piece.{TextPiece, UnitPlace, flat_pieces, IsTextPiece, ArePieces, total_length}
-use Rattle.piece_table.specs.ClxRules.{FitsPages}
+use Rattle.piece_table.specs.Piece.{TextPiece, IsTextPiece, ArePieces, total_length}
 use Rattle.piece_table.proofs.PrcPrintLemmas.{printed_short}
 use Rattle.plain_doc.specs.declared.document.Document.{Document}
 use Rattle.edit_script.specs.declared.commands.Command.{Command}
 use Rattle.edit_ops.specs.Codes.{HasRightCodes}
 use Rattle.edit_ops.specs.Runs.{most_runs}
 use Rattle.edit_ops.specs.Edits.{changes_of}
-use Rattle.edit_ops.specs.EditFacts.{edit_facts}
 use Rattle.plain_doc.specs.Stretches.{stretches}
-use Rattle.save_bounds.specs.RunCounts.{joined_run_count}
+use Rattle.save_bounds.specs.SharedPages.{pages_begun, page_bound}
 use Rattle.edited_text.specs.SessionText.{HaveFitModifiers, HaveNoModifiers, HaveModifiersWithin, unwritten_count}
-use Rattle.edited_text.specs.EditSteps.{growth_of, sections_put, pieces_added}
+use Rattle.edited_text.specs.EditSteps.{growth_of, pieces_added}
 use Rattle.edited_text.specs.TextEdits.{IsTextEdit, IsSectionsEdit}
 use Rattle.fast_save.specs.declared.ledgers.Counts.{Counts}
 use Rattle.fast_save.specs.declared.parts.SessionParts.{SessionParts}
 use Rattle.fast_save.specs.Ledgers.{AreCountsOf, AreUnmodified, most_printed, is_formatting, modifier_growth}
-use Rattle.fast_save.specs.Ledgers.{sections_set, after_edit}
+use Rattle.fast_save.specs.Ledgers.{after_edit}
 use Rattle.cfb_sectors.specs.Header.{sector_count}
 use Rattle.fast_save.specs.Session.{IsCounted, bin_length}
 use Rattle.fast_save.specs.Edited.{HasRoom}
@@ -58,9 +56,9 @@ each_printed a (piece ∷ pieces) =
     (omega (arith, from_greatest (max a (printed_at piece)) (map printed_at pieces)))
     (each_printed (max a (printed_at piece)) pieces)
 
-pub no_runs : joined_run_count [] ≡ 0
-unfolding stretches
-no_runs = refl
+pub no_pages : page_bound [] ≡ 0
+unfolding stretches pages_begun
+no_pages = refl
 
 pub counted_at_start : (file : List ℕ) (parts : SessionParts) (counts : Counts) → IsWhole file →
     AreCountsOf parts.text.pieces.pieces (sector_count file) (bin_length parts.fib) counts →
@@ -78,8 +76,8 @@ counted_at_start file parts counts whole is fresh written =
       few = omega (arith, is.sectors_are, whole.most);
       bins = omega (arith, is.bin_bytes_are);
       added = omega (arith, ap length fresh);
-      joined = omega (arith, ap joined_run_count fresh, no_runs);
-      text = omega (arith, ap length fresh, ap joined_run_count fresh, no_runs);
+      pages = omega (arith, ap page_bound fresh, no_pages);
+      text = omega (arith, ap length fresh, ap page_bound fresh, no_pages);
       unwritten = omega (arith, written);
     }
 
@@ -203,7 +201,7 @@ module _ (file : List ℕ) (document : Document) (command : Command) (old new : 
         sum_by pieces_added (changes_of document command) ≤ 4 → new.fib ≡ old.fib →
         (units : ℕ) → units < 2 ^ 32 →
         length new.text.added.items ≤ length old.text.added.items + units + most_runs command →
-        joined_run_count new.text.added.items ≤ joined_run_count old.text.added.items + most_runs command →
+        page_bound new.text.added.items ≤ page_bound old.text.added.items + most_runs command →
         bytes_of new.text.added.items ≤ bytes_of old.text.added.items + 2 * units + 512 * most_runs command →
         IsCounted file new (after units)
     counted_after fit few_pieces added fib units low grown more bytes =
@@ -220,7 +218,7 @@ module _ (file : List ℕ) (document : Document) (command : Command) (old new : 
           few = is.few;
           bins = omega (arith, is.bins, ap bin_length fib);
           added = omega (arith, is.added, grown, room, low, runs);
-          joined = omega (arith, is.joined, more, room, runs);
+          pages = omega (arith, is.pages, more, room, runs);
           text = omega (arith, is.text, bytes, room, low, runs);
           unwritten = omega (arith, is.unwritten, unwritten, put, one, room);
         }

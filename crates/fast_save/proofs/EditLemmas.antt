@@ -1,10 +1,10 @@
 -- A session after an edit, and after one that memory was refused.
 use Rattle.std.specs.Prelude.{ℕ, List, Option}
-use Rattle.std.specs.List.{fold, splice}
+use Rattle.std.specs.List.{splice}
 use Rattle.std.proofs.Common.{◌≡◌, ◌∙◌, ◌∷◌, ◌+◌, ◌*◌, ◌^◌, ◌<◌, ◌≤◌, [], refl, sym, ap, subst, length, arith}
 use Rattle.doc_bits.specs.declared.places.Story.{Story}
 use Rattle.doc_bits.specs.declared.places.Story.TheVariants.{Main, Note, Head}
-use Rattle.piece_table.specs.Piece.{TextPiece}
+use Rattle.piece_table.specs.Piece.{TextPiece, flat_pieces}
 use Rattle.plain_doc.specs.declared.item.Item.{Item}
 use Rattle.plain_doc.specs.declared.document.Document.{Document}
 use Rattle.edit_script.specs.declared.commands.Command.{Command}
@@ -14,16 +14,18 @@ use Rattle.edit_ops.specs.declared.changes.Change.TheVariants.{SpliceHeads, SetS
 use Rattle.edit_ops.specs.Changes.{changed, all_changed, with_text, map_range, modified_item}
 use Rattle.edit_ops.specs.Causes.{IsAcceptedEdit}
 use Rattle.edit_ops.specs.Edits.{changes_of, document_after}
-use Rattle.std.specs.Prelude.{All, Bool, false}
+use Rattle.std.specs.Prelude.{All}
 use Rattle.plain_doc.specs.RulesOfItems.{HasShortSettings}
 use Rattle.save_laws.specs.declared.ends.Ends.{Ends}
 use Rattle.save_laws.specs.Ends.{ends_of}
 use Rattle.save_laws.specs.Places.{PagedStream}
 use Rattle.save_laws.specs.FastSaves.{StandsInSession}
-use Rattle.save_bounds.specs.RunCounts.{joined_run_count}
+use Rattle.save_bounds.specs.SharedPages.{page_bound}
 use Rattle.edited_text.specs.declared.added.Added.{Added}
-use Rattle.edited_text.specs.declared.session_text.SessionText.{SessionText}
 use Rattle.edited_text.specs.AddedText.{plan_of}
+use Rattle.edited_text.specs.OldUnits.{IsOldBounded, OldUnitsAreBounded}
+use Rattle.save_laws.specs.Slots.{whole_text}
+use Rattle.doc_bits.specs.Together.{AreTogether}
 use Rattle.edited_text.specs.SessionText.{IsSessionText, IsSameText, HaveFitModifiers, HaveNoModifiers}
 use Rattle.edited_text.specs.SessionText.{HaveModifiersWithin, ArePlannedSections, unwritten_count}
 use Rattle.fast_save.specs.declared.ledgers.Counts.{Counts}
@@ -76,6 +78,7 @@ session_edited file document command old new is accepted text sections fib conta
   sound = accepted.sound;
   carried = carried_stays (changes_of document command) document ∙ is.carried;
   text = text.text (saved_stream is.held) is.text;
+  bounded = λ file_bounded. text.bounded (saved_stream is.held) (is.bounded file_bounded);
   fit = text.fit (saved_stream is.held) is.text is.fit;
   sections = sections.planned is.held.parts.text.wd is.sections;
   base = text.base ∙ is.base;
@@ -131,6 +134,22 @@ module _ (file : List ℕ) (document : Document) (old new : SessionParts) (same 
     base = omega (arith, is.base, ap (λ (added : Added). added.base) same.added);
   }
 
+  same_bounded : (stream : PagedStream) → OldUnitsAreBounded stream document old.text →
+      OldUnitsAreBounded stream document new.text
+  same_bounded stream is =
+      subst
+      (λ (n : ℕ). AreTogether (IsOldBounded stream n) (flat_pieces new.text.pieces.pieces)
+      (whole_text document (ends_of new.text.ends)))
+      (ap (λ (a : Added). a.base) (sym same.added))
+      (subst
+      (λ (p : List TextPiece). AreTogether (IsOldBounded stream old.text.added.base) (flat_pieces p)
+      (whole_text document (ends_of new.text.ends)))
+      (sym same.pieces)
+      (subst
+      (λ (e : Ends). AreTogether (IsOldBounded stream old.text.added.base) (flat_pieces old.text.pieces.pieces)
+      (whole_text document (ends_of e)))
+      (sym same.ends) is))
+
   pub session_stays : IsSession file document old → IsSession file document new
   session_stays is = record {
     bytes = is.bytes;
@@ -140,6 +159,7 @@ module _ (file : List ℕ) (document : Document) (old new : SessionParts) (same 
     sound = is.sound;
     carried = is.carried;
     text = same_text (saved_stream is.held) is.text;
+    bounded = λ file_bounded. same_bounded (saved_stream is.held) (is.bounded file_bounded);
     fit = subst HaveFitModifiers (sym same.pieces) is.fit;
     sections =
         subst (λ (places : List (Option ℕ)). ArePlannedSections is.held.parts.text.wd places document)
@@ -158,12 +178,12 @@ module _ (file : List ℕ) (document : Document) (old new : SessionParts) (same 
     few = is.few;
     bins = omega (arith, is.bins, ap bin_length fib);
     added = omega (arith, is.added, ap (λ (added : Added). length added.items) same.added);
-    joined = omega (arith, is.joined, ap (λ (added : Added). joined_run_count added.items) same.added);
+    pages = omega (arith, is.pages, ap (λ (added : Added). page_bound added.items) same.added);
     text = omega (
       arith,
       is.text,
       ap (λ (added : Added). length added.items) same.added,
-      ap (λ (added : Added). joined_run_count added.items) same.added,
+      ap (λ (added : Added). page_bound added.items) same.added,
     );
     unwritten = omega (arith, is.unwritten, ap unwritten_count places_same);
   }

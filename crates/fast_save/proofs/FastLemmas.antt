@@ -1,41 +1,52 @@
 -- The file of a fast save, and the session after it.
 use Rattle.std.specs.Prelude.{ℕ, List, min}
-use Rattle.std.proofs.Common.{◌≡◌, ◌∙◌, ◌+◌, ◌-◌, ◌*◌, ◌/◌, ◌^◌, ◌<◌, ◌≤◌, [], refl, sym, ap, subst, true, length}
-use Rattle.std.proofs.Common.{arith, All}
+use Rattle.std.proofs.Common.{◌≡◌, ◌∙◌, ◌+◌, ◌-◌, ◌*◌, ◌/◌, ◌^◌, ◌≤◌, [], refl, sym, ap, subst, true, length}
+use Rattle.std.proofs.Common.{arith}
 use Rattle.cfb_sectors.specs.Header.{sector_count}
 use Rattle.fib_form.specs.FibFields.{FibFields, fib_fields}
-use Rattle.piece_table.specs.Piece.{TextPiece, ArePieces}
-use Rattle.plain_doc.specs.declared.item.Item.{Item}
+use Rattle.fib_form.specs.declared.table_parts.TablePart.TheVariants.{PlcfBteChpx, PlcfBtePapx}
+use Rattle.fkp_pages.specs.declared.kind.PageKind.TheVariants.{Chpx, Papx}
+use Rattle.piece_table.specs.Piece.{TextPiece, ArePieces, flat_pieces}
 use Rattle.plain_doc.specs.declared.document.Document.{Document}
 use Rattle.plain_doc.specs.Document.{IsFormedText}
 use Rattle.plain_doc.specs.Formed.{IsFormed}
-use Rattle.doc_load.specs.FileRules.{FileText}
+use Rattle.plain_doc.proofs.RightLemmas.{sound_is_right}
+use Rattle.doc_load.specs.FileRules.{FileText, source_of}
 use Rattle.full_save.specs.WordDocument.{table_stream}
 use Rattle.doc_read.specs.Opened.{OpenedFile}
 use Rattle.save_laws.specs.declared.ends.Ends.{Ends}
 use Rattle.save_laws.specs.Ends.{ends_of}
+use Rattle.save_laws.specs.ByRuns.{IsBounded, AreBounded, text_ends}
+use Rattle.save_laws.specs.GivenFiles.{stream_of}
 use Rattle.save_laws.specs.KeptPages.{KeepsBytes}
+use Rattle.save_laws.specs.Places.{PagedStream}
+use Rattle.save_laws.specs.Slots.{StoryEnds, whole_text}
 use Rattle.save_laws.specs.Laws.{IsSavedIn}
 use Rattle.save_laws.proofs.FastLemmas.{fast_saves_are_saves}
+use Rattle.save_laws.proofs.FullByRuns.{slot_there}
 use Rattle.save_laws.proofs.HeldLemmas.{files_hold}
-use Rattle.save_bounds.specs.RunCounts.{joined_run_count}
+use Rattle.save_laws.proofs.SavedLemmas.{Save as SavedCopy, part_is}
+use Rattle.save_bounds.specs.SharedPages.{page_bound}
 use Rattle.append_save.specs.declared.fault.AppendFault.TheVariants.{Sixteenth, TooLarge}
 use Rattle.append_save.specs.Saves.{FastSave, plan_of}
 use Rattle.append_save.specs.Appended.{old_wd, old_stream, fast_fib, fast_wd, fast_table, fast_contents}
-use Rattle.append_save.specs.Appended.{fast_saved_text}
+use Rattle.append_save.specs.Appended.{fast_bin_table, fast_saved_text}
+use Rattle.append_save.specs.FastByRuns.{AreBoundedBefore}
 use Rattle.append_save.specs.Answers.{IsAppended, IsAppendFault}
+use Rattle.append_save.proofs.FastByRuns.{fast_saves_are_bounded}
 use Rattle.append_save.proofs.ShortLemmas.{appended_saves_are_short, appended_files_are_short, counted_saves_fit}
 use Rattle.edited_text.specs.SessionText.{HaveNoModifiers, HaveModifiersWithin, unwritten_count}
 use Rattle.fast_save.specs.declared.fast_parts.FastParts.{FastParts}
 use Rattle.fast_save.specs.declared.ledgers.Counts.{Counts}
 use Rattle.fast_save.specs.declared.parts.SessionParts.{SessionParts}
 use Rattle.fast_save.specs.Ledgers.{modifier_bytes, sector_bound, after_fast}
-use Rattle.fast_save.specs.Session.{SessionView, IsSession, IsCounted, text_base, bin_length}
-use Rattle.fast_save.specs.Started.{IsOpenFile, written_places}
+use Rattle.fast_save.specs.Session.{IsBoundedFile, IsSession, IsCounted, saved_stream, bin_length}
+use Rattle.fast_save.specs.Started.{IsOpenFile}
 use Rattle.fast_save.specs.Fast.{CanSaveFast, IsFastFile, AreFastParts, IsSavedFast, IsBehind, IsWithin, counts_over}
 use Rattle.fast_save.specs.Fast.{save_in, save_counts}
-use Rattle.fast_save.proofs.CanLemmas.{small, wd_is, counted}
-use Rattle.fast_save.proofs.CountLemmas.{no_runs}
+use Rattle.fast_save.proofs.BoundedLemmas.{same_ends}
+use Rattle.fast_save.proofs.CanLemmas.{small, wd_is, old_stream_is, can_append, counted}
+use Rattle.fast_save.proofs.CountLemmas.{no_pages}
 use Rattle.fast_save.proofs.StartLemmas.{opened_stand, AreFileParts, begun, all_written}
 
 -- ---- the file
@@ -93,8 +104,7 @@ module _ (document : Document) (parts : SessionParts) (can : CanSaveFast documen
       sectors = omega arith;
       few = omega (arith, can.counted.sectors, can.counted.few);
       bins = omega (arith, own_bins);
-      added = can.counted.added;
-      joined = can.counted.joined;
+      pages = can.counted.pages;
       text = can.counted.text;
       unwritten = can.counted.unwritten;
     };
@@ -167,6 +177,53 @@ module _ (document : Document) (parts : SessionParts) (can : CanSaveFast documen
           sectors = omega (arith, sectors, (small document parts can_own formed items pieces).exact);
         }
 
+    -- the old units are bounded in the old stream
+    before_bounded : IsBoundedFile can.session.held → AreBoundedBefore save
+    before_bounded old_file k place end here there low =
+        let old = can.session.bounded old_file in
+        let slot = slot_there document (ends_of parts.text.ends) k end there in
+        subst (λ (s : PagedStream). IsBounded s place.at place.wide end) (sym (old_stream_is document parts can formed items pieces))
+        (old.each k place slot.slot here slot.here low end slot.is)
+
+    abbrev saved_as : SavedCopy
+    saved_as = record {
+      document = document;
+      saved = fast_saved_text save made.clx;
+      table = fast_table save made.clx;
+      contents = fast_contents save made.clx;
+      formed = formed;
+      right = sound_is_right document can.session.sound;
+      is = fast_saves_are_saves document (old_stream save) (plan_of save) (fast_saved_text save made.clx)
+          (fast_table save made.clx) (fast_contents save made.clx) made.saved;
+    }
+
+    new_stream_is : saved_stream read.holds ≡ (fast_saved_text save made.clx).stream
+    new_stream_is =
+        let chp = part_is saved_as 5 PlcfBteChpx (fast_bin_table Chpx save) refl in
+        let pap = part_is saved_as 6 PlcfBtePapx (fast_bin_table Papx save) refl in
+        ap (λ (t : FileText). stream_of (source_of t)) read.text_is
+        ∙ (λ i. record { wd = fast_wd save made.clx; characters = chp i; paragraphs = pap i })
+
+    bounded : IsBoundedFile can.session.held → IsBoundedFile read.holds
+    bounded old_file ends counts =
+        let law = fast_saves_are_bounded save file (can_append document parts can formed items pieces) formed items made
+        (before_bounded old_file) in
+        let same : ends ≡ save.ends =
+        same_ends document ends save.ends
+        (sym counts ∙ (ap (λ (w : List ℕ). (fib_fields w).ccps) new_wd ∙ made.saved.counts)) in
+        let own : read.holds.parts.text.pieces ≡ save.pieces = ap (λ (t : FileText). t.pieces) read.text_is in
+        subst
+        (λ (e : StoryEnds). AreBounded (saved_stream read.holds) (flat_pieces read.holds.parts.text.pieces)
+        (text_ends (whole_text document e)))
+        (sym same)
+        (subst
+        (λ (p : List TextPiece). AreBounded (saved_stream read.holds) (flat_pieces p)
+        (text_ends (whole_text document save.ends)))
+        (sym own)
+        (subst
+        (λ (s : PagedStream). AreBounded s (flat_pieces save.pieces) (text_ends (whole_text document save.ends)))
+        (sym new_stream_is) law))
+
     pub fast_file : IsFastFile can file
     fast_file =
         record {
@@ -177,6 +234,7 @@ module _ (document : Document) (parts : SessionParts) (can : CanSaveFast documen
               ∙ (ap (λ (f : FibFields). f.quick_saves) made.fib ∙ fast_quick_saves save made.clx);
           behind = behind;
           within = within;
+          bounded = bounded;
         }
 
 -- ---- the session after it
@@ -253,8 +311,8 @@ module _ (document : Document) (parts : SessionParts) (can : CanSaveFast documen
         few = can.judged.sectors;
         bins = omega (arith, bins, low, before, can.counted.bins, ap bin_length (after.fib ∙ are.fib));
         added = omega (arith, ap length after.items);
-        joined = omega (arith, ap joined_run_count after.items, no_runs);
-        text = omega (arith, ap length after.items, ap joined_run_count after.items, no_runs);
+        pages = omega (arith, ap page_bound after.items, no_pages);
+        text = omega (arith, ap length after.items, ap page_bound after.items, no_pages);
         unwritten =
             let none = ap unwritten_count (after.places ∙ are.places) in
             omega (arith, none, all_written made.held.holds.parts.lists.sections);
@@ -281,4 +339,5 @@ module _ (document : Document) (parts : SessionParts) (can : CanSaveFast documen
     behind = made.behind;
     count = made.quick_saves;
     within = made.within;
+    bounded = record { saved = can.session.saved; held = can.session.held; stays = made.bounded };
   }

@@ -1,7 +1,7 @@
 -- The file of a full save is opened as what it was made of.
-use Rattle.std.specs.Prelude.{ℕ, List, slice_index, max}
-use Rattle.std.proofs.Common.{◌≡◌, ◌∙◌, ◌∷◌, ◌+◌, ◌*◌, ◌^◌, ◌<◌, ◌≤◌, [], refl, sym, ap, subst, true, false, length}
-use Rattle.std.proofs.Common.{arith, All}
+use Rattle.std.specs.Prelude.{ℕ, List, max}
+use Rattle.std.proofs.Common.{◌≡◌, ◌∙◌, ◌^◌, ◌<◌, ◌≤◌, [], refl, sym, ap, subst, length}
+use Rattle.std.proofs.Common.{arith}
 use Rattle.std.proofs.lemmas.List.Elements.{All-nil, All-cons}
 use Rattle.doc_bits.specs.Number.{AreBytes}
 use Rattle.doc_bits.specs.Rules.{Hold, IsFirst}
@@ -13,7 +13,7 @@ use Rattle.cfb_streams.proofs.UniqueLemmas.{contents_unique}
 use Rattle.fib_form.specs.FibFields.{FibFields, fib_fields, text_length}
 use Rattle.fib_form.specs.FibRules.{fib_rules}
 use Rattle.prop_map.specs.Modifiers.{no_modifier}
-use Rattle.piece_table.specs.Piece.{TextPiece, one_piece, flat_pieces, total_length}
+use Rattle.piece_table.specs.Piece.{TextPiece, one_piece, total_length}
 use Rattle.piece_table.proofs.PieceLemmas.{length-flat_pieces}
 use Rattle.plain_doc.specs.declared.document.Document.{Document}
 use Rattle.full_save.specs.Text.{text_items}

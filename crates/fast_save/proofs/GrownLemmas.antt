@@ -1,8 +1,8 @@
 -- How much added text grows by a command: by the items that it puts, and by no more marks behind stories than runs are
 -- reckoned for it.
-use Rattle.std.specs.Prelude.{ℕ, List, slice_get}
+use Rattle.std.specs.Prelude.{ℕ, List}
 use Rattle.std.specs.List.{sum_by}
-use Rattle.std.proofs.Common.{◌≡◌, ◌∙◌, ◌∷◌, ◌++◌, ◌+◌, ◌*◌, ◌<◌, ◌≤◌, [], refl, sym, ap, subst, zero, suc, Some}
+use Rattle.std.proofs.Common.{◌≡◌, ◌∷◌, ◌+◌, ◌<◌, ◌≤◌, [], refl, ap, zero, suc}
 use Rattle.std.proofs.Common.{length, replicate, arith, Bool, true, false}
 use Rattle.std.proofs.lemmas.List.{length-append, length-replicate}
 use Rattle.std.proofs.lemmas.List.Sums.{sum_by-cons}
@@ -20,15 +20,13 @@ use Rattle.edit_script.specs.declared.commands.Command.TheVariants.{Insert, Eras
 use Rattle.edit_script.specs.declared.commands.Command.TheVariants.{Note, Split, Merge, Sect, Row, StyleChar}
 use Rattle.edit_script.specs.declared.commands.Command.TheVariants.{StylePara, Save}
 use Rattle.edit_ops.specs.declared.changes.Change.{Change}
-use Rattle.edit_ops.specs.declared.changes.Change.TheVariants.{SpliceText, ModifyItems, SetSection, SpliceNotes}
-use Rattle.edit_ops.specs.declared.changes.Change.TheVariants.{SpliceHeads, SetStyleCharacters, SetStyleParagraphs}
+use Rattle.edit_ops.specs.declared.changes.Change.TheVariants.{SpliceText, SpliceNotes}
 use Rattle.edit_ops.specs.EditFacts.{edit_facts, items_added}
 use Rattle.edit_ops.specs.Places.{items_at, mark_place, note_number}
 use Rattle.edit_ops.specs.Fresh.{inserted_items, field_items, base_settings, note_reference, note_items, split_item}
 use Rattle.edit_ops.specs.Fresh.{row_items}
 use Rattle.edit_ops.specs.Edits.{erased, section_changes, changes_of}
 use Rattle.edit_ops.specs.Runs.{most_runs, most_runs_of_section}
-use Rattle.edited_text.specs.AddedText.{marked_block}
 use Rattle.edited_text.specs.EditSteps.{HasGrownBy, IsBlockOf, items_put}
 
 -- ---- the block of a change

@@ -1,5 +1,6 @@
 pub mod FullFileLemmas
 pub mod OpenLemmas
+pub mod BoundedLemmas
 pub mod StartLemmas
 pub mod CommandLemmas
 pub mod CountLemmas
@@ -13,3 +14,4 @@ pub mod CanLemmas
 pub mod FastLemmas
 pub mod HeldLemmas
 pub mod OneSession
+pub mod WrittenLemmas

@@ -1,14 +1,19 @@
 -- What is known of the streams, the FIB and the pieces of a file that was read.
-use Rattle.std.specs.Prelude.{slice_get, slice_index, slice_range, ℕ, List}
+use Rattle.std.specs.Prelude.{slice_index, slice_range, ℕ, List}
 use Rattle.std.specs.List.{flat_map, range_with_len}
-use Rattle.std.proofs.Common.{◌≡◌, ◌∙◌, ◌∷◌, ◌+◌, ◌*◌, ◌<◌, ◌≤◌, [], refl, sym, ap, subst, Some, length, map, arith}
+use Rattle.std.proofs.Common.{◌≡◌, ◌∙◌, ◌∷◌, ◌+◌, ◌*◌, ◌≤◌, [], sym, ap, subst, length, arith}
 use Rattle.std.proofs.Common.{All}
 use Rattle.std.proofs.lemmas.List.Elements.{All-nil, All-append, All-map, All-head, All-tail}
 use Rattle.doc_bits.specs.declared.places.Where.TheVariants.{File, Wd, Table}
-use Rattle.doc_bits.specs.Rules.{Hold, Nowhere, Among}
+use Rattle.doc_bits.specs.Rules.{Hold, Nowhere, Among, Rules}
+use Rattle.doc_bits.proofs.RuleLemmas.{hold_or_first}
 use Rattle.cfb_streams.specs.Contents.{Contents, HasNamed}
 use Rattle.cfb_streams.specs.Container.{container_rules, HasContents}
 use Rattle.cfb_streams.specs.Names.{wd_name}
+use Rattle.cfb_streams.proofs.SingleLemmas.{container_single}
+use Rattle.cfb_sectors.specs.declared.faults.CfbFault.{CfbFault}
+use Rattle.cfb_sectors.specs.declared.faults.CfbFault.TheVariants.{Rule as Broken}
+use Rattle.cfb_sectors.specs.Judged.{IsCfbFault}
 use Rattle.cfb_sectors.specs.Opening.{IsWhole}
 use Rattle.cfb_sectors.proofs.OpeningLemmas.{whole_length}
 use Rattle.cfb_streams.proofs.UniqueLemmas.{contents_unique}
@@ -19,28 +24,31 @@ use Rattle.fib_form.specs.TableParts.{pair_of}
 use Rattle.fib_form.specs.declared.table_parts.TablePart.TheVariants.{Clx, PlcfSed}
 use Rattle.fib_form.specs.declared.stories.StoryKind.TheVariants.{Main}
 use Rattle.doc_parts.specs.declared.lists.Sed.{Sed}
-use Rattle.doc_parts.specs.Sections.{AreSections}
-use Rattle.doc_load.specs.Source.{part_bytes, story_length}
+use Rattle.doc_parts.specs.declared.fault.PartFault.{PartFault}
+use Rattle.doc_parts.specs.declared.fault.PartFault.TheVariants.{Rule as WrongPart}
+use Rattle.doc_parts.specs.Table.{IsPartFault}
+use Rattle.doc_parts.specs.Sections.{AreSections, section_rules}
+use Rattle.doc_load.specs.Source.{part_bytes, part_place, story_length}
 use Rattle.doc_load.specs.SectionRules.{HasSections}
 use Rattle.doc_load.proofs.PartLemmas.{pair-read}
 use Rattle.doc_load.proofs.OneLemmas.{sections_one}
 use Rattle.prop_map.specs.declared.modifiers.Modifier.{Modifier}
-use Rattle.piece_table.specs.Piece.{TextPiece, UnitPlace, unit_bytes, unit_places, bare_piece, flat_pieces}
-use Rattle.piece_table.specs.Piece.{total_length}
-use Rattle.piece_table.specs.Clx.{ClxParts, clx_pieces, plc_place, HaveModifiers}
+use Rattle.piece_table.specs.Piece.{TextPiece, UnitPlace, unit_bytes, unit_places, flat_pieces}
+use Rattle.piece_table.specs.Clx.{ClxParts}
 use Rattle.piece_table.specs.ClxRules.{clx_rules, early_bounds, IsLongPrc, FitsPages}
 use Rattle.piece_table.proofs.ClxLemmas.{parts_unique}
 use Rattle.piece_table.proofs.FitLemmas.{pieces_fit}
 use Rattle.plain_doc.specs.declared.document.Document.{Document}
-use Rattle.doc_load.specs.FileRules.{HasText, source_of, clx_of, wd_rules, table_rules, table_stream_name}
+use Rattle.doc_load.specs.FileRules.{source_of, clx_of, wd_rules, table_rules, table_stream_name}
 use Rattle.doc_load.specs.FileRules.{loading_rules, file_rules}
 use Rattle.doc_load.proofs.NameLemmas.{named_one}
 use Rattle.doc_load.proofs.RightPlaces.{hold_out}
 use Rattle.doc_read.specs.CarriedParts.{AreWithinBounds}
 use Rattle.doc_read.specs.Holds.{FileParts, HasFileParts, HoldsDocument}
-use Rattle.doc_read.specs.Opened.{OpenedFile, IsOpened}
+use Rattle.doc_read.specs.Opened.{OpenedFile}
 use Rattle.doc_read.proofs.ContentsBounds.{contents-bounded}
 use Rattle.doc_read.proofs.ExistFits.{text_held}
+use Rattle.save_laws.proofs.GivenFiles.{held_rules}
 use Rattle.edited_text.specs.SessionText.{HaveFitModifiers}
 use Rattle.fast_save.specs.Started.{IsOpenFile, IsReadFile}
 
@@ -114,6 +122,43 @@ module _ (contents : Contents) (fib : FibFields) (file : IsReadFile contents fib
       subst (λ (b : List ℕ). AreSections b (story_length source Main) seds) bytes
       (subst (λ (n : ℕ). AreSections plc n seds) count_of are) in
       sections_one source seds file.parts.lists.sections has file.has.has_lists.has_sections
+
+  -- and they break no rule
+  pub sections_hold : (table plc : List ℕ) (pair : ℕ × ℕ) (count : ℕ) →
+      HasNamed contents.streams (table_stream_name file.parts.text.wd) table →
+      pair ≡ pair_at fib.pairs (pair_of PlcfSed) → plc ≡ slice_range table pair.0 (pair.0 + pair.1) →
+      count ≡ slice_index fib.ccps 0 → Hold (section_rules plc pair.0 count)
+  sections_hold table plc pair count named pair_is plc_is count_is =
+      let wd = file.parts.text.wd in
+      let source = source_of file.parts.text in
+      let t : table ≡ file.parts.text.table = table_is table named in
+      let p : pair ≡ fib_pair wd (pair_of PlcfSed) = pair_is ∙ pair-read wd fib (pair_of PlcfSed) (omega arith)
+      file.fib_is in
+      let range : slice_range table pair.0 (pair.0 + pair.1) ≡ part_bytes source PlcfSed =
+      λ i. slice_range (t i) (p i).0 ((p i).0 + (p i).1) in
+      let bytes : plc ≡ part_bytes source PlcfSed = plc_is ∙ range in
+      let count_of : count ≡ story_length source Main =
+      count_is ∙ ap (λ (f : FibFields). slice_index f.ccps 0) file.fib_is in
+      let parts = (held_rules file.file file.parts file.rules file.has).parts_hold in
+      let rules =
+      hold_out Table (section_rules (part_bytes source PlcfSed) (part_place source PlcfSed) (story_length source Main))
+      parts.0.0.0 in
+      subst (λ (r : Rules ℕ). Hold r)
+      (sym (λ i. section_rules (bytes i) (p i).0 (count_of i))) rules
+
+-- what breaks no rule has no fault
+pub no_cfb_fault : (file : List ℕ) (fault : CfbFault) (rule place : ℕ) → Hold (container_rules file) →
+    IsCfbFault (container_rules file) fault → fault ≡ Broken rule place → ⊥
+no_cfb_fault file fault rule place holds is same =
+    hold_or_first (λ a b. a ≤ b) (container_rules file) rule place (container_single file) holds
+    (subst (λ f. IsCfbFault (container_rules file) f) same is)
+
+pub no_part_fault : (plc : List ℕ) (at count : ℕ) (fault : PartFault) (rule place : ℕ) →
+    Hold (section_rules plc at count) → IsPartFault (section_rules plc at count) fault →
+    fault ≡ WrongPart rule place → ⊥
+no_part_fault plc at count fault rule place holds is same =
+    hold_or_first (λ a b. a ≤ b) (section_rules plc at count) rule place tt holds
+    (subst (λ f. IsPartFault (section_rules plc at count) f) same is)
 
 -- ---- modifiers, piece by piece and CP by CP
 

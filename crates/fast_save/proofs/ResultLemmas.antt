@@ -1,6 +1,6 @@
 -- What follows of the value in an `Ok`.
 use Rattle.std.specs.Prelude.{Result, Ok, Err, IfOk, MatchResult}
-use Rattle.std.proofs.Common.{◌≡◌, ◌<◌, ◌∙◌, refl, sym, subst, length, true}
+use Rattle.std.proofs.Common.{◌≡◌, ◌<◌, ◌∙◌, refl, sym, subst, length}
 use Rattle.std.specs.Result.{IsOk}
 use Rattle.doc_bits.specs.Rules.{Hold, IsFirst}
 use Rattle.std.specs.Prelude.{ℕ, List}

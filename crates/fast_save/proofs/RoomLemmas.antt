@@ -1,8 +1,8 @@
 -- An accepted edit adds no more items than a sound document has, and one.
-use Rattle.std.specs.Prelude.{ℕ, List, Option, MatchOption, slice_get, slice_set, ⊤}
+use Rattle.std.specs.Prelude.{ℕ, List, Option, MatchOption, slice_get, slice_set}
 use Rattle.std.specs.List.{sum_by, splice}
-use Rattle.std.proofs.Common.{◌≡◌, ◌∙◌, ◌∷◌, ◌++◌, ◌+◌, ◌*◌, ◌<◌, ◌≤◌, [], refl, sym, ap, subst, zero, suc, Bool}
-use Rattle.std.proofs.Common.{true, false, Some, None, length, take, drop, replicate, arith}
+use Rattle.std.proofs.Common.{◌≡◌, ◌∷◌, ◌++◌, ◌+◌, ◌≤◌, [], refl, ap, suc, Bool}
+use Rattle.std.proofs.Common.{true, false, Some, None, length, take, drop, arith}
 use Rattle.std.proofs.lemmas.List.{length-append}
 use Rattle.std.proofs.lemmas.List.{set_split}
 use Rattle.std.proofs.lemmas.List.Sums.{sum_by-append, sum_by-cons}
@@ -12,23 +12,20 @@ use Rattle.doc_bits.specs.declared.places.Story.TheVariants.{Main, Note as NoteT
 use Rattle.prop_map.specs.Settings.{Settings}
 use Rattle.plain_doc.specs.declared.item.Item.{Item}
 use Rattle.plain_doc.specs.declared.document.Document.{Document}
-use Rattle.plain_doc.specs.RulesOfSheet.{item_count, most_items}
+use Rattle.plain_doc.specs.RulesOfSheet.{item_count}
 use Rattle.plain_doc.proofs.RightLemmas.{sound_is_right}
 use Rattle.edit_script.specs.declared.commands.Command.{Command}
 use Rattle.edit_script.specs.declared.commands.Command.TheVariants.{Insert, Erase, Char, Plain, Para, Style, Field}
 use Rattle.edit_script.specs.declared.commands.Command.TheVariants.{Note, Split, Merge, Sect, Row, StyleChar}
 use Rattle.edit_script.specs.declared.commands.Command.TheVariants.{StylePara, Save}
-use Rattle.edit_ops.specs.Places.{text_at, items_at, mark_place, note_number}
+use Rattle.edit_ops.specs.Places.{items_at, mark_place, note_number}
 use Rattle.edit_ops.specs.Ranges.{HasText, IsInRange}
-use Rattle.edit_ops.specs.Changes.{with_text, put_changed, changed_at}
+use Rattle.edit_ops.specs.Changes.{with_text, put_changed}
 use Rattle.edit_ops.specs.Causes.{IsAcceptedEdit}
-use Rattle.edit_ops.specs.Fresh.{inserted_items, field_items, base_settings, note_reference, note_items, split_item}
+use Rattle.edit_ops.specs.Fresh.{inserted_items, field_items, base_settings, note_items, split_item}
 use Rattle.edit_ops.specs.Fresh.{row_items}
-use Rattle.edit_ops.specs.Edits.{erased, section_changes, changes_of, document_after}
+use Rattle.edit_ops.specs.Edits.{erased, section_changes, document_after}
 use Rattle.edit_ops.specs.EditFacts.{edit_facts, items_added}
-use Rattle.edit_ops.specs.Codes.{HasRightCodes}
-use Rattle.fast_save.specs.declared.ledgers.Counts.{Counts}
-use Rattle.fast_save.specs.Ledgers.{after_edit}
 use Rattle.fast_save.specs.Edited.{EditsAddLittle}
 use Rattle.fast_save.proofs.CommandLemmas.{few_reckoned, few_sections}
 

@@ -1,8 +1,7 @@
 -- What a session begins with is a session.
 use Rattle.std.specs.Prelude.{ℕ, List, Option}
-use Rattle.std.specs.List.{count_by}
-use Rattle.std.proofs.Common.{◌≡◌, ◌∙◌, ◌∷◌, ◌+◌, ◌*◌, ◌<◌, ◌≤◌, [], refl, sym, ap, subst, Some, length, map, arith}
-use Rattle.std.proofs.Common.{All, not, is_some}
+use Rattle.std.proofs.Common.{◌≡◌, ◌∙◌, ◌∷◌, ◌+◌, ◌≤◌, [], refl, sym, ap, subst, Some, length, map, arith}
+use Rattle.std.proofs.Common.{All}
 use Rattle.std.specs.Prelude.{slice_get}
 use Rattle.std.proofs.Common.{◌++◌, take}
 use Rattle.std.proofs.lemmas.List.{take_more}
@@ -12,24 +11,25 @@ use Rattle.doc_bits.specs.Number.{AreBytes}
 use Rattle.cfb_streams.specs.Contents.{Contents}
 use Rattle.fib_form.specs.FibFields.{FibFields, fib_fields}
 use Rattle.doc_parts.specs.declared.lists.Sed.{Sed}
-use Rattle.plain_doc.specs.declared.item.Item.{Item}
 use Rattle.plain_doc.specs.declared.document.Document.{Document}
 use Rattle.plain_doc.specs.RulesOfItems.{HasShortSettings}
-use Rattle.piece_table.specs.Piece.{TextPiece}
+use Rattle.piece_table.specs.Piece.{TextPiece, flat_pieces}
 use Rattle.doc_read.specs.Opened.{OpenedFile, IsOpened}
 use Rattle.save_laws.specs.GivenFiles.{StandsTogether}
-use Rattle.save_laws.specs.Slots.{StoryEnds}
+use Rattle.save_laws.specs.Slots.{StoryEnds, whole_text}
 use Rattle.save_laws.specs.Ends.{ends_of}
 use Rattle.save_laws.specs.FastSaves.{StandsInSession}
 use Rattle.save_laws.proofs.GivenFiles.{given_files_stand, given_sections_are_saved}
 use Rattle.edited_text.specs.AddedText.{plan_of}
+use Rattle.edited_text.specs.OldUnits.{OldUnitsAreBounded}
 use Rattle.edited_text.specs.SessionText.{IsSessionText, HaveFitModifiers, ArePlannedSections, unwritten_count}
 use Rattle.edited_text.proofs.StartLemmas.{saved_texts_stand, saved_sections_stand}
 use Rattle.fast_save.specs.declared.parts.SessionParts.{SessionParts}
 use Rattle.fast_save.specs.declared.ledgers.Counts.{Counts}
 use Rattle.fast_save.specs.Ledgers.{AreCountsOf}
 use Rattle.cfb_sectors.specs.Header.{sector_count}
-use Rattle.fast_save.specs.Session.{IsSession, saved_stream, text_base, bin_length}
+use Rattle.fast_save.specs.Session.{IsBoundedFile, IsSession, saved_stream, text_base, bin_length}
+use Rattle.fast_save.proofs.BoundedLemmas.{end_there}
 use Rattle.fast_save.specs.Started.{IsOpenFile, IsStarted, written_places}
 use Rattle.fast_save.proofs.OpenLemmas.{given_fit}
 
@@ -86,6 +86,20 @@ module _ (opened : OpenedFile) (opening : IsOpenFile opened) (parts : SessionPar
       subst (λ (places : List (Option ℕ)). ArePlannedSections held.parts.text.wd places opened.document)
       (sym are.sections) (saved_sections_stand held.parts.text.wd held.parts.lists.sections opened.document saved)
 
+  begun_bounded : IsBoundedFile opening.is.holds → OldUnitsAreBounded (saved_stream opening.is.holds) opened.document
+      parts.text
+  begun_bounded bounded = record {
+    len = begun_places.len;
+    each = λ k place slot here there low end is.
+        let stand = opened_stand opened opening in
+        let in_file : slice_get (flat_pieces opening.is.holds.parts.text.pieces) k ≡ Some place =
+        subst (λ (p : List TextPiece). slice_get (flat_pieces p) k ≡ Some place) are.pieces here in
+        let own : slice_get (whole_text opened.document stand.ends) k ≡ Some slot =
+        subst (λ (e : StoryEnds). slice_get (whole_text opened.document e) k ≡ Some slot) are.ends there in
+        bounded stand.ends stand.counts k place end in_file
+        (end_there opened.document stand.ends k slot end own is);
+  }
+
   pub begun : IsSession opening.file opened.document parts
   begun = record {
     bytes = opening.bytes;
@@ -95,6 +109,7 @@ module _ (opened : OpenedFile) (opening : IsOpenFile opened) (parts : SessionPar
     sound = opening.is.sound;
     carried = refl;
     text = begun_text;
+    bounded = begun_bounded;
     fit = subst HaveFitModifiers (sym are.pieces) (given_fit opening.file opened.document opening.is.holds);
     sections = begun_sections;
     base = are.base;

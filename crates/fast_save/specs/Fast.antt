@@ -1,8 +1,9 @@
 -- A fast save: what it is made of, when it is refused, and the session after it.
-use Rattle.std.specs.Prelude.{◌≡◌, ℕ, ◌+◌, ◌*◌, ◌<◌, ◌≤◌, List, length, true}
+use Rattle.std.specs.Prelude.{◌≡◌, ℕ, ◌+◌, ◌*◌, ◌<◌, ◌≤◌, List, length, true, false}
 use Rattle.doc_bits.specs.Number.{AreBytes}
 use Rattle.cfb_sectors.specs.Header.{sector_count}
 use Rattle.cfb_layout.specs.Counts.{most_sectors}
+use Rattle.cfb_layout.specs.Sectors.{units_for}
 use Rattle.fib_form.specs.FibFields.{fib_fields}
 use Rattle.plain_doc.specs.declared.document.Document.{Document}
 use Rattle.plain_doc.specs.Sound.{IsSound}
@@ -13,13 +14,15 @@ use Rattle.save_laws.specs.Slots.{StoryEnds, story_counts}
 use Rattle.save_laws.specs.KeptPages.{KeepsBytes}
 use Rattle.save_bounds.specs.FastSizes.{SaveCounts}
 use Rattle.append_save.specs.Saves.{FastSave}
+use Rattle.append_save.specs.Appended.{page_count}
+use Rattle.edited_text.specs.SessionText.{HaveNoModifiers, HaveModifiersWithin, unwritten_count}
 use Rattle.fast_save.specs.declared.fast.FastFault.{FastFault}
 use Rattle.fast_save.specs.declared.fast.FastFault.TheVariants.{Sixteenth, TooManyPieces, TooLarge, Memory}
 use Rattle.fast_save.specs.declared.fast_parts.FastParts.{FastParts}
 use Rattle.fast_save.specs.declared.ledgers.Counts.{Counts}
 use Rattle.fast_save.specs.declared.parts.SessionParts.{SessionParts}
 use Rattle.fast_save.specs.Ledgers.{modifier_bytes, sector_bound, after_fast, most_pieces_added}
-use Rattle.fast_save.specs.Session.{SessionView, IsSession, IsCounted, text_base, bin_length}
+use Rattle.fast_save.specs.Session.{SessionView, IsBoundedFile, IsSession, text_base, bin_length}
 use Rattle.fast_save.specs.Started.{written_places}
 
 -- ---- when it is refused
@@ -87,12 +90,27 @@ save_counts counts table_bytes = record {
   bin_bytes = counts.bin_bytes;
 }
 
+-- what a save needs of the counts: none is less than what it counts, where the pages are those that are written. So a
+-- text may be written that has other items and the same document, if they are few enough
+pub record IsCountedText (file : List ℕ) (document : Document) (parts : SessionParts) (counts : Counts) : Type 0 where
+  pub pieces : length parts.text.pieces.pieces ≤ counts.pieces
+  pub modified : counts.modified ≡ false → HaveNoModifiers parts.text.pieces.pieces
+  pub printed : HaveModifiersWithin counts.printed parts.text.pieces.pieces
+  pub sectors : sector_count file ≤ counts.sectors
+  pub few : counts.sectors ≤ most_sectors
+  pub bins : bin_length parts.fib ≤ counts.bin_bytes
+  pub pages : 8 * page_count (save_in document parts) ≤ 16 * counts.runs + 256
+  pub text :
+      512 * units_for 512 (2 * length parts.text.added.items) + 512 * page_count (save_in document parts)
+      ≤ 2 * counts.units + 512 * counts.runs + 1536
+  pub unwritten : unwritten_count parts.text.sections.items ≤ counts.sections
+
 -- a session whose counts do not refuse a fast save
 pub record CanSaveFast (document : Document) (parts : SessionParts) : Type 0 where
   pub file : List ℕ
   pub counts : Counts
   pub session : IsSession file document parts
-  pub counted : IsCounted file parts counts
+  pub counted : IsCountedText file document parts counts
   pub judged : IsJudged parts.fib.quick_saves counts (length (table_stream document))
 
 -- ---- what a session has of the file after it
@@ -150,8 +168,16 @@ pub record IsFastFile {document : Document} {parts : SessionParts} (can : CanSav
   pub within :
       IsWithin (counts_over can.file can.session.held.parts.text.wd can.counts) (length (table_stream document)) file
       held.holds.parts.text.wd held.holds.parts.text.table
+  pub bounded : IsBoundedFile can.session.held → IsBoundedFile held.holds
 
 -- ---- the session after it
+
+-- where the text of a file is bounded, that of the next one is
+pub record StaysBounded (old : List ℕ) {new : List ℕ} {document : Document} (holds : HoldsDocument new document) :
+    Type 0 where
+  pub saved : Document
+  pub held : HoldsDocument old saved
+  pub stays : IsBoundedFile held → IsBoundedFile holds
 
 -- the counts did not refuse it; the file is accepted and holds the document, behind the old WordDocument, and is within
 -- what is reckoned over the old file; there is one quick save more, as its FIB says, and the counts are those after a
@@ -170,3 +196,4 @@ pub record IsSavedFast (old new : SessionView) : Type 0 where
   pub within :
       IsWithin (counts_over old.bytes before.text.wd old.counts) (length (table_stream old.document)) new.bytes
       holds.parts.text.wd holds.parts.text.table
+  pub bounded : StaysBounded old.bytes holds

@@ -5,3 +5,4 @@ pub mod Codes
 pub mod Edited
 pub mod Started
 pub mod Fast
+pub mod Written

@@ -1,5 +1,5 @@
 -- A session: a document that is edited beside the pieces of its text, and the file that was given or last saved.
-use Rattle.std.specs.Prelude.{◌≡◌, ℕ, ◌+◌, ◌*◌, ◌≤◌, Bool, false, List, length}
+use Rattle.std.specs.Prelude.{◌≡◌, ℕ, ◌+◌, ◌*◌, ◌≤◌, false, List, length}
 use Rattle.doc_bits.specs.Number.{AreBytes}
 use Rattle.cfb_sectors.specs.Header.{sector_count}
 use Rattle.cfb_layout.specs.Counts.{most_sectors}
@@ -7,13 +7,17 @@ use Rattle.cfb_layout.specs.Sectors.{units_for}
 use Rattle.fib_form.specs.FibFields.{FibFields, fib_fields, pair_at}
 use Rattle.fib_form.specs.declared.table_parts.TablePart.TheVariants.{PlcfBteChpx, PlcfBtePapx}
 use Rattle.fib_form.specs.TableParts.{pair_of}
+use Rattle.piece_table.specs.Piece.{flat_pieces}
 use Rattle.plain_doc.specs.declared.document.Document.{Document}
 use Rattle.plain_doc.specs.Sound.{IsSound}
 use Rattle.doc_load.specs.FileRules.{source_of}
 use Rattle.doc_read.specs.Holds.{HoldsDocument, IsAccepted}
 use Rattle.save_laws.specs.Places.{PagedStream}
 use Rattle.save_laws.specs.GivenFiles.{stream_of}
-use Rattle.save_bounds.specs.RunCounts.{joined_run_count}
+use Rattle.save_laws.specs.ByRuns.{AreBounded, text_ends}
+use Rattle.save_laws.specs.Slots.{StoryEnds, whole_text, story_counts}
+use Rattle.save_bounds.specs.SharedPages.{page_bound}
+use Rattle.edited_text.specs.OldUnits.{OldUnitsAreBounded}
 use Rattle.edited_text.specs.SessionText.{IsSessionText, HaveFitModifiers, HaveNoModifiers, HaveModifiersWithin}
 use Rattle.edited_text.specs.SessionText.{ArePlannedSections, unwritten_count}
 use Rattle.fast_save.specs.declared.ledgers.Counts.{Counts}
@@ -39,9 +43,15 @@ text_base len = 512 * units_for 512 len
 abbrev pub saved_stream : {file : List ℕ} {document : Document} → HoldsDocument file document → PagedStream
 saved_stream held = stream_of (source_of held.parts.text)
 
+-- each unit of the text of a file agrees with the runs of paragraphs at its place
+abbrev pub IsBoundedFile : {file : List ℕ} {document : Document} → HoldsDocument file document → Type 0
+IsBoundedFile {document = document} held =
+    (ends : StoryEnds) → (fib_fields held.parts.text.wd).ccps ≡ story_counts document ends →
+    AreBounded (saved_stream held) (flat_pieces held.parts.text.pieces) (text_ends (whole_text document ends))
+
 -- the file is accepted, and holds what the session held at the last save or at the start; the document is sound, and
--- carries along what that one does; its text and its sections stand in the file or are to be written; the FIB and the
--- streams are those of the file
+-- carries along what that one does; its text and its sections stand in the file or are to be written, and where the file
+-- is bounded the units that stand in it are; the FIB and the streams are those of the file
 pub record IsSession (file : List ℕ) (document : Document) (parts : SessionParts) : Type 0 where
   pub bytes : AreBytes file
   pub accepted : IsAccepted file
@@ -50,6 +60,7 @@ pub record IsSession (file : List ℕ) (document : Document) (parts : SessionPar
   pub sound : IsSound document
   pub carried : document.carried ≡ saved.carried
   pub text : IsSessionText (saved_stream held) document parts.text
+  pub bounded : IsBoundedFile held → OldUnitsAreBounded (saved_stream held) document parts.text
   pub fit : HaveFitModifiers parts.text.pieces.pieces
   pub sections : ArePlannedSections held.parts.text.wd parts.text.sections.items document
   pub base : parts.text.added.base ≡ text_base (length held.parts.text.wd)
@@ -57,9 +68,8 @@ pub record IsSession (file : List ℕ) (document : Document) (parts : SessionPar
   pub contents : parts.container ≡ held.parts.contents
 
 -- none of the counts is less than what it counts: the pieces and their modifiers, the sectors of the file, the bytes of
--- its bin tables, the items that were added, their runs and the bytes of both, with a page for each run, and the
--- sections
--- whose settings are still to be written
+-- its bin tables, the items that were added, the pages that their runs take at most, the bytes of both, and the
+-- sections whose settings are still to be written
 pub record IsCounted (file : List ℕ) (parts : SessionParts) (counts : Counts) : Type 0 where
   pub pieces : length parts.text.pieces.pieces ≤ counts.pieces
   pub modified : counts.modified ≡ false → HaveNoModifiers parts.text.pieces.pieces
@@ -68,8 +78,8 @@ pub record IsCounted (file : List ℕ) (parts : SessionParts) (counts : Counts) 
   pub few : counts.sectors ≤ most_sectors
   pub bins : bin_length parts.fib ≤ counts.bin_bytes
   pub added : length parts.text.added.items ≤ counts.units + counts.runs
-  pub joined : joined_run_count parts.text.added.items ≤ counts.runs
+  pub pages : page_bound parts.text.added.items ≤ counts.runs
   pub text :
-      2 * length parts.text.added.items + 512 * joined_run_count parts.text.added.items
+      2 * length parts.text.added.items + 512 * page_bound parts.text.added.items
       ≤ 2 * counts.units + 512 * counts.runs
   pub unwritten : unwritten_count parts.text.sections.items ≤ counts.sections

@@ -6,7 +6,6 @@ use Rattle.cfb_sectors.specs.Header.{sector_count}
 use Rattle.cfb_streams.specs.Contents.{Contents}
 use Rattle.fib_form.specs.FibFields.{FibFields, fib_fields}
 use Rattle.doc_parts.specs.declared.lists.Sed.{Sed}
-use Rattle.plain_doc.specs.declared.document.Document.{Document}
 use Rattle.full_save.specs.WordDocument.{full_fib}
 use Rattle.full_save.specs.Layout.{full_save_image}
 use Rattle.doc_load.specs.FileRules.{file_rules}

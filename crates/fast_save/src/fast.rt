@@ -15,6 +15,7 @@ use crate::ledgers::Counts;
 use crate::parts::SessionParts;
 use append_save::{AppendFault, EditedText, SavedFile, append};
 use doc_bits::{Bytes, Memory};
+use edited_text::SessionText;
 use fib_form::Fib;
 use full_save::table_len;
 use plain_doc::{Document, documents_are_formed};
@@ -120,29 +121,31 @@ fn few_sectors(counts: &Counts, table_bytes: u64) -> Result<u64, FastFault>
     Ok(sectors)
 }
 
-/// The file of a document whose text is edited so, saved behind the file that is there.
+/// The file of a document whose text is this one, saved behind the file that is there.
 pub(crate) fn appended(
     alloc: Global,
     document: &Document,
     parts: &SessionParts,
+    text: &SessionText,
 ) -> Result<Bytes, FastFault>
-    requires { CanSaveFast document.now parts.now }
-    ensures { MatchResult result (λ file. (can : CanSaveFast document.now parts.now) → IsFastFile can file)
+    requires { CanSaveFast document.now (record parts.now { text = text.now }) }
+    ensures { MatchResult result
+        (λ file. (can : CanSaveFast document.now (record parts.now { text = text.now })) → IsFastFile can file)
         (λ fault. fault ≡ NoMemory) }
 {
-    parts_are_formed(document, parts);
+    text_is_formed(document, text);
     let old = SavedFile {
         fib: &parts.fib,
         container: &parts.container,
     };
-    let text = EditedText {
-        pieces: &parts.text.pieces,
-        ends: parts.text.ends,
-        base: parts.text.added.base,
-        added: &parts.text.added.items,
-        sections: &parts.text.sections,
+    let edited = EditedText {
+        pieces: &text.pieces,
+        ends: text.ends,
+        base: text.added.base,
+        added: &text.added.items,
+        sections: &text.sections,
     };
-    match append(alloc, &old, document, &text) {
+    match append(alloc, &old, document, &edited) {
         Ok(file) => Ok(file),
         Err(AppendFault::Memory) => Err(FastFault::Memory),
         // The counts refuse such saves before they are made.
@@ -152,12 +155,12 @@ pub(crate) fn appended(
 }
 
 /// What the types of a document and of its text tell.
-fn parts_are_formed(document: &Document, parts: &SessionParts)
+pub(crate) fn text_is_formed(document: &Document, text: &SessionText)
     ensures document { IsFormed document.now }
-    ensures items { IsFormedText parts.now.text.added.items }
-    ensures pieces { ArePieces parts.now.text.pieces.pieces }
+    ensures items { IsFormedText text.now.added.items }
+    ensures pieces { ArePieces text.now.pieces.pieces }
 {
     documents_are_formed(document);
-    let _ = parts.text.added.items.as_slice();
-    let _ = parts.text.pieces.len();
+    let _ = text.added.items.as_slice();
+    let _ = text.pieces.len();
 }

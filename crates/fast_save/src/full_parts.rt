@@ -13,7 +13,7 @@ ghost use Rattle.edited_text.specs.SessionText.{unwritten_count};
 ghost use Rattle.fast_save.specs.Session.{IsSession};
 
 use crate::parts::{SessionParts, named};
-use cfb_streams::{Container, word_document};
+use cfb_streams::{CfbFault, Container, word_document};
 use doc_bits::Memory;
 use fib_form::Fib;
 use piece_table::PieceList;
@@ -52,7 +52,8 @@ pub(crate) fn load(alloc: Global, file: &[u8]) -> Result<Container, Memory>
     match Container::load(alloc, file) {
         Ok(container) => Ok(container),
         // No rule is broken.
-        Err(_) => Err(Memory),
+        Err(CfbFault::Rule { .. }) => unreachable!(),
+        Err(CfbFault::Memory) => Err(Memory),
     }
 }
 

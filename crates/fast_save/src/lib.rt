@@ -11,6 +11,7 @@ mod parts;
 mod reckoned;
 mod session;
 mod stories;
+mod written;
 
 pub use fast::FastFault;
 pub use laws::{

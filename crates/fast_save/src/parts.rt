@@ -11,7 +11,7 @@ ghost use Rattle.fast_save.specs.Started.{IsOpenFile, IsReadFile, written_places
 use crate::stories::ends_behind;
 use cfb_streams::{Container, table_name, word_document};
 use doc_bits::Memory;
-use doc_parts::{Seds, sections};
+use doc_parts::{PartFault, Seds, sections};
 use edited_text::SessionText;
 use fib_form::{Fib, TablePart};
 use piece_table::PieceList;
@@ -112,7 +112,8 @@ pub(crate) fn section_places(
     match sections(alloc, plc, pair.0, fib.ccp(0)) {
         Ok(seds) => places_of(alloc, &seds),
         // The sections of a file that was read break no rule.
-        Err(_) => Err(Memory),
+        Err(PartFault::Rule { .. }) => unreachable!(),
+        Err(PartFault::Memory) => Err(Memory),
     }
 }
 

@@ -15,11 +15,12 @@ ghost use Rattle.fast_save.specs.Edited.{HasRoom, IsPlanned, session_after};
 ghost use Rattle.fast_save.specs.Started.{IsStarted, session_after_full};
 ghost use Rattle.fast_save.specs.Fast.{IsFastFault, IsSavedFast};
 
-use crate::fast::{FastFault, appended, judged};
+use crate::fast::{FastFault, judged};
 use crate::fast_parts::FastParts;
 use crate::full_parts::parts_in_full;
 use crate::ledgers::{Counts, Ledgers};
 use crate::parts::{SessionParts, bin_bytes, pieces_are_few};
+use crate::written::{put_pieces, written_file};
 use doc_bits::{Bytes, Memory};
 use doc_read::{ReadFault, read};
 use edit_ops::{Command, Edit, EditFault, Facts, changes_of, edit_of};
@@ -146,8 +147,9 @@ impl Session {
             × IsFastFault self.old.quick_saves self.old.counts (length (table_stream self.old.document)) fault) }
     {
         let sectors = judged(self.alloc, &self.document, &self.parts.fib, &self.counts)?;
-        let file = appended(self.alloc, &self.document, &self.parts)?;
-        let behind = FastParts::of_file(self.alloc, &self.document, file.as_slice())?;
+        let written = written_file(self.alloc, &self.document, &self.parts, &self.counts)?;
+        let behind = FastParts::of_file(self.alloc, &self.document, written.file.as_slice())?;
+        put_pieces(&mut self.parts.text.pieces, written.pieces);
         self.parts.text.added = Added {
             base: behind.base,
             items: Items::new(self.alloc),
@@ -157,7 +159,7 @@ impl Session {
         self.parts.fib = behind.fib;
         self.parts.container = behind.container;
         self.counts = self.counts.after_fast(sectors);
-        self.file = file;
+        self.file = written.file;
         Ok(())
     }
 

@@ -1,7 +1,9 @@
 pub mod ClxLemmas
 pub mod BinLemmas
 pub mod RunLemmas
-pub mod JoinedRunLemmas
+pub mod MarkRunLemmas
+pub mod SharedLemmas
+pub mod PageBoundLemmas
 pub mod TableLemmas
 pub mod SectorLemmas
 pub mod RenewedLemmas

@@ -60,6 +60,11 @@ one_more joins x ((y ∷ ys) ∷ more) =
       | false ↦ omega arith
     ]
 
+pub few_stretches : {A : Type 0} (joins : A → A → Bool) (xs : List A) → length (stretches joins xs) ≤ length xs
+unfolding stretches
+few_stretches joins [] = omega arith
+few_stretches joins (x ∷ xs) = omega (arith, few_stretches joins xs, one_more joins x (stretches joins xs))
+
 pub joined_stretches : {A : Type 0} (joins : A → A → Bool) (one other : List A) →
     length (stretches joins (one ++ other)) ≤ length (stretches joins one) + length (stretches joins other)
 unfolding stretches

@@ -41,10 +41,11 @@ pub record WrittenLengths : Type 0 where
   pub bin_bytes : ℕ
   pub clx_bytes : ℕ
 
--- it is within what is counted: bytes that are left of those for runs may serve for units that are not counted, as
--- those of the marks behind stories
+-- it is within what is counted, where units are whole pages: bytes that are left of those for runs may serve for units
+-- that are not counted, as those of the marks behind stories, or that are written again
 pub record AreCounted (counts : SaveCounts) (written : WrittenLengths) : Type 0 where
-  pub text : 2 * written.units + 512 * written.pages ≤ 2 * counts.units + 512 * counts.runs + 1026
+  pub text :
+      512 * units_for 512 (2 * written.units) + 512 * written.pages ≤ 2 * counts.units + 512 * counts.runs + 1536
   pub sepxes : written.sepx_bytes ≤ 512 * counts.sections
   pub bins : written.bin_bytes ≤ counts.bin_bytes + 16 * counts.runs + 256
   pub clx : written.clx_bytes ≤ (12 + counts.prc_bytes) * counts.pieces + 9

@@ -2,8 +2,8 @@
 ghost use Rattle.save_bounds.specs.ClxLengths.{ClxIsShort, ReckonedPrcsAreShort};
 ghost use Rattle.save_bounds.specs.BinLengths.{BinTableIsLong, LongerTablesAreShort};
 ghost use Rattle.save_bounds.specs.RunCounts.{TextRunsAreCounted, RunCountsAdd, PagesAreFew};
-ghost use Rattle.save_bounds.specs.RunCounts.{JoinedRunsAreFewer, JoinedRunCountsAdd, EndsAddNoRun};
-ghost use Rattle.save_bounds.specs.RunCounts.{ParagraphRunsAreCounted};
+ghost use Rattle.save_bounds.specs.SharedPages.{BareRunsShare, PageBoundsAreFewer, PageBoundsAdd, TextPagesAreFew};
+ghost use Rattle.save_bounds.specs.SharedPages.{BareMarksShare};
 ghost use Rattle.save_bounds.specs.TableLengths.{TablesDifferByOwnParts, TablesAreShort};
 ghost use Rattle.save_bounds.specs.SectorCounts.{LongerStreamsFit, NamedStreamsAreRenewed};
 ghost use Rattle.save_bounds.specs.FastSizes.{CountsBoundStreams, SepxIsShort};
@@ -39,24 +39,29 @@ pub fn run_counts_add()
     ensures { RunCountsAdd }
 {}
 
-/// Where equal marks in a row are one run a text has no more runs than where each is one.
-pub fn joined_runs_are_fewer()
-    ensures { JoinedRunsAreFewer }
+/// Runs of paragraphs take no more pages than are begun where 29 for which nothing is written share one.
+pub fn bare_runs_share()
+    ensures { BareRunsShare }
 {}
 
-/// Texts that are joined have no more such runs than both.
-pub fn joined_run_counts_add()
-    ensures { JoinedRunCountsAdd }
+/// A text has no more pages so than runs where each mark is one.
+pub fn page_bounds_are_fewer()
+    ensures { PageBoundsAreFewer }
 {}
 
-/// An item that is put again behind itself adds no such run.
-pub fn ends_add_no_run()
-    ensures { EndsAddNoRun }
+/// Texts that are joined have no more pages than both.
+pub fn page_bounds_add()
+    ensures { PageBoundsAdd }
 {}
 
-/// Runs of paragraphs are no more than are counted so, but for items behind the last paragraph mark.
-pub fn paragraph_runs_are_counted()
-    ensures { ParagraphRunsAreCounted }
+/// The runs of a text take no more pages than are counted, but for one behind the last paragraph mark.
+pub fn text_pages_are_few()
+    ensures { TextPagesAreFew }
+{}
+
+/// Up to 29 marks for which nothing is written begin one page at most.
+pub fn bare_marks_share()
+    ensures { BareMarksShare }
 {}
 
 /// Runs have no more pages than runs, of 512 bytes each.

@@ -61,7 +61,7 @@ use Rattle.save_laws.proofs.FullSections.{FitsSepx, sections_saved}
 -- ---- slots and items
 
 -- the item of a slot: the marks behind stories and the last CP are those that a full save writes
-abbrev slot_item : Slot → Item
+abbrev pub slot_item : Slot → Item
 slot_item (shown item) = item
 slot_item loose = extra_mark
 slot_item last = extra_mark
@@ -80,7 +80,7 @@ last_by : (slots : List Slot) → map slot_item (slots ++ last_slots slots) ≡ 
 last_by [] = refl
 last_by (slot ∷ slots) = map-append slot_item (slot ∷ slots) (last ∷ [])
 
-abbrev full_ends : Document → StoryEnds
+abbrev pub full_ends : Document → StoryEnds
 full_ends document = (full_saved_text document).ends
 
 notes_by : (document : Document) → map slot_item (note_slots document (full_ends document)) ≡ note_story document
@@ -92,7 +92,7 @@ unfolding head_story
 heads_by document = story_by (joined_texts document.heads)
 
 -- the slots of the whole text are the items of the layout
-whole_items : (document : Document) → map slot_item (whole_text document (full_ends document)) ≡ text_items document
+pub whole_items : (document : Document) → map slot_item (whole_text document (full_ends document)) ≡ text_items document
 unfolding whole_text text_items
 whole_items document =
     let main : List Slot = map shown document.main in
@@ -186,10 +186,10 @@ placed_by stream at last gives = gives.stands
 abbrev the_piece : ℕ → TextPiece
 the_piece len = record { at = text_at; wide = true; len = len; modifier = no_modifier }
 
-abbrev the_place : ℕ → UnitPlace
+abbrev pub the_place : ℕ → UnitPlace
 the_place k = record { at = text_at + 2 * k; wide = true; modifier = no_modifier }
 
-place_is : (len k : ℕ) (place : UnitPlace) → slice_get (flat_pieces (one_piece text_at len)) k ≡ Some place →
+pub place_is : (len k : ℕ) (place : UnitPlace) → slice_get (flat_pieces (one_piece text_at len)) k ≡ Some place →
     place ≡ the_place k
 unfolding flat_pieces
 place_is len k place here =

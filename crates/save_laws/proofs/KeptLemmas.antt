@@ -51,12 +51,12 @@ range_kept old new from to keeps low high =
 
 -- ---- pages
 
-page_kept : (old new : List ℕ) (number : ℕ) → KeepsBytes old new → 2 ≤ number → 512 * number + 512 ≤ length old →
+pub page_kept : (old new : List ℕ) (number : ℕ) → KeepsBytes old new → 2 ≤ number → 512 * number + 512 ≤ length old →
     page_at new number ≡ page_at old number
 page_kept old new number keeps low within =
     range_kept old new (512 * number) (512 * number + 512) keeps (omega (arith, low)) within
 
-named_kept : (old new : List ℕ) (before fc number : ℕ) → KeepsRanges old new before → fc < before →
+pub named_kept : (old new : List ℕ) (before fc number : ℕ) → KeepsRanges old new before → fc < before →
     IsBinPage old fc number → IsBinPage new fc number
 named_kept old new before fc number keeps below page =
     let k = page.entry in

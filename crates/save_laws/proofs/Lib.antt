@@ -23,3 +23,6 @@ pub mod GivenFiles
 pub mod SessionLemmas
 pub mod FullSections
 pub mod FullSavedLemmas
+pub mod ByRunsLemmas
+pub mod RunPlaces
+pub mod FullByRuns

@@ -4,11 +4,9 @@ use Rattle.std.specs.List.{AllZip, splice, drop-map, take-map}
 use Rattle.std.specs.FinMap.{get}
 use Rattle.std.proofs.Common.{◌≡◌, ◌∙◌, ◌++◌, ◌∷◌, ◌+◌, ◌-◌, ◌≤◌, [], refl, sym, ap, subst, inl, inr, zero, suc, Bool}
 use Rattle.std.proofs.Common.{Option, Some, None, length, map, take, drop, arith}
-use Rattle.std.proofs.lemmas.Bool.{cases_lt}
-use Rattle.std.proofs.lemmas.Option.{slice_get_within, same_Some, none-some}
-use Rattle.std.proofs.lemmas.List.{length-map, length-append, length-take, length-drop, take-append-drop, map-append}
+use Rattle.std.proofs.lemmas.Option.{same_Some, none-some}
+use Rattle.std.proofs.lemmas.List.{length-map, length-append, take-append-drop, map-append}
 use Rattle.std.proofs.lemmas.List.{take-append-le, drop-append-le, drop-drop, append_assoc}
-use Rattle.doc_bits.proofs.ListLemmas.{slice_get_before}
 use Rattle.prop_map.specs.Modifiers.{character_value, mark_value, IsComposed}
 use Rattle.prop_map.specs.Modifiers.{mark_style}
 use Rattle.prop_map.specs.declared.modifiers.Modifier.{Modifier}
@@ -23,7 +21,7 @@ use Rattle.doc_bits.specs.Together.{AreTogether}
 use Rattle.save_laws.specs.Places.{PagedStream, Given, given_of, IsMarkedAfter, IsGivenAfter}
 use Rattle.save_laws.specs.Sessions.{IsSlotAfter, SplicesStayTogether}
 use Rattle.save_laws.specs.Sessions.{ModifiedStayTogether, LongerPlansKeep, MainSplices}
-use Rattle.doc_bits.proofs.TogetherLemmas.{in_front, from_behind, in_back, Beside, together_joined, together_take}
+use Rattle.doc_bits.proofs.TogetherLemmas.{in_front, Beside, together_joined, together_take}
 use Rattle.doc_bits.proofs.TogetherLemmas.{together_drop}
 
 pub splices_stay_together : SplicesStayTogether

@@ -9,3 +9,5 @@ pub mod FastSaves
 pub mod GivenFiles
 pub mod Sessions
 pub mod Laws
+pub mod ByRuns
+pub mod FullByRuns

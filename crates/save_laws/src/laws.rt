@@ -2,6 +2,8 @@
 ghost use Rattle.save_laws.specs.Laws.{SavedDocumentsAreHeld, SavedFilesHold, PlansGive, FastSavesAreSaves};
 ghost use Rattle.save_laws.specs.Laws.{KeptSettingsAreThere};
 ghost use Rattle.save_laws.specs.Laws.{KeptPlacesGive, GivenFilesStand, GivenSectionsAreSaved};
+ghost use Rattle.save_laws.specs.ByRuns.{BoundedTextsHaveTheirParagraphs};
+ghost use Rattle.save_laws.specs.FullByRuns.{FullSavesAreBounded};
 ghost use Rattle.save_laws.specs.FullSaves.{FullSavesAreSaves};
 ghost use Rattle.save_laws.specs.Sessions.{SplicesStayTogether, ModifiedStayTogether, LongerPlansKeep, MainSplices};
 
@@ -68,4 +70,14 @@ pub fn longer_plans_keep()
 /// A splice of the main text is one of the whole text.
 pub fn main_splices()
     ensures { MainSplices }
+{}
+
+/// Where each unit agrees with the runs at its place, the standard's paragraphs are those of the marks.
+pub fn bounded_texts_have_their_paragraphs()
+    ensures { BoundedTextsHaveTheirParagraphs }
+{}
+
+/// Each unit of a full save agrees with the runs at its place.
+pub fn full_saves_are_bounded()
+    ensures { FullSavesAreBounded }
 {}

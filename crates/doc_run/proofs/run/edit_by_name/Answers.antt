@@ -1,11 +1,11 @@
-use Rattle.std.proofs.Common.{◌≢◌, inr, sym, subst, length, ◌≤◌, map}
+use Rattle.std.proofs.Common.{◌≢◌, inl, inr, sym, subst, length, ◌≤◌, map}
 use Rattle.std.proofs.lemmas.Result.{IfOk-weaker}
 use Rattle.doc_edit.specs.States.{start_of}
 use Rattle.doc_run.specs.Outcomes.{HasCause}
 use Rattle.doc_run.specs.Stages.{longest_file}
 use Rattle.doc_run.specs.Reading.{IsShort}
 use Rattle.doc_run.specs.Edits.{EditsBy, EditsByFile, IsOverlongScript, ReadsScript}
-use Rattle.doc_run.proofs.EndingLemmas.{told_whole, taken_ends, taken_inside, edits_by_status}
+use Rattle.doc_run.proofs.EndingLemmas.{told_whole, told_longer, taken_ends, taken_inside, edits_by_status, overlong_status}
 use Rattle.doc_run.proofs.EndingLemmas.{after_reading_inside, after_reading_caused}
 use Rattle.doc_run.proofs.run.edit_by_name.Goals as goal
 
@@ -62,3 +62,29 @@ returns-in-Whole-clause-cause g c =
     IfOk-weaker c.edit_by.result (λ e. EditsBy start out read e)
     (λ e. HasCause e.status (missed before) (missed now) (faults before) (faults now))
     (λ e h. after_reading_caused e.status _ _ _ _ (edits_by_status start out read e h)) c.edit_by.ensures
+
+pub returns-in-Overlong-clause-reads : goal.returns-in-Overlong-clause-reads
+returns-in-Overlong-clause-reads g c =
+    let name = c.args.script.now in
+    let out = c.args.out.now in
+    let held = g.S.Shelf.held c.args.shelf.now in
+    let start =
+    start_of c.args.session (map (λ b. (goal.Guard-dyn g (b.vtable, b.value)).policy b.value) c.args.guards.now) in
+    let longer = told_longer name held c.in_ok-bytes.field-0 c.in_ok-bytes.ensures.is c.in-Overlong.is in
+    IfOk-weaker c.overlong_script.result (λ e. IsOverlongScript e) (λ e. ReadsScript name out held start e)
+    (λ e h. inr (inr (inl (record { longer = longer; ends = h })))) c.overlong_script.ensures
+
+pub returns-in-Overlong-clause-status : goal.returns-in-Overlong-clause-status
+returns-in-Overlong-clause-status g c =
+    IfOk-weaker c.overlong_script.result (λ e. IsOverlongScript e) (λ e. (e.status ≢ 5) × (e.status ≢ 6))
+    (λ e h. after_reading_inside e.status (overlong_status e h)) c.overlong_script.ensures
+
+pub returns-in-Overlong-clause-cause : goal.returns-in-Overlong-clause-cause
+returns-in-Overlong-clause-cause g c =
+    let missed = g.S.Shelf.missed in
+    let faults = g.S.Shelf.faults in
+    let before = c.args.shelf.now in
+    let now = c.take_whole.new.shelf in
+    IfOk-weaker c.overlong_script.result (λ e. IsOverlongScript e)
+    (λ e. HasCause e.status (missed before) (missed now) (faults before) (faults now))
+    (λ e h. after_reading_caused e.status _ _ _ _ (overlong_status e h)) c.overlong_script.ensures

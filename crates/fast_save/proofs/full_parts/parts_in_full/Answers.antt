@@ -7,7 +7,6 @@ use Rattle.cfb_streams.specs.Names.{wd_name}
 use Rattle.fib_form.specs.FibFields.{FibFields, fib_fields, text_length}
 use Rattle.fib_form.specs.FibRules.{fib_rules}
 use Rattle.piece_table.specs.Piece.{one_piece}
-use Rattle.plain_doc.specs.declared.document.Document.{Document}
 use Rattle.doc_read.specs.Opened.{OpenedFile}
 use Rattle.full_save.specs.Text.{text_items}
 use Rattle.full_save.specs.WordDocument.{wd_stream, full_fib, text_at}

@@ -1,6 +1,4 @@
-use Rattle.std.proofs.Common.{◌≡◌, ◌∙◌, ◌∷◌, ◌++◌, [], List, ℕ, Option, Some, sym, ap, map, take, subst}
-use Rattle.std.proofs.lemmas.List.{take_more}
-use Rattle.std.proofs.lemmas.Option.{slice_get_within, get_or_from_slice_get}
+use Rattle.std.proofs.Common.{◌∙◌, ◌∷◌, ◌++◌, [], List, ℕ, Option, Some, sym, ap}
 use Rattle.doc_parts.specs.declared.lists.Sed.{Sed}
 use Rattle.fast_save.proofs.StartLemmas.{placed_more}
 use Rattle.fast_save.proofs.parts.places_of.Goals as goal

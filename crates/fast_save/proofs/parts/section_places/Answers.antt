@@ -1,11 +1,10 @@
-use Rattle.std.proofs.Common.{◌≡◌, ◌∙◌, ap, subst, List, ℕ, length, arith}
+use Rattle.std.proofs.Common.{◌≡◌, ◌∙◌, ap, subst, List, ℕ, arith}
 use Rattle.cfb_streams.specs.Names.{table_name}
 use Rattle.cfb_streams.specs.Contents.{HasNamed}
 use Rattle.fib_form.specs.FibFields.{FibFields, pair_at}
-use Rattle.doc_parts.specs.declared.lists.Sed.{Sed}
 use Rattle.doc_load.specs.FileRules.{table_stream_name}
 use Rattle.fast_save.specs.Started.{IsReadFile, written_places}
-use Rattle.fast_save.proofs.OpenLemmas.{named_short, sections_are}
+use Rattle.fast_save.proofs.OpenLemmas.{named_short, sections_are, sections_hold, no_part_fault}
 use Rattle.fast_save.proofs.ResultLemmas.{ok_then}
 use Rattle.fast_save.proofs.parts.section_places.Goals as goal
 
@@ -35,3 +34,20 @@ returns-in-Ok c =
     c.in-Ok.ensures.1 in
     is ∙ ap written_places same)
     c.places_of.ensures
+
+pub unreachable-requires : goal.unreachable-requires
+unreachable-requires c =
+    let fib = c.args.fib.now in
+    let file = c.requires in
+    let table = c.named-table.result.now in
+    let name : c.table_name.result.now ≡ table_stream_name file.parts.text.wd =
+    c.table_name.ensures ∙ ap table_name (c.which_table.ensures.value ∙ ap (λ (f : FibFields). f.which_table)
+    file.fib_is) in
+    let named : HasNamed c.args.container.now.streams (table_stream_name file.parts.text.wd) table =
+    subst (λ (n : List ℕ). HasNamed c.args.container.now.streams n table) name c.named-table.ensures in
+    let hold =
+    sections_hold c.args.container.now fib file table c.part_of-plc.result.now c.pair-pair.result c.ccp.result named
+    (c.pair-pair.ensures ∙ ap (pair_at fib.pairs) c.pair.ensures.number) c.part_of-plc.ensures.bytes c.ccp.ensures.value
+    in
+    no_part_fault c.part_of-plc.result.now c.pair-pair.result.0 c.ccp.result c.in-Err-Rule.field-0
+    c.in-Err-Rule.field-0-0 c.in-Err-Rule.field-0-1 hold c.in-Err-Rule.ensures c.in-Err-Rule.field-0-is

@@ -1,5 +1,5 @@
 use Rattle.std.proofs.Common.{◌+◌, ap, length, take, arith}
-use Rattle.std.proofs.lemmas.List.{length-append, take_all}
+use Rattle.std.proofs.lemmas.List.{length-append}
 use Rattle.plain_doc.specs.Collected.{joined_texts}
 use Rattle.plain_doc.proofs.TextListLemmas.{text_joined, first_joined}
 use Rattle.fast_save.proofs.stories.items_of.Goals as goal

@@ -60,6 +60,20 @@ add_characters-requires-clause-runs c =
     let same = c.as_slice-items.ensures.items in
     subst (λ (xs : List Item). AreRuns Chpx (text_runs Chpx save.base xs)) (sym same) (runs_right Chpx r)
 
+pub add_characters-requires-clause-room : goal.add_characters-requires-clause-room
+add_characters-requires-clause-room c =
+    let save : FastSave = save_of c.args.old.now c.args.document.now c.args.text.now in
+    let r : Ready = record {
+      save = save;
+      can = c.requires.kept;
+      formed = c.requires.formed;
+      items = c.as_slice-items.ensures.formed;
+    } in
+    let same = c.as_slice-items.ensures.items in
+    let first = c.pages_for-first.ensures ∙ ap (λ (xs : List Item). units_for 512 (save.base + 2 * length xs)) same in
+    subst (λ (x : ℕ × List Item). x.0 + length (text_runs Chpx save.base x.1) ≤ 4194304)
+    (λ i. (sym first i, sym same i)) (have_room r).characters
+
 pub add_characters-requires-clause-printable : goal.add_characters-requires-clause-printable
 add_characters-requires-clause-printable c =
     let save : FastSave = save_of c.args.old.now c.args.document.now c.args.text.now in

@@ -1,5 +1,7 @@
-use Rattle.append_save.proofs.MarkLemmas.{no_marks}
+use Rattle.std.proofs.Common.{refl}
+use Rattle.append_save.proofs.MarkSteps.{none_yet}
 use Rattle.append_save.proofs.runs.ParagraphRuns.new.Goals as goal
 
-pub returns : goal.returns
-returns c = no_marks c.args.base c.new.result c.new.ensures
+pub returns-clause-now : goal.returns-clause-now
+returns-clause-now c =
+    none_yet c.args.base (record { start = c.args.start; closed = c.new.result; from = c.args.base }) c.new.ensures refl

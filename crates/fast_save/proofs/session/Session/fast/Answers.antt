@@ -1,14 +1,17 @@
 use Rattle.std.proofs.Common.{◌≡◌, ◌∙◌, refl, sym, ap, subst, List, ℕ, length, arith}
+use Rattle.std.specs.Option.{unwrap_or}
 use Rattle.std.proofs.lemmas.Result.{err_from_is_err_and}
 use Rattle.fib_form.specs.FibFields.{FibFields}
 use Rattle.full_save.specs.WordDocument.{table_stream}
 use Rattle.fast_save.specs.declared.ledgers.Counts.{Counts}
 use Rattle.fast_save.specs.declared.parts.SessionParts.{SessionParts}
 use Rattle.fast_save.specs.Ledgers.{after_fast, sector_bound}
-use Rattle.fast_save.specs.Session.{SessionView, IsSession, IsCounted}
+use Rattle.fast_save.specs.Session.{SessionView, IsCounted}
+use Rattle.fast_save.specs.Written.{with_text, CanWrite}
 use Rattle.fast_save.specs.Fast.{CanSaveFast, IsFastFile, IsFastFault, IsHeldFile, AreFastParts, IsSavedFast}
-use Rattle.fast_save.proofs.CanLemmas.{are_small}
+use Rattle.fast_save.proofs.CanLemmas.{are_small, counted_as_added}
 use Rattle.fast_save.proofs.FastLemmas.{AreAfter, session_after_fast, counted_after_fast, saved_fast}
+use Rattle.fast_save.proofs.WrittenLemmas.{can_written, pieces_chosen}
 use Rattle.fast_save.proofs.session.Session.fast.Goals as goal
 
 pub judged-requires-clause-saves : goal.judged-requires-clause-saves
@@ -25,33 +28,36 @@ returns-in_err-sectors-clause-err c =
     c.self.view_is c.in_err-sectors.ensures in
     rw (p.1, p.2) (refl, is)
 
-pub appended-requires : goal.appended-requires
-appended-requires c =
+pub written_file-requires : goal.written_file-requires
+written_file-requires c =
     let inside = c.self.inside in
     record {
       file = inside.file;
-      counts = inside.counts;
       session = c.self.invariant.0;
-      counted = c.self.invariant.1;
+      counted = counted_as_added inside.file inside.document inside.parts inside.counts c.self.invariant.1;
       judged = c.in_ok-sectors.ensures.0;
     }
 
-pub returns-in_err-file-clause-err : goal.returns-in_err-file-clause-err
-returns-in_err-file-clause-err c =
-    let p = err_from_is_err_and c.from_residual-in_err-file.result c.from_residual-in_err-file.ensures.1 in
-    rw (p.1, p.2, c.in_err-file.ensures) (refl, tt)
+pub returns-in_err-written-clause-err : goal.returns-in_err-written-clause-err
+returns-in_err-written-clause-err c =
+    let p = err_from_is_err_and c.from_residual-in_err-written.result c.from_residual-in_err-written.ensures.1 in
+    rw (p.1, p.2, c.in_err-written.ensures) (refl, tt)
 
 pub of_file-requires : goal.of_file-requires
 of_file-requires c =
     let inside = c.self.inside in
-    let can : CanSaveFast inside.document inside.parts = record {
+    let can_write : CanWrite inside.document inside.parts inside.counts = record {
       file = inside.file;
-      counts = inside.counts;
       session = c.self.invariant.0;
-      counted = c.self.invariant.1;
+      counted = counted_as_added inside.file inside.document inside.parts inside.counts c.self.invariant.1;
       judged = c.in_ok-sectors.ensures.0;
     } in
-    subst (λ (file : List ℕ). IsHeldFile file inside.document) (sym c.as_slice.ensures) (c.in_ok-file.ensures can).held
+    let written = c.in_ok-written.ensures in
+    let text = unwrap_or written.chosen inside.parts.text in
+    let parts : SessionParts = with_text inside.parts text in
+    let can : CanSaveFast inside.document parts =
+    can_written inside.document inside.parts inside.counts written.chosen can_write written.is in
+    subst (λ (file : List ℕ). IsHeldFile file inside.document) (sym c.as_slice.ensures) (written.made can).held
 
 pub returns-in_err-behind-clause-err : goal.returns-in_err-behind-clause-err
 returns-in_err-behind-clause-err c =
@@ -61,22 +67,26 @@ returns-in_err-behind-clause-err c =
 pub invariant_of-self : goal.invariant_of-self
 invariant_of-self c =
     let inside = c.self.inside in
-    let can : CanSaveFast inside.document inside.parts = record {
+    let can_write : CanWrite inside.document inside.parts inside.counts = record {
       file = inside.file;
-      counts = inside.counts;
       session = c.self.invariant.0;
-      counted = c.self.invariant.1;
+      counted = counted_as_added inside.file inside.document inside.parts inside.counts c.self.invariant.1;
       judged = c.in_ok-sectors.ensures.0;
     } in
-    let file = c.in_ok-file.file in
+    let written = c.in_ok-written.ensures in
+    let text = unwrap_or written.chosen inside.parts.text in
+    let parts : SessionParts = with_text inside.parts text in
+    let can : CanSaveFast inside.document parts =
+    can_written inside.document inside.parts inside.counts written.chosen can_write written.is in
+    let file = c.in_ok-written.written.file in
     let behind = c.in_ok-behind.behind in
-    let made : IsFastFile can file = c.in_ok-file.ensures can in
+    let made : IsFastFile can file = written.made can in
     let are : AreFastParts made.held.holds behind =
     subst (λ (f : List ℕ). (held : IsHeldFile f inside.document) → AreFastParts held.holds behind) c.as_slice.ensures
     c.in_ok-behind.ensures made.held in
     let new : SessionParts = record {
       text = record {
-        pieces = inside.parts.text.pieces;
+        pieces = c.put_pieces.new.pieces;
         added = record { base = behind.base; items = c.new.result };
         ends = behind.ends;
         sections = behind.places;
@@ -84,8 +94,9 @@ invariant_of-self c =
       fib = behind.fib;
       container = behind.container;
     } in
-    let after : AreAfter inside.parts behind new = record {
-      pieces = refl;
+    let after : AreAfter parts behind new = record {
+      pieces = c.put_pieces.ensures ∙ pieces_chosen written.chosen c.in_ok-written.written.pieces inside.parts.text
+          written.pieces;
       base = refl;
       items = c.new.ensures;
       ends = refl;
@@ -97,30 +108,34 @@ invariant_of-self c =
     let low = (are_small inside.counts (length (table_stream inside.document)) can.judged.sectors).bins in
     let counts : c.after_fast-self-inside.result ≡ after_fast bound inside.counts =
     c.after_fast-self-inside.ensures ∙ ap (λ (n : ℕ). after_fast n inside.counts) c.in_ok-sectors.ensures.1 in (
-      session_after_fast inside.document inside.parts can file made behind are new after,
+      session_after_fast inside.document parts can file made behind are new after,
       subst (IsCounted file new) (sym counts)
-          (counted_after_fast inside.document inside.parts can file made behind are new after low),
+          (counted_after_fast inside.document parts can file made behind are new after low),
     )
 
 pub returns-clause-ok : goal.returns-clause-ok
 returns-clause-ok c =
     let inside = c.self.inside in
-    let can : CanSaveFast inside.document inside.parts = record {
+    let can_write : CanWrite inside.document inside.parts inside.counts = record {
       file = inside.file;
-      counts = inside.counts;
       session = c.self.invariant.0;
-      counted = c.self.invariant.1;
+      counted = counted_as_added inside.file inside.document inside.parts inside.counts c.self.invariant.1;
       judged = c.in_ok-sectors.ensures.0;
     } in
-    let file = c.in_ok-file.file in
+    let written = c.in_ok-written.ensures in
+    let text = unwrap_or written.chosen inside.parts.text in
+    let parts : SessionParts = with_text inside.parts text in
+    let can : CanSaveFast inside.document parts =
+    can_written inside.document inside.parts inside.counts written.chosen can_write written.is in
+    let file = c.in_ok-written.written.file in
     let behind = c.in_ok-behind.behind in
-    let made : IsFastFile can file = c.in_ok-file.ensures can in
+    let made : IsFastFile can file = written.made can in
     let are : AreFastParts made.held.holds behind =
     subst (λ (f : List ℕ). (held : IsHeldFile f inside.document) → AreFastParts held.holds behind) c.as_slice.ensures
     c.in_ok-behind.ensures made.held in
     let new : SessionParts = record {
       text = record {
-        pieces = inside.parts.text.pieces;
+        pieces = c.put_pieces.new.pieces;
         added = record { base = behind.base; items = c.new.result };
         ends = behind.ends;
         sections = behind.places;
@@ -128,8 +143,9 @@ returns-clause-ok c =
       fib = behind.fib;
       container = behind.container;
     } in
-    let after : AreAfter inside.parts behind new = record {
-      pieces = refl;
+    let after : AreAfter parts behind new = record {
+      pieces = c.put_pieces.ensures ∙ pieces_chosen written.chosen c.in_ok-written.written.pieces inside.parts.text
+          written.pieces;
       base = refl;
       items = c.new.ensures;
       ends = refl;
@@ -154,4 +170,4 @@ returns-clause-ok c =
     } in
     subst (λ (old : SessionView). IsSavedFast old (view c.after_fast-self-inside.result)) c.self.view_is
     (subst (λ (numbers : Counts). IsSavedFast before (view numbers)) (sym counts)
-    (saved_fast inside.document inside.parts can file made behind are new after))
+    (saved_fast inside.document parts can file made behind are new after))

@@ -1,4 +1,4 @@
-use Rattle.std.proofs.Common.{◌≡◌, ◌∙◌, sym, ap, subst, List, ℕ, length}
+use Rattle.std.proofs.Common.{◌≡◌, ◌∙◌, ap, subst, List, ℕ, length}
 use Rattle.cfb_sectors.specs.Header.{sector_count}
 use Rattle.fib_form.specs.FibFields.{FibFields}
 use Rattle.piece_table.specs.Piece.{TextPiece, one_piece}
@@ -6,8 +6,8 @@ use Rattle.full_save.specs.Text.{text_items}
 use Rattle.full_save.specs.WordDocument.{full_fib, text_at}
 use Rattle.full_save.specs.Layout.{full_save_image, FitsCompoundFile}
 use Rattle.fast_save.specs.Laws.{IsSavable, IsHeldInFull}
-use Rattle.fast_save.specs.Ledgers.{AreCountsOf, after_full}
-use Rattle.fast_save.specs.Session.{SessionView, IsSession, IsCounted, bin_length}
+use Rattle.fast_save.specs.Ledgers.{AreCountsOf}
+use Rattle.fast_save.specs.Session.{SessionView, IsSession, bin_length}
 use Rattle.fast_save.specs.Started.{session_after_full}
 use Rattle.fast_save.proofs.FullFileLemmas.{full_saves_hold}
 use Rattle.fast_save.proofs.FullLemmas.{counts_in_full, full_quick_saves}

@@ -1,4 +1,4 @@
-use Rattle.std.proofs.Common.{◌≡◌, ◌<◌, ℕ, ap, length, arith}
+use Rattle.std.proofs.Common.{◌<◌, ap, length, arith}
 use Rattle.fast_save.specs.Session.{SessionView}
 use Rattle.fast_save.proofs.ResultLemmas.{some_item}
 use Rattle.fast_save.proofs.session.Session.main_len.Goals as goal

@@ -1,16 +1,14 @@
-use Rattle.std.proofs.Common.{◌≡◌, ◌∙◌, refl, sym, ap, subst, List, ℕ, Option, ◌+◌, arith}
-use Rattle.piece_table.specs.Piece.{TextPiece}
+use Rattle.std.proofs.Common.{◌≡◌, ◌∙◌, refl, sym, ap, subst, List, ℕ, arith}
 use Rattle.plain_doc.specs.declared.document.Document.{Document}
 use Rattle.edit_guards.specs.declared.facts.Facts.{Facts}
 use Rattle.edit_ops.specs.declared.changes.Change.{Change}
-use Rattle.edit_ops.specs.Edits.{changes_of, document_after}
+use Rattle.edit_ops.specs.Edits.{changes_of}
 use Rattle.edit_ops.specs.EditFacts.{edit_facts}
 use Rattle.edited_text.specs.EditSteps.{AreEditSteps}
 use Rattle.edited_text.specs.SessionText.{IsSameText}
 use Rattle.edited_text.specs.TextEdits.{IsTextEdit, IsSectionsEdit}
 use Rattle.edited_text.proofs.CommandLemmas.{commands_are_steps, pieces_are_few}
 use Rattle.edited_text.proofs.StartLemmas.{text_counted}
-use Rattle.fast_save.specs.declared.ledgers.Counts.{Counts}
 use Rattle.fast_save.specs.declared.parts.SessionParts.{SessionParts}
 use Rattle.fast_save.specs.Ledgers.{after_edit}
 use Rattle.fast_save.specs.Session.{SessionView, IsSession, IsCounted, saved_stream}

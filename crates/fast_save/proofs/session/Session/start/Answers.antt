@@ -1,4 +1,4 @@
-use Rattle.std.proofs.Common.{◌≡◌, ◌∙◌, sym, ap, subst, List, ℕ, arith}
+use Rattle.std.proofs.Common.{◌∙◌, sym, subst, List, ℕ, arith}
 use Rattle.std.proofs.lemmas.Result.{err_from_is_err_and}
 use Rattle.doc_bits.specs.Number.{AreBytes}
 use Rattle.plain_doc.specs.declared.document.Document.{Document}

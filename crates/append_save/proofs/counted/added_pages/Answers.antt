@@ -1,0 +1,46 @@
+use Rattle.std.proofs.Common.{◌≡◌, ◌∙◌, ◌+◌, ◌*◌, ◌^◌, ◌<◌, ap, subst, sym, List, ℕ, length, arith, All}
+use Rattle.fkp_pages.specs.declared.kind.PageKind.TheVariants.{Chpx, Papx}
+use Rattle.fkp_pages.specs.Bin.{IsBinTable}
+use Rattle.fkp_pages.specs.Runs.{AreRuns}
+use Rattle.plain_doc.specs.declared.item.Item.{Item}
+use Rattle.plain_doc.specs.Document.{IsFormedText}
+use Rattle.full_save.specs.Runs.{text_runs}
+use Rattle.save_bounds.specs.SharedPages.{pages_taken}
+use Rattle.append_save.specs.AddedPages.{paragraph_bins}
+use Rattle.append_save.specs.MarkRuns.{mark_runs}
+use Rattle.append_save.proofs.AddedRuns.{writable_items, characters_right, marks_right}
+use Rattle.append_save.proofs.counted.added_pages.Goals as goal
+
+pub character_pages-requires-clause-runs : goal.character_pages-requires-clause-runs
+character_pages-requires-clause-runs c =
+    let base = c.args.text.now.base in
+    let items = c.args.text.now.added.now in
+    let writable = writable_items items c.as_slice-items.ensures.formed c.requires.text.short in
+    subst (λ (xs : List Item). AreRuns Chpx (text_runs Chpx base xs)) (sym c.as_slice-items.ensures.items)
+    (characters_right base items writable c.requires.text.small)
+
+pub paragraph_pages-requires-clause-table : goal.paragraph_pages-requires-clause-table
+paragraph_pages-requires-clause-table c =
+    subst IsBinTable (sym (c.old_part-table.ensures ∙ c.requires.file.named)) c.requires.file.table
+
+pub paragraph_pages-requires-clause-runs : goal.paragraph_pages-requires-clause-runs
+paragraph_pages-requires-clause-runs c =
+    let base = c.args.text.now.base in
+    let items = c.args.text.now.added.now in
+    let writable = writable_items items c.as_slice-items.ensures.formed c.requires.text.short in
+    let old = c.old_part-table.ensures ∙ c.requires.file.named in
+    let same = c.as_slice-items.ensures.items in
+    subst (λ (x : List ℕ × List Item). AreRuns Papx (mark_runs x.0 base x.1)) (λ i. (sym old i, sym same i))
+    (marks_right base items writable c.requires.text.small
+    (paragraph_bins c.args.old.now.fib.now c.args.old.now.container.now))
+
+pub returns : goal.returns
+returns c =
+    let base = c.args.text.now.base in
+    let old = c.old_part-table.ensures ∙ c.requires.file.named in
+    let same = c.as_slice-items.ensures.items in
+    let characters = c.in_ok-characters.ensures.count
+    ∙ ap (λ (xs : List Item). pages_taken Chpx (text_runs Chpx base xs)) same in
+    let paragraphs = c.in_ok-paragraphs.ensures.count
+    ∙ (λ i. pages_taken Papx (mark_runs (old i) base (same i))) in
+    omega (arith, characters, paragraphs)

@@ -1,0 +1,621 @@
+-- Pieces that are written again stand for the slots that they stood for.
+use Rattle.std.specs.Prelude.{slice_get, slice_range, List, ℕ, IsSome, ◌↔◌, IsTrue, MatchOption}
+use Rattle.std.specs.Option.{option_map}
+use Rattle.std.specs.List.{All}
+use Rattle.std.proofs.Common.{◌≡◌, ◌∙◌, ◌⊎◌, ◌++◌, ◌∷◌, ◌+◌, ◌-◌, ◌*◌, ◌<◌, ◌≤◌, ◌^◌, [], refl, sym, ap}
+use Rattle.std.proofs.Common.{subst, zero, suc}
+use Rattle.std.proofs.Common.{inl, inr, Bool, true, false, Option, Some, None, length, map, take, drop, arith}
+use Rattle.std.proofs.Common.{get_or, append_assoc}
+use Rattle.std.proofs.Math.ListN.{get_or-append, get_or-map}
+use Rattle.std.proofs.lemmas.List.{get_or-append_right, get_or_past, map-append}
+use Rattle.std.proofs.lemmas.Bool.{cases_lt}
+use Rattle.std.proofs.lemmas.List.{append-nil, length-append, length-map, take_all, length-take, length-drop}
+use Rattle.std.proofs.lemmas.List.{take-append-drop, take-take}
+use Rattle.std.specs.List.{take-map, drop-map}
+use Rattle.std.proofs.lemmas.Slice.{between_is}
+use Rattle.std.proofs.lemmas.List.Folds.{drop_split}
+use Rattle.std.proofs.lemmas.List.Elements.{All-append, All-nil, All-cons, All-map}
+use Rattle.std.proofs.lemmas.List.Sums.{sum_by-cons, sum_by-append}
+use Rattle.std.proofs.lemmas.Option.{same_Some, none-some, slice_get_within, get_or_from_slice_get}
+use Rattle.doc_bits.specs.Together.{AreTogether}
+use Rattle.doc_bits.proofs.ListLemmas.{All_at, All-from_slice_get, from_map, get-map, range_mid, there_is}
+use Rattle.doc_bits.proofs.TogetherLemmas.{together_joined, together_take, together_drop}
+use Rattle.doc_bits.specs.declared.places.Where.{Where}
+use Rattle.doc_bits.specs.declared.places.Where.TheVariants.{Main, Note, Head}
+use Rattle.prop_map.specs.declared.modifiers.Modifier.{Modifier}
+use Rattle.prop_map.specs.Modifiers.{no_modifier, printed_modifier}
+use Rattle.piece_table.specs.ClxRules.{FitsPages}
+use Rattle.piece_table.specs.declared.pieces.Piece.{Piece}
+use Rattle.piece_table.specs.Piece.{TextPiece, UnitPlace, bare_piece, piece_end, unit_bytes, unit_places, flat_pieces}
+use Rattle.piece_table.specs.Piece.{total_length}
+use Rattle.piece_table.specs.Changes.{fresh_places}
+use Rattle.piece_table.proofs.FlatLemmas.{flat_pieces-append, flat_pieces-cons, flat_pieces-nil}
+use Rattle.piece_table.proofs.PieceLemmas.{length-unit_places, length-flat_pieces, get_or-unit_places, flat_pieces-push}
+use Rattle.plain_doc.specs.declared.item.Item.{Item}
+use Rattle.plain_doc.specs.declared.document.Document.{Document}
+use Rattle.plain_doc.specs.Document.{HasPropertyMaps, IsFormedItem, IsFormedText}
+use Rattle.plain_doc.specs.Collected.{joined_texts}
+use Rattle.plain_doc.specs.RulesOfItems.{HasShortSettings}
+use Rattle.plain_doc.specs.RulesOfTexts.{text_of}
+use Rattle.plain_doc.specs.Sound.{IsSound}
+use Rattle.plain_doc.proofs.RightLemmas.{sound_is_right}
+use Rattle.plain_doc.proofs.TextListLemmas.{joined_all}
+use Rattle.full_save.specs.Text.{extra_mark}
+use Rattle.save_laws.specs.Places.{PagedStream, Given}
+use Rattle.save_laws.specs.Plans.{Plan}
+use Rattle.save_laws.specs.Slots.{Slot, shown, loose, last, IsPlaced, StoryEnds, whole_text, loose_if}
+use Rattle.save_laws.specs.Slots.{last_slots, note_slots, head_slots}
+use Rattle.save_laws.specs.Ends.{ends_of}
+use Rattle.save_laws.specs.FastSaves.{StandsInEither, IsGivenBy}
+use Rattle.save_laws.specs.Sessions.{StandInSession}
+use Rattle.save_laws.proofs.SlotLemmas.{IsShownAs, all_shown, main_slot, note_slot, head_slot, story_item}
+use Rattle.save_laws.proofs.SlotLemmas.{length-story_slots}
+use Rattle.edited_text.specs.declared.added.Added.{Added}
+use Rattle.edited_text.specs.declared.session_text.SessionText.{SessionText}
+use Rattle.edited_text.specs.AddedText.{plan_of, IsAddedFor, added_piece}
+use Rattle.piece_table.specs.Renewals.{renewed_piece, renewed_pieces, HasRoomAt, AreNewPlaces}
+use Rattle.edited_text.specs.WrittenAgain.{SetsMarks, IsRewritten, IsChosen, renewed_units, slot_item, place_for}
+use Rattle.edited_text.specs.WrittenAgain.{items_for}
+use Rattle.edited_text.specs.WrittenAgain.{AreWritten, IsWrittenAgain}
+use Rattle.edited_text.specs.SessionText.{HaveFitModifiers, HaveNoModifiers, HaveModifiersWithin}
+use Rattle.edited_text.proofs.BlockLemmas.{blocks_stand}
+use Rattle.edited_text.proofs.EditLemmas.{grown_stands, one_together}
+use Rattle.edited_text.specs.OldUnits.{IsOldBounded}
+use Rattle.edited_text.proofs.OldLemmas.{new_units}
+use Rattle.edited_text.proofs.GrowLemmas.{mark_short}
+use Rattle.edited_text.proofs.TextLemmas.{All-front, All-back, none_fits, none_printed}
+use Rattle.piece_table.proofs.RenewalLemmas.{renewed_pieces-push, length-renewed, modifiers_there}
+
+-- ---- old pieces
+
+-- what stands before the base is not planned, so it stands beside any added text
+given_before : (stream : PagedStream) (plan other : Plan) (at : ℕ) (wide : Bool) (given : Given) → at < plan.base →
+    IsGivenBy stream plan at wide given → IsGivenBy stream other at wide given
+given_before stream plan other at wide given before (inl gives) = inl gives
+given_before stream plan other at wide given before (inr planned) =
+    let here = planned.here in
+    absurd (omega (arith, here, before))
+
+stands_before : (stream : PagedStream) (plan other : Plan) (at : ℕ) (wide : Bool) → at < plan.base →
+    StandsInEither stream plan at wide → StandsInEither stream other at wide
+stands_before stream plan other at wide before (inl stands) = inl stands
+stands_before stream plan other at wide before (inr planned) =
+    let here = planned.here in
+    absurd (omega (arith, here, before))
+
+placed_before : (stream : PagedStream) (plan other : Plan) (place : UnitPlace) (slot : Slot) → place.at < plan.base →
+    IsPlaced (StandsInEither stream plan) (IsGivenBy stream plan) place slot →
+    IsPlaced (StandsInEither stream other) (IsGivenBy stream other) place slot
+placed_before stream plan other place (shown item) before is = record {
+  before = is.before;
+  gives = given_before stream plan other place.at place.wide is.before before is.gives;
+  after = is.after;
+}
+placed_before stream plan other place loose before is = record {
+  given = is.given;
+  unit = is.unit;
+  marked = is.marked;
+  gives = given_before stream plan other place.at place.wide is.given before is.gives;
+}
+placed_before stream plan other place last before is = stands_before stream plan other place.at place.wide before is
+
+kept_stand : (stream : PagedStream) (plan other : Plan) (places : List UnitPlace) (slots : List Slot) →
+    All (λ place. place.at < plan.base) places → StandInSession stream plan places slots →
+    StandInSession stream other places slots
+kept_stand stream plan other places slots before stand = record {
+  len = stand.len;
+  each = λ k place slot here there.
+      placed_before stream plan other place slot
+      (All_at (λ (p : UnitPlace). p.at < plan.base) places k place before here) (stand.each k place slot here there);
+}
+
+-- a unit of a piece that ends at the base begins before it
+unit_below : (wide : Bool) (at len base k : ℕ) → at + len * unit_bytes wide ≤ base → k < len →
+    at + k * unit_bytes wide < base
+unit_below true at len base k end below = omega (arith, end, below)
+unit_below false at len base k end below = omega (arith, end, below)
+
+old_units : (piece : TextPiece) (base : ℕ) → piece_end (bare_piece piece) ≤ base →
+    All (λ place. place.at < base) (unit_places piece)
+old_units piece base end =
+    All-from_slice_get (λ (p : UnitPlace). p.at < base) (unit_places piece)
+    (λ k place here.
+    let below : k < piece.len =
+    omega (arith, slice_get_within (unit_places piece) k place here, length-unit_places piece) in
+    let at : place.at ≡ piece.at + k * unit_bytes piece.wide =
+    ap (λ (p : UnitPlace). p.at)
+    (sym (get_or_from_slice_get (unit_places piece) k place place here) ∙ get_or-unit_places piece k place below) in
+    let low = unit_below piece.wide piece.at piece.len base k end below in
+    omega (arith, at, low))
+
+-- ---- written items
+
+-- an item is written for its slot
+written_for : (slot : Slot) → IsAddedFor (slot_item slot) slot
+written_for (shown item) = refl
+written_for loose = refl
+written_for last = tt
+
+pub items_written : (slots : List Slot) → AreTogether IsAddedFor (map slot_item slots) slots
+items_written slots = record {
+  len = length-map slots slot_item;
+  each = λ k item slot here there.
+      let is : slot_item slot ≡ item =
+      same_Some (slot_item slot) item (sym (get-map slot_item slots k slot there) ∙ here) in
+      subst (λ i. IsAddedFor i slot) is (written_for slot);
+}
+
+-- the places of a piece in added text are those of its block
+fresh_units : (at len : ℕ) →
+    unit_places (record { at = at; wide = true; len = len; modifier = no_modifier }) ≡ fresh_places (added_piece at len)
+fresh_units at zero = refl
+fresh_units at (suc len) = refl
+
+fresh_stand : (stream : PagedStream) (base : ℕ) (items : List Item) (piece : TextPiece) (slots : List Slot) →
+    length slots ≡ piece.len →
+    StandInSession stream (plan_of (record { base = base; items = items ++ map slot_item slots }))
+    (unit_places (renewed_piece (Some (base + 2 * length items)) piece)) slots
+fresh_stand stream base items piece slots len =
+    let block : List Item = map slot_item slots in
+    let new : Added = record { base = base; items = items ++ block } in
+    let at : ℕ = base + 2 * length items in
+    let whole : items ++ block ≡ items ++ (block ++ []) = ap (λ l. items ++ l) (sym (append-nil block)) in
+    let long : length block ≡ piece.len = length-map slots slot_item ∙ len in
+    let stand : StandInSession stream (plan_of new) (fresh_places (added_piece at (length block))) slots =
+    blocks_stand stream new items block [] slots whole (items_written slots) in
+    subst (λ places. StandInSession stream (plan_of new) places slots)
+    (ap (λ n. fresh_places (added_piece at n)) long ∙ sym (fresh_units at piece.len)) stand
+
+-- ---- one piece more
+
+-- the slots of the next piece
+pub next_slots : {A : Type 0} (xs : List A) (from to : ℕ) → from ≤ to → to ≤ length xs →
+    take to xs ≡ take from xs ++ slice_range xs from to
+next_slots xs from to order within =
+    sym (take-append-drop from (take to xs))
+    ∙ (ap (λ l. l ++ drop from (take to xs)) (take-take from to xs order)
+    ∙ ap (λ l. take from xs ++ l) (sym (between_is xs from to)))
+
+piece_in : (pieces before behind : List TextPiece) (piece : TextPiece) → pieces ≡ before ++ (piece ∷ behind) →
+    slice_range (flat_pieces pieces) (total_length before) (total_length before + piece.len) ≡ unit_places piece
+piece_in pieces before behind piece is =
+    range_mid (flat_pieces pieces) (flat_pieces before) (unit_places piece) (flat_pieces behind) (total_length before)
+    (total_length before + piece.len)
+    (ap flat_pieces is ∙ (flat_pieces-append before (piece ∷ behind) ∙ ap (λ l. flat_pieces before ++ l)
+    (flat_pieces-cons piece behind)))
+    (sym (length-flat_pieces before))
+    (omega (arith, length-flat_pieces before, length-unit_places piece))
+
+together_range : {A B : Type 0} (P : A → B → Type 0) (xs : List A) (ys : List B) (from to : ℕ) → AreTogether P xs ys →
+    AreTogether P (slice_range xs from to) (slice_range ys from to)
+together_range P xs ys from to together =
+    together_take P (to - from) (drop from xs) (drop from ys) (together_drop P from xs ys together)
+
+renewed_units-push : (places : List (Option ℕ)) (pieces : List TextPiece) (place : Option ℕ) (piece : TextPiece) →
+    length places ≡ length pieces → renewed_units (places ++ place ∷ []) (pieces ++ piece ∷ []) ≡ renewed_units
+    places pieces + renewed_units (place ∷ []) (piece ∷ [])
+renewed_units-push [] [] place piece len = omega arith
+renewed_units-push [] (front ∷ pieces) place piece len = absurd (omega (arith, len))
+renewed_units-push (first ∷ places) [] place piece len = absurd (omega (arith, len))
+renewed_units-push (None ∷ places) (front ∷ pieces) place piece len =
+    renewed_units-push places pieces place piece (omega (arith, len))
+renewed_units-push (Some at ∷ places) (front ∷ pieces) place piece len =
+    omega (arith, renewed_units-push places pieces place piece (omega (arith, len)))
+
+pub units_few : (places : List (Option ℕ)) (pieces : List TextPiece) → renewed_units places pieces ≤ total_length pieces
+units_few [] pieces = omega arith
+units_few (place ∷ places) [] = omega arith
+units_few (None ∷ places) (piece ∷ pieces) =
+    omega (arith, units_few places pieces, sum_by-cons (λ (p : TextPiece). p.len) piece pieces)
+units_few (Some at ∷ places) (piece ∷ pieces) =
+    omega (arith, units_few places pieces, sum_by-cons (λ (p : TextPiece). p.len) piece pieces)
+
+-- a piece that is written again has as many units at its new place, and no other has any
+units_for : (base number : ℕ) (again : Bool) (piece : TextPiece) (slots : List Slot) → length slots ≡ piece.len →
+    length (items_for again (map slot_item slots)) ≡ renewed_units (place_for base number again ∷ []) (piece ∷ [])
+units_for base number true piece slots len = omega (arith, length-map slots slot_item, len)
+units_for base number false piece slots len = refl
+
+chosen_for : (base number : ℕ) (marks again : Bool) (piece : TextPiece) → IsTrue again ↔ IsRewritten base marks piece →
+    IsChosen base marks (place_for base number again) piece
+chosen_for base number marks true piece is = (λ some. is.0 refl, λ rewritten. refl)
+chosen_for base number marks false piece is =
+    (λ some. absurd (grind (arith, some)), λ rewritten. absurd (grind (arith, is.1 rewritten)))
+
+room_for : (base number : ℕ) (again : Bool) (piece : TextPiece) → base + 2 * (number + piece.len) < 2 ^ 32 →
+    HasRoomAt (place_for base number again) piece
+room_for base number true piece room place is =
+    let at : base + 2 * number ≡ place = same_Some (base + 2 * number) place is in
+    omega (arith, at, room)
+room_for base number false piece room place is = absurd (none-some place is)
+
+short_for : (again : Bool) (items : List Item) → All HasShortSettings items →
+    All HasShortSettings (items_for again items)
+short_for true items short = short
+short_for false items short = All-nil HasShortSettings
+
+-- a piece that is not written again ends before added text
+kept_end : (base : ℕ) (marks : Bool) (piece : TextPiece) → IsTrue false ↔ IsRewritten base marks piece →
+    piece_end (bare_piece piece) ≤ base
+kept_end base marks piece is = elim (cases_lt base (piece_end (bare_piece piece))) [
+  | inl behind ↦ absurd (grind (arith, is.1 (inl behind)))
+  | inr before ↦ before
+]
+
+-- what stands for the slots of a piece before it is written again, or stays, stands for them after
+piece_stands : (stream : PagedStream) (added : Added) (items : List Item) (marks again : Bool) (piece : TextPiece)
+    (slots : List Slot) → IsTrue again ↔ IsRewritten added.base marks piece →
+    StandInSession stream (plan_of added) (unit_places piece) slots →
+    StandInSession stream
+    (plan_of (record { base = added.base; items = items ++ items_for again (map slot_item slots) }))
+    (unit_places (renewed_piece (place_for added.base (length items) again) piece)) slots
+piece_stands stream added items marks true piece slots is stand =
+    fresh_stand stream added.base items piece slots (omega (arith, stand.len, length-unit_places piece))
+piece_stands stream added items marks false piece slots is stand =
+    kept_stand stream (plan_of added)
+    (plan_of (record { base = added.base; items = items ++ items_for false (map slot_item slots) })) (unit_places piece)
+    slots (old_units piece added.base (kept_end added.base marks piece is)) stand
+
+-- the units of a piece, which are bounded where they are old, at its new place or where it was
+old_for : (stream : PagedStream) (base number : ℕ) (again : Bool) (piece : TextPiece) (slots : List Slot) →
+    piece.len ≡ length slots → AreTogether (IsOldBounded stream base) (unit_places piece) slots →
+    AreTogether (IsOldBounded stream base) (unit_places (renewed_piece (place_for base number again) piece)) slots
+old_for stream base number true piece slots len old =
+    new_units stream base (renewed_piece (Some (base + 2 * number)) piece) slots (omega arith) len
+old_for stream base number false piece slots len old = old
+
+pub total_more : (pieces : List TextPiece) (piece : TextPiece) →
+    total_length (pieces ++ piece ∷ []) ≡ total_length pieces + piece.len
+total_more pieces piece =
+    let units : TextPiece → ℕ = λ p. p.len in
+    omega (arith, sum_by-append units pieces (piece ∷ []), sum_by-cons units piece [])
+
+pub total_within : (before behind : List TextPiece) (piece : TextPiece) →
+    total_length before + piece.len ≤ total_length (before ++ (piece ∷ behind))
+total_within before behind piece =
+    let units : TextPiece → ℕ = λ p. p.len in
+    omega (arith, sum_by-append units before (piece ∷ behind), sum_by-cons units piece behind)
+
+pub written_more : (marks again : Bool) (old : SessionText) (slots : List Slot) (before behind : List TextPiece)
+    (piece : TextPiece) (items : List Item) (places : List (Option ℕ)) →
+    old.pieces.pieces ≡ before ++ (piece ∷ behind) → length slots ≡ total_length old.pieces.pieces →
+    old.added.base + 2 * total_length old.pieces.pieces < 2 ^ 32 → All HasShortSettings (map slot_item slots) →
+    IsTrue again ↔ IsRewritten old.added.base marks piece → AreWritten marks old slots before items places →
+    AreWritten marks old slots (before ++ piece ∷ [])
+    (items ++ items_for again (slice_range (map slot_item slots) (total_length before)
+    (total_length before + piece.len)))
+    (places ++ place_for old.added.base (length items) again ∷ [])
+written_more marks again old slots before behind piece items places pieces_are counted room short is written =
+    let base : ℕ = old.added.base in
+    let cp : ℕ = total_length before in
+    let end : ℕ = cp + piece.len in
+    let place : Option ℕ = place_for base (length items) again in
+    let range : List Slot = slice_range slots cp end in
+    let one : Added = record { base = base; items = items } in
+    let mapped : slice_range (map slot_item slots) cp end ≡ map slot_item range =
+    ap (take (end - cp)) (drop-map slot_item cp slots) ∙ take-map slot_item (end - cp) (drop cp slots) in
+    let within : end ≤ length slots =
+    omega (arith, counted, ap total_length pieces_are, total_within before behind piece) in
+    let long : length range ≡ piece.len =
+    omega (arith, length-take (end - cp) (drop cp slots), length-drop cp slots, within) in
+    let len : length places ≡ length before = written.chosen.len in
+    let few = units_few places before in
+    let units = written.units in
+    let space : base + 2 * (length items + piece.len) < 2 ^ 32 = omega (arith, few, units, within, counted, room) in
+    rw mapped (record {
+      chosen =
+          together_joined (IsChosen base marks) places before (place ∷ []) (piece ∷ []) written.chosen
+          (one_together (IsChosen base marks) place piece (chosen_for base (length items) marks again piece is));
+      room =
+          together_joined HasRoomAt places before (place ∷ []) (piece ∷ []) written.room
+          (one_together HasRoomAt place piece (room_for base (length items) again piece space));
+      units =
+          omega (
+            arith,
+            units,
+            length-append items (items_for again (map slot_item range)),
+            units_for base (length items) again piece range long,
+            renewed_units-push places before place piece len,
+          );
+      short =
+          All-append HasShortSettings items (items_for again (map slot_item range)) written.short
+          (short_for again (map slot_item range)
+          (subst (All HasShortSettings) mapped
+          (All-front HasShortSettings (end - cp) (drop cp (map slot_item slots))
+          (All-back HasShortSettings cp (map slot_item slots) short))));
+      bounded = λ stream old_units.
+          let P : UnitPlace → Slot → Type 0 = IsOldBounded stream base in
+          let here : AreTogether P (unit_places piece) range =
+          subst (λ l. AreTogether P l range) (piece_in old.pieces.pieces before behind piece pieces_are)
+          (together_range P (flat_pieces old.pieces.pieces) slots cp end old_units) in
+          let both = together_joined P (flat_pieces (renewed_pieces places before)) (take cp slots)
+          (unit_places (renewed_piece place piece)) range (written.bounded stream old_units)
+          (old_for stream base (length items) again piece range (sym long) here) in
+          subst (λ l. AreTogether P l (take (total_length (before ++ piece ∷ [])) slots))
+          (sym (ap flat_pieces (renewed_pieces-push places before place piece len)
+          ∙ flat_pieces-push (renewed_pieces places before) (renewed_piece place piece)))
+          (subst (λ l. AreTogether P (flat_pieces (renewed_pieces places before) ++ unit_places
+          (renewed_piece place piece)) l) (sym (ap (λ n. take n slots) (total_more before piece)
+          ∙ next_slots slots cp end (omega arith) within)) both);
+      stands = λ stream below stand.
+          let all : Added = record { base = base; items = items ++ items_for again (map slot_item range) } in
+          let here : StandInSession stream (plan_of old.added) (unit_places piece) range =
+          subst (λ l. StandInSession stream (plan_of old.added) l range)
+          (piece_in old.pieces.pieces before behind piece pieces_are)
+          (together_range (IsPlaced (StandsInEither stream (plan_of old.added)) (IsGivenBy stream (plan_of old.added)))
+          (flat_pieces old.pieces.pieces) slots cp end stand) in
+          let front : StandInSession stream (plan_of all) (flat_pieces (renewed_pieces places before)) (take cp slots) =
+          grown_stands stream one all (items_for again (map slot_item range)) (flat_pieces (renewed_pieces places
+          before)) (take cp slots) refl refl (written.stands stream below stand) in
+          let back : StandInSession stream (plan_of all) (unit_places (renewed_piece place piece)) range =
+          piece_stands stream old.added items marks again piece range is here in
+          let both = together_joined (IsPlaced (StandsInEither stream (plan_of all)) (IsGivenBy stream (plan_of all)))
+          (flat_pieces (renewed_pieces places before)) (take cp slots) (unit_places (renewed_piece place piece)) range
+          front back in
+          let places_are : flat_pieces (renewed_pieces (places ++ place ∷ []) (before ++ piece ∷ [])) ≡ flat_pieces
+          (renewed_pieces places before) ++ unit_places (renewed_piece place piece) =
+          ap flat_pieces (renewed_pieces-push places before place piece len) ∙ flat_pieces-push (renewed_pieces places
+          before) (renewed_piece place piece) in
+          let slots_are : take (total_length (before ++ piece ∷ [])) slots ≡ take cp slots ++ range =
+          ap (λ n. take n slots) (total_more before piece) ∙ next_slots slots cp end (omega arith) within in
+          subst (λ l. StandInSession stream (plan_of all) l (take (total_length (before ++ piece ∷ [])) slots))
+          (sym places_are)
+          (subst (λ l. StandInSession stream (plan_of all) (flat_pieces (renewed_pieces places before) ++ unit_places
+          (renewed_piece place piece)) l) (sym slots_are) both);
+    })
+
+-- the next piece, of which a part is known
+pub record IsNextPiece (pieces : List TextPiece) (number : ℕ) (bare : Piece) : Type 0 where
+  pub piece : TextPiece
+  pub here : slice_get pieces number ≡ Some piece
+  pub whole : pieces ≡ take number pieces ++ (piece ∷ drop (suc number) pieces)
+  pub next : take (suc number) pieces ≡ take number pieces ++ piece ∷ []
+  pub len : piece.len ≡ bare.len
+
+pub next_piece : (pieces : List TextPiece) (number : ℕ) (bare : Piece) →
+    option_map bare_piece (slice_get pieces number) ≡ Some bare → IsNextPiece pieces number bare
+next_piece [] number bare is = absurd (none-some bare is)
+next_piece (piece ∷ pieces) zero bare is = record {
+  piece = piece;
+  here = refl;
+  whole = refl;
+  next = refl;
+  len = ap (λ (p : Piece). p.len) (same_Some (bare_piece piece) bare is);
+}
+next_piece (first ∷ pieces) (suc number) bare is =
+    let found = next_piece pieces number bare is in
+    record {
+      piece = found.piece;
+      here = found.here;
+      whole = ap (λ l. first ∷ l) found.whole;
+      next = ap (λ l. first ∷ l) found.next;
+      len = found.len;
+    }
+
+-- what is told of a piece that may be there
+pub told : {A : Type 0} (o : Option A) (P : A → Type 0) (x : A) → o ≡ Some x → MatchOption o ⊥ P → P x
+told None P x is match = absurd match
+told (Some y) P x is match = subst P (same_Some y x is) match
+
+-- a piece that ends before added text is written again where its modifier sets marks, and marks are written
+pub judged_piece : (o : Option TextPiece) (base : ℕ) (marks set : Bool) (bare : Piece) (modifier : Modifier) →
+    option_map bare_piece o ≡ Some bare → option_map (λ piece. piece.modifier) o ≡ Some modifier →
+    piece_end bare ≤ base → IsTrue marks → IsTrue set ↔ SetsMarks modifier →
+    MatchOption o ⊥ (λ piece. IsTrue set ↔ IsRewritten base marks piece)
+judged_piece None base marks set bare modifier is has end on sets = absurd (none-some bare is)
+judged_piece (Some piece) base marks set bare modifier is has end on sets =
+    let same : bare_piece piece ≡ bare = same_Some (bare_piece piece) bare is in
+    let its : piece.modifier ≡ modifier = same_Some piece.modifier modifier has in (
+      λ told. inr (on, subst SetsMarks (sym its) (sets.0 told)),
+      λ rewritten. elim rewritten [
+        | inl behind ↦ absurd (omega (arith, behind, end, ap piece_end same))
+        | inr both ↦ sets.1 (subst SetsMarks its both.1)
+      ],
+    )
+
+-- ---- all pieces
+
+pub nothing_written : (marks : Bool) (old : SessionText) (slots : List Slot) → AreWritten marks old slots [] [] []
+nothing_written marks old slots = record {
+  chosen = record { len = refl; each = λ k place piece here there. absurd (none-some piece there) };
+  room = record { len = refl; each = λ k place piece here there. absurd (none-some piece there) };
+  units = refl;
+  short = All-nil HasShortSettings;
+  bounded = λ stream old_units.
+      subst (λ l. AreTogether (IsOldBounded stream old.added.base) l []) (sym flat_pieces-nil)
+      (record { len = refl; each = λ k place slot here there. absurd (none-some place here) });
+  stands = λ stream below stand. nowhere;
+}
+  where
+    nowhere : {stream : PagedStream} → StandInSession stream (plan_of (record { base = old.added.base; items = [] }))
+        (flat_pieces []) (take 0 slots)
+    nowhere {stream} =
+        subst (λ l. StandInSession stream (plan_of (record { base = old.added.base; items = [] })) l [])
+        (sym flat_pieces-nil)
+        (record { len = refl; each = λ k place slot here there. absurd (none-some place here) })
+
+-- ---- the text that is written again
+
+-- a text that was written again
+pub written_text : (document : Document) (marks : Bool) (old new : SessionText) (places : List (Option ℕ)) →
+    total_length old.pieces.pieces ≡ length (whole_text document (ends_of old.ends)) →
+    AreWritten marks old (whole_text document (ends_of old.ends)) old.pieces.pieces new.added.items places →
+    new.pieces.pieces ≡ renewed_pieces places old.pieces.pieces → new.ends ≡ old.ends →
+    new.added.base ≡ old.added.base → new.sections.items ≡ old.sections.items →
+    IsWrittenAgain document marks old new
+written_text document marks old new places counted written pieces ends base sections =
+    let slots : List Slot = whole_text document (ends_of old.ends) in
+    let units = written.units in
+    let all : take (total_length old.pieces.pieces) slots ≡ slots =
+    take_all (total_length old.pieces.pieces) slots (omega (arith, counted)) in
+    let added : new.added ≡ record { base = old.added.base; items = new.added.items } =
+    ap (λ n. record { base = n; items = new.added.items }) base in
+    record {
+      text = λ stream before.
+          let stand = written.stands stream before.base before.places in
+          let below = before.base in
+          record {
+            places =
+                subst (λ e. StandInSession stream (plan_of new.added) (flat_pieces new.pieces.pieces) (whole_text
+                document (ends_of e))) (sym ends)
+                (subst (λ a. StandInSession stream (plan_of a) (flat_pieces new.pieces.pieces) slots) (sym added)
+                (subst (λ l. StandInSession stream (plan_of (record {
+                  base = old.added.base;
+                  items = new.added.items;
+                })) (flat_pieces l) slots) (sym pieces)
+                (subst (λ l. StandInSession stream (plan_of (record {
+                  base = old.added.base;
+                  items = new.added.items;
+                })) (flat_pieces (renewed_pieces places old.pieces.pieces)) l) all stand)));
+            short = written.short;
+            base = omega (arith, below, base);
+          };
+      bounded = λ stream before.
+          let P : UnitPlace → Slot → Type 0 = IsOldBounded stream old.added.base in
+          let stay = written.bounded stream before in
+          subst (λ n. AreTogether (IsOldBounded stream n) (flat_pieces new.pieces.pieces) (whole_text document
+          (ends_of new.ends))) (sym base)
+          (subst (λ e. AreTogether P (flat_pieces new.pieces.pieces) (whole_text document (ends_of e))) (sym ends)
+          (subst (λ l. AreTogether P (flat_pieces l) slots) (sym pieces)
+          (subst (λ l. AreTogether P (flat_pieces (renewed_pieces places old.pieces.pieces)) l) all stay)));
+      fit = λ fit.
+          subst HaveFitModifiers (sym pieces) (modifiers_there FitsPages places old.pieces.pieces none_fits fit);
+      modified = λ none.
+          subst HaveNoModifiers (sym pieces)
+          (modifiers_there (λ (m : Modifier). m ≡ no_modifier) places old.pieces.pieces refl none);
+      printed = λ most within.
+          subst (HaveModifiersWithin most) (sym pieces)
+          (modifiers_there (λ (m : Modifier). length (printed_modifier m) ≤ most) places old.pieces.pieces
+          (omega (arith, none_printed)) within);
+      count = ap length pieces ∙ length-renewed places old.pieces.pieces;
+      pieces = record { places = places; chosen = written.chosen; pieces = pieces; units = written.units };
+      few = omega (arith, units, units_few places old.pieces.pieces);
+      beside = record { ends = ends; base = base; sections = sections };
+    }
+
+-- ---- the items of a document are short
+
+judged_short : (slot : Slot) → IsShownAs HasShortSettings slot → HasShortSettings (slot_item slot)
+judged_short (shown item) short = short
+judged_short loose short = mark_short
+judged_short last short = mark_short
+
+pub whole_short : (document : Document) (ends : StoryEnds) → IsSound document →
+    All HasShortSettings (map slot_item (whole_text document ends))
+whole_short document ends sound =
+    let right = sound_is_right document sound in
+    let text : (part : Where) (items : List Item) → text_of document part ≡ Some items → All HasShortSettings items =
+    λ part items there. All-from_slice_get HasShortSettings items (right.texts part items there).short in
+    let all = all_shown HasShortSettings document ends (text Main document.main refl)
+    (joined_all HasShortSettings document.notes (λ k items there. text (Note k) items there))
+    (joined_all HasShortSettings document.heads (λ k items there. text (Head k) items there)) in
+    All-map HasShortSettings slot_item (whole_text document ends)
+    (λ k d below. judged_short (get_or (whole_text document ends) k d) (all k d below))
+
+-- ---- the items of a whole text
+
+found_item : (slots : List Slot) (cp : ℕ) (item : Item) → slice_get slots cp ≡ Some (shown item) →
+    get_or (map slot_item slots) cp extra_mark ≡ item
+found_item slots cp item here =
+    get_or_from_slice_get (map slot_item slots) cp item extra_mark (get-map slot_item slots cp (shown item) here)
+
+pub main_item : (document : Document) (ends : StoryEnds) (cp : ℕ) (item : Item) →
+    slice_get document.main cp ≡ Some item → item ≡ get_or (map slot_item (whole_text document ends)) cp extra_mark
+main_item document ends cp item here =
+    sym (found_item (whole_text document ends) cp item (main_slot document ends cp item here))
+
+pub note_item : (document : Document) (ends : StoryEnds) (cp i : ℕ) (item : Item) →
+    slice_get (joined_texts document.notes) i ≡ Some item → cp ≡ length document.main + i →
+    item ≡ get_or (map slot_item (whole_text document ends)) cp extra_mark
+note_item document ends cp i item here at =
+    sym (found_item (whole_text document ends) cp item
+    (ap (slice_get (whole_text document ends)) at ∙ note_slot document
+    ends i (shown item) (story_item document.notes ends.notes i item here)))
+
+pub head_item : (document : Document) (ends : StoryEnds) (cp i : ℕ) (item : Item) →
+    slice_get (joined_texts document.heads) i ≡ Some item →
+    cp ≡ length document.main + (length (joined_texts document.notes) + length (loose_if ends.notes)) + i →
+    item ≡ get_or (map slot_item (whole_text document ends)) cp extra_mark
+head_item document ends cp i item here at =
+    let long = length-story_slots document.notes ends.notes in
+    let there : cp ≡ length document.main + length (note_slots document ends) + i = omega (arith, at, long) in
+    sym (found_item (whole_text document ends) cp item
+    (ap (slice_get (whole_text document ends)) there ∙ head_slot document
+    ends i (shown item) (story_item document.heads ends.heads i item here)))
+
+-- behind the first slots
+item_past : (xs ys : List Slot) (cp : ℕ) → length xs ≤ cp →
+    get_or (map slot_item (xs ++ ys)) cp extra_mark ≡ get_or (map slot_item ys) (cp - length xs) extra_mark
+item_past xs ys cp past =
+    ap (λ l. get_or l cp extra_mark) (map-append slot_item xs ys)
+    ∙ get_or-append_right (map slot_item xs) (map slot_item ys) (length xs) cp extra_mark (length-map xs slot_item) past
+
+item_within : (xs ys : List Slot) (cp : ℕ) → cp < length xs →
+    get_or (map slot_item (xs ++ ys)) cp extra_mark ≡ get_or (map slot_item xs) cp extra_mark
+item_within xs ys cp low =
+    ap (λ l. get_or l cp extra_mark) (map-append slot_item xs ys)
+    ∙ get_or-append (map slot_item xs) (map slot_item ys) extra_mark cp (omega (arith, low, length-map xs slot_item))
+
+-- marks, and no CP that shows an item
+abbrev IsMark : Slot → Type 0
+IsMark slot = slot_item slot ≡ extra_mark
+
+mark_there : (slots : List Slot) (cp : ℕ) → All IsMark slots → get_or (map slot_item slots) cp extra_mark ≡ extra_mark
+mark_there slots cp marks = elim (cases_lt cp (length slots)) [
+  | inl low ↦ get_or-map slot_item slots cp last ∙ marks cp last low
+  | inr high ↦ get_or_past (map slot_item slots) cp extra_mark (omega (arith, high, length-map slots slot_item))
+]
+
+loose_marks : (end : Bool) → All IsMark (loose_if end)
+loose_marks true = All-cons IsMark loose [] refl (All-nil IsMark)
+loose_marks false = All-nil IsMark
+
+last_marks : (slots : List Slot) → All IsMark (last_slots slots)
+last_marks [] = All-nil IsMark
+last_marks (slot ∷ slots) = All-cons IsMark last [] refl (All-nil IsMark)
+
+-- a CP behind the notes and before the header texts, or behind these, shows none
+pub mark_item : (document : Document) (ends : StoryEnds) (cp : ℕ) →
+    length document.main + length (joined_texts document.notes) ≤ cp →
+    (cp < length document.main + (length (joined_texts document.notes) + length (loose_if ends.notes)))
+    ⊎ (length document.main + (length (joined_texts document.notes) + length (loose_if ends.notes))
+    + length (joined_texts document.heads) ≤ cp) →
+    get_or (map slot_item (whole_text document ends)) cp extra_mark ≡ extra_mark
+unfolding whole_text
+mark_item document ends cp past (inl before) =
+    let main = map shown document.main in
+    let items = map shown (joined_texts document.notes) in
+    let notes = note_slots document ends in
+    let heads = head_slots document ends in
+    let rest = last_slots (notes ++ heads) in
+    let a = length-map document.main shown in
+    let b = length-map (joined_texts document.notes) shown in
+    let long = length-story_slots document.notes ends.notes in
+    let i : ℕ = cp - length main in
+    item_past main (notes ++ (heads ++ rest)) cp (omega (arith, a, past))
+    ∙ (item_within notes (heads ++ rest) i (omega (arith, a, long, before, past))
+    ∙ (item_past items (loose_if ends.notes) i (omega (arith, a, b, past))
+    ∙ mark_there (loose_if ends.notes) (i - length items) (loose_marks ends.notes)))
+mark_item document ends cp past (inr behind) =
+    let main = map shown document.main in
+    let items = map shown (joined_texts document.heads) in
+    let notes = note_slots document ends in
+    let heads = head_slots document ends in
+    let rest = last_slots (notes ++ heads) in
+    let a = length-map document.main shown in
+    let b = length-map (joined_texts document.heads) shown in
+    let long = length-story_slots document.notes ends.notes in
+    let i : ℕ = cp - length main in
+    let j : ℕ = i - length notes in
+    item_past main (notes ++ (heads ++ rest)) cp (omega (arith, a, past))
+    ∙ (item_past notes (heads ++ rest) i (omega (arith, a, long, behind))
+    ∙ (ap (λ l. get_or (map slot_item l) j extra_mark) (append_assoc items (loose_if ends.heads) rest)
+    ∙ (item_past items (loose_if ends.heads ++ rest) j (omega (arith, a, b, long, behind))
+    ∙ mark_there (loose_if ends.heads ++ rest) (j - length items)
+    (All-append IsMark (loose_if ends.heads) rest (loose_marks ends.heads) (last_marks (notes ++ heads))))))
+
+-- the items of a well-formed text have maps that they may have
+pub maps_at : (text : List Item) (i : ℕ) (item copy : Item) → IsFormedText text → slice_get text i ≡ Some item →
+    copy ≡ item → HasPropertyMaps copy
+maps_at text i item copy formed here is =
+    subst HasPropertyMaps (sym is) (All_at IsFormedItem text i item formed.each here).maps

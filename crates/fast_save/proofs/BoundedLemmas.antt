@@ -1,0 +1,97 @@
+-- The text of a file by its runs: what a session begins with is bounded where the file is.
+use Rattle.std.specs.Prelude.{slice_get, slice_index, IsSome, All}
+use Rattle.std.specs.List.{filter_map, cons_option}
+use Rattle.std.proofs.Common.{◌≡◌, ◌∙◌, refl, sym, ap, subst, ℕ, zero, suc, ◌+◌, ◌<◌, Bool, true, false, List, [], ◌∷◌}
+use Rattle.std.proofs.Common.{◌++◌, length, map, Option, Some, None, arith, append_assoc, length-append}
+use Rattle.std.proofs.lemmas.List.Elements.{All-nil, All-cons, All-head, All-tail, All-map, All-append}
+use Rattle.std.proofs.lemmas.Option.{same_Some, none-some}
+use Rattle.fib_form.specs.FibFields.{fib_fields}
+use Rattle.piece_table.specs.Piece.{TextPiece, UnitPlace, flat_pieces}
+use Rattle.plain_doc.specs.declared.item.Item.{Item}
+use Rattle.plain_doc.specs.declared.document.Document.{Document}
+use Rattle.plain_doc.specs.Collected.{joined_texts}
+use Rattle.save_laws.specs.ByRuns.{IsBounded, AreBounded, slot_end, text_ends}
+use Rattle.save_laws.specs.Ends.{ends_of}
+use Rattle.save_laws.specs.Slots.{Slot, shown, loose, last, StoryEnds, loose_if, story_slots, note_slots, head_slots}
+use Rattle.save_laws.specs.Slots.{last_slots, whole_text, story_counts}
+
+-- ---- which marks stand behind stories is told by the counts
+
+loose_same : (one other : Bool) → length (loose_if one) ≡ length (loose_if other) → one ≡ other
+loose_same true true same = refl
+loose_same true false same = absurd (omega (arith, same))
+loose_same false true same = absurd (omega (arith, same))
+loose_same false false same = refl
+
+story_same : (texts : List (List Item)) (one other : Bool) →
+    length (story_slots texts one) ≡ length (story_slots texts other) → one ≡ other
+story_same texts one other same =
+    loose_same one other
+    (omega (
+      arith,
+      same,
+      length-append (map shown (joined_texts texts)) (loose_if one),
+      length-append (map shown (joined_texts texts)) (loose_if other),
+    ))
+
+pub same_ends : (document : Document) (one other : StoryEnds) →
+    story_counts document one ≡ story_counts document other → one ≡ other
+same_ends document one other same =
+    let notes = story_same document.notes one.notes other.notes (ap (λ (l : List ℕ). slice_index l 1) same) in
+    let heads = story_same document.heads one.heads other.heads (ap (λ (l : List ℕ). slice_index l 2) same) in
+    λ i. record { notes = notes i; heads = heads i }
+
+-- ---- the end of a slot stands at its place
+
+index_in : (front behind : List Slot) (k : ℕ) (slot : Slot) (end : Bool) → All (λ s. IsSome (slot_end s)) front →
+    ((j : ℕ) (s : Slot) → slice_get behind j ≡ Some s → slot_end s ≡ None) →
+    slice_get (front ++ behind) k ≡ Some slot → slot_end slot ≡ Some end →
+    slice_get (filter_map slot_end (front ++ behind)) k ≡ Some end
+index_in [] behind k slot end all none here is = absurd (none-some end (sym (none k slot here) ∙ is))
+index_in (s ∷ front) behind zero slot end all none here is =
+    let same : slot_end s ≡ Some end = ap slot_end (same_Some s slot here) ∙ is in
+    ap (λ (o : Option Bool). slice_get (cons_option o (filter_map slot_end (front ++ behind))) 0) same
+index_in (shown item ∷ front) behind (suc k) slot end all none here is =
+    index_in front behind k slot end (All-tail (λ s. IsSome (slot_end s)) (shown item) front all) none here is
+index_in (loose ∷ front) behind (suc k) slot end all none here is =
+    index_in front behind k slot end (All-tail (λ s. IsSome (slot_end s)) loose front all) none here is
+index_in (last ∷ front) behind (suc k) slot end all none here is =
+    absurd (grind (arith, All-head (λ s. IsSome (slot_end s)) last front all))
+
+last_none : (slots : List Slot) (j : ℕ) (s : Slot) → slice_get (last_slots slots) j ≡ Some s → slot_end s ≡ None
+last_none [] j s here = absurd (none-some s here)
+last_none (slot ∷ slots) zero s here = ap slot_end (sym (same_Some last s here))
+last_none (slot ∷ slots) (suc j) s here = absurd (none-some s here)
+
+loose_ends : (end : Bool) → All (λ s. IsSome (slot_end s)) (loose_if end)
+loose_ends true = All-cons (λ s. IsSome (slot_end s)) loose [] refl (All-nil (λ s. IsSome (slot_end s)))
+loose_ends false = All-nil (λ s. IsSome (slot_end s))
+
+shown_ends : (items : List Item) → All (λ s. IsSome (slot_end s)) (map shown items)
+shown_ends items = All-map (λ s. IsSome (slot_end s)) shown items (λ k d below. refl)
+
+story_ends : (texts : List (List Item)) (end : Bool) → All (λ s. IsSome (slot_end s)) (story_slots texts end)
+story_ends texts end =
+    All-append (λ s. IsSome (slot_end s)) (map shown (joined_texts texts)) (loose_if end)
+    (shown_ends (joined_texts texts)) (loose_ends end)
+
+pub end_there : (document : Document) (ends : StoryEnds) (k : ℕ) (slot : Slot) (end : Bool) →
+    slice_get (whole_text document ends) k ≡ Some slot → slot_end slot ≡ Some end →
+    slice_get (text_ends (whole_text document ends)) k ≡ Some end
+unfolding whole_text
+end_there document ends k slot end here is =
+    let main = map shown document.main in
+    let notes = note_slots document ends in
+    let heads = head_slots document ends in
+    let behind = last_slots (notes ++ heads) in
+    let front = main ++ (notes ++ heads) in
+    let whole : main ++ (notes ++ (heads ++ behind)) ≡ front ++ behind =
+    sym (append_assoc main (notes ++ heads) behind ∙ ap (λ (l : List Slot). main ++ l) (append_assoc notes heads behind))
+    in
+    let P : Slot → Type 0 = λ s. IsSome (slot_end s) in
+    let all : All P front =
+    All-append P main (notes ++ heads) (shown_ends document.main)
+    (All-append P notes heads (story_ends document.notes ends.notes) (story_ends document.heads ends.heads)) in
+    ap (λ (l : List Slot). slice_get (filter_map slot_end l) k) whole
+    ∙ index_in front behind k slot end all (last_none (notes ++ heads))
+    (ap (λ (l : List Slot). slice_get l k) (sym whole) ∙ here) is
