@@ -9,7 +9,7 @@ use crate::file_put::put_file;
 use crate::{PutFault, Shelf, ShelfFault};
 use doc_bits::{Memory, Text};
 use std::alloc::Global;
-use std::io::{ErrorKind, Read, Seek, SeekFrom};
+use std::io::{Eprint, ErrorKind, Read, Seek, SeekFrom};
 use std::marker::Model;
 use std::rt::Files;
 use std::{fs, io};
@@ -26,18 +26,19 @@ struct LastFile<F> {
     at: u64,
 }
 
-/// The files of the system, by their paths.
+/// The files of the system, by their paths. Why a call failed is told on the standard error.
 #[derive(Drop)]
-pub struct HostShelf<R: Files + Drop> {
+pub struct HostShelf<R: Files + Drop, E: Eprint + Drop> {
     alloc: Global,
     files: R,
+    reasons: E,
     last: Option<LastFile<R::File>>,
     faults: u64,
     put_faults: u64,
     missed: u64,
 }
 
-impl<R: Files + Drop> Model for HostShelf<R> {
+impl<R: Files + Drop, E: Eprint + Drop> Model for HostShelf<R, E> {
     ghost use Rattle.doc_outer.specs.HostCounts.{HostCounts};
 
     ghost Value = { HostCounts };
@@ -45,14 +46,16 @@ impl<R: Files + Drop> Model for HostShelf<R> {
     ghost view = { λ s. record { faults = s.faults; put_faults = s.put_faults; missed = s.missed } };
 }
 
-impl<R: Files + Drop> HostShelf<R> {
-    /// The files of this runtime. The allocator is for the name of the file that was read last.
-    pub fn new(alloc: Global, files: R) -> HostShelf<R>
+impl<R: Files + Drop, E: Eprint + Drop> HostShelf<R, E> {
+    /// The files of a runtime, and whose standard error is told why a call failed. The allocator is for the
+    /// name of the file that was read last.
+    pub fn new(alloc: Global, files: R, reasons: E) -> HostShelf<R, E>
         ensures { result ≡ no_counts }
     {
         HostShelf {
             alloc,
             files,
+            reasons,
             last: None,
             faults: 0,
             put_faults: 0,
@@ -61,8 +64,13 @@ impl<R: Files + Drop> HostShelf<R> {
     }
 }
 
+/// Tells why the system failed at a name, as far as the standard error takes it.
+fn tell<E: Eprint>(reasons: &E, name: &str, error: &io::Error) {
+    let _ = reasons.eprintln(format_args!("docbin: {name:?}: {error}"));
+}
+
 /// What a refusal of the system is to a caller.
-fn fault_of(error: io::Error) -> ShelfFault {
+fn fault_of(error: &io::Error) -> ShelfFault {
     match error.kind() {
         ErrorKind::NotFound => ShelfFault::Missing,
         ErrorKind::OutOfMemory => ShelfFault::Memory,
@@ -70,12 +78,22 @@ fn fault_of(error: io::Error) -> ShelfFault {
     }
 }
 
-/// What a refused put is to a caller.
-fn put_fault_of(error: io::Error) -> PutFault {
-    match error.kind() {
-        ErrorKind::OutOfMemory => PutFault::Memory,
-        _ => PutFault::Failed,
+/// What a refused read is to a caller. A failed one is told.
+fn read_fault<E: Eprint>(reasons: &E, name: &str, error: io::Error) -> ShelfFault {
+    let fault = fault_of(&error);
+    if let ShelfFault::Failed = fault {
+        tell(reasons, name, &error);
     }
+    fault
+}
+
+/// What a refused put is to a caller. A failed one is told.
+fn put_fault<E: Eprint>(reasons: &E, name: &str, error: io::Error) -> PutFault {
+    if error.kind() == ErrorKind::OutOfMemory {
+        return PutFault::Memory;
+    }
+    tell(reasons, name, &error);
+    PutFault::Failed
 }
 
 /// Opens a file for reads from `at` on.
@@ -84,12 +102,14 @@ fn open_at<R: Files>(
     files: &R,
     name: &str,
     at: u64,
-) -> Result<LastFile<R::File>, ShelfFault> {
+) -> io::Result<LastFile<R::File>> {
     let mut key = Text::new(alloc);
-    key.push_all(name).map_err(|_| ShelfFault::Memory)?;
-    let mut file = fs::open(files, name).map_err(fault_of)?;
+    if key.push_all(name).is_err() {
+        return Err(ErrorKind::OutOfMemory.into());
+    }
+    let mut file = fs::open(files, name)?;
     if at != 0 {
-        file.seek(SeekFrom::Start(at)).map_err(fault_of)?;
+        file.seek(SeekFrom::Start(at))?;
     }
     Ok(LastFile {
         name: key,
@@ -120,14 +140,14 @@ fn read_on<R: Files>(
     name: &str,
     at: u64,
     buf: &mut [u8],
-) -> Result<usize, ShelfFault>
+) -> io::Result<usize>
     ensures { IfOk result (λ count. count ≤ length buf.old) }
 {
     let mut opened = match last.take() {
         Some(opened) if opened.at == at && opened.name.as_str() == name => opened,
         _ => open_at(alloc, files, name, at)?,
     };
-    let count = read_some(&mut opened.file, buf).map_err(fault_of)?;
+    let count = read_some(&mut opened.file, buf)?;
     if count > 0 {
         opened.at = at.saturating_add(count as u64);
         *last = Some(opened);
@@ -135,7 +155,7 @@ fn read_on<R: Files>(
     Ok(count)
 }
 
-impl<R: Files + Drop> Shelf for HostShelf<R> {
+impl<R: Files + Drop, E: Eprint + Drop> Shelf for HostShelf<R, E> {
     ghost held = { λ _. None };
 
     ghost faults = { λ s. s.faults };
@@ -160,7 +180,8 @@ impl<R: Files + Drop> Shelf for HostShelf<R> {
         ensures faults_exact { self.new.faults ≡ faults_after result self.old.faults }
         ensures missed_exact { self.new.missed ≡ missed_after result self.old.missed }
     {
-        let answer = read_on(self.alloc, &self.files, &mut self.last, name, at, buf);
+        let read = read_on(self.alloc, &self.files, &mut self.last, name, at, buf);
+        let answer = read.map_err(|error| read_fault(&self.reasons, name, error));
         match answer {
             Err(ShelfFault::Failed) => self.faults = self.faults.saturating_add(1),
             Err(ShelfFault::Missing) => self.missed = self.missed.saturating_add(1),
@@ -187,7 +208,8 @@ impl<R: Files + Drop> Shelf for HostShelf<R> {
     {
         // The file that stays open may be the one that is replaced.
         self.last = None;
-        let answer = put_file(self.alloc, &self.files, name, bytes).map_err(put_fault_of);
+        let put = put_file(self.alloc, &self.files, name, bytes);
+        let answer = put.map_err(|error| put_fault(&self.reasons, name, error));
         if let Err(PutFault::Failed) = answer {
             self.faults = self.faults.saturating_add(1);
             self.put_faults = self.put_faults.saturating_add(1);

@@ -5,20 +5,21 @@ ghost use Rattle.doc_outer.specs.ByteSink.{faults_taking};
 
 use crate::{Sink, SinkFailed};
 use std::io;
-use std::io::ErrorKind;
+use std::io::{Eprint, ErrorKind};
 use std::marker::Model;
 
 /// How often a write that a signal cut short is tried.
 const TRIES: usize = 64;
 
-/// Standard output. A closed pipe and a full disk are failed calls.
+/// Standard output. A closed pipe and a full disk are failed calls. Why a call failed is told on the standard error.
 #[derive(Drop)]
-pub struct HostSink<P: Print + Drop> {
+pub struct HostSink<P: Print + Drop, E: Eprint + Drop> {
     output: P,
+    reasons: E,
     faults: u64,
 }
 
-impl<P: Print + Drop> Model for HostSink<P> {
+impl<P: Print + Drop, E: Eprint + Drop> Model for HostSink<P, E> {
     ghost use Rattle.std.specs.Prelude.{ℕ};
 
     ghost Value = { ℕ };
@@ -26,12 +27,16 @@ impl<P: Print + Drop> Model for HostSink<P> {
     ghost view = { λ s. s.faults };
 }
 
-impl<P: Print + Drop> HostSink<P> {
-    /// The standard output of this runtime.
-    pub fn new(output: P) -> HostSink<P>
+impl<P: Print + Drop, E: Eprint + Drop> HostSink<P, E> {
+    /// The standard output of a runtime, and whose standard error is told why a call failed.
+    pub fn new(output: P, reasons: E) -> HostSink<P, E>
         ensures { result ≡ 0 }
     {
-        HostSink { output, faults: 0 }
+        HostSink {
+            output,
+            reasons,
+            faults: 0,
+        }
     }
 }
 
@@ -48,7 +53,7 @@ fn write_some<P: Print>(output: &P, bytes: &[u8]) -> io::Result<usize>
     Err(ErrorKind::Interrupted.into())
 }
 
-impl<P: Print + Drop> Sink for HostSink<P> {
+impl<P: Print + Drop, E: Eprint + Drop> Sink for HostSink<P, E> {
     ghost written = { λ _. None };
 
     ghost faults = { λ s. s };
@@ -66,9 +71,15 @@ impl<P: Print + Drop> Sink for HostSink<P> {
         ensures counted { IfOk result (λ count.
             self.new ≡ faults_taking count (length bytes.now) self.old) }
     {
-        let Ok(count) = write_some(&self.output, bytes) else {
-            self.faults = self.faults.saturating_add(1);
-            return Err(SinkFailed);
+        let count = match write_some(&self.output, bytes) {
+            Ok(count) => count,
+            Err(error) => {
+                self.faults = self.faults.saturating_add(1);
+                let _ = self
+                    .reasons
+                    .eprintln(format_args!("docbin: standard output: {error}"));
+                return Err(SinkFailed);
+            }
         };
         if count == 0 && !bytes.is_empty() {
             self.faults = self.faults.saturating_add(1);

@@ -6,7 +6,7 @@ use doc_run::{STATUS_MEMORY, docbin_run};
 use edit_guards::{Guard, UnitQuota};
 use std::alloc::{AllocError, Global};
 use std::env;
-use std::io::ErrorKind;
+use std::io::{Eprint, ErrorKind};
 use std::process::ExitCode;
 use std::rt::Env;
 
@@ -26,14 +26,15 @@ fn main(rt: HostRuntime) -> ExitCode {
     if guards.push(quota).is_err() {
         return ExitCode::from(STATUS_MEMORY);
     }
-    let mut shelf = HostShelf::new(alloc, &rt);
-    let mut out = HostSink::new(&rt);
+    let mut shelf = HostShelf::new(alloc, &rt, &rt);
+    let mut out = HostSink::new(&rt, &rt);
     let status = docbin_run(alloc, &words, &mut shelf, &mut out, guards);
     ExitCode::from(status)
 }
 
-/// The words after the program's name. Words that are no UTF-8 are no command, as no words are.
-fn words<R: Env + AllocGlobal>(rt: &R) -> Result<Vec<String>, AllocError> {
+/// The words after the program's name. Words that are no UTF-8 are no command, as no words are; that is told on the
+/// standard error.
+fn words<R: Env + Eprint + AllocGlobal>(rt: &R) -> Result<Vec<String>, AllocError> {
     let mut words = Vec::new(rt.alloc());
     match env::args(rt) {
         Ok(args) => {
@@ -42,7 +43,9 @@ fn words<R: Env + AllocGlobal>(rt: &R) -> Result<Vec<String>, AllocError> {
             }
         }
         Err(error) if error.kind() == ErrorKind::OutOfMemory => return Err(AllocError),
-        Err(_) => {}
+        Err(error) => {
+            let _ = eprintln!(rt; "docbin: the words: {error}");
+        }
     }
     Ok(words)
 }

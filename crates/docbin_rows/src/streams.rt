@@ -1,23 +1,20 @@
 // Streams of files: one that is taken out, and containers that are made anew.
 use crate::row_fault::RowFault;
+use crate::words::units_of;
 use cfb_layout::whole;
 use cfb_streams::{Container, Streams, equal_names, name_before};
 use std::alloc::Global;
 
-/// The bytes of a FIB.
-const FIB_LEN: usize = 900;
+/// The bytes of a FIB of Word 97, and of one of Word 2000.
+const FIB_LENS: [usize; 2] = [900, 1024];
+
+/// Where a FIB says how many pairs it has, and how many one of Word 2000 says.
+const PAIR_COUNT_AT: usize = 152;
+
+const LATER_PAIRS: [u8; 2] = [0x6C, 0];
 
 /// How many streams a container may have.
 const MAX_STREAMS: usize = 1023;
-
-/// The units of a name.
-fn units_of(alloc: Global, name: &str) -> Result<Vec<u16>, RowFault> {
-    let mut units = Vec::new(alloc);
-    for byte in name.as_bytes() {
-        units.push(u16::from(*byte))?;
-    }
-    Ok(units)
-}
 
 /// Puts a stream behind the others, where its name comes after theirs.
 fn add(streams: &mut Streams, name: &[u16], bytes: &[u8]) -> Result<(), RowFault> {
@@ -54,11 +51,20 @@ pub(crate) fn bytes_of(alloc: Global, file: &[u8], name: &str) -> Result<Vec<u8>
     }
 }
 
+/// Where the FIB of a `WordDocument` ends.
+fn fib_end(wd: &[u8]) -> usize {
+    match wd.get(PAIR_COUNT_AT..PAIR_COUNT_AT + 2) {
+        Some(count) if count == LATER_PAIRS.as_slice() => FIB_LENS[1],
+        _ => FIB_LENS[0],
+    }
+}
+
 /// Whether the bytes of the `WordDocument` of a file stand in that of another one, but for its FIB.
 pub(crate) fn keeps_text(alloc: Global, old: &[u8], new: &[u8]) -> Result<bool, RowFault> {
     let old = bytes_of(alloc, old, "WordDocument")?;
     let new = bytes_of(alloc, new, "WordDocument")?;
-    match (old.get(FIB_LEN..), new.get(FIB_LEN..)) {
+    let from = fib_end(&old);
+    match (old.get(from..), new.get(from..)) {
         (Some(old), Some(new)) => Ok(new.starts_with(old)),
         _ => Ok(false),
     }

@@ -1,27 +1,40 @@
-use crate::places::Places;
+use crate::names::Names;
 use crate::row_fault::RowFault;
 use std::alloc::Global;
-use std::str::SplitWhitespace;
 
-/// The words of a line that are not read yet.
+/// A line, and what of it is not read yet. A word ends at a space; one that begins with a quotation mark ends at the
+/// next one.
 #[derive(Drop)]
-pub(crate) struct Words<'a, 'p> {
-    words: SplitWhitespace<'a>,
-    places: &'p Places,
+pub(crate) struct Words<'a, 'n> {
+    /// The whole line.
+    pub(crate) line: &'a str,
+    rest: &'a str,
+    names: &'n Names,
 }
 
-impl<'a, 'p> Words<'a, 'p> {
+impl<'a, 'n> Words<'a, 'n> {
     /// The words of a line.
-    pub(crate) fn new(line: &'a str, places: &'p Places) -> Words<'a, 'p> {
+    pub(crate) fn new(line: &'a str, names: &'n Names) -> Words<'a, 'n> {
         Words {
-            words: line.split_whitespace(),
-            places,
+            line,
+            rest: line,
+            names,
         }
     }
 
     /// The next word, if there is one.
     pub(crate) fn next(&mut self) -> Option<&'a str> {
-        self.words.next()
+        let text = self.rest.trim_start();
+        if text.is_empty() {
+            self.rest = text;
+            return None;
+        }
+        let (word, rest) = match text.strip_prefix('"') {
+            Some(quoted) => parts(quoted, '"'),
+            None => parts(text, ' '),
+        };
+        self.rest = rest;
+        Some(word)
     }
 
     /// The next word. A line that has none is refused.
@@ -35,19 +48,81 @@ impl<'a, 'p> Words<'a, 'p> {
     /// The number that the next word says.
     pub(crate) fn number(&mut self) -> Result<u64, RowFault> {
         let word = self.word()?;
-        self.places.number(word)
+        self.names.number(word)
     }
 
-    /// The words that are left.
-    pub(crate) fn rest(self) -> SplitWhitespace<'a> {
-        self.words
-    }
-
-    /// Refuses a word that is left.
-    pub(crate) fn end(mut self) -> Result<(), RowFault> {
-        match self.next() {
-            Some(_) => Err(RowFault::WordTooMany),
-            None => Ok(()),
+    /// The number of 32 bits that the next word says.
+    pub(crate) fn small(&mut self) -> Result<u32, RowFault> {
+        match u32::try_from(self.number()?) {
+            Ok(number) => Ok(number),
+            Err(_) => Err(RowFault::NoNumber),
         }
     }
+
+    /// What is left behind the space after the last word.
+    pub(crate) fn rest(&mut self) -> &'a str {
+        let rest = self.rest;
+        self.rest = "";
+        rest
+    }
+
+    /// What is left, with what its names stand for.
+    pub(crate) fn spelled(&mut self) -> Result<String, RowFault> {
+        let rest = self.rest();
+        self.names.spelled(rest)
+    }
+
+    /// The words that are left, with what their names and escapes stand for.
+    pub(crate) fn all(&mut self, alloc: Global) -> Result<Vec<String>, RowFault> {
+        let mut all = Vec::new(alloc);
+        for _ in 0..self.rest.len() {
+            let Some(word) = self.next() else {
+                break;
+            };
+            let text = self.names.spelled(word)?;
+            let units = units_of(alloc, text.as_str())?;
+            all.push(String::from_utf16_lossy(alloc, &units)?)?;
+        }
+        Ok(all)
+    }
+
+    /// Whether a word is left.
+    pub(crate) fn has_more(&self) -> bool {
+        !self.rest.trim_start().is_empty()
+    }
+}
+
+/// What stands before a sign, and what behind it.
+fn parts(text: &str, sign: char) -> (&str, &str) {
+    match text.split_once(sign) {
+        Some(parts) => parts,
+        None => (text, ""),
+    }
+}
+
+/// The units of a text. In it `\uXXXX` is the unit of these hexadecimal digits.
+pub(crate) fn units_of(alloc: Global, text: &str) -> Result<Vec<u16>, RowFault> {
+    let mut units = Vec::new(alloc);
+    let mut parts = text.split("\\u");
+    push_units(&mut units, parts.next().unwrap_or(""))?;
+    for part in parts {
+        let Some((digits, rest)) = part.split_at_checked(4) else {
+            return Err(RowFault::NoNumber);
+        };
+        match u16::from_str_radix(digits, 16) {
+            Ok(unit) => units.push(unit)?,
+            Err(_) => return Err(RowFault::NoNumber),
+        }
+        push_units(&mut units, rest)?;
+    }
+    Ok(units)
+}
+
+/// Puts the units of a text behind others.
+fn push_units(units: &mut Vec<u16>, text: &str) -> Result<(), RowFault> {
+    for character in text.chars() {
+        let mut two = [0u16; 2];
+        units.extend_from_slice(character.encode_utf16(&mut two))?;
+    }
+    Ok(())
 }

@@ -5,26 +5,12 @@ ghost use Rattle.prop_map.specs.Formed.{IsPropertyMap, paragraph_groups, section
 ghost use Rattle.plain_doc.specs.Document.{HasPropertyMaps};
 
 use doc_bits::{Memory, Where};
-use doc_show::{accepted_line, listing};
 use plain_doc::{Document, Item, Items, Mark, NoteKind, Texts, blank, check};
 use prop_map::{CHARACTER_GROUPS, PARAGRAPH_GROUPS, PropMap, SECTION_GROUPS};
 use sprm_table::Code;
 use std::alloc::Global;
+use std::mem;
 use std::test::Fail;
-
-const LISTED: &str = "style 0 para none 0 Normal\npar\nchar\n\
-    style 1 para 0 0 heading 1\npar 2640=00\nchar 0835=01\n\
-    style 10 char none 0 Default Paragraph Font\nchar\nstory main\nmark 0\nrun | \\u000d\nsect\n";
-
-const COUNTED: &str = "accepted: units 1 styles 3 sections 1 notes 0 streams 0\n";
-
-#[test]
-fn the_blank_document_is_as_said(rt: HostRuntime) -> Result<(), Fail> {
-    let document = blank(rt.alloc())?;
-    assert!(rt; listing(rt.alloc(), &document)?.as_str() == LISTED);
-    assert!(rt; accepted_line(rt.alloc(), &document)?.as_str() == COUNTED);
-    Ok(())
-}
 
 /// The value of a setting.
 const ZEROS: [u8; 253] = [0; 253];
@@ -61,7 +47,7 @@ fn section_of(alloc: Global, letter: u8) -> Option<PropMap> {
 }
 
 /// The item of a letter. `n` refers to a note; `F` is a field character where it is wrong, `[` one where it is right.
-pub fn item_of(alloc: Global, letter: u8) -> Item {
+fn item_of(alloc: Global, letter: u8) -> Item {
     Item {
         unit: unit_of(letter),
         chp: PropMap::new(alloc),
@@ -101,7 +87,7 @@ fn holds_section(sect: &Option<PropMap>) -> bool
 }
 
 /// Whether the maps of an item may stand in a text.
-pub fn holds_maps(item: &Item) -> bool
+fn holds_maps(item: &Item) -> bool
     ensures { IsTrue result → HasPropertyMaps item.now }
 {
     if !item.chp.is_held(CHARACTER_GROUPS) {
@@ -130,7 +116,7 @@ fn widen(item: &mut Item, letter: u8) -> Result<(), Memory> {
 }
 
 /// The text of these letters.
-pub fn text_of(alloc: Global, letters: &str) -> Result<Items, Memory> {
+fn text_of(alloc: Global, letters: &str) -> Result<Items, Memory> {
     let mut text = Items::new(alloc);
     for letter in letters.bytes() {
         let mut item = item_of(alloc, letter);
@@ -149,7 +135,7 @@ fn add_text(texts: &mut Texts, text: Items) -> Result<(), Memory> {
 }
 
 /// The texts of these letters, each up to a `/`.
-pub fn texts_of(alloc: Global, letters: &str) -> Result<Texts, Memory> {
+fn texts_of(alloc: Global, letters: &str) -> Result<Texts, Memory> {
     let mut texts = Texts::new(alloc);
     for text in letters.split_terminator('/') {
         add_text(&mut texts, text_of(alloc, text)?)?;
@@ -210,5 +196,12 @@ fn documents_of_no_file_are_judged(rt: HostRuntime) -> Result<(), Fail> {
         let document = document_of(rt.alloc(), row)?;
         assert!(rt; breaks(&document, row.3), "{}", row.0);
     }
+    Ok(())
+}
+
+// A text of 400,000 items takes 32 megabytes.
+#[test]
+fn an_item_is_small(rt: HostRuntime) -> Result<(), Fail> {
+    assert!(rt; mem::size_of::<Item>() <= 80);
     Ok(())
 }

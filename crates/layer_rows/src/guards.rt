@@ -1,5 +1,5 @@
 // Guards in boxes. What they allow was worked out by counting the items that are put.
-ghost use Rattle.std.specs.Prelude.{◌≡◌, []};
+ghost use Rattle.std.specs.Prelude.{[]};
 ghost use Rattle.edit_guards.specs.Policies.{lock_of};
 
 use edit_guards::{Facts, Guard, StyleLock, UnitQuota, first_refuser, note_all};

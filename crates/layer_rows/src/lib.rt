@@ -2,29 +2,21 @@
 #![tactic(auto)]
 
 #[cfg(test)]
+mod blocks;
+#[cfg(test)]
 mod containers;
 #[cfg(test)]
 mod documents;
 #[cfg(test)]
-mod edits;
-#[cfg(test)]
-mod fibs;
-#[cfg(test)]
 mod guards;
-#[cfg(test)]
-mod hello;
-#[cfg(test)]
-mod lists;
 #[cfg(test)]
 mod maps;
 #[cfg(test)]
-mod opened;
+mod numerals;
 #[cfg(test)]
 mod outside;
 #[cfg(test)]
 mod pages;
-#[cfg(test)]
-mod parts;
 #[cfg(test)]
 mod pieces;
 #[cfg(test)]
@@ -32,10 +24,10 @@ mod puts;
 #[cfg(test)]
 mod refusing;
 #[cfg(test)]
-mod saves;
-#[cfg(test)]
 mod scripts;
 #[cfg(test)]
 mod sheets;
 #[cfg(test)]
 mod sprms;
+#[cfg(test)]
+mod summaries;

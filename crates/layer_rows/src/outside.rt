@@ -2,7 +2,7 @@
 use doc_bits::Bytes;
 use doc_outer::{HostShelf, HostSink, ReadFail, Shelf, ShelfFault, Sink, read_whole, write_all};
 use std::alloc::Global;
-use std::io::Write;
+use std::io::{Eprint, Write};
 use std::os::fd::AsRawFd;
 use std::rt::Files;
 use std::test::Fail;
@@ -25,7 +25,7 @@ fn fault_of<S: Shelf>(shelf: &mut S, name: &str) -> Option<ShelfFault> {
 #[test]
 fn real_files_are_read_at_any_place(rt: HostRuntime) -> Result<(), Fail> {
     fs::write(&rt, PATH, b"some bytes".as_slice())?;
-    let mut shelf = HostShelf::new(rt.alloc(), &rt);
+    let mut shelf = HostShelf::new(rt.alloc(), &rt, &rt);
     let whole = read_whole(rt.alloc(), &mut shelf, PATH)?;
     assert!(rt; whole.as_slice() == b"some bytes".as_slice());
     assert!(rt; reads(&mut shelf, 6, b"ytes"));
@@ -37,9 +37,9 @@ fn real_files_are_read_at_any_place(rt: HostRuntime) -> Result<(), Fail> {
 }
 
 /// What a file holds whose descriptor has this number.
-fn through<R: Files + Drop>(alloc: Global, rt: R, number: i32) -> Result<Bytes, Fail> {
+fn through<R: Files + Eprint + Copy>(alloc: Global, rt: R, number: i32) -> Result<Bytes, Fail> {
     let name = format!(in alloc; "/dev/fd/{number}")?;
-    let mut shelf = HostShelf::new(alloc, rt);
+    let mut shelf = HostShelf::new(alloc, rt, rt);
     let bytes: Result<Bytes, ReadFail> = read_whole(alloc, &mut shelf, name.as_str());
     Ok(bytes?)
 }
@@ -56,7 +56,7 @@ fn a_pipe_is_read_in_order(rt: HostRuntime) -> Result<(), Fail> {
 
 #[test]
 fn standard_output_is_a_sink(rt: HostRuntime) -> Result<(), Fail> {
-    let mut sink = HostSink::new(&rt);
+    let mut sink = HostSink::new(&rt, &rt);
     assert!(rt; write_all(&mut sink, b"written by a test\n").is_ok());
     assert!(rt; sink.put(b"") == Ok(0));
     Ok(())

@@ -1,7 +1,7 @@
 // Puts into real files, links, pipes and folders. What a name holds afterwards is read by std alone.
 use doc_outer::{HostShelf, PutFault, Shelf};
 use std::fs::Permissions;
-use std::io::Read;
+use std::io::{Eprint, Read};
 use std::os::fd::AsRawFd;
 use std::os::unix::fs::{PermissionsExt, symlink};
 use std::rt::Files;
@@ -11,8 +11,8 @@ use std::{fs, io};
 const NEW: &[u8] = b"new bytes";
 
 /// What a put of `NEW` under a name answers.
-fn put<R: Files + AllocGlobal>(rt: &R, name: &str) -> Result<(), PutFault> {
-    HostShelf::new(rt.alloc(), rt).put(name, NEW)
+fn put<R: Files + Eprint + AllocGlobal>(rt: &R, name: &str) -> Result<(), PutFault> {
+    HostShelf::new(rt.alloc(), rt, rt).put(name, NEW)
 }
 
 /// Whether a file holds exactly these bytes.
@@ -101,7 +101,7 @@ fn reads_on<S: Shelf>(shelf: &mut S, name: &str) -> bool {
 #[test]
 fn the_file_that_was_read_last_is_let_go_of(rt: HostRuntime) -> Result<(), Fail> {
     fs::write(&rt, "read", b"some more bytes".as_slice())?;
-    let mut shelf = HostShelf::new(rt.alloc(), &rt);
+    let mut shelf = HostShelf::new(rt.alloc(), &rt, &rt);
     assert!(rt; reads_on(&mut shelf, "read"));
     fs::remove_file(&rt, "read")?;
     Ok(())

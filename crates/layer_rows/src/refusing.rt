@@ -3,7 +3,7 @@
 use doc_outer::{HostShelf, PutFault, Shelf};
 use std::alloc::Allocator;
 use std::fs::{Metadata, OpenFile, OpenOptions, Permissions};
-use std::io::{ErrorKind, Read, Seek, SeekFrom, Write};
+use std::io::{Eprint, ErrorKind, Read, Seek, SeekFrom, Write};
 use std::rt::Files;
 use std::test::Fail;
 use std::{fs, io};
@@ -141,7 +141,7 @@ impl<R: Files + Drop> Files for Refusing<R> {
 }
 
 /// What a put over an old file answers with these refusals, and whether the name then holds these bytes.
-fn put<R: Files + AllocGlobal>(
+fn put<R: Files + Eprint + AllocGlobal>(
     rt: &R,
     refusals: Refusals,
     answer: Result<(), PutFault>,
@@ -154,6 +154,7 @@ fn put<R: Files + AllocGlobal>(
             files: rt,
             refusals,
         },
+        rt,
     );
     let given = shelf.put("refused", NEW);
     let held = fs::read(rt, "refused")?;

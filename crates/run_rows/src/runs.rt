@@ -5,7 +5,8 @@ ghost use Rattle.edit_script.specs.Scripts.{EndsWithSave, most_commands};
 ghost use Rattle.doc_edit.specs.Ends.{IsUnchanged};
 
 use crate::blank_file::blank_file;
-use doc_edit::{RunFault, Stop, generated_command, generated_count, run_script};
+use doc_edit::{RunFault, Stop, run_script};
+use edit_generator::{generated_command, generated_count};
 use edit_guards::{Guard, UnitQuota};
 use edit_script::{Command, Script, read_script};
 use fast_save::Session;

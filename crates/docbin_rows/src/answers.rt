@@ -1,70 +1,23 @@
-// What a command answers, tried and made.
-ghost use Rattle.plain_doc.specs.Sound.{IsSound};
-
+// The lines on what came of a command.
 use crate::row_fault::RowFault;
 use doc_bits::Where;
-use edit_ops::{Command, EditFault, Facts, apply_plain, test};
+use edit_ops::{EditFault, Facts};
 use fast_save::{FastFault, Ledgers};
-use plain_doc::{Document, check, equal};
 use std::alloc::Global;
-
-/// Tries a command and makes it, on a document that breaks no rule.
-pub(crate) fn edit(
-    alloc: Global,
-    document: &mut Document,
-    command: &Command,
-) -> Result<Result<Facts, EditFault>, RowFault> {
-    match check(document) {
-        Ok(()) => edit_sound(alloc, document, command),
-        Err(_) => Err(RowFault::NotSound),
-    }
-}
-
-/// Makes a command on a document that breaks no rule.
-pub(crate) fn edit_alone(
-    alloc: Global,
-    document: &mut Document,
-    command: &Command,
-) -> Result<Result<(), EditFault>, RowFault> {
-    match check(document) {
-        Ok(()) => Ok(apply_plain(alloc, document, command)),
-        Err(_) => Err(RowFault::NotSound),
-    }
-}
-
-/// Both calls answer alike, and a refused command leaves the document as it was.
-fn edit_sound(
-    alloc: Global,
-    document: &mut Document,
-    command: &Command,
-) -> Result<Result<Facts, EditFault>, RowFault>
-    requires { IsSound document.old }
-{
-    let before = document.copy(alloc)?;
-    let tried = test(alloc, document, command);
-    let made = apply_plain(alloc, document, command);
-    match (tried, made) {
-        (Err(EditFault::Memory), _) | (_, Err(EditFault::Memory)) => Err(RowFault::Memory),
-        (Ok(_), Ok(())) => Ok(tried),
-        (Err(fault), Err(other)) if fault == other && equal(&before, document) => Ok(tried),
-        _ => Err(RowFault::TwoAnswers),
-    }
-}
 
 /// The line on an answer.
 pub(crate) fn shown(alloc: Global, answer: Result<Facts, EditFault>) -> Result<String, RowFault> {
-    let text = match answer {
-        Ok(facts) => format!(in alloc;
+    match answer {
+        Ok(facts) => Ok(format!(in alloc;
             "kind {}, {} in, {} out, style {}\n",
             facts.kind, facts.units_in, facts.units_out, facts.style
-        )?,
-        Err(EditFault::Range) => String::from_str(alloc, "range\n")?,
-        Err(EditFault::Code) => String::from_str(alloc, "code\n")?,
-        Err(EditFault::Rule { rule, place, at }) => refused(alloc, "rule", rule, place, at)?,
-        Err(EditFault::Limit { rule, place, at }) => refused(alloc, "limit", rule, place, at)?,
-        Err(EditFault::Memory) => return Err(RowFault::Memory),
-    };
-    Ok(text)
+        )?),
+        Err(EditFault::Range) => Ok(String::from_str(alloc, "range\n")?),
+        Err(EditFault::Code) => Ok(String::from_str(alloc, "code\n")?),
+        Err(EditFault::Rule { rule, place, at }) => refused(alloc, "rule", rule, place, at),
+        Err(EditFault::Limit { rule, place, at }) => refused(alloc, "limit", rule, place, at),
+        Err(EditFault::Memory) => Err(RowFault::Memory),
+    }
 }
 
 /// The rule that would be broken, and where.

@@ -1,0 +1,117 @@
+// Documents, as the calls of the layers below read, edit and write them.
+ghost use Rattle.plain_doc.specs.Sound.{IsSound};
+
+use crate::edits::Edits;
+use crate::row_fault::RowFault;
+use doc_bits::{Bytes, Memory, Text};
+use doc_read::{Opened, ReadFault, read};
+use doc_show::listing;
+use edit_ops::{Command, EditFault, Facts, apply_plain, test};
+use full_save::{SaveFault, full};
+use plain_doc::{Document, blank, check, equal};
+use std::alloc::Global;
+
+/// A document by itself.
+pub(crate) trait Plain {
+    /// Whether it is the document of a file.
+    fn is_in(&self, alloc: Global, file: &[u8]) -> Result<bool, RowFault>;
+
+    /// Its full save.
+    fn saved(&self, alloc: Global) -> Result<Bytes, RowFault>;
+
+    /// Its listing.
+    fn listed(&self, alloc: Global) -> Result<Text, Memory>;
+}
+
+impl Edits for Document {
+    type Seen = Document;
+
+    fn begin(alloc: Global, file: &[u8]) -> Result<Document, RowFault> {
+        match read(alloc, file) {
+            Ok(opened) => Ok(document_in(opened)),
+            Err(fault) => Err(refusal(fault)),
+        }
+    }
+
+    fn seen(&self, alloc: Global) -> Result<Document, Memory> {
+        self.copy(alloc)
+    }
+
+    fn is_still(&self, seen: &Document) -> Result<bool, Memory> {
+        Ok(equal(self, seen))
+    }
+
+    fn try_edit(
+        &self,
+        alloc: Global,
+        command: &Command,
+    ) -> Result<Result<Facts, EditFault>, RowFault> {
+        match check(self) {
+            Ok(()) => Ok(test(alloc, self, command)),
+            Err(_) => Err(RowFault::NotSound),
+        }
+    }
+
+    fn make_edit(
+        &mut self,
+        alloc: Global,
+        command: &Command,
+    ) -> Result<Result<(), EditFault>, RowFault> {
+        match check(self) {
+            Ok(()) => Ok(apply_plain(alloc, self, command)),
+            Err(_) => Err(RowFault::NotSound),
+        }
+    }
+}
+
+impl Plain for Document {
+    fn is_in(&self, alloc: Global, file: &[u8]) -> Result<bool, RowFault> {
+        match read(alloc, file) {
+            Ok(opened) => Ok(equal(opened.document(), self)),
+            Err(fault) => Err(refusal(fault)),
+        }
+    }
+
+    fn saved(&self, alloc: Global) -> Result<Bytes, RowFault> {
+        match check(self) {
+            Ok(()) => full_save(alloc, self),
+            Err(_) => Err(RowFault::NotSound),
+        }
+    }
+
+    fn listed(&self, alloc: Global) -> Result<Text, Memory> {
+        listing(alloc, self)
+    }
+}
+
+/// The document of a file that is opened.
+fn document_in(opened: Opened) -> Document {
+    opened.into_parts().0
+}
+
+/// Why a file is not opened.
+pub(crate) fn refusal(fault: ReadFault) -> RowFault {
+    match fault {
+        ReadFault::Refused { .. } => RowFault::NoData,
+        ReadFault::Memory => RowFault::Memory,
+    }
+}
+
+/// The full save of a sound document.
+fn full_save(alloc: Global, document: &Document) -> Result<Bytes, RowFault>
+    requires { IsSound document.now }
+{
+    match full(alloc, document) {
+        Ok(file) => Ok(file),
+        Err(SaveFault::TooLarge { .. }) => Err(RowFault::OtherFile),
+        Err(SaveFault::Memory) => Err(RowFault::Memory),
+    }
+}
+
+/// The full save of the blank document.
+pub(crate) fn blank_file(alloc: Global) -> Result<Bytes, RowFault> {
+    let document = blank(alloc)?;
+    let file = document.saved(alloc);
+    drop(document);
+    file
+}
