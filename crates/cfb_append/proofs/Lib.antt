@@ -1,0 +1,13 @@
+pub mod CountLemmas
+pub mod PlaceLemmas
+pub mod Saved
+pub mod ChainsAgain
+pub mod TreeAgain
+pub mod StreamsAgain
+pub mod SharingAgain
+pub mod SavedHolds
+pub mod ContentsAgain
+pub mod PickLemmas
+pub mod FileAfter
+pub mod TablesThere
+pub mod SectorsThere

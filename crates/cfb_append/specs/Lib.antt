@@ -1,0 +1,6 @@
+pub mod Change
+pub mod Tables
+pub mod Appended
+pub mod Save
+pub mod InPlace
+pub mod Laws
