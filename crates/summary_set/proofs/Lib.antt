@@ -1,0 +1,11 @@
+pub mod FormLemmas
+pub mod EndLemmas
+pub mod FindLemmas
+pub mod ValueLemmas
+pub mod WriteLemmas
+pub mod HeadLemmas
+pub mod PairLemmas
+pub mod WrittenLemmas
+pub mod ReadBackLemmas
+pub mod TitleLemmas
+pub mod TwiceLemmas

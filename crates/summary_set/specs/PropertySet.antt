@@ -1,0 +1,37 @@
+-- [MS-OLEPS] PropertySetStream with one PropertySet: where its numbers stand. Offsets of the set count from its
+-- beginning.
+use Rattle.std.specs.Prelude.{ℕ, ◌+◌, ◌*◌, List, map}
+use Rattle.std.specs.List.{range_with_len}
+use Rattle.doc_bits.specs.Number.{u32_at}
+use Rattle.summary_set.specs.declared.set.PropertyPair.{PropertyPair}
+use Rattle.summary_set.specs.declared.set.SetHead.{SetHead}
+
+-- Offset0: where the set begins in the stream
+abbrev pub set_begin : List ℕ → ℕ
+set_begin b = u32_at b 44
+
+-- [MS-OLEPS] PropertySet: Size
+abbrev pub set_size : List ℕ → ℕ
+set_size b = u32_at b (set_begin b)
+
+-- [MS-OLEPS] PropertySet: NumProperties
+abbrev pub pair_count : List ℕ → ℕ
+pair_count b = u32_at b (set_begin b + 4)
+
+abbrev pub head_of : List ℕ → SetHead
+head_of b = record { begin = set_begin b; size = set_size b; count = pair_count b }
+
+-- where a pair stands in the stream
+abbrev pub pair_place : List ℕ → ℕ → ℕ
+pair_place b i = set_begin b + 8 + 8 * i
+
+-- [MS-OLEPS] PropertyIdentifierAndOffset
+abbrev pub pair_at : List ℕ → ℕ → PropertyPair
+pair_at b i = record { id = u32_at b (pair_place b i); offset = u32_at b (pair_place b i + 4) }
+
+-- the pairs, in their order
+abbrev pub pairs_of : List ℕ → List PropertyPair
+pairs_of b = map (pair_at b) (range_with_len 0 (pair_count b))
+
+abbrev pub offsets_of : List ℕ → List ℕ
+offsets_of b = map (λ pair. pair.offset) (pairs_of b)

@@ -1,0 +1,61 @@
+ghost use Rattle.std.specs.Prelude.{◌≡◌, ◌≤◌, length, IfOk, MatchResult};
+ghost use Rattle.summary_set.specs.Form.{IsPropertySet, IsSetFault};
+ghost use Rattle.summary_set.specs.Values.{IsSetOf};
+ghost use Rattle.summary_set.specs.Texts.{AreFieldsOf, text_property};
+
+use crate::form::judge;
+use crate::set::PropertySet;
+use crate::texts::text;
+use crate::{Fields, SetFault};
+use doc_bits::{Bytes, Memory};
+use std::alloc::Global;
+
+/// [MS-OLEPS] the ids of a title, a subject and an author.
+pub(crate) const PIDSI_TITLE: u32 = 2;
+
+const PIDSI_SUBJECT: u32 = 3;
+
+const PIDSI_AUTHOR: u32 = 4;
+
+/// The texts of a summary stream.
+pub fn fields(alloc: Global, stream: &[u8]) -> Result<Fields, SetFault>
+    requires short { length stream.now ≤ 7143936 }
+    ensures { MatchResult result
+        (λ fields. IsPropertySet stream.now × AreFieldsOf stream.now fields)
+        (IsSetFault stream.now) }
+{
+    let set = judge(alloc, stream)?;
+    Ok(fields_of(alloc, stream, &set)?)
+}
+
+fn fields_of(alloc: Global, stream: &[u8], set: &PropertySet) -> Result<Fields, Memory>
+    requires set { IsSetOf stream.now set.now }
+    requires formed { IsPropertySet stream.now }
+    ensures { IfOk result (AreFieldsOf stream.now) }
+{
+    Ok(Fields {
+        title: text_property(alloc, stream, set, PIDSI_TITLE)?,
+        subject: text_property(alloc, stream, set, PIDSI_SUBJECT)?,
+        author: text_property(alloc, stream, set, PIDSI_AUTHOR)?,
+    })
+}
+
+/// The text of the property with an id.
+fn text_property(
+    alloc: Global,
+    stream: &[u8],
+    set: &PropertySet,
+    id: u32,
+) -> Result<Option<Bytes>, Memory>
+    requires set { IsSetOf stream.now set.now }
+    requires formed { IsPropertySet stream.now }
+    ensures { IfOk result (λ found. found ≡ text_property stream.now id) }
+{
+    let Some(pair) = set.pair_with(id) else {
+        return Ok(None);
+    };
+    match text(set.value(stream, pair)) {
+        Some(bytes) => Ok(Some(Bytes::from_slice(alloc, bytes)?)),
+        None => Ok(None),
+    }
+}
