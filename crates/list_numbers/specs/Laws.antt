@@ -1,0 +1,28 @@
+-- What the definitions imply.
+use Rattle.std.specs.Prelude.{◌≡◌, ℕ, ◌+◌, ◌-◌, ◌≤◌, ◌==◌, ◌||◌, nat_lt, if◌then◌else◌, List, [], ◌∷◌}
+use Rattle.list_numbers.specs.declared.number_kind.LetterCase.{LetterCase}
+use Rattle.list_numbers.specs.NumberText.{roman}
+
+-- the value of a letter, capital or small
+unfoldable pub letter_value : ℕ → ℕ
+letter_value letter =
+    if letter == 73 || letter == 105 then 1 else
+    if letter == 86 || letter == 118 then 5 else
+    if letter == 88 || letter == 120 then 10 else
+    if letter == 76 || letter == 108 then 50 else
+    if letter == 67 || letter == 99 then 100 else
+    if letter == 68 || letter == 100 then 500 else
+    if letter == 77 || letter == 109 then 1000 else 0
+
+-- the sum of the letters' values, a letter before a greater one taken off
+unfoldable pub roman_value : List ℕ → ℕ
+roman_value [] = 0
+roman_value (letter ∷ []) = letter_value letter
+roman_value (letter ∷ next ∷ rest) =
+    if nat_lt (letter_value letter) (letter_value next) then roman_value (next ∷ rest) - letter_value letter else
+    letter_value letter + roman_value (next ∷ rest)
+
+-- the letters of a Roman number say the number
+abbrev pub RomanNumeralsAreReadBack : Type 0
+RomanNumeralsAreReadBack =
+    (case : LetterCase) (number : ℕ) → 1 ≤ number → number ≤ 3999 → roman_value (roman case number) ≡ number

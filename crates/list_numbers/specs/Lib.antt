@@ -1,0 +1,3 @@
+pub mod NumberKind
+pub mod NumberText
+pub mod Laws
