@@ -1,0 +1,4 @@
+pub mod Plain
+pub mod Out
+pub mod Digits
+pub mod Settings
