@@ -1,0 +1,24 @@
+// Places in a list.
+
+/// Where a unit is: the number of its item, and its place within the item, in units.
+#[derive(Clone, Copy, Debug, PartialEq, Eq)]
+pub struct Spot {
+    pub item: usize,
+    pub within: u32,
+}
+
+/// Where an item is: the number of its block, and its place within the block.
+#[derive(Clone, Copy)]
+pub(crate) struct Place {
+    pub(crate) block: usize,
+    pub(crate) within: usize,
+}
+
+/// Where a unit is: the number of the block of its item, the number of the item in the list, and its place within the
+/// item, in units.
+#[derive(Clone, Copy)]
+pub(crate) struct Found {
+    pub(crate) block: usize,
+    pub(crate) item: usize,
+    pub(crate) within: u32,
+}
