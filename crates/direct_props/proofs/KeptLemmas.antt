@@ -1,6 +1,7 @@
 -- What is kept of lists, and what it says of places.
-use Rattle.std.proofs.Common.{◌≡◌, ◌⊎◌, inl, inr, ◌<◌, ◌≤◌, ◌+◌, ◌*◌, ◌∙◌, ℕ, List, [], ◌∷◌, ◌++◌, length, Some}
-use Rattle.std.proofs.Common.{slice_get, get_or, refl, sym, ap, subst, arith, length-append}
+use Rattle.std.proofs.Common.{◌≡◌, ◌⊎◌, inl, inr, ◌<◌, ◌≤◌, ◌+◌, ◌-◌, ◌*◌, ◌∙◌, ℕ, List, [], ◌∷◌, ◌++◌, length, Some}
+use Rattle.std.proofs.Common.{slice_get, get_or, take, drop, refl, sym, ap, subst, arith, length-append, length-take}
+use Rattle.std.proofs.lemmas.List.{drop_all}
 use Rattle.std.specs.Prelude.{slice_range}
 use Rattle.std.proofs.lemmas.Bool.{cases_lt}
 use Rattle.std.proofs.lemmas.Option.{none-some, slice_get_within, slice_get_read}
@@ -11,6 +12,7 @@ use Rattle.doc_bits.proofs.TogetherLemmas.{together_joined}
 use Rattle.sprm_table.specs.Sprm.{HasSprmFaultAt}
 use Rattle.prop_map.specs.declared.modifiers.Modifier.{Modifier}
 use Rattle.prop_map.specs.Formed.{IsPropertyMap, paragraph_groups}
+use Rattle.prop_map.specs.Places.{IsListLike}
 use Rattle.prop_map.specs.Modifiers.{IsFormedModifier}
 use Rattle.fkp_pages.specs.declared.kind.PageKind.{PageKind}
 use Rattle.fkp_pages.specs.declared.kind.PageKind.TheVariants.{Chpx, Papx}
@@ -26,7 +28,7 @@ use Rattle.direct_props.specs.Stretches.{IsRightList, HasSettingsAround}
 use Rattle.direct_props.specs.Pages.{HasPageAround}
 use Rattle.direct_props.specs.Kept.{HasNoFault, HaveNoFault, IsMadeOf, IsMadeIn, AreMade, PlaceSource, IsMadeAt}
 use Rattle.direct_props.specs.Kept.{HasMadeAround, IsMadeByAnswer}
-use Rattle.direct_props.proofs.StretchLemmas.{in_page}
+use Rattle.direct_props.proofs.StretchLemmas.{in_page, cut_rest}
 
 -- a value of a list with one more is one of the list, or the last
 pub got : {X : Type 0} (xs : List X) (x y : X) (k : ℕ) → slice_get (xs ++ x ∷ []) k ≡ Some y →
@@ -99,6 +101,33 @@ made_of_place kind wd modifier places made k from to one are there here =
     let within = slice_get_within places k (from, to) there in
     let len = are.len in
     are.each k (from, to) one there (slice_get_read made (length made) k one refl (omega arith) here)
+
+-- what is kept at the number of a list of the same bytes
+pub made_of_like : (kind : PageKind) (wd list : List ℕ) (modifier : Modifier) (places : List (ℕ × ℕ))
+    (made : List Made) (k : ℕ) (one : Made) → AreMade kind wd modifier places made → IsListLike wd list places k →
+    one ≡ get_or made k one → IsMadeOf kind list modifier one
+made_of_like kind wd list modifier places made k one are like here =
+    subst (λ l. IsMadeOf kind l modifier one) like.same (made_of_place kind wd modifier places made k like.from like.to
+    one are like.place here)
+
+-- a range without its first bytes, wherever it ends
+cut_any : (wd : List ℕ) (from to k : ℕ) → drop k (slice_range wd from to) ≡ slice_range wd (from + k) to
+cut_any wd from to k = elim (cases_lt to (from + k)) [
+  | inl short ↦
+      let none : to - (from + k) ≡ 0 = omega arith in
+      drop_all k (slice_range wd from to) (omega (arith, length-take (to - from) (drop from wd)))
+      ∙ sym (ap (λ n. take n (drop (from + k) wd)) none)
+  | inr long ↦ cut_rest wd from to k (omega arith)
+]
+
+-- a list of the same bytes as one without a fault has none
+pub like_faultless : (kind : PageKind) (wd : List ℕ) (places : List (ℕ × ℕ)) (k from to : ℕ) → HaveNoFault kind wd
+    places → IsListLike wd (slice_range wd from to) places k → HasNoFault kind wd from to
+like_faultless kind wd places k from to have like =
+    let least = least_list kind in
+    subst (λ l. Nowhere (HasSprmFaultAt l (run_groups kind)))
+    (sym (cut_any wd like.from like.to least) ∙ (ap (drop least) like.same ∙ cut_any wd from to least))
+    (have k like.from like.to like.place)
 
 -- one list more is kept
 pub one_made : (kind : PageKind) (wd : List ℕ) (modifier : Modifier) (places : List (ℕ × ℕ)) (made : List Made)

@@ -1,4 +1,4 @@
-// What the lists of pages make, each kept by the place where it stands.
+// What the lists of pages make, each kept by a place where it stands.
 ghost use Rattle.std.specs.Prelude.{◌≡◌, ◌<◌, ◌≤◌, ◌+◌, ◌*◌, ℕ, List, drop, length, slice_range, IfOk, OnOk, OnErr};
 ghost use Rattle.sprm_table.specs.Sprm.{IsAcceptedList};
 ghost use Rattle.prop_map.specs.declared.modifiers.Modifier.{Modifier as TheModifier};
@@ -13,7 +13,7 @@ ghost use Rattle.direct_props.specs.Pages.{IsPageIn};
 ghost use Rattle.direct_props.specs.Kept.{AreMade, IsMadeByAnswer, IsMadeOf, MakesCharacter, MakesMark};
 
 use crate::characters::settings_of;
-use crate::lists::{bare, list_in};
+use crate::lists::{bare, known_list, list_in};
 use doc_bits::{Memory, get16};
 use fkp_pages::{PAGE_LEN, PageKind, RunAnswer};
 use prop_map::{ListPlaces, Modifier, PropMap};
@@ -118,7 +118,7 @@ impl KeptLists {
     {
         let begin = PAGE_LEN * number as usize;
         let (from, to) = range;
-        if let Some(known) = self.places.number_of(begin + from, begin + to) {
+        if let Some(known) = known_list(&self.places, source.wd, begin + from, begin + to) {
             let copy = self.made[known].copy(alloc)?;
             return Ok(copy);
         }

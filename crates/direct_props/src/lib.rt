@@ -12,7 +12,6 @@ mod places;
 mod reader;
 mod rules;
 
-pub use characters::{CharacterSettings, push_characters};
 pub use laws::{
     direct_character_is_one, direct_mark_is_one, first_page_fault_is_least, right_lists_are_right,
     right_places_have_lists, right_places_have_settings, right_places_hold,

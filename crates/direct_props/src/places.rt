@@ -91,7 +91,7 @@ impl<'a> Places<'a> {
     }
 
     /// The places, one by one.
-    pub fn to_list(&self, alloc: Global) -> Result<Vec<u32>, Memory>
+    pub(crate) fn to_list(&self, alloc: Global) -> Result<Vec<u32>, Memory>
         ensures { IfOk result (λ list. list.items ≡ self.now) }
     {
         let mut list = Vec::with_capacity(alloc, self.count)?;

@@ -1,5 +1,5 @@
 // Readers of the settings of places, which keep what each list makes.
-ghost use Rattle.std.specs.Prelude.{◌≡◌, ◌+◌, ◌<◌, ◌≤◌, ◌^◌, ℕ, length, IsTrue, IfOk, OnOk, OnErr};
+ghost use Rattle.std.specs.Prelude.{◌≡◌, ◌+◌, ◌<◌, ◌^◌, length, IsTrue, IfOk, OnOk, OnErr};
 ghost use Rattle.prop_map.specs.Formed.{IsPropertyMap, paragraph_groups};
 ghost use Rattle.prop_map.specs.Modifiers.{IsFormedModifier};
 ghost use Rattle.fkp_pages.specs.declared.kind.PageKind.TheVariants.{Chpx, Papx};
@@ -11,7 +11,7 @@ ghost use Rattle.direct_props.specs.Kept.{HasMadeAround, PlaceSource};
 
 use crate::kept::{KeptLists, ListSource, Made, MadeStretch};
 use crate::pages::{PageCursor, page_around};
-use crate::{CharacterSettings, DirectMark, Places};
+use crate::{DirectMark, Places};
 use doc_bits::Memory;
 use fkp_pages::PageKind;
 use prop_map::{Modifier, PropMap};
@@ -76,56 +76,6 @@ impl<'a> PlaceReader<'a> {
         self.modifier.equal(modifier)
     }
 
-    /// Appends the direct settings of the characters at these places.
-    pub fn push_characters(
-        &mut self,
-        alloc: Global,
-        places: &[u32],
-        list: &mut CharacterSettings,
-    ) -> Result<(), Memory>
-        requires kind { self.old.kind ≡ Chpx }
-        requires right { AreRightPlaces Chpx self.old.wd self.old.bin places.now }
-        ensures same { self.new ≡ self.old }
-        ensures ok { OnOk result
-            (AddsCharacters self.old.wd self.old.bin places.now self.old.modifier list.old list.new) }
-        ensures err { OnErr result (list.new ≡ list.old) }
-    {
-        let before = list.items.len();
-        match self.add_characters(alloc, places, list) {
-            Ok(()) => Ok(()),
-            Err(memory) => {
-                list.items.truncate(before);
-                Err(memory)
-            }
-        }
-    }
-
-    /// The same, but after want of memory some of the settings may stand in the list.
-    fn add_characters(
-        &mut self,
-        alloc: Global,
-        places: &[u32],
-        list: &mut CharacterSettings,
-    ) -> Result<(), Memory>
-        requires kind { self.old.kind ≡ Chpx }
-        requires right { AreRightPlaces Chpx self.old.wd self.old.bin places.now }
-        ensures same { self.new ≡ self.old }
-        ensures ok { OnOk result
-            (AddsCharacters self.old.wd self.old.bin places.now self.old.modifier list.old list.new) }
-        ensures err { OnErr result (BeginsWith list.old list.new) }
-    {
-        let mut current = CharacterStretch {
-            first: 1,
-            last: 0,
-            map: PropMap::new(alloc),
-        };
-        for place in places {
-            current = self.stretch_with(alloc, *place, current)?;
-            list.items.push(current.map.copy(alloc)?)?;
-        }
-        Ok(())
-    }
-
     /// Appends the direct settings of the characters at these places, run by run. After want of memory some of them
     /// may stand in the list.
     pub fn push_character_runs(
@@ -168,28 +118,6 @@ impl<'a> PlaceReader<'a> {
         let MadeStretch { first, last, made } = self.made_around(alloc, fc)?;
         let Made { istd: _, map } = made;
         Ok(CharacterStretch { first, last, map })
-    }
-
-    /// The stretch where it has the place, or else the one around the place.
-    fn stretch_with(
-        &mut self,
-        alloc: Global,
-        fc: u32,
-        current: CharacterStretch,
-    ) -> Result<CharacterStretch, Memory>
-        requires kind { self.old.kind ≡ Chpx }
-        requires right { IsRightPlace Chpx self.old.wd self.old.bin fc }
-        requires known { (other : ℕ) → current.first ≤ other → other ≤ current.last → HasSettingsAround
-            self.old.wd self.old.bin self.old.modifier other current.first current.last current.map }
-        ensures same { self.new ≡ self.old }
-        ensures around { IfOk result
-            (λ s. HasSettingsAround self.old.wd self.old.bin self.old.modifier fc s.first s.last s.map) }
-    {
-        if current.first <= fc && fc <= current.last {
-            return Ok(current);
-        }
-        let stretch = self.stretch_around(alloc, fc)?;
-        Ok(stretch)
     }
 
     /// Reads the mark at a place.

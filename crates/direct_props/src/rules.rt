@@ -18,7 +18,7 @@ ghost use Rattle.direct_props.specs.Pages.{IsPageIn, IsRightStretch};
 ghost use Rattle.direct_props.specs.Kept.{HaveNoFault};
 
 use crate::Places;
-use crate::lists::list_in;
+use crate::lists::{known_list, list_in};
 use crate::pages::{PageCursor, page_around};
 use doc_bits::{Memory, lesser};
 use fkp_pages::{PAGE_LEN, PageKind, RunAnswer, bin_at, chpx_at, papx_at, run_answer_is_one};
@@ -250,7 +250,7 @@ fn is_right_list(
     if PAGE_LEN <= from || PAGE_LEN <= to || to < from + style_len(kind) {
         return Ok(false);
     }
-    if let Some(_met) = known.number_of(begin + from, begin + to) {
+    if let Some(_met) = known_list(known, wd, begin + from, begin + to) {
         return Ok(true);
     }
     match list_in(kind, &wd[begin..begin + PAGE_LEN], from, to) {

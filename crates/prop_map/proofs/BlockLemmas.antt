@@ -71,13 +71,13 @@ module _ (code : ℕ) (value rest : List ℕ) (is : IsBlockEntry (code, value)) 
       λ i. (c i, v i)
 
 -- the bytes of one entry more
-block_more : (es : Entries) (code : ℕ) (value : List ℕ) → block_bytes (es ++ (code, value) ∷ []) ≡ block_bytes es ++
+pub block_more : (es : Entries) (code : ℕ) (value : List ℕ) → block_bytes (es ++ (code, value) ∷ []) ≡ block_bytes es ++
     entry_bytes (code, value)
 block_more [] code value = append-nil (entry_bytes (code, value))
 block_more (e ∷ es) code value = ap (λ l. entry_bytes e ++ l) (block_more es code value) ∙ sym (append_assoc
     (entry_bytes e) (block_bytes es) (entry_bytes (code, value)))
 
-blocks_joined : (xs ys : Entries) → block_bytes (xs ++ ys) ≡ block_bytes xs ++ block_bytes ys
+pub blocks_joined : (xs ys : Entries) → block_bytes (xs ++ ys) ≡ block_bytes xs ++ block_bytes ys
 blocks_joined [] ys = refl
 blocks_joined (e ∷ xs) ys = ap (λ l. entry_bytes e ++ l) (blocks_joined xs ys) ∙ sym (append_assoc (entry_bytes e)
     (block_bytes xs) (block_bytes ys))

@@ -1,5 +1,6 @@
 pub mod EntriesLemmas
 pub mod BlockLemmas
+pub mod MergeLemmas
 pub mod ChangeLemmas
 pub mod ActingLemmas
 pub mod ByteLemmas

@@ -2,9 +2,10 @@
 use Rattle.std.specs.Prelude.{◌≡◌, ℕ, zero, suc, ◌+◌, ◌<◌, ◌^◌, List, [], ◌∷◌, ◌++◌, length, drop, slice_range, IsTrue}
 use Rattle.std.specs.List.{All, flat_map}
 use Rattle.std.specs.Ordering.{nat_cmp}
-use Rattle.std.specs.FinMap.{is_sorted, put}
+use Rattle.std.specs.FinMap.{is_sorted, put, from_sorted}
 use Rattle.doc_bits.specs.Number.{number_bytes, u16_at, u32_at}
 use Rattle.sprm_table.specs.Sprm.{spelling}
+use Rattle.prop_map.specs.Settings.{Settings}
 use Rattle.prop_map.specs.Entries.{Entries}
 
 -- the bytes of an entry
@@ -51,6 +52,15 @@ pub record IsBlock (block : List ℕ) : Type 0 where
 pub record IsSortedBlock (block : List ℕ) : Type 0 where
   pub block_is : IsBlock block
   pub sorted : IsTrue (is_sorted nat_cmp (entries_in block))
+
+-- the map of the entries of a block
+abbrev pub map_of : List ℕ → Settings
+map_of block = from_sorted (entries_in block)
+
+-- the codes ascend, each below this one
+pub record HasCodesBelow (block : List ℕ) (least : ℕ) : Type 0 where
+  pub ascending : IsSortedBlock block
+  pub below : All (λ entry. entry.0 < least) (entries_in block)
 
 -- how many bytes the entries of a block have as a list of sprms
 abbrev pub list_length : List ℕ → ℕ

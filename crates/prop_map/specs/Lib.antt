@@ -7,4 +7,5 @@ pub mod Steps
 pub mod Printing
 pub mod Modifiers
 pub mod Overlay
+pub mod Places
 pub mod Laws

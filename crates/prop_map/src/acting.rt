@@ -1,13 +1,16 @@
 // Acting with a list of sprms.
-ghost use Rattle.std.specs.Prelude.{◌≡◌, [], ◌∷◌, IfOk};
+ghost use Rattle.std.specs.Prelude.{◌≡◌, [], ◌∷◌, IfOk, IfSome};
 ghost use Rattle.std.specs.Option.{option_or};
+ghost use Rattle.std.specs.FinMap.{empty};
 ghost use Rattle.sprm_table.specs.Sprm.{IsPrl, IsAcceptedList};
 ghost use Rattle.prop_map.specs.Formed.{StaysFormed};
-ghost use Rattle.prop_map.specs.Acting.{IsActedBy, style_of};
+ghost use Rattle.prop_map.specs.Acting.{ArePropertiesAfter, IsActedBy, style_of};
+ghost use Rattle.prop_map.specs.Block.{HasCodesBelow, map_of};
 
 use crate::PropMap;
+use crate::block::{Block, push_entry};
 use crate::draft::Draft;
-use doc_bits::{Memory, get16};
+use doc_bits::{Bytes, Memory, get16};
 use sprm_table::{Class, Code, SprmIter, class, held};
 use std::alloc::Global;
 
@@ -23,6 +26,86 @@ pub fn act(alloc: Global, list: &[u8], groups: u8, map: &PropMap) -> Result<Acte
     requires { IsAcceptedList list.now groups }
     ensures acted { IfOk result (IsActedBy list.now groups map.now) }
     ensures formed { IfOk result (λ acted. StaysFormed groups map.now acted.map) }
+{
+    if map.is_empty() {
+        let made = act_on_nothing(alloc, list, groups)?;
+        return Ok(made);
+    }
+    let acted = act_on_draft(alloc, list, groups, map)?;
+    Ok(acted)
+}
+
+/// Acts with a list on the empty map.
+fn act_on_nothing(alloc: Global, list: &[u8], groups: u8) -> Result<Acted, Memory>
+    requires { IsAcceptedList list.now groups }
+    ensures { IfOk result (IsActedBy list.now groups empty) }
+{
+    match act_in_order(alloc, list, groups)? {
+        Some(acted) => Ok(acted),
+        None => {
+            let nothing = PropMap::new(alloc);
+            let acted = act_on_draft(alloc, list, groups, &nothing)?;
+            Ok(acted)
+        }
+    }
+}
+
+/// Acts with a list on the empty map where its codes ascend and none clears: its entries are those of the map.
+fn act_in_order(alloc: Global, list: &[u8], groups: u8) -> Result<Option<Acted>, Memory>
+    requires { IsAcceptedList list.now groups }
+    ensures { IfOk result (λ acted. IfSome acted (IsActedBy list.now groups empty)) }
+{
+    let mut bytes = Bytes::new(alloc);
+    let mut least = 0;
+    let mut istd = None;
+    let mut prls = SprmIter::new(list);
+    while let Some((code, from, to)) = prls.next() {
+        let value = &list[from..to];
+        match push_setting(&mut bytes, least, groups, code, value)? {
+            None => return Ok(None),
+            Some(next) => least = next,
+        }
+        istd = style(groups, code, value, istd);
+    }
+    let map = PropMap::from_block(alloc, Block::of_bytes(bytes))?;
+    Ok(Some(Acted { map, istd }))
+}
+
+/// Appends to the entries of a map what a sprm sets, where its code is not below the least: the least code for the
+/// next sprm. Nothing where the code is below, or where the sprm clears.
+fn push_setting(
+    bytes: &mut Bytes,
+    least: u32,
+    groups: u8,
+    code: Code,
+    value: &[u8],
+) -> Result<Option<u32>, Memory>
+    requires { HasCodesBelow bytes.old least }
+    ensures { IfOk result (λ next. IfSome next (λ next. HasCodesBelow bytes.new next
+        × ArePropertiesAfter ((code.0, value.now) ∷ []) groups (map_of bytes.old) (map_of bytes.new))) }
+{
+    if held(groups, code) {
+        match class(code) {
+            Class::Plain | Class::Toggle => {
+                let number = code.0 as u32;
+                if number < least {
+                    return Ok(None);
+                }
+                push_entry(bytes, code, value)?;
+                Ok(Some(number + 1))
+            }
+            Class::Clear => Ok(None),
+            Class::Style | Class::Refused => Ok(Some(least)),
+        }
+    } else {
+        Ok(Some(least))
+    }
+}
+
+/// Acts with a list on a map, as a tree.
+fn act_on_draft(alloc: Global, list: &[u8], groups: u8, map: &PropMap) -> Result<Acted, Memory>
+    requires { IsAcceptedList list.now groups }
+    ensures { IfOk result (IsActedBy list.now groups map.now) }
 {
     let mut draft = Draft::new(alloc);
     draft.put_all(alloc, map)?;

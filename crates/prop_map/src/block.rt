@@ -1,11 +1,12 @@
 // The entries of a map in one block of bytes: of each entry its code, the length of its value, and the value.
-ghost use Rattle.std.specs.Prelude.{◌≡◌, ◌↔◌, ◌<◌, ◌++◌, [], ◌∷◌, ◌==◌, length, IsTrue, IfOk, OnOk, MatchOption};
+ghost use Rattle.std.specs.Prelude.{◌≡◌, ◌↔◌, ◌<◌, ◌++◌, [], ◌∷◌, ◌==◌, ℕ, length, IsTrue, IfOk, OnOk, MatchOption};
+ghost use Rattle.std.specs.Option.{option_or};
 ghost use Rattle.std.specs.Ordering.{nat_cmp};
 ghost use Rattle.std.specs.FinMap as map;
 ghost use Rattle.prop_map.specs.Block.{block_bytes, entry_bytes, AreBlockEntries, IsBlockEntry, IsPutBetween};
 ghost use Rattle.prop_map.specs.Block.{entries_in, list_length, IsBlock, IsSortedBlock};
 ghost use Rattle.prop_map.specs.Printing.{printed_list};
-ghost use Rattle.sprm_table.specs.Sprm.{spelling};
+ghost use Rattle.doc_bits.specs.Number.{number_bytes};
 
 use crate::printing::head_len;
 use doc_bits::{Bytes, Memory, get16, get32};
@@ -113,15 +114,13 @@ fn first_of(block: &[u8]) -> (Code, &[u8], &[u8])
 }
 
 impl Block {
-    /// The block of these bytes, which are entries in order.
-    pub(crate) fn from_bytes(alloc: Global, bytes: &[u8]) -> Result<Block, Memory>
-        requires { IsSortedBlock bytes.now }
-        ensures { IfOk result (λ made. made ≡ map.from_sorted (entries_in bytes.now)) }
+    /// The block of these bytes, which are entries in order. They are taken over.
+    pub(crate) fn of_bytes(bytes: Bytes) -> Block
+        requires { IsSortedBlock bytes }
+        ensures { result ≡ map.from_sorted (entries_in bytes) }
     {
-        Ok(Block {
-            bytes: Bytes::from_slice(alloc, bytes)?,
-            list_len: list_len(bytes),
-        })
+        let list_len = list_len(bytes.as_slice());
+        Block { bytes, list_len }
     }
 
     /// The entries with a value at a code, in place of what stood there.
@@ -138,7 +137,30 @@ impl Block {
         let rest = push_below(&mut bytes, entries, code)?;
         push_entry(&mut bytes, code, value)?;
         bytes.push_all(rest.bytes())?;
-        Block::from_bytes(alloc, bytes.as_slice())
+        Ok(Block::of_bytes(bytes))
+    }
+
+    /// All entries of `top`, and those of `base` at other codes: both are gone through once.
+    pub(crate) fn merged(
+        alloc: Global,
+        base: Entries<'_>,
+        top: Entries<'_>,
+    ) -> Result<Block, Memory>
+        requires base { IsTrue (map.is_sorted nat_cmp base) }
+        requires top { IsTrue (map.is_sorted nat_cmp top) }
+        ensures { IfOk result (λ made. (code : ℕ) → map.get made code ≡ option_or
+            (map.find nat_cmp code top.entry) (map.find nat_cmp code base.entry)) }
+    {
+        let mut bytes = Bytes::new(alloc);
+        let mut lower = base;
+        let mut left = top;
+        while let Some((code, value)) = left.next() {
+            lower = push_below(&mut bytes, lower, code)?;
+            push_entry(&mut bytes, code, value)?;
+        }
+        let rest = lower.bytes();
+        bytes.push_all(rest)?;
+        Ok(Block::of_bytes(bytes))
     }
 
     /// The entries themselves.
@@ -210,8 +232,16 @@ pub(crate) fn push_entry(bytes: &mut Bytes, code: Code, value: &[u8]) -> Result<
     if value.len() > u32::MAX as usize {
         return Err(Memory);
     }
-    bytes.push16(code.0)?;
-    bytes.push32(value.len() as u32)?;
+    bytes.push_all(&head_of(code, value.len() as u32))?;
     bytes.push_all(value)?;
     Ok(())
+}
+
+/// The bytes of an entry before its value: the code and the value's length.
+fn head_of(code: Code, len: u32) -> [u8; HEAD_LEN]
+    ensures { result ≡ number_bytes 2 code.0 ++ number_bytes 4 len }
+{
+    let code = code.0.to_le_bytes();
+    let len = len.to_le_bytes();
+    [code[0], code[1], len[0], len[1], len[2], len[3]]
 }

@@ -120,8 +120,7 @@ impl Draft {
         for (code, value) in self.tree {
             push_entry(&mut bytes, Code(code), value.as_slice())?;
         }
-        let block = Block::from_bytes(alloc, bytes.as_slice())?;
-        PropMap::from_block(alloc, block)
+        PropMap::from_block(alloc, Block::of_bytes(bytes))
     }
 }
 

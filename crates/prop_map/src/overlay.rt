@@ -1,8 +1,9 @@
 // One map put over another.
-ghost use Rattle.std.specs.Prelude.{IfOk};
+ghost use Rattle.std.specs.Prelude.{true, false, IfOk};
 ghost use Rattle.prop_map.specs.Modifiers.{IsOver, IsClearedWhere};
 
 use crate::PropMap;
+use crate::block::Block;
 use crate::draft::Draft;
 use doc_bits::Memory;
 use std::alloc::Global;
@@ -22,24 +23,35 @@ pub(crate) fn over(
         let copy = top.copy(alloc)?;
         return Ok(copy);
     }
-    if !clear && top.is_empty() {
-        let copy = base.copy(alloc)?;
-        return Ok(copy);
+    if !clear {
+        let both = over_all(alloc, base, top)?;
+        return Ok(both);
     }
-    let mut draft = draft_of(alloc, base, clear)?;
+    let mut draft = cleared(alloc, base)?;
     draft.put_all(alloc, top)?;
     let made = draft.into_map(alloc)?;
     Ok(made)
 }
 
-/// A map to be changed, which is cleared where `clear` is set.
-fn draft_of(alloc: Global, base: &PropMap, clear: bool) -> Result<Draft, Memory>
-    ensures { IfOk result (IsClearedWhere clear base.now) }
+/// The entries of `top`, and those of `base` at other codes.
+fn over_all(alloc: Global, base: &PropMap, top: &PropMap) -> Result<PropMap, Memory>
+    ensures { IfOk result (IsOver false top.now base.now) }
+{
+    if top.is_empty() {
+        let copy = base.copy(alloc)?;
+        return Ok(copy);
+    }
+    let block = Block::merged(alloc, base.entries(), top.entries())?;
+    let made = PropMap::from_block(alloc, block)?;
+    Ok(made)
+}
+
+/// What sprmCPlain leaves of a map, to be changed.
+fn cleared(alloc: Global, base: &PropMap) -> Result<Draft, Memory>
+    ensures { IfOk result (IsClearedWhere true base.now) }
 {
     let mut draft = Draft::new(alloc);
     draft.put_all(alloc, base)?;
-    if clear {
-        draft.clear();
-    }
+    draft.clear();
     Ok(draft)
 }

@@ -1,7 +1,11 @@
 use Rattle.std.proofs.Common.{◌+◌, ◌*◌, sym, subst, arith}
 use Rattle.direct_props.specs.Kept.{HaveNoFault}
-use Rattle.direct_props.proofs.KeptLemmas.{right_in_page, faultless_in_stream, one_faultless}
+use Rattle.direct_props.proofs.KeptLemmas.{right_in_page, faultless_in_stream, one_faultless, like_faultless}
 use Rattle.direct_props.proofs.rules.is_right_list.Goals as goal
+
+pub known_list-requires : goal.known_list-requires
+known_list-requires c =
+    let page = c.requires.page in (omega (arith, c.style_len.ensures), omega (arith, page.within))
 
 pub returns-in-Some-clause-right : goal.returns-in-Some-clause-right
 returns-in-Some-clause-right c = λ _.
@@ -9,8 +13,8 @@ returns-in-Some-clause-right c = λ _.
       arith,
       c.style_len.ensures,
     )) (omega arith)
-    (c.requires.known c.in-Some._met (512 * c.args.number + c.args.range.0) (512 * c.args.number + c.args.range.1)
-    c.in-Some.ensures)
+    (like_faultless c.args.kind c.args.wd.now c.args.known.now c.in-Some._met (512 * c.args.number + c.args.range.0)
+    (512 * c.args.number + c.args.range.1) c.requires.known c.in-Some.ensures)
 
 pub returns-in_ok-add-in-Some-list_in-clause-known : goal.returns-in_ok-add-in-Some-list_in-clause-known
 returns-in_ok-add-in-Some-list_in-clause-known c =

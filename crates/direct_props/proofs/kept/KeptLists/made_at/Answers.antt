@@ -4,8 +4,13 @@ use Rattle.fkp_pages.specs.declared.kind.RunAnswer.TheVariants.{Found}
 use Rattle.fkp_pages.specs.Bin.{page_at}
 use Rattle.direct_props.specs.Kept.{IsMadeOf, IsMadeByAnswer}
 use Rattle.direct_props.proofs.StretchLemmas.{in_page}
-use Rattle.direct_props.proofs.KeptLemmas.{kept_answer, made_of_place}
+use Rattle.direct_props.proofs.KeptLemmas.{kept_answer, made_of_like}
 use Rattle.direct_props.proofs.kept.KeptLists.made_at.Goals as goal
+
+pub known_list-requires : goal.known_list-requires
+known_list-requires c =
+    let right = c.requires.right in
+    let page = c.requires.page in (omega (arith, right.room), omega (arith, right.within, page.within))
 
 pub returns-in-Some-clause-made : goal.returns-in-Some-clause-made
 returns-in-Some-clause-made c =
@@ -17,8 +22,9 @@ returns-in-Some-clause-made c =
     subst (IsMadeByAnswer source.kind source.modifier.now (page_at wd c.args.number) (Found from to))
     (sym c.in_ok-copy.ensures)
     (kept_answer source.kind wd source.modifier.now c.args.number from to c.index.result.now c.requires.right
-    (made_of_place source.kind wd source.modifier.now kept.places kept.made.items c.in-Some.known (512 * c.args.number
-    + from) (512 * c.args.number + to) c.index.result.now c.requires.kept c.in-Some.ensures c.index.ensures))
+    (made_of_like source.kind wd (slice_range wd (512 * c.args.number + from) (512 * c.args.number + to))
+    source.modifier.now kept.places kept.made.items c.in-Some.known c.index.result.now c.requires.kept c.in-Some.ensures
+    c.index.ensures))
 
 pub returns-clause-kept : goal.returns-clause-kept
 returns-clause-kept c =

@@ -19,14 +19,14 @@ loop-code-preserved c =
     c.in_ok-push_entry.ensures.bytes)
     (subst (λ v. IsBlockEntry (c.in-Some.code, v)) c.as_slice.ensures c.in_ok-push_entry.ensures.entry)
 
-pub from_bytes-requires : goal.from_bytes-requires
-from_bytes-requires c =
+pub of_bytes-requires : goal.of_bytes-requires
+of_bytes-requires c =
     let all = c.into_iter-code-iterator.result in
     let appended = subst (λ left. HasAppended all left c.loop-code.bytes) c.in-None.ensures.steps.0
     c.loop-code.invariant in
     let sorted = subst (λ es. IsTrue (is_sorted nat_cmp es)) (sym c.into_iter-code-iterator.ensures.into_iter_gives.0)
     c.self.invariant in
-    (all_appended all c.as_slice-2.result.now (subst (HasAppended all []) (sym c.as_slice-2.ensures) appended) sorted).0
+    (all_appended all c.loop-code.bytes appended sorted).0
 
 pub returns : goal.returns
 returns c =
@@ -35,7 +35,6 @@ returns c =
     c.loop-code.invariant in
     let sorted = subst (λ es. IsTrue (is_sorted nat_cmp es)) (sym c.into_iter-code-iterator.ensures.into_iter_gives.0)
     c.self.invariant in
-    let read = (all_appended all c.as_slice-2.result.now (subst (HasAppended all []) (sym c.as_slice-2.ensures)
-    appended) sorted).1 in
-    subst (λ m. IfOk c.from_block.result (λ made. made ≡ m)) (c.in_ok-block.ensures ∙ (ap from_sorted
+    let read = (all_appended all c.loop-code.bytes appended sorted).1 in
+    subst (λ m. IfOk c.from_block.result (λ made. made ≡ m)) (c.of_bytes.ensures ∙ (ap from_sorted
     (read ∙ c.into_iter-code-iterator.ensures.into_iter_gives.0) ∙ c.self.view_is)) c.from_block.ensures

@@ -1,7 +1,7 @@
 use Rattle.std.proofs.Common.{◌≡◌, ◌-◌, List, length}
 use Rattle.sprm_table.specs.Sprm.{Prl, SpellsSprmList}
 use Rattle.prop_map.specs.Steps.{HasActedUpTo}
-use Rattle.prop_map.proofs.acting.act.Given as goal
+use Rattle.prop_map.proofs.acting.act_on_draft.Given as goal
 
 abbrev pub invariant-loop-code : goal.invariant-loop-code
 invariant-loop-code l = record {
