@@ -1,11 +1,12 @@
 -- The list that blocks stand for, part by part.
 use Rattle.std.proofs.Common.{◌≡◌, ℕ, suc, refl, sym, ap, ◌∙◌, ◌+◌, ◌<◌, ◌≤◌, List, [], ◌∷◌, ◌++◌, length, map}
-use Rattle.std.proofs.Common.{take, drop, set, arith, append_assoc, length-append, length-take-le, Some}
+use Rattle.std.proofs.Common.{take, drop, set, get_or, arith, append_assoc, length-append, length-take-le, Some}
 use Rattle.std.specs.Prelude.{slice_get}
 use Rattle.std.specs.List.{splice}
 use Rattle.std.proofs.Math.Seq.{take-add}
 use Rattle.std.proofs.lemmas.List.{take-append-drop, take_at, drop_at, take-append-le, drop-append-le, drop_more}
 use Rattle.std.proofs.lemmas.List.{take_more, take_all, drop-drop, append-nil, drop_all, take_more_set, drop-set-lt}
+use Rattle.std.proofs.lemmas.List.{get_or_read}
 use Rattle.std.proofs.lemmas.List.Concat.{flat_map-cons}
 use Rattle.std.proofs.lemmas.Grind.{flat_map-append}
 use Rattle.std.proofs.lemmas.Option.{slice_get_within, get_or_from_slice_get}
@@ -31,6 +32,15 @@ joined-one {T = T} block = joined-cons block [] ∙ ap (λ (t : List T). block +
 
 pub joined-two : {T : Type 0} (first second : List T) → joined (first ∷ second ∷ []) ≡ first ++ second
 joined-two {T = T} first second = joined-cons first (second ∷ []) ∙ ap (λ (t : List T). first ++ t) (joined-one second)
+
+-- a block that was read stands there
+pub block_read : {T : Type 0} (blocks now : List (List T)) (b : ℕ) (block : List T) → blocks ≡ now → b < length now →
+    block ≡ get_or blocks b block → (b < length blocks) × (block ≡ block_at now b)
+block_read {T = T} blocks now b block same there read =
+    let low : b < length blocks = omega (arith, ap length same, there) in (
+      low,
+      get_or_read blocks b block low read [] ∙ ap (λ (t : List (List T)). block_at t b) same,
+    )
 
 -- ---- a block, and those around it
 
@@ -64,6 +74,14 @@ pub joined_all : {T : Type 0} (blocks : List (List T)) (b : ℕ) → length bloc
     ≡ joined blocks
 joined_all blocks b all = ap joined (take_all b blocks all)
 
+-- the items before the last block, and its own
+pub last_block : {T : Type 0} (blocks : List (List T)) (last : ℕ) → length blocks ≡ last + 1 →
+    length (joined blocks) ≡ length (joined (take last blocks)) + length (block_at blocks last)
+last_block blocks last long =
+    let low : last < length blocks = omega arith in
+    let all : length blocks ≤ last + 1 = omega arith in
+    sym (ap length (joined_all blocks (last + 1) all)) ∙ joined_more_length blocks last low
+
 -- a front is no longer
 pub joined-take-le : {T : Type 0} (blocks : List (List T)) (b : ℕ) →
     length (joined (take b blocks)) ≤ length (joined blocks)
@@ -78,6 +96,17 @@ pub units_more_blocks : {T : Type 0} (units : T → ℕ) (blocks : List (List T)
 units_more_blocks units blocks b within =
     ap (units_of units) (joined_more blocks b within) ∙ units-append units (joined (take b blocks)) (block_at blocks b)
 
+-- the units of a block whose items went to two
+pub units_parts : {T : Type 0} (units : T → ℕ) (block old fresh first second : List T) →
+    first ++ second ≡ old ++ fresh → fresh ≡ [] → old ≡ block
+    → units_of units first + units_of units second ≡ units_of units block
+units_parts {T = T} units block old fresh first second parts none is =
+    omega (
+      arith,
+      ap (units_of units) (parts ∙ ap (λ (t : List T). old ++ t) none ∙ append-nil old ∙ is),
+      units-append units first second,
+    )
+
 -- a block is no longer than the list
 pub units_of_block : {T : Type 0} (units : T → ℕ) (blocks : List (List T)) (b : ℕ) → b < length blocks →
     units_of units (block_at blocks b) ≤ units_of units (joined blocks)
@@ -89,7 +118,7 @@ units_of_block units blocks b within =
 
 -- ---- a place in the middle
 
-take_mid : {A : Type 0} (front mid back : List A) (k : ℕ) → k ≤ length mid →
+pub take_mid : {A : Type 0} (front mid back : List A) (k : ℕ) → k ≤ length mid →
     take (length front + k) (front ++ (mid ++ back)) ≡ front ++ take k mid
 take_mid {A = A} front mid back k within =
     take-add (length front) k (front ++ (mid ++ back))
@@ -98,7 +127,7 @@ take_mid {A = A} front mid back k within =
     ∙ ap (λ (t : List A). front ++ take k t) (drop_at front (mid ++ back) (length front) refl)
     ∙ ap (λ (t : List A). front ++ t) (take-append-le k mid back within)
 
-drop_mid : {A : Type 0} (front mid back : List A) (k : ℕ) → k ≤ length mid →
+pub drop_mid : {A : Type 0} (front mid back : List A) (k : ℕ) → k ≤ length mid →
     drop (length front + k) (front ++ (mid ++ back)) ≡ drop k mid ++ back
 drop_mid {A = A} front mid back k within =
     sym (drop-drop k (length front) (front ++ (mid ++ back)))

@@ -3,3 +3,8 @@ pub mod JoinLemmas
 pub mod SizeLemmas
 pub mod PutLemmas
 pub mod SetLemmas
+pub mod RangeLemmas
+pub mod ShortLemmas
+pub mod RemoveLemmas
+pub mod FillLemmas
+pub mod BuildLemmas

@@ -3,7 +3,7 @@ use Rattle.std.proofs.Common.{◌≡◌, ℕ, zero, suc, refl, sym, ap, subst, �
 use Rattle.std.proofs.Common.{◌++◌}
 use Rattle.std.proofs.Common.{length, take, drop, get_or, arith, length-append, length-take-le, length-drop}
 use Rattle.std.specs.List.{All, splice}
-use Rattle.std.proofs.lemmas.List.Elements.{All-nil}
+use Rattle.std.proofs.lemmas.List.Elements.{All-nil, All-take}
 use Rattle.std.proofs.lemmas.List.{take_at, take-append-drop, get_or_push}
 use Rattle.block_lists.specs.declared.places.Place.{Place}
 use Rattle.block_lists.specs.Blocks.{joined, units_of, block_at, number_of, AreSized, IsPlaceIn, IsMadeRoom, IsPut}
@@ -237,6 +237,13 @@ in_blocks {T = T} units row ready old x i count full sized items within counted 
         ap (units_of units) (take-append-drop i old),
       );
     }
+
+-- those before the last one are empty still
+pub rest_empty : {T : Type 0} (ready rest : List (List T)) (n : ℕ) → rest ≡ take n ready
+    → All (λ (block : List T). block ≡ []) ready → All (λ (block : List T). block ≡ []) rest
+rest_empty {T = T} ready rest n is empty =
+    subst (λ (t : List (List T)). All (λ (block : List T). block ≡ []) t) (sym is)
+    (All-take (λ (block : List T). block ≡ []) n ready empty)
 
 -- the last one of empty blocks is empty
 pub last_empty : {T : Type 0} (ready rest : List (List T)) (last : List T) → ready ≡ rest ++ last ∷ []

@@ -53,7 +53,8 @@ pub record AreFresh {T : Type 0} (fresh : List (List T)) (rest : ℕ) : Type 0 w
   pub least : (k : ℕ) → k + 1 < length fresh + rest → k < length fresh → 32 ≤ length (block_at fresh k)
 
 -- a property of each block that the property of the parts gives
-by_parts : {T : Type 0} (P : List T → Type 0) (blocks fresh : List (List T)) (b c k : ℕ) → b ≤ c → c ≤ length blocks →
+pub by_parts : {T : Type 0} (P : List T → Type 0) (blocks fresh : List (List T)) (b c k : ℕ) → b ≤ c →
+    c ≤ length blocks →
     (k < b → P (block_at blocks k)) → (b ≤ k → k < b + length fresh → P (block_at fresh (k - b)))
     → (b + length fresh ≤ k → P (block_at blocks (c + (k - b - length fresh)))) →
     P (block_at (splice blocks b c fresh) k)

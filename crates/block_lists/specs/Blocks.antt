@@ -1,7 +1,8 @@
 -- Lists in blocks.
 use Rattle.std.specs.Prelude.{◌≡◌, ℕ, ◌+◌, ◌^◌, ◌<◌, ◌≤◌, List, [], ◌∷◌, ◌++◌, length, take, drop, map, flat_map}
 use Rattle.std.specs.Prelude.{sum_by, All}
-use Rattle.std.specs.Prelude.{Some, slice_get, slice_index_or, refl}
+use Rattle.std.specs.Prelude.{Some, slice_get, slice_range, slice_index_or, refl}
+use Rattle.std.specs.List.{splice}
 use Rattle.std.specs.Coded.{Coded, code_by, coded×, coded_ℕ, coded_list}
 use Rattle.doc_bits.specs.Sums.{SumList}
 use Rattle.block_lists.specs.declared.places.Spot.{Spot}
@@ -15,6 +16,10 @@ joined blocks = flat_map (λ block. block) blocks
 -- how long the items are together
 unfoldable pub units_of : {T : Type 0} → (T → ℕ) → List T → ℕ
 units_of units items = sum_by units items
+
+-- a list with the elements from `first` to before `last` exchanged for what they become
+abbrev pub map_range : {T : Type 0} → (T → T) → List T → ℕ → ℕ → List T
+map_range f items first last = splice items first last (map f (slice_range items first last))
 
 -- the block of a number
 abbrev pub block_at : {T : Type 0} → List (List T) → ℕ → List T
@@ -78,6 +83,17 @@ pub record AreSized {T : Type 0} (blocks : List (List T)) (full : ℕ) : Type 0 
   pub some : (k : ℕ) → k < length blocks → 1 ≤ length (block_at blocks k)
   pub least : (k : ℕ) → k + 1 < length blocks → 32 ≤ length (block_at blocks k)
   pub there : full ≤ length blocks
+  pub whole : (k : ℕ) → k < full → length (block_at blocks k) ≡ 128
+
+-- blocks of such sizes, but that those from `from` to before `to` may have any number of items up to 128
+pub record AreSizedBut {T : Type 0} (blocks : List (List T)) (full from to : ℕ) : Type 0 where
+  pub most : (k : ℕ) → k < length blocks → length (block_at blocks k) ≤ 128
+  pub some_front : (k : ℕ) → k < length blocks → k < from → 1 ≤ length (block_at blocks k)
+  pub some_back : (k : ℕ) → k < length blocks → to ≤ k → 1 ≤ length (block_at blocks k)
+  pub least_front : (k : ℕ) → k + 1 < length blocks → k < from → 32 ≤ length (block_at blocks k)
+  pub least_back : (k : ℕ) → k + 1 < length blocks → to ≤ k → 32 ≤ length (block_at blocks k)
+  pub low : full ≤ from
+  pub there : from ≤ length blocks
   pub whole : (k : ℕ) → k < full → length (block_at blocks k) ≡ 128
 
 -- a list in blocks

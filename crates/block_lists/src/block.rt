@@ -1,9 +1,11 @@
 // A block of items: 128 at most. There is always room for all of them.
 ghost use Rattle.std.specs.Prelude.{◌≡◌, ◌+◌, ◌^◌, ◌<◌, ◌≤◌, [], ◌∷◌, ◌++◌};
-ghost use Rattle.std.specs.Prelude.{length, take, drop, map, slice_get, slice_set, Some, IfOk};
-ghost use Rattle.block_lists.specs.Blocks.{units_of, IsSpotOf};
+ghost use Rattle.std.specs.Prelude.{length, take, drop, map, slice_get, slice_set, slice_range, Some, IfOk, OnOk};
+ghost use Rattle.std.specs.Prelude.{vec_capacity};
+ghost use Rattle.std.specs.List.{splice};
+ghost use Rattle.block_lists.specs.Blocks.{units_of, map_range, IsSpotOf};
 
-use crate::{Measured, Spot};
+use crate::{Mapping, Measured, Spot};
 use doc_bits::{Ledger, Memory, Steps, Sums};
 use std::alloc::Global;
 use std::marker::Model;
@@ -121,6 +123,47 @@ impl<T: Measured> Block<T> {
         item
     }
 
+    /// Puts items behind the last one.
+    pub(crate) fn append(&mut self, items: &[T])
+        requires { length self.old + length items.now ≤ 128 }
+        ensures { self.new ≡ self.old ++ items.now }
+    {
+        for i in 0..items.len() {
+            let end = self.len();
+            self.insert(end, items[i]);
+        }
+    }
+
+    /// Takes the items from `first` to before `last` out.
+    pub(crate) fn cut(&mut self, first: usize, last: usize)
+        requires order { first ≤ last }
+        requires within { last ≤ length self.old }
+        ensures { self.new ≡ splice self.old first last [] }
+    {
+        let _ = self.items.drain(first..last);
+        tell(&self.items, &mut self.lens, first);
+    }
+
+    /// Appends the items from `first` to before `last` to a list. Where the block is shorter there are fewer.
+    pub(crate) fn copy(&self, first: usize, last: usize, copy: &mut Vec<T>) -> Result<(), Memory>
+        requires { first ≤ last }
+        ensures { OnOk result (copy.new.items ≡ copy.old.items ++ slice_range self.now first last) }
+    {
+        let len = self.items.len();
+        copy.extend_from_slice(&self.items[first.min(len)..last.min(len)])?;
+        Ok(())
+    }
+
+    /// Exchanges the items from `first` to before `last` for what they become.
+    pub(crate) fn change<C: Mapping<T>>(&mut self, first: usize, last: usize, by: &C)
+        requires { first ≤ last }
+        ensures items { self.new ≡ map_range (C.image by.now) self.old first last }
+        ensures units { units_of T.units self.new ≡ units_of T.units self.old }
+    {
+        let len = self.items.len();
+        change_all(&mut self.items, first.min(len), last.min(len), by);
+    }
+
     /// Moves so many of the last items to the front of the next block.
     pub(crate) fn give(&mut self, next: &mut Block<T>, count: usize)
         requires count { count ≤ length self.old }
@@ -146,5 +189,18 @@ fn tell<T: Measured>(items: &Vec<T>, lens: &mut Sums, from: usize)
 {
     for i in from..items.len() {
         lens.set(i, items[i].units());
+    }
+}
+
+/// Exchanges items for what they become.
+fn change_all<T: Measured, C: Mapping<T>>(items: &mut Vec<T>, first: usize, last: usize, by: &C)
+    requires order { first ≤ last }
+    requires within { last ≤ length items.old.items }
+    ensures items { items.new.items ≡ map_range (C.image by.now) items.old.items first last }
+    ensures units { map T.units items.new.items ≡ map T.units items.old.items }
+    ensures room { vec_capacity items.new ≡ vec_capacity items.old }
+{
+    for i in first..last {
+        items[i] = by.apply(items[i]);
     }
 }

@@ -2,14 +2,16 @@
 #![tactic(auto)]
 
 mod block;
+mod build;
 mod change;
 mod copy;
 mod list;
 mod measured;
 mod places;
 mod put;
+mod remove;
 mod row;
 
 pub use list::BlockList;
-pub use measured::Measured;
+pub use measured::{Mapping, Measured};
 pub use places::Spot;

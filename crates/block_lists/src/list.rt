@@ -1,7 +1,7 @@
 // A list in blocks.
 ghost use Rattle.std.specs.Prelude.{◌≡◌, ◌+◌, ◌-◌, ◌/◌, ◌^◌, ◌<◌, ◌≤◌, [], ◌∷◌, ◌++◌};
 ghost use Rattle.std.specs.Prelude.{length, take, drop, slice_get, All, Some, OnOk};
-ghost use Rattle.block_lists.specs.Blocks.{units_of, IsSpotOf};
+ghost use Rattle.block_lists.specs.Blocks.{joined, units_of, AreSized, IsSpotOf};
 
 use crate::block::{Block, MOST};
 use crate::put::{put, put_first};
@@ -17,8 +17,8 @@ use std::sync::ledger::{Blank, Ledger as Account};
 pub struct BlockList<T: Measured> {
     pub(crate) row: Row<T>,
     ready: Vec<Block<T>>,
-    count: usize,
-    full: usize,
+    pub(crate) count: usize,
+    pub(crate) full: usize,
     pub(crate) alloc: Global,
 }
 
@@ -53,6 +53,24 @@ impl<T: Measured> BlockList<T> {
         }
     }
 
+    /// A list of these blocks. None is ready.
+    pub(crate) fn made(alloc: Global, row: Row<T>, count: usize, full: usize) -> BlockList<T>
+        requires sized { AreSized row.blocks full }
+        requires counted { count ≡ length (joined row.blocks) }
+        requires few { length (joined row.blocks) < 2 ^ 32 }
+        requires units { units_of T.units (joined row.blocks) < 2 ^ 32 }
+        ensures items { result.items ≡ joined row.blocks }
+        ensures spare { result.spare ≡ 0 }
+    {
+        BlockList {
+            row,
+            ready: Vec::new(alloc),
+            count,
+            full,
+            alloc,
+        }
+    }
+
     /// The number of items.
     pub fn len(&self) -> usize
         ensures value { result ≡ length self.now.items }
@@ -60,6 +78,13 @@ impl<T: Measured> BlockList<T> {
         ensures units { units_of T.units self.now.items < 2 ^ 32 }
     {
         self.count
+    }
+
+    /// The number of blocks that stand ready.
+    pub fn spare(&self) -> usize
+        ensures { result ≡ self.now.spare }
+    {
+        self.ready.len()
     }
 
     /// An item by its number.
@@ -126,6 +151,7 @@ impl<T: Measured> BlockList<T> {
         requires units { units_of T.units self.old.items + T.units item < 2 ^ 32 }
         ensures items { self.new.items ≡ take i self.old.items ++ (item ∷ drop i self.old.items) }
         ensures spare { self.old.spare ≤ self.new.spare + 1 }
+        ensures no_more { self.new.spare ≤ self.old.spare }
     {
         if self.count == 0 {
             self.insert_first(item);
@@ -141,6 +167,7 @@ impl<T: Measured> BlockList<T> {
         requires units { T.units item < 2 ^ 32 }
         ensures items { self.new.items ≡ item ∷ [] }
         ensures spare { self.old.spare ≤ self.new.spare + 1 }
+        ensures no_more { self.new.spare ≤ self.old.spare }
     {
         put_first(&mut self.row, &mut self.ready, item);
         self.count = 1;
@@ -156,6 +183,7 @@ impl<T: Measured> BlockList<T> {
         requires units { units_of T.units self.old.items + T.units item < 2 ^ 32 }
         ensures items { self.new.items ≡ take i self.old.items ++ (item ∷ drop i self.old.items) }
         ensures spare { self.old.spare ≤ self.new.spare + 1 }
+        ensures no_more { self.new.spare ≤ self.old.spare }
     {
         let place = self.row.place(i);
         let full = self.full.min(place.block);

@@ -10,3 +10,14 @@ pub trait Measured: Copy {
     fn units(&self) -> u32
         ensures { result ≡ units self.now };
 }
+
+/// What items become. Their lengths stay.
+pub trait Mapping<T: Measured> {
+    /// What an item becomes.
+    ghost image: { Self → T → T };
+
+    /// What an item becomes.
+    fn apply(&self, item: T) -> T
+        ensures value { result ≡ image self.now item }
+        ensures units { T.units result ≡ T.units item };
+}

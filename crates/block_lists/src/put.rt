@@ -18,6 +18,7 @@ pub(crate) fn put<T: Measured>(row: &mut Row<T>, ready: &mut Vec<Block<T>>, plac
     ensures put { IsPut row.old.blocks row.new.blocks place item }
     ensures room { length ready.new.items ≤ row.new.spare }
     ensures ready { length ready.old.items ≤ length ready.new.items + 1 }
+    ensures no_more { length ready.new.items ≤ length ready.old.items }
     ensures empty { All (λ block. block ≡ []) ready.new.items }
 {
     let seat = make_room(row, ready, place);
@@ -35,6 +36,7 @@ fn make_room<T: Measured>(row: &mut Row<T>, ready: &mut Vec<Block<T>>, place: Pl
     ensures made { IsMadeRoom row.old.blocks row.new.blocks place result }
     ensures room { length ready.new.items ≤ row.new.spare }
     ensures ready { length ready.old.items ≤ length ready.new.items + 1 }
+    ensures no_more { length ready.new.items ≤ length ready.old.items }
     ensures empty { All (λ block. block ≡ []) ready.new.items }
 {
     if row.len(place.block) < MOST {
@@ -63,6 +65,7 @@ pub(crate) fn put_first<T: Measured>(row: &mut Row<T>, ready: &mut Vec<Block<T>>
     ensures blocks { row.new.blocks ≡ (item ∷ []) ∷ [] }
     ensures room { length ready.new.items ≤ row.new.spare }
     ensures ready { length ready.old.items ≤ length ready.new.items + 1 }
+    ensures no_more { length ready.new.items ≤ length ready.old.items }
     ensures empty { All (λ block. block ≡ []) ready.new.items }
 {
     let Some(fresh) = ready.pop() else {

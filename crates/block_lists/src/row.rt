@@ -1,12 +1,12 @@
 // Blocks with their sums.
 ghost use Rattle.std.specs.Prelude.{◌≡◌, ◌+◌, ◌^◌, ◌<◌, ◌≤◌, [], ◌∷◌, ◌++◌};
-ghost use Rattle.std.specs.Prelude.{length, take, drop, slice_get, slice_set, Some, IfOk, OnOk, OnErr};
+ghost use Rattle.std.specs.Prelude.{length, take, drop, slice_get, slice_set, slice_range, Some, IfOk, OnOk};
 ghost use Rattle.std.specs.List.{splice};
-ghost use Rattle.block_lists.specs.Blocks.{joined, units_of, block_at, IsFoundOf, IsPlace};
+ghost use Rattle.block_lists.specs.Blocks.{joined, units_of, map_range, block_at, IsFoundOf, IsPlace};
 
-use crate::Measured;
 use crate::block::Block;
 use crate::places::{Found, Place};
+use crate::{Mapping, Measured};
 use doc_bits::{Ledger, Memory, Steps, Sums};
 use std::alloc::Global;
 use std::marker::Model;
@@ -58,7 +58,8 @@ impl<T: Measured> Row<T> {
     /// The number of items of a block.
     pub(crate) fn len(&self, block: usize) -> usize
         requires { block < length self.now.blocks }
-        ensures { result ≡ length (block_at self.now.blocks block) }
+        ensures value { result ≡ length (block_at self.now.blocks block) }
+        ensures most { result ≤ 128 }
     {
         self.blocks[block].len()
     }
@@ -109,7 +110,7 @@ impl<T: Measured> Row<T> {
         requires units { units_of T.units (block_at self.old.blocks block) + T.units item < 2 ^ 32 }
         ensures blocks { self.new.blocks ≡ splice self.old.blocks block (block + 1)
             ((take i (block_at self.old.blocks block) ++ (item ∷ drop i (block_at self.old.blocks block))) ∷ []) }
-        ensures spare { self.old.spare ≤ self.new.spare }
+        ensures spare { self.new.spare ≡ self.old.spare }
     {
         let changed = &mut self.blocks[block];
         changed.insert(i, item);
@@ -130,6 +131,62 @@ impl<T: Measured> Row<T> {
         changed.set(i, item);
         let units = changed.units();
         self.sums.set(block, units);
+    }
+
+    /// Takes the items from `first` to before `last` out of a block.
+    pub(crate) fn cut(&mut self, block: usize, first: usize, last: usize)
+        requires block { block < length self.old.blocks }
+        requires order { first ≤ last }
+        requires within { last ≤ length (block_at self.old.blocks block) }
+        requires units { units_of T.units (block_at self.old.blocks block) < 2 ^ 32 }
+        ensures blocks { self.new.blocks
+            ≡ slice_set self.old.blocks block (splice (block_at self.old.blocks block) first last []) }
+        ensures spare { self.new.spare ≡ self.old.spare }
+    {
+        let changed = &mut self.blocks[block];
+        changed.cut(first, last);
+        let units = changed.units();
+        self.sums.set(block, units);
+    }
+
+    /// Takes a block out.
+    pub(crate) fn take_out(&mut self, block: usize)
+        requires { block < length self.old.blocks }
+        ensures blocks { self.new.blocks ≡ splice self.old.blocks block (block + 1) [] }
+        ensures spare { self.new.spare ≡ self.old.spare }
+    {
+        let _ = self.blocks.remove(block);
+        self.sums.remove(block);
+    }
+
+    /// Appends items of a block to a list.
+    pub(crate) fn copy(
+        &self,
+        block: usize,
+        first: usize,
+        last: usize,
+        copy: &mut Vec<T>,
+    ) -> Result<(), Memory>
+        requires block { block < length self.now.blocks }
+        requires order { first ≤ last }
+        ensures { OnOk result (copy.new.items
+            ≡ copy.old.items ++ slice_range (block_at self.now.blocks block) first last) }
+    {
+        self.blocks[block].copy(first, last, copy)
+    }
+
+    /// Exchanges items of a block for what they become.
+    pub(crate) fn change<C: Mapping<T>>(&mut self, block: usize, first: usize, last: usize, by: &C)
+        requires block { block < length self.old.blocks }
+        requires order { first ≤ last }
+        ensures blocks { self.new.blocks
+            ≡ slice_set self.old.blocks block (map_range (C.image by.now) (block_at self.old.blocks block) first last) }
+        ensures units { units_of T.units (map_range (C.image by.now) (block_at self.old.blocks block) first last)
+            ≡ units_of T.units (block_at self.old.blocks block) }
+        ensures spare { self.new.spare ≡ self.old.spare }
+    {
+        let changed = &mut self.blocks[block];
+        changed.change(first, last, by);
     }
 
     /// Moves the last 64 items of a full block to a block of none, which comes behind it. The answer is its number.
@@ -160,6 +217,7 @@ impl<T: Measured> Row<T> {
         ensures place { IsPlace self.now.blocks i result }
         ensures item { i < length (joined self.now.blocks)
             → result.within < length (block_at self.now.blocks result.block) }
+        ensures next { result.block + 1 < 2 ^ 64 }
     {
         let mut within = i;
         let last = self.blocks.len() - 1;

@@ -17,6 +17,7 @@ use Rattle.piece_table.specs.Numbering.{text_piece}
 use Rattle.piece_table.specs.Changes.{IsSpot}
 use Rattle.piece_table.specs.Cuts.{entry_units, flat_entries, front_entry, back_entry, IsEntrySpot, IsSeam, KeepsText}
 use Rattle.piece_table.specs.Cuts.{IsCut, IsCutTwice}
+use Rattle.piece_table.proofs.PartLemmas.{cut_parts, here_is, part_of_itself, part_on}
 use Rattle.piece_table.proofs.PieceLemmas.{All-seen}
 use Rattle.piece_table.proofs.FlatLemmas.{flat_entries-append, flat_pieces-cons, unit_places-cut, total_length-seen}
 
@@ -198,6 +199,7 @@ cut_keeps entries cp number inside entry place =
           IsTextPiece entries sound));
       named = λ count named. cut_all (λ (e : Entry). e.modifier < count) entries number inside entry place.there
           (λ low. low) (λ low. low) named;
+      parts = cut_parts entries number inside entry (here_is entries number entry place.there) (omega arith);
     }
 
 -- a seam before the cut stays
@@ -283,6 +285,7 @@ keeps_itself entries = record {
   sound = λ modifiers
       sound. sound;
   named = λ count named. named;
+  parts = λ j low. part_of_itself entries j low;
 }
 
 pub cut_nowhere : (entries : List Entry) (cp number : ℕ) → All (λ entry. IsPiece entry.piece) entries →
@@ -304,6 +307,7 @@ keeps_on a b c x y = record {
   pieces = λ sound. y.pieces (x.pieces sound);
   sound = λ modifiers sound. y.sound modifiers (x.sound modifiers sound);
   named = λ count named. y.named count (x.named count named);
+  parts = λ j low. let part = y.parts j low in part_on a b c j part (x.parts part.place part.there);
 }
 
 pub cut_twice : (a b c : List Entry) (from to first last : ℕ) → from ≤ to → IsCut a b from first → IsCut b c to last →

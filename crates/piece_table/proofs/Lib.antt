@@ -21,3 +21,6 @@ pub mod SpliceLemmas
 pub mod ModifiedLemmas
 pub mod PrcListLemmas
 pub mod RenewalLemmas
+pub mod BlockLemmas
+pub mod PartLemmas
+pub mod RangeLemmas

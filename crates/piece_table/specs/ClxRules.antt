@@ -104,9 +104,9 @@ abbrev pub parts_rules : ClxParts → ℕ → TextBounds → ℕ → Rules ℕ
 parts_rules parts at bounds text_len =
     piece_rules parts.plc (at + plc_place parts) (length parts.prcs) bounds text_len then prc_rules parts at
 
--- the bounds of text where the FIB has 900 bytes
-abbrev pub early_bounds : ℕ → TextBounds
-early_bounds wd_len = record { from = 900; end = wd_len }
+-- the bounds of text behind a FIB of that size
+abbrev pub text_bounds : ℕ → ℕ → TextBounds
+text_bounds fib_size wd_len = record { from = fib_size; end = wd_len }
 
 abbrev pub clx_rules : List ℕ → ℕ → TextBounds → ℕ → Rules ℕ
 clx_rules clx at bounds text_len =

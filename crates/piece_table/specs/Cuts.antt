@@ -1,6 +1,6 @@
 -- How a list of entries is cut, and how entries are numbered anew.
 use Rattle.std.specs.Prelude.{◌≡◌, ℕ, ◌+◌, ◌-◌, ◌*◌, ◌<◌, ◌≤◌, List, [], ◌∷◌, length, take, map, sum_by, All, Some}
-use Rattle.std.specs.Prelude.{None, Option, slice_get, slice_index}
+use Rattle.std.specs.Prelude.{false, None, Option, slice_get, slice_index, slice_index_or, slice_range}
 use Rattle.prop_map.specs.declared.modifiers.Modifier.{Modifier}
 use Rattle.piece_table.specs.declared.pieces.Piece.{Piece}
 use Rattle.piece_table.specs.declared.pieces.Entry.{Entry}
@@ -49,6 +49,32 @@ pub record IsSeam (entries : List Entry) (cp number : ℕ) : Type 0 where
 abbrev pub AreEntries : List Modifier → List Entry → Type 0
 AreEntries modifiers entries = All IsTextPiece (map (text_piece modifiers) entries)
 
+-- an entry of no units
+abbrev pub no_entry : Entry
+no_entry = record { piece = record { at = 0; wide = false; len = 0 }; modifier = 0 }
+
+-- the entry of a number
+abbrev pub entry_at : List Entry → ℕ → Entry
+entry_at entries k = slice_index_or entries k no_entry
+
+-- entry j is a part of an entry that was there, and names its modifier
+pub record IsPart (old new : List Entry) (j : ℕ) : Type 0 where
+  pub place : ℕ
+  pub there : place < length old
+  pub modifier : (entry_at new j).modifier ≡ (entry_at old place).modifier
+  pub begin : entry_units (take place old) ≤ entry_units (take j new)
+  pub end : entry_units (take (j + 1) new) ≤ entry_units (take (place + 1) old)
+
+-- the entries that a range of CPs meets
+pub record AreMet (entries : List Entry) (from to : ℕ) (met : List Entry) : Type 0 where
+  pub first : ℕ
+  pub last : ℕ
+  pub order : first ≤ last
+  pub within : last ≤ length entries
+  pub range : met ≡ slice_range entries first last
+  pub begin : entry_units (take first entries) ≤ from
+  pub end : to ≤ entry_units (take last entries)
+
 -- the entries are seen as before, and are as sound as before
 pub record KeepsText (old new : List Entry) : Type 0 where
   pub flat : (modifiers : List Modifier) → flat_entries modifiers new ≡ flat_entries modifiers old
@@ -56,6 +82,7 @@ pub record KeepsText (old new : List Entry) : Type 0 where
   pub pieces : All (λ entry. IsPiece entry.piece) old → All (λ entry. IsPiece entry.piece) new
   pub sound : (modifiers : List Modifier) → AreEntries modifiers old → AreEntries modifiers new
   pub named : (count : ℕ) → All (λ entry. entry.modifier < count) old → All (λ entry. entry.modifier < count) new
+  pub parts : (j : ℕ) → j < length new → IsPart old new j
 
 -- the entries were cut at a CP, and so many end there
 pub record IsCut (old new : List Entry) (cp number : ℕ) : Type 0 where

@@ -1,37 +1,42 @@
 // Changes of a list of pieces, each by its meaning on the flat entries.
-ghost use Rattle.std.specs.Prelude.{◌≡◌, ◌+◌, ◌-◌, ◌<◌, ◌≤◌, length};
+ghost use Rattle.std.specs.Prelude.{◌≡◌, ◌+◌, ◌-◌, ◌/◌, ◌<◌, ◌≤◌, length};
 ghost use Rattle.std.specs.Prelude.{⊤, OnOk, OnErr, Option, MatchOption, option_to_list};
 ghost use Rattle.std.specs.List.{splice};
 ghost use Rattle.prop_map.specs.Modifiers.{IsFormedModifier};
 ghost use Rattle.piece_table.specs.Piece.{IsPiece, flat_pieces, total_length};
 ghost use Rattle.piece_table.specs.Changes.{IsSpot, HasBegin, fresh_places, fresh_units, AreModified};
 
-use crate::cutting::{copy_of, cut, cut_range, put, spot_of, units_of};
-use crate::renumber::{Copies, compose_all, copy_all, renumber};
+use crate::cutting::{cut, cut_range, met, put, units_of};
+use crate::renumber::{Copies, Renumbering, compose_all, copy_all};
 use crate::{Piece, PieceList, Spot};
-use doc_bits::Memory;
+use doc_bits::{Ledger, Memory, Steps};
 use prop_map::Modifier;
 
 /// So many modifiers are kept, whether pieces name them or not.
 const MODIFIERS_KEPT: usize = 64;
 
 impl PieceList {
-    /// Takes memory for so many further pieces.
+    /// Takes memory for the blocks that so many further pieces may divide.
     pub fn reserve(&mut self, n: usize) -> Result<(), Memory>
         ensures ok { OnOk result (n ≤ self.new.spare) }
         ensures pieces { self.new.pieces ≡ self.old.pieces }
         ensures more { self.old.spare ≤ self.new.spare }
     {
-        self.items.reserve(n)?;
+        self.entries.reserve(n)?;
         Ok(())
     }
 
-    /// The piece of a CP, and the place of the CP within it.
-    pub fn locate(&self, cp: u32) -> Spot
+    /// The piece of a CP, and the place of the CP within it. A step is a sum or a length that is read.
+    pub fn locate<L: Ledger>(&self, cp: u32, steps: &mut Steps<L>) -> Spot
         requires { cp < total_length self.now.pieces }
-        ensures { IsSpot self.now.pieces cp result }
+        ensures spot { IsSpot self.now.pieces cp result }
+        ensures steps { steps.new ≤ steps.old + (length self.now.pieces / 32 + 130) }
     {
-        spot_of(&self.items, cp)
+        let spot = self.entries.locate(cp, steps);
+        Spot {
+            piece: spot.item,
+            within: spot.within,
+        }
     }
 
     /// Splits the piece that holds a CP, so that one begins there. No memory is taken.
@@ -43,7 +48,7 @@ impl PieceList {
         ensures count { length self.new.pieces ≤ length self.old.pieces + 1 }
         ensures spare { self.old.spare ≤ self.new.spare + 1 }
     {
-        let _ = cut(&mut self.items, cp);
+        let _ = cut(&mut self.entries, cp, self.total);
     }
 
     /// Puts a fresh piece, which has no modifier, or nothing in the place of a range of CPs. No memory is taken.
@@ -58,9 +63,9 @@ impl PieceList {
         ensures count { length self.new.pieces ≤ length self.old.pieces + 1 + length (option_to_list fresh) }
         ensures spare { self.old.spare ≤ self.new.spare + 3 }
     {
-        let (first, last) = cut_range(&mut self.items, from, to);
-        let _ = self.items.drain(first..last);
-        put(&mut self.items, first, fresh);
+        let (first, last) = cut_range(&mut self.entries, from, to, self.total);
+        self.entries.remove(first, last);
+        put(&mut self.entries, first, fresh);
         self.total = self.total - (to - from) + units_of(fresh);
     }
 
@@ -78,16 +83,11 @@ impl PieceList {
         ensures ends { OnOk result (HasBegin self.new.pieces to) }
         ensures err { OnErr result (self.new ≡ self.old) }
     {
-        let mut items = copy_of(&self.items)?;
-        let (first, last) = cut_range(&mut items, from, to);
-        let numbers = compose_all(
-            *self.items.allocator(),
-            &items[first..last],
-            &mut self.modifiers,
-            by,
-        )?;
-        renumber(&mut items, first, last, &numbers);
-        self.items = items;
+        let alloc = *self.modifiers.allocator();
+        let range = met(&self.entries, from, to)?;
+        let numbers = compose_all(alloc, &range, &mut self.modifiers, by)?;
+        let (first, last) = cut_range(&mut self.entries, from, to, self.total);
+        self.entries.change(first, last, &Renumbering { numbers });
         self.lighten();
         Ok(())
     }
@@ -97,7 +97,7 @@ impl PieceList {
         ensures { self.new ≡ self.old }
     {
         let count = self.modifiers.len();
-        let pieces = self.items.len();
+        let pieces = self.entries.len();
         if count > MODIFIERS_KEPT && count.saturating_sub(pieces) > pieces {
             let _ = self.drop_unused_modifiers();
         }
@@ -107,10 +107,11 @@ impl PieceList {
     pub fn drop_unused_modifiers(&mut self) -> Result<(), Memory>
         ensures { self.new ≡ self.old }
     {
-        let alloc = *self.items.allocator();
-        let Copies { modifiers, numbers } = copy_all(alloc, &self.items, &self.modifiers)?;
-        let count = self.items.len();
-        renumber(&mut self.items, 0, count, &numbers);
+        let alloc = *self.modifiers.allocator();
+        let entries = self.entries.to_vec()?;
+        let Copies { modifiers, numbers } = copy_all(alloc, &entries, &self.modifiers)?;
+        self.entries
+            .change(0, entries.len(), &Renumbering { numbers });
         self.modifiers = modifiers;
         Ok(())
     }

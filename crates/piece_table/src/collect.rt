@@ -49,7 +49,8 @@ pub fn pieces_of(
 {
     let items = entries_of(alloc, parts, &mut table)?;
     let modifiers = table.into_modifiers();
-    Ok(PieceList::of(items, modifiers, text_len))
+    let list = PieceList::of(alloc, &items, modifiers, text_len)?;
+    Ok(list)
 }
 
 /// The pieces, each with the number of its modifier in the table.

@@ -1,12 +1,13 @@
 // How entries are cut and put: what `split`, `splice` and `modify` do to a list of entries.
 ghost use Rattle.std.specs.Prelude.{◌≡◌, ◌+◌, ◌<◌, ◌≤◌, ◌++◌};
-ghost use Rattle.std.specs.Prelude.{take, drop, All, vec_len, vec_capacity, IfOk};
+ghost use Rattle.std.specs.Prelude.{◌^◌, length, take, drop, All, IfOk};
 ghost use Rattle.piece_table.specs.Piece.{IsPiece};
 ghost use Rattle.piece_table.specs.Changes.{fresh_units};
 ghost use Rattle.piece_table.specs.Cuts.{entry_units, front_entry, back_entry, fresh_entries};
-ghost use Rattle.piece_table.specs.Cuts.{IsEntrySpot, IsCut, IsCutTwice};
+ghost use Rattle.piece_table.specs.Cuts.{IsCut, IsCutTwice, AreMet};
 
-use crate::pieces::{Entry, Piece, Spot};
+use crate::pieces::{Entry, Piece};
+use block_lists::BlockList;
 use doc_bits::Memory;
 
 impl Entry {
@@ -43,70 +44,65 @@ impl Entry {
     }
 }
 
-/// The spot of a CP, or the end of all entries.
-pub(crate) fn spot_of(entries: &[Entry], cp: u32) -> Spot
-    requires { cp ≤ entry_units entries.now }
-    ensures { IsEntrySpot entries.now cp result }
-{
-    let mut within = cp;
-    for piece in 0..entries.len() {
-        let len = entries[piece].piece.len;
-        if within < len {
-            return Spot { piece, within };
-        }
-        within -= len;
-    }
-    Spot {
-        piece: entries.len(),
-        within,
-    }
-}
-
 /// Cuts the entry that holds a CP, so that one begins there. The answer is the number of entries before it.
-pub(crate) fn cut(entries: &mut Vec<Entry>, cp: u32) -> usize
-    requires within { cp ≤ entry_units entries.old.items }
+pub(crate) fn cut(entries: &mut BlockList<Entry>, cp: u32, total: u32) -> usize
+    requires total { total ≡ entry_units entries.old.items }
+    requires within { cp ≤ total }
     requires sound { All (λ entry. IsPiece entry.piece) entries.old.items }
-    requires room { vec_len entries.old < vec_capacity entries.old }
+    requires few { length entries.old.items + 1 < 2 ^ 32 }
+    requires room { 1 ≤ entries.old.spare }
     ensures cut { IsCut entries.old.items entries.new.items cp result }
-    ensures count { vec_len entries.new ≤ vec_len entries.old + 1 }
-    ensures room { vec_capacity entries.old ≤ vec_capacity entries.new }
+    ensures spare { entries.old.spare ≤ entries.new.spare + 1 }
+    ensures no_more { entries.new.spare ≤ entries.old.spare }
 {
-    let spot = spot_of(entries, cp);
-    if spot.within == 0 {
-        return spot.piece;
+    if cp == total {
+        return entries.len();
     }
-    let entry = entries[spot.piece];
-    entries[spot.piece] = entry.back(spot.within);
-    let _ = entries.insert(spot.piece, entry.front(spot.within));
-    spot.piece + 1
+    let spot = entries.spot(cp);
+    if spot.within == 0 {
+        return spot.item;
+    }
+    let entry = entries.get(spot.item);
+    entries.set(spot.item, entry.back(spot.within));
+    entries.insert(spot.item, entry.front(spot.within));
+    spot.item + 1
 }
 
 /// Cuts at both ends of a range of CPs. The answer is the range of entries between them.
-pub(crate) fn cut_range(entries: &mut Vec<Entry>, from: u32, to: u32) -> (usize, usize)
+pub(crate) fn cut_range(
+    entries: &mut BlockList<Entry>,
+    from: u32,
+    to: u32,
+    total: u32,
+) -> (usize, usize)
+    requires total { total ≡ entry_units entries.old.items }
     requires order { from ≤ to }
-    requires within { to ≤ entry_units entries.old.items }
+    requires within { to ≤ total }
     requires sound { All (λ entry. IsPiece entry.piece) entries.old.items }
-    requires room { vec_len entries.old + 2 ≤ vec_capacity entries.old }
+    requires few { length entries.old.items + 2 < 2 ^ 32 }
+    requires room { 2 ≤ entries.old.spare }
     ensures cut { IsCutTwice entries.old.items entries.new.items from to result.0 result.1 }
-    ensures count { vec_len entries.new ≤ vec_len entries.old + 2 }
-    ensures room { vec_capacity entries.old ≤ vec_capacity entries.new }
+    ensures spare { entries.old.spare ≤ entries.new.spare + 2 }
+    ensures no_more { entries.new.spare ≤ entries.old.spare }
 {
-    let first = cut(entries, from);
-    let last = cut(entries, to);
+    let first = cut(entries, from, total);
+    let last = cut(entries, to, total);
     (first, last)
 }
 
 /// Puts the entry of a fresh piece, if there is one, before others.
-pub(crate) fn put(entries: &mut Vec<Entry>, number: usize, fresh: Option<Piece>)
-    requires within { number ≤ vec_len entries.old }
-    requires room { vec_len entries.old < vec_capacity entries.old }
+pub(crate) fn put(entries: &mut BlockList<Entry>, number: usize, fresh: Option<Piece>)
+    requires within { number ≤ length entries.old.items }
+    requires few { length entries.old.items + 1 < 2 ^ 32 }
+    requires units { entry_units entries.old.items + fresh_units fresh < 2 ^ 32 }
+    requires room { 1 ≤ entries.old.spare }
     ensures items { entries.new.items
         ≡ take number entries.old.items ++ (fresh_entries fresh ++ drop number entries.old.items) }
-    ensures count { vec_len entries.new ≤ vec_len entries.old + 1 }
-    ensures room { vec_capacity entries.old ≤ vec_capacity entries.new }
+    ensures spare { entries.old.spare ≤ entries.new.spare + 1 }
+    ensures no_more { entries.new.spare ≤ entries.old.spare }
 {
     if let Some(piece) = fresh {
-        let _ = entries.insert(number, Entry { piece, modifier: 0 });
+        entries.insert(number, Entry { piece, modifier: 0 });
     }
 }
 
@@ -120,13 +116,15 @@ pub(crate) fn units_of(fresh: Option<Piece>) -> u32
     }
 }
 
-/// The same entries, with the same memory for further ones.
-pub(crate) fn copy_of(entries: &Vec<Entry>) -> Result<Vec<Entry>, Memory>
-    ensures items { IfOk result (λ copy. copy.items ≡ entries.now.items) }
-    ensures count { IfOk result (λ copy. vec_len copy ≡ vec_len entries.now) }
-    ensures room { IfOk result (λ copy. vec_capacity entries.now ≤ vec_capacity copy) }
+/// The entries that a range of CPs meets.
+pub(crate) fn met(entries: &BlockList<Entry>, from: u32, to: u32) -> Result<Vec<Entry>, Memory>
+    requires order { from < to }
+    requires within { to ≤ entry_units entries.now.items }
+    requires few { length entries.now.items < 2 ^ 32 }
+    ensures { IfOk result (λ met. AreMet entries.now.items from to met.items) }
 {
-    let mut copy = Vec::with_capacity(*entries.allocator(), entries.capacity())?;
-    copy.extend_from_slice(entries)?;
-    Ok(copy)
+    let begin = entries.spot(from);
+    let end = entries.spot(to - 1);
+    let range = entries.copy(begin.item, end.item + 1)?;
+    Ok(range)
 }

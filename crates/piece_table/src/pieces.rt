@@ -2,6 +2,7 @@ ghost use Rattle.std.specs.Prelude.{◌≡◌, ℕ, ◌+◌, ◌*◌, ◌^◌, �
 ghost use Rattle.std.specs.Prelude.{length, map, slice_get, Some, option_map, IfOk};
 ghost use Rattle.piece_table.specs.Piece.{TextPiece, PieceTable, total_length, unit_bytes, piece_end, IsPiece};
 
+use block_lists::{BlockList, Measured};
 use doc_bits::Memory;
 use prop_map::Modifier;
 use std::alloc::Global;
@@ -54,16 +55,24 @@ pub(crate) struct Entry {
     pub(crate) modifier: usize,
 }
 
-/// The pieces of a text, one after the other. A modifier that several pieces have is kept once.
+impl Measured for Entry {
+    ghost units = { λ entry. entry.piece.len };
+
+    fn units(&self) -> u32 {
+        self.piece.len
+    }
+}
+
+/// The pieces of a text, one after the other, in blocks. A modifier that several pieces have is kept once.
 #[derive(Drop)]
 pub struct PieceList {
-    pub(crate) items: Vec<Entry>,
+    pub(crate) entries: BlockList<Entry>,
     pub(crate) modifiers: Vec<Modifier>,
     pub(crate) total: u32,
 }
 
 impl Model for PieceList {
-    ghost use Rattle.std.specs.Prelude.{◌≡◌, ◌-◌, map, vec_len, vec_capacity};
+    ghost use Rattle.std.specs.Prelude.{◌≡◌, map};
     ghost use Rattle.piece_table.specs.Piece.{PieceTable, ArePieces, total_length};
     ghost use Rattle.piece_table.specs.Codes.{table_code};
     ghost use Rattle.piece_table.specs.Numbering.{AreNumbered, text_piece};
@@ -73,13 +82,13 @@ impl Model for PieceList {
     ghost coded = { table_code };
 
     ghost view = { λ list. record {
-      pieces = map (text_piece list.modifiers.items) list.items.items;
-      spare = vec_capacity list.items - vec_len list.items;
+      pieces = map (text_piece list.modifiers.items) list.entries.items;
+      spare = list.entries.spare;
     } };
 
-    ghost invariant = { λ list. AreNumbered list.modifiers.items list.items.items
-        × (ArePieces (map (text_piece list.modifiers.items) list.items.items)
-        × (list.total ≡ total_length (map (text_piece list.modifiers.items) list.items.items))) };
+    ghost invariant = { λ list. AreNumbered list.modifiers.items list.entries.items
+        × (ArePieces (map (text_piece list.modifiers.items) list.entries.items)
+        × (list.total ≡ total_length (map (text_piece list.modifiers.items) list.entries.items))) };
 }
 
 impl PieceList {
@@ -96,28 +105,34 @@ impl PieceList {
     {
         let mut modifiers = Vec::new(alloc);
         modifiers.push(Modifier::none(alloc))?;
-        let mut items = Vec::new(alloc);
         let piece = Piece {
             at,
             wide: true,
             len,
         };
-        items.push(Entry { piece, modifier: 0 })?;
-        Ok(PieceList::of(items, modifiers, len))
+        let entries = [Entry { piece, modifier: 0 }];
+        let list = PieceList::of(alloc, &entries, modifiers, len)?;
+        Ok(list)
     }
 
     /// The pieces that are listed.
-    pub(crate) fn of(items: Vec<Entry>, modifiers: Vec<Modifier>, total: u32) -> PieceList
-        requires numbered { AreNumbered modifiers.items items.items }
-        requires pieces { ArePieces (map (text_piece modifiers.items) items.items) }
-        requires total { total ≡ total_length (map (text_piece modifiers.items) items.items) }
-        ensures { result.pieces ≡ map (text_piece modifiers.items) items.items }
+    pub(crate) fn of(
+        alloc: Global,
+        entries: &[Entry],
+        modifiers: Vec<Modifier>,
+        total: u32,
+    ) -> Result<PieceList, Memory>
+        requires numbered { AreNumbered modifiers.items entries.now }
+        requires pieces { ArePieces (map (text_piece modifiers.items) entries.now) }
+        requires total { total ≡ total_length (map (text_piece modifiers.items) entries.now) }
+        ensures { IfOk result (λ list. list.pieces ≡ map (text_piece modifiers.items) entries.now) }
     {
-        PieceList {
-            items,
+        let entries = BlockList::of(alloc, entries)?;
+        Ok(PieceList {
+            entries,
             modifiers,
             total,
-        }
+        })
     }
 
     /// The number of pieces.
@@ -125,7 +140,7 @@ impl PieceList {
         ensures value { result ≡ length self.now.pieces }
         ensures sound { ArePieces self.now.pieces }
     {
-        self.items.len()
+        self.entries.len()
     }
 
     /// The number of CPs of all pieces.
@@ -142,7 +157,7 @@ impl PieceList {
         ensures value { option_map bare_piece (slice_get self.now.pieces i) ≡ Some result }
         ensures sound { IsPiece result }
     {
-        self.items[i].piece
+        self.entries.get(i).piece
     }
 
     /// What the sprms of a piece do.
@@ -151,6 +166,6 @@ impl PieceList {
         ensures value { option_map (λ piece. piece.modifier) (slice_get self.now.pieces i) ≡ Some result.now }
         ensures formed { IsFormedModifier result.now }
     {
-        &self.modifiers[self.items[i].modifier]
+        &self.modifiers[self.entries.get(i).modifier]
     }
 }

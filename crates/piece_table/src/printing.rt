@@ -22,14 +22,15 @@ impl PieceList {
         requires { IsPrintable self.now.pieces }
         ensures { IfOk result (IsPrintedClx self.now.pieces) }
     {
-        let printed = print_prcs(alloc, &self.items, &self.modifiers)?;
+        let entries = self.entries.to_vec()?;
+        let printed = print_prcs(alloc, &entries, &self.modifiers)?;
         let PrintedPrcs {
             mut bytes,
             prms,
             lists: _,
             count: _,
         } = printed;
-        push_pcdt(&mut bytes, &self.items, &prms)?;
+        push_pcdt(&mut bytes, &entries, &prms)?;
         Ok(bytes)
     }
 }

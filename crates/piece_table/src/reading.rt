@@ -3,7 +3,7 @@ ghost use Rattle.std.specs.Prelude.{length, map, All, MatchResult, IfOk};
 ghost use Rattle.doc_bits.specs.Rules.{Hold, IsFirst};
 ghost use Rattle.doc_bits.specs.Plc.{PlcPart};
 ghost use Rattle.piece_table.specs.Clx.{ClxParts, IsPlcPcd, SpellsClx, plc_place, IsClx, clx_pieces, HaveModifiers};
-ghost use Rattle.piece_table.specs.ClxRules.{clx_rules, parts_rules, early_bounds};
+ghost use Rattle.piece_table.specs.ClxRules.{clx_rules, parts_rules, text_bounds};
 ghost use Rattle.piece_table.specs.ClxRules.{IsClxFault, StaysInStream, FitsPages};
 ghost use Rattle.piece_table.specs.Front.{clx_parts};
 ghost use Rattle.piece_table.specs.Piece.{total_length, bare_piece};
@@ -17,35 +17,30 @@ use std::alloc::Global;
 
 const RULE_SPRM: u8 = 31;
 
-/// The bytes of the FIB, behind which text begins.
-const FIB_LEN: u32 = 900;
-
 /// Reads the pieces of a Clx that stands at `at` in the table stream. `wd_len` is the length of `WordDocument` in
-/// bytes, `text_len` the number of CPs.
+/// bytes, `text_len` the number of CPs, `from` the size of the FIB in bytes: text stands behind it.
 pub fn read_clx(
     alloc: Global,
     clx: &[u8],
     at: u32,
     wd_len: u32,
     text_len: u32,
+    from: u32,
 ) -> Result<PieceList, ClxFault>
     requires place { at + length clx.now < 2 ^ 32 }
     requires text { text_len ≤ 500001 }
     ensures read { MatchResult result
-        (λ list. Hold (clx_rules clx.now at (early_bounds wd_len) text_len) × IsClx clx.now list.pieces)
-        (IsClxFault (clx_rules clx.now at (early_bounds wd_len) text_len)) }
+        (λ list. Hold (clx_rules clx.now at (text_bounds from wd_len) text_len) × IsClx clx.now list.pieces)
+        (IsClxFault (clx_rules clx.now at (text_bounds from wd_len) text_len)) }
 
     // What the rules say of the pieces.
     ensures within { IfOk result
-        (λ list. All (λ piece. StaysInStream (early_bounds wd_len) (bare_piece piece)) list.pieces) }
+        (λ list. All (λ piece. StaysInStream (text_bounds from wd_len) (bare_piece piece)) list.pieces) }
     ensures total { IfOk result (λ list. total_length list.pieces ≡ text_len) }
     ensures fit { IfOk result (λ list. All (λ piece. FitsPages piece.modifier) list.pieces) }
 {
     let parts = parts_of(alloc, clx, at)?;
-    let bounds = TextBounds {
-        from: FIB_LEN,
-        end: wd_len,
-    };
+    let bounds = TextBounds { from, end: wd_len };
     read_parts(alloc, &parts, at, bounds, text_len)
 }
 

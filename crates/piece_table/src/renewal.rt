@@ -15,11 +15,13 @@ impl PieceList {
         requires places { AreNewPlaces places.now self.now.pieces }
         ensures { IfOk result (λ list. list.pieces ≡ renewed_pieces places.now self.now.pieces) }
     {
-        let mut items = moved(alloc, &self.items, places)?;
+        let entries = self.entries.to_vec()?;
+        let mut items = moved(alloc, &entries, places)?;
         let Copies { modifiers, numbers } = copy_all(alloc, &items, &self.modifiers)?;
         let count = items.len();
         renumber(&mut items, 0, count, &numbers);
-        Ok(PieceList::of(items, modifiers, self.total))
+        let list = PieceList::of(alloc, &items, modifiers, self.total)?;
+        Ok(list)
     }
 }
 

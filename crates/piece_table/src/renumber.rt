@@ -9,9 +9,31 @@ ghost use Rattle.piece_table.specs.Cuts.{renumbered};
 ghost use Rattle.piece_table.specs.Renumbering.{HaveComposed, HaveCopied};
 
 use crate::pieces::Entry;
+use block_lists::Mapping;
 use doc_bits::Memory;
 use prop_map::Modifier;
 use std::alloc::Global;
+
+/// Numbers that are kept beside those of entries. An entry with a number beyond them gets number 0.
+#[derive(Drop)]
+pub(crate) struct Renumbering {
+    pub(crate) numbers: Vec<usize>,
+}
+
+impl Mapping<Entry> for Renumbering {
+    ghost image = { λ numbers entry. renumbered numbers.numbers.items entry };
+
+    fn apply(&self, entry: Entry) -> Entry {
+        let modifier = match self.numbers.get(entry.modifier) {
+            None => 0,
+            Some(number) => *number,
+        };
+        Entry {
+            piece: entry.piece,
+            modifier,
+        }
+    }
+}
 
 /// Gives each entry of a range the number that is kept beside its own.
 pub(crate) fn renumber(entries: &mut Vec<Entry>, first: usize, last: usize, numbers: &[usize])

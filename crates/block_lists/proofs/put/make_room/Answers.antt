@@ -1,11 +1,9 @@
 -- A full block divides.
-use Rattle.std.proofs.Common.{◌≡◌, ◌-◌, ℕ, List, [], sym, subst, arith}
-use Rattle.std.specs.List.{All}
+use Rattle.std.proofs.Common.{◌-◌, ℕ, sym, subst, arith}
 use Rattle.std.specs.Vec.{vec_len}
-use Rattle.std.proofs.lemmas.List.Elements.{All-take}
 use Rattle.block_lists.specs.Blocks.{IsMadeRoom}
 use Rattle.block_lists.proofs.JoinLemmas.{units_of_block}
-use Rattle.block_lists.proofs.PutLemmas.{divided, made_first, made_second}
+use Rattle.block_lists.proofs.PutLemmas.{divided, made_first, made_second, rest_empty}
 use Rattle.block_lists.proofs.put.make_room.Goals as goal
 
 pub divide-next-requires-clause-units : goal.divide-next-requires-clause-units
@@ -25,10 +23,8 @@ returns-then-place-le64-clause-made g c =
 
 pub returns-then-place-le64-clause-empty : goal.returns-then-place-le64-clause-empty
 returns-then-place-le64-clause-empty g c =
-    let ready = c.args.ready.now.items in
-    subst (λ (t : List (List g.row.T.Denot)). All (λ (block : List g.row.T.Denot). block
-    ≡ []) t) (sym c.pop.ensures.rest)
-    (All-take (λ (block : List g.row.T.Denot). block ≡ []) (vec_len c.args.ready.now - 1) ready c.requires.empty)
+    rest_empty c.args.ready.now.items c.pop.new.self.items (vec_len c.args.ready.now - 1) c.pop.ensures.rest
+    c.requires.empty
 
 pub returns-clause-made : goal.returns-clause-made
 returns-clause-made g c =
@@ -41,7 +37,5 @@ returns-clause-made g c =
 
 pub returns-clause-empty : goal.returns-clause-empty
 returns-clause-empty g c =
-    let ready = c.args.ready.now.items in
-    subst (λ (t : List (List g.row.T.Denot)). All (λ (block : List g.row.T.Denot). block
-    ≡ []) t) (sym c.pop.ensures.rest)
-    (All-take (λ (block : List g.row.T.Denot). block ≡ []) (vec_len c.args.ready.now - 1) ready c.requires.empty)
+    rest_empty c.args.ready.now.items c.pop.new.self.items (vec_len c.args.ready.now - 1) c.pop.ensures.rest
+    c.requires.empty

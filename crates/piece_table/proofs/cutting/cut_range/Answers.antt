@@ -1,5 +1,9 @@
+use Rattle.std.proofs.Common.{◌∙◌, sym}
 use Rattle.piece_table.proofs.CutLemmas.{cut_twice}
 use Rattle.piece_table.proofs.cutting.cut_range.Goals as goal
+
+pub cut-last-requires-clause-total : goal.cut-last-requires-clause-total
+cut-last-requires-clause-total c = c.requires.total ∙ sym c.cut-first.ensures.cut.keeps.units
 
 pub cut-last-requires-clause-sound : goal.cut-last-requires-clause-sound
 cut-last-requires-clause-sound c = c.cut-first.ensures.cut.keeps.pieces c.requires.sound

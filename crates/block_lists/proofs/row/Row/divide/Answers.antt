@@ -1,29 +1,23 @@
 -- The sums are told anew.
-use Rattle.std.proofs.Common.{◌≡◌, ◌+◌, ◌<◌, ◌∙◌, ◌∷◌, ◌++◌, List, [], length, take, drop, set, refl, ap, arith}
-use Rattle.std.proofs.Common.{length-set}
+use Rattle.std.proofs.Common.{◌+◌, ◌∙◌, ◌∷◌, ◌++◌, List, [], length, take, drop, set, refl, ap, arith, length-set}
 use Rattle.std.specs.List.{splice}
-use Rattle.std.proofs.lemmas.List.{get_or_read, append-nil}
+use Rattle.std.proofs.lemmas.List.{append-nil}
 use Rattle.block_lists.specs.Blocks.{units_of, block_at, BlockRow}
-use Rattle.block_lists.proofs.UnitLemmas.{numbers_set, units-append}
-use Rattle.block_lists.proofs.JoinLemmas.{two_parts, splice_two}
+use Rattle.block_lists.proofs.UnitLemmas.{numbers_set}
+use Rattle.block_lists.proofs.JoinLemmas.{block_read, units_parts, two_parts, splice_two}
 use Rattle.block_lists.proofs.row.Row.divide.Goals as goal
 
 pub units-units-requires : goal.units-units-requires
 units-units-requires g c =
-    let units = g.T.Measured.units in
-    let blocks = c.self.inside.blocks.items in
     let now = ap (λ (r : BlockRow g.row.T.Denot). r.blocks) c.self.view_is in
-    let low : c.args.block < length blocks = omega (arith, ap length now, c.requires.block) in
     let old = c.index_mut-first.result.now in
-    let read : old ≡ block_at c.args.self.now.blocks c.args.block =
-    get_or_read blocks c.args.block old low c.index_mut-first.ensures.value []
-    ∙ ap (λ (t : List (List g.row.T.Denot)). block_at t c.args.block) now in
-    let whole = c.give.ensures.joined ∙ ap (λ (t : List g.row.T.Denot). old ++ t) c.requires.fresh ∙ append-nil old in
+    let block = block_at c.args.self.now.blocks c.args.block in
+    let read = block_read c.self.inside.blocks.items c.args.self.now.blocks c.args.block old now c.requires.block
+    c.index_mut-first.ensures.value in
     omega (
       arith,
-      ap (units_of units) whole,
-      units-append units c.give.new.self c.give.new.next,
-      ap (units_of units) read,
+      units_parts g.T.Measured.units block old c.args.fresh c.give.new.self c.give.new.next c.give.ensures.joined
+          c.requires.fresh read.1,
       c.requires.units,
     )
 
@@ -41,20 +35,15 @@ invariant_of-self g c =
 
 pub insert-requires-clause-units : goal.insert-requires-clause-units
 insert-requires-clause-units g c =
-    let units = g.T.Measured.units in
-    let blocks = c.self.inside.blocks.items in
     let now = ap (λ (r : BlockRow g.row.T.Denot). r.blocks) c.self.view_is in
-    let low : c.args.block < length blocks = omega (arith, ap length now, c.requires.block) in
     let old = c.index_mut-first.result.now in
-    let read : old ≡ block_at c.args.self.now.blocks c.args.block =
-    get_or_read blocks c.args.block old low c.index_mut-first.ensures.value []
-    ∙ ap (λ (t : List (List g.row.T.Denot)). block_at t c.args.block) now in
-    let whole = c.give.ensures.joined ∙ ap (λ (t : List g.row.T.Denot). old ++ t) c.requires.fresh ∙ append-nil old in
+    let block = block_at c.args.self.now.blocks c.args.block in
+    let read = block_read c.self.inside.blocks.items c.args.self.now.blocks c.args.block old now c.requires.block
+    c.index_mut-first.ensures.value in
     omega (
       arith,
-      ap (units_of units) whole,
-      units-append units c.give.new.self c.give.new.next,
-      ap (units_of units) read,
+      units_parts g.T.Measured.units block old c.args.fresh c.give.new.self c.give.new.next c.give.ensures.joined
+          c.requires.fresh read.1,
       c.requires.units,
     )
 
@@ -63,20 +52,17 @@ returns-clause-blocks g c =
     let blocks = c.self.inside.blocks.items in
     let b = c.args.block in
     let now = ap (λ (r : BlockRow g.row.T.Denot). r.blocks) c.self.view_is in
-    let low : b < length blocks = omega (arith, ap length now, c.requires.block) in
     let old = c.index_mut-first.result.now in
-    let read : old ≡ block_at c.args.self.now.blocks b =
-    get_or_read blocks b old low c.index_mut-first.ensures.value []
-    ∙ ap (λ (t : List (List g.row.T.Denot)). block_at t b) now in
+    let read = block_read blocks c.args.self.now.blocks b old now c.requires.block c.index_mut-first.ensures.value in
     let whole = c.give.ensures.joined ∙ ap (λ (t : List g.row.T.Denot). old ++ t) c.requires.fresh ∙ append-nil old in
-    let long = ap length read in
+    let long = ap length read.1 in
     let parts = two_parts old c.give.new.self c.give.new.next 64 whole
     (omega (arith, long, c.give.ensures.len, c.requires.full)) (omega (arith, long, c.requires.full)) in
     c.insert.ensures.blocks
-    ∙ splice_two blocks b c.give.new.self c.give.new.next low
+    ∙ splice_two blocks b c.give.new.self c.give.new.next read.0
     ∙ ap (λ (x : List g.row.T.Denot). splice blocks b (b + 1) (x ∷ c.give.new.next ∷ [])) parts.0
     ∙ ap (λ (x : List g.row.T.Denot). splice blocks b (b + 1) (take 64 old ∷ x ∷ [])) parts.1
-    ∙ ap (λ (o : List g.row.T.Denot). splice blocks b (b + 1) (take 64 o ∷ drop 64 o ∷ [])) read
+    ∙ ap (λ (o : List g.row.T.Denot). splice blocks b (b + 1) (take 64 o ∷ drop 64 o ∷ [])) read.1
     ∙ ap (λ (t : List (List g.row.T.Denot)).
     splice t b (b + 1) (take 64 (block_at c.args.self.now.blocks b) ∷ drop 64 (block_at c.args.self.now.blocks b) ∷
     [])) now

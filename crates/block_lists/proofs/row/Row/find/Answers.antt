@@ -6,7 +6,7 @@ use Rattle.std.proofs.lemmas.Option.{slice_get_within}
 use Rattle.block_lists.specs.Blocks.{units_of, block_at, BlockRow, IsSpotOf}
 use Rattle.block_lists.proofs.UnitLemmas.{units-nil}
 use Rattle.block_lists.proofs.JoinLemmas.{joined-nil, sum_told, found_here, units_more_blocks, joined_more_length}
-use Rattle.block_lists.proofs.JoinLemmas.{joined-take-le}
+use Rattle.block_lists.proofs.JoinLemmas.{joined-take-le, block_read}
 use Rattle.block_lists.proofs.row.Row.find.Goals as goal
 
 pub loop-block-init : goal.loop-block-init
@@ -38,15 +38,12 @@ overflow_add-result g c =
     let blocks = c.self.inside.blocks.items in
     let now = ap (λ (r : BlockRow g.row.T.Denot). r.blocks) c.self.view_is in
     let len : vec_len c.self.inside.blocks ≡ length blocks = search rules in
-    let low : b < length blocks = omega (arith, c.len-block-end.ensures) in
-    let less : b < length c.args.self.now.blocks = omega (arith, ap length now) in
-    let read : c.index.result.now ≡ block_at c.args.self.now.blocks b =
-    get_or_read blocks b c.index.result.now low c.index.ensures []
-    ∙ ap (λ (t : List (List g.row.T.Denot)). block_at t b) now in
+    let less : b < length c.args.self.now.blocks = omega (arith, ap length now, c.len-block-end.ensures) in
+    let read = block_read blocks c.args.self.now.blocks b c.index.result.now now less c.index.ensures in
     let spot = c.find-spot.ensures.spot in
     omega (
       arith,
-      ap length read,
+      ap length read.1,
       slice_get_within c.index.result.now c.find-spot.result.item spot.item spot.there,
       c.loop-block.invariant.counted,
       joined_more_length c.args.self.now.blocks b less,
@@ -61,16 +58,13 @@ returns-then-left-units-clause-found g c =
     let blocks = c.self.inside.blocks.items in
     let now = ap (λ (r : BlockRow g.row.T.Denot). r.blocks) c.self.view_is in
     let len : vec_len c.self.inside.blocks ≡ length blocks = search rules in
-    let low : b < length blocks = omega (arith, c.len-block-end.ensures) in
-    let less : b < length c.args.self.now.blocks = omega (arith, ap length now) in
-    let read : c.index.result.now ≡ block_at c.args.self.now.blocks b =
-    get_or_read blocks b c.index.result.now low c.index.ensures []
-    ∙ ap (λ (t : List (List g.row.T.Denot)). block_at t b) now in
+    let less : b < length c.args.self.now.blocks = omega (arith, ap length now, c.len-block-end.ensures) in
+    let read = block_read blocks c.args.self.now.blocks b c.index.result.now now less c.index.ensures in
     found_here units c.args.self.now.blocks b c.args.place c.loop-block.left c.find-spot.result.item
     c.find-spot.result.within
     c.loop-block.before less c.loop-block.invariant.counted c.loop-block.invariant.here
     (subst (λ (t : List g.row.T.Denot). IsSpotOf units t c.loop-block.left
-    (record { item = c.find-spot.result.item; within = c.find-spot.result.within })) read c.find-spot.ensures.spot)
+    (record { item = c.find-spot.result.item; within = c.find-spot.result.within })) read.1 c.find-spot.ensures.spot)
 
 pub overflow_add-before : goal.overflow_add-before
 overflow_add-before g c =
@@ -78,14 +72,12 @@ overflow_add-before g c =
     let blocks = c.self.inside.blocks.items in
     let now = ap (λ (r : BlockRow g.row.T.Denot). r.blocks) c.self.view_is in
     let len : vec_len c.self.inside.blocks ≡ length blocks = search rules in
-    let low : b < length blocks = omega (arith, c.len-block-end.ensures) in
-    let less : b < length c.args.self.now.blocks = omega (arith, ap length now) in
-    let read : c.index-in-loop-block.result.now ≡ block_at c.args.self.now.blocks b =
-    get_or_read blocks b c.index-in-loop-block.result.now low c.index-in-loop-block.ensures []
-    ∙ ap (λ (t : List (List g.row.T.Denot)). block_at t b) now in
+    let less : b < length c.args.self.now.blocks = omega (arith, ap length now, c.len-block-end.ensures) in
+    let read = block_read blocks c.args.self.now.blocks b c.index-in-loop-block.result.now now less
+    c.index-in-loop-block.ensures in
     omega (
       arith,
-      ap length read,
+      ap length read.1,
       c.len-before.ensures.value,
       c.loop-block.invariant.counted,
       joined_more_length c.args.self.now.blocks b less,
@@ -100,13 +92,11 @@ loop-block-preserved g c =
     let blocks = c.self.inside.blocks.items in
     let now = ap (λ (r : BlockRow g.row.T.Denot). r.blocks) c.self.view_is in
     let len : vec_len c.self.inside.blocks ≡ length blocks = search rules in
-    let low : b < length blocks = omega (arith, c.len-block-end.ensures) in
-    let less : b < length c.args.self.now.blocks = omega (arith, ap length now) in
+    let less : b < length c.args.self.now.blocks = omega (arith, ap length now, c.len-block-end.ensures) in
     let told = sum_told units c.args.self.now.blocks c.self.inside.sums.sums b c.get-units.result
     (c.self.invariant.each ∙ ap (map (units_of units)) now) c.get-units.ensures.found in
-    let read : c.index-in-loop-block.result.now ≡ block_at c.args.self.now.blocks b =
-    get_or_read blocks b c.index-in-loop-block.result.now low c.index-in-loop-block.ensures []
-    ∙ ap (λ (t : List (List g.row.T.Denot)). block_at t b) now in
+    let read = block_read blocks c.args.self.now.blocks b c.index-in-loop-block.result.now now less
+    c.index-in-loop-block.ensures in
     record {
       here = omega (
         arith,
@@ -117,7 +107,7 @@ loop-block-preserved g c =
       );
       counted = omega (
         arith,
-        ap length read,
+        ap length read.1,
         c.len-before.ensures.value,
         c.loop-block.invariant.counted,
         joined_more_length c.args.self.now.blocks b less,

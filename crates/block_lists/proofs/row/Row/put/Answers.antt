@@ -1,10 +1,11 @@
 -- The sum is told anew.
-use Rattle.std.proofs.Common.{◌≡◌, ◌+◌, ◌<◌, ◌∙◌, ◌∷◌, ◌++◌, List, [], length, take, drop, set, refl, ap, arith}
+use Rattle.std.proofs.Common.{◌+◌, ◌∙◌, ◌∷◌, ◌++◌, List, [], take, drop, set, refl, ap, arith}
 use Rattle.std.proofs.Common.{length-set}
 use Rattle.std.specs.List.{splice}
-use Rattle.std.proofs.lemmas.List.{get_or_read, take-append-drop}
+use Rattle.std.proofs.lemmas.List.{take-append-drop}
 use Rattle.block_lists.specs.Blocks.{units_of, block_at, BlockRow}
 use Rattle.block_lists.proofs.UnitLemmas.{numbers_set, set_spliced, units-append, units-cons}
+use Rattle.block_lists.proofs.JoinLemmas.{block_read}
 use Rattle.block_lists.proofs.row.Row.put.Goals as goal
 
 pub units-units-requires : goal.units-units-requires
@@ -12,16 +13,14 @@ units-units-requires g c =
     let units = g.T.Measured.units in
     let blocks = c.self.inside.blocks.items in
     let now = ap (λ (r : BlockRow g.row.T.Denot). r.blocks) c.self.view_is in
-    let low : c.args.block < length blocks = omega (arith, ap length now, c.requires.block) in
     let old = c.index_mut-changed.result.now in
-    let read : old ≡ block_at c.args.self.now.blocks c.args.block =
-    get_or_read blocks c.args.block old low c.index_mut-changed.ensures.value []
-    ∙ ap (λ (t : List (List g.row.T.Denot)). block_at t c.args.block) now in
+    let read = block_read blocks c.args.self.now.blocks c.args.block old now c.requires.block
+    c.index_mut-changed.ensures.value in
     let e = ap (units_of units) c.insert.ensures in
     omega (
       arith,
       e,
-      ap (units_of units) read,
+      ap (units_of units) read.1,
       units-append units (take c.args.i old) (c.args.item ∷ drop c.args.i old),
       units-cons units c.args.item (drop c.args.i old),
       units-append units (take c.args.i old) (drop c.args.i old),
@@ -46,16 +45,14 @@ returns-clause-blocks g c =
     let blocks = c.self.inside.blocks.items in
     let b = c.args.block in
     let now = ap (λ (r : BlockRow g.row.T.Denot). r.blocks) c.self.view_is in
-    let low : b < length blocks = omega (arith, ap length now, c.requires.block) in
     let old = c.index_mut-changed.result.now in
-    let read : old ≡ block_at c.args.self.now.blocks b =
-    get_or_read blocks b old low c.index_mut-changed.ensures.value []
-    ∙ ap (λ (t : List (List g.row.T.Denot)). block_at t b) now in
+    let read = block_read blocks c.args.self.now.blocks b old now c.requires.block
+    c.index_mut-changed.ensures.value in
     let block = block_at c.args.self.now.blocks b in
-    set_spliced blocks b c.insert.new.self low
+    set_spliced blocks b c.insert.new.self read.0
     ∙ ap (λ (x : List g.row.T.Denot). splice blocks b (b + 1) (x ∷ [])) c.insert.ensures
     ∙ ap (λ (o : List g.row.T.Denot). splice blocks b (b + 1) ((take c.args.i o
     ++ (c.args.item ∷ drop c.args.i o)) ∷ []))
-    read
+    read.1
     ∙ ap (λ (t : List (List g.row.T.Denot)).
     splice t b (b + 1) ((take c.args.i block ++ (c.args.item ∷ drop c.args.i block)) ∷ [])) now

@@ -1,8 +1,8 @@
 -- The sum is told anew.
-use Rattle.std.proofs.Common.{◌≡◌, ◌<◌, ◌∙◌, List, [], length, set, refl, ap, arith, length-set}
-use Rattle.std.proofs.lemmas.List.{get_or_read}
+use Rattle.std.proofs.Common.{◌∙◌, List, set, refl, ap, arith, length-set}
 use Rattle.block_lists.specs.Blocks.{units_of, block_at, BlockRow}
 use Rattle.block_lists.proofs.UnitLemmas.{numbers_set}
+use Rattle.block_lists.proofs.JoinLemmas.{block_read}
 use Rattle.block_lists.proofs.row.Row.set.Goals as goal
 
 pub units-units-requires : goal.units-units-requires
@@ -10,12 +10,10 @@ units-units-requires g c =
     let units = g.T.Measured.units in
     let blocks = c.self.inside.blocks.items in
     let now = ap (λ (r : BlockRow g.row.T.Denot). r.blocks) c.self.view_is in
-    let low : c.args.block < length blocks = omega (arith, ap length now, c.requires.block) in
     let old = c.index_mut-changed.result.now in
-    let read : old ≡ block_at c.args.self.now.blocks c.args.block =
-    get_or_read blocks c.args.block old low c.index_mut-changed.ensures.value []
-    ∙ ap (λ (t : List (List g.row.T.Denot)). block_at t c.args.block) now in
-    let same = c.set.ensures ∙ ap (λ (t : List g.row.T.Denot). set t c.args.i c.args.item) read in
+    let read = block_read blocks c.args.self.now.blocks c.args.block old now c.requires.block
+    c.index_mut-changed.ensures.value in
+    let same = c.set.ensures ∙ ap (λ (t : List g.row.T.Denot). set t c.args.i c.args.item) read.1 in
     omega (arith, ap (units_of units) same, c.requires.units)
 
 pub invariant_of-self : goal.invariant_of-self
@@ -35,11 +33,9 @@ returns-clause-blocks g c =
     let blocks = c.self.inside.blocks.items in
     let b = c.args.block in
     let now = ap (λ (r : BlockRow g.row.T.Denot). r.blocks) c.self.view_is in
-    let low : b < length blocks = omega (arith, ap length now, c.requires.block) in
     let old = c.index_mut-changed.result.now in
-    let read : old ≡ block_at c.args.self.now.blocks b =
-    get_or_read blocks b old low c.index_mut-changed.ensures.value []
-    ∙ ap (λ (t : List (List g.row.T.Denot)). block_at t b) now in
+    let read = block_read blocks c.args.self.now.blocks b old now c.requires.block
+    c.index_mut-changed.ensures.value in
     ap (λ (x : List g.row.T.Denot). set blocks b x) c.set.ensures
-    ∙ ap (λ (o : List g.row.T.Denot). set blocks b (set o c.args.i c.args.item)) read
+    ∙ ap (λ (o : List g.row.T.Denot). set blocks b (set o c.args.i c.args.item)) read.1
     ∙ ap (λ (t : List (List g.row.T.Denot)). set t b (set (block_at c.args.self.now.blocks b) c.args.i c.args.item)) now

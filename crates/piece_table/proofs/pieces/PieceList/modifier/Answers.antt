@@ -2,6 +2,7 @@
 use Rattle.std.proofs.Common.{◌≡◌, ◌<◌, ◌∙◌, length, map, get_or, slice_index_or, sym, ap, arith, subst}
 use Rattle.std.proofs.Math.ListN.{get_or-map, length-map}
 use Rattle.std.proofs.lemmas.List.{get_or_default}
+use Rattle.std.proofs.lemmas.Option.{get_or_from_slice_get}
 use Rattle.prop_map.specs.Modifiers.{no_modifier, IsFormedModifier}
 use Rattle.piece_table.specs.declared.pieces.Entry.{Entry}
 use Rattle.piece_table.specs.Piece.{IsTextPiece}
@@ -10,19 +11,20 @@ use Rattle.piece_table.proofs.pieces.PieceList.modifier.Goals as goal
 
 pub returns-clause-formed : goal.returns-clause-formed
 returns-clause-formed c =
-    let items = c.self.inside.items.items in
+    let items = c.self.inside.entries.items in
     let modifiers = c.self.inside.modifiers.items in
     let view = text_piece modifiers in
-    let entry = c.index.result.now in
-    let made = c.index-2.result.now in
+    let entry = c.get.result in
+    let made = c.index.result.now in
+    let read = get_or_from_slice_get items c.args.i entry entry c.get.ensures in
     let seen : get_or (map view items) c.args.i (view entry) ≡ view entry = get_or-map view items c.args.i entry ∙ ap
-    view (sym c.index.ensures) in
+    view read in
     let count : length (map view items) ≡ length c.args.self.now.pieces = ap (λ table. length table.pieces)
     c.self.view_is in
     let low : c.args.i < length (map view items) = omega (arith, count, c.requires) in
     let formed = (subst (λ p. IsTextPiece p) seen (c.self.invariant.1.0.each c.args.i (view entry) low)).formed in
     let named : entry.modifier < length modifiers = subst (λ (e : Entry). e.modifier < length modifiers)
-    (sym c.index.ensures) (c.self.invariant.0.named c.args.i entry (omega (arith, length-map items view))) in
+    read (c.self.invariant.0.named c.args.i entry (omega (arith, length-map items view))) in
     let is : slice_index_or modifiers entry.modifier no_modifier ≡ made = get_or_default modifiers entry.modifier
-    no_modifier made named ∙ sym c.index-2.ensures in
+    no_modifier made named ∙ sym c.index.ensures in
     subst IsFormedModifier is formed

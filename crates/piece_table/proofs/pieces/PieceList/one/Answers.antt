@@ -3,8 +3,6 @@ use Rattle.piece_table.proofs.pieces.PieceList.one.Goals as goal
 
 pub of-requires-clause-pieces : goal.of-requires-clause-pieces
 of-requires-clause-pieces c = rw (
-  c.in_ok-push-2.ensures.items,
-  c.new-items.ensures.items,
   c.in_ok-push.ensures.items,
   c.new-modifiers.ensures.items,
   c.none.ensures,

@@ -1,17 +1,18 @@
 -- The invariant is told of the pieces as they are seen.
-use Rattle.std.proofs.Common.{◌≡◌, ◌<◌, ◌∙◌, length, map, get_or, sym, ap, arith, subst}
+use Rattle.std.proofs.Common.{◌≡◌, ◌<◌, ◌∙◌, length, map, get_or, ap, arith, subst}
 use Rattle.std.proofs.Math.ListN.{get_or-map}
+use Rattle.std.proofs.lemmas.Option.{get_or_from_slice_get}
 use Rattle.piece_table.specs.Piece.{IsTextPiece}
 use Rattle.piece_table.specs.Numbering.{text_piece}
 use Rattle.piece_table.proofs.pieces.PieceList.piece.Goals as goal
 
 pub returns-clause-sound : goal.returns-clause-sound
 returns-clause-sound c =
-    let items = c.self.inside.items.items in
+    let items = c.self.inside.entries.items in
     let view = text_piece c.self.inside.modifiers.items in
-    let entry = c.index.result.now in
+    let entry = c.get.result in
     let seen : get_or (map view items) c.args.i (view entry) ≡ view entry = get_or-map view items c.args.i entry ∙ ap
-    view (sym c.index.ensures) in
+    view (get_or_from_slice_get items c.args.i entry entry c.get.ensures) in
     let count : length (map view items) ≡ length c.args.self.now.pieces = ap (λ table. length table.pieces)
     c.self.view_is in
     let low : c.args.i < length (map view items) = omega (arith, count, c.requires) in
