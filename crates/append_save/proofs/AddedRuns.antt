@@ -11,7 +11,6 @@ use Rattle.doc_bits.specs.Plc.{plc_cp}
 use Rattle.doc_bits.proofs.ListLemmas.{All_at, All-from_slice_get}
 use Rattle.fkp_pages.specs.declared.kind.PageKind.{PageKind}
 use Rattle.fkp_pages.specs.declared.kind.PageKind.TheVariants.{Chpx, Papx}
-use Rattle.fkp_pages.specs.declared.lists.Run.{Run}
 use Rattle.fkp_pages.specs.Bin.{bin_count}
 use Rattle.fkp_pages.specs.Runs.{IsWritableRun, AreRuns}
 use Rattle.fkp_pages.specs.Pages.{first_fc}

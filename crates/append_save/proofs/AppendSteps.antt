@@ -2,7 +2,7 @@
 use Rattle.std.proofs.Common.{◌≡◌, ◌∙◌, ap, ℕ, ◌+◌, ◌<◌, ◌^◌, true, List, [], ◌++◌, length, map, drop, arith}
 use Rattle.std.proofs.Common.{length-append}
 use Rattle.cfb_layout.specs.Sectors.{filled, padded}
-use Rattle.fib_form.specs.Fib.{early_form}
+use Rattle.fib_form.specs.Fib.{form_size}
 use Rattle.fib_form.specs.FibFields.{FibFields}
 use Rattle.fib_form.specs.FibBytes.{written_fib}
 use Rattle.fkp_pages.specs.declared.kind.PageKind.TheVariants.{Chpx, Papx}
@@ -63,6 +63,7 @@ pub fib_made : (save : FastSave) (clx : List ℕ) (fib : FibFields) (mac : ℕ) 
     pairs ≡ entries_pairs (fast_entries save clx) → fib ≡ fast_fib save clx
 unfolding fast_fib
 fib_made save clx fib mac counts pairs is mac_is counts_is pairs_is = is ∙ (λ i. record {
+  form = save.fib.form;
   kept = save.fib.kept;
   quick_saves = save.fib.quick_saves + 1;
   complex = true;
@@ -74,10 +75,11 @@ fib_made save clx fib mac counts pairs is mac_is counts_is pairs_is = is ∙ (λ
 
 pub wd_made : (save : FastSave) (clx : List ℕ) (fib : FibFields) (old added wd : List ℕ) → fib ≡ fast_fib save clx →
     old ≡ old_wd save → added ≡ added_bytes save →
-    wd ≡ filled save.base 0 (written_fib fib ++ drop early_form.size old) ++ added → wd ≡ fast_wd save clx
-unfolding fast_wd
+    wd ≡ filled save.base 0 (written_fib fib ++ drop (form_size fib.form) old) ++ added → wd ≡ fast_wd save clx
+unfolding fast_wd fast_fib
 wd_made save clx fib old added wd fib_is old_is added_is is =
-    is ∙ (λ i. filled save.base 0 (written_fib (fib_is i) ++ drop early_form.size (old_is i)) ++ added_is i)
+    is
+    ∙ (λ i. filled save.base 0 (written_fib (fib_is i) ++ drop (form_size (fib_is i).form) (old_is i)) ++ added_is i)
 
 pub streams_made : (save : FastSave) (clx name wd table : List ℕ) → name ≡ table_name_of save →
     wd ≡ fast_wd save clx → table ≡ fast_table save clx →

@@ -1,8 +1,8 @@
 -- A fast save of bounded units is bounded: the old places keep their pages, and the added ones have runs of their own.
-use Rattle.std.specs.Prelude.{slice_get, slice_index, is_some, IsSome}
-use Rattle.std.proofs.Common.{◌≡◌, ◌⊎◌, ◌∙◌, refl, sym, ap, subst, inl, inr, ℕ, zero, suc, ◌+◌, ◌-◌, ◌*◌, ◌/◌, ◌<◌, ◌≤◌}
+use Rattle.std.specs.Prelude.{slice_get, is_some}
+use Rattle.std.proofs.Common.{◌≡◌, ◌∙◌, refl, sym, ap, subst, inl, inr, ℕ, ◌+◌, ◌*◌, ◌<◌, ◌≤◌}
 use Rattle.std.proofs.Common.{Bool, true, false, cond, List, [], ◌∷◌, length, map, All, Option, Some, None, arith}
-use Rattle.std.proofs.lemmas.Bool.{cases_lt, true≢false}
+use Rattle.std.proofs.lemmas.Bool.{cases_lt}
 use Rattle.std.proofs.lemmas.List.{get_or_at, length-map}
 use Rattle.std.proofs.lemmas.List.Elements.{All-head}
 use Rattle.std.proofs.lemmas.Option.{same_Some, none-some, slice_get_within, get_or_from_slice_get}
@@ -12,7 +12,7 @@ use Rattle.prop_map.specs.declared.modifiers.Modifier.{Modifier}
 use Rattle.fkp_pages.specs.declared.kind.PageKind.TheVariants.{Chpx, Papx}
 use Rattle.fkp_pages.specs.declared.lists.Bin.{Bin}
 use Rattle.fkp_pages.specs.declared.lists.Run.{Run}
-use Rattle.fkp_pages.specs.Bin.{bin_count, IsBinTable}
+use Rattle.fkp_pages.specs.Bin.{IsBinTable}
 use Rattle.fkp_pages.specs.Rows.{IsInRun, IsRow}
 use Rattle.fkp_pages.specs.Runs.{IsWritableRun}
 use Rattle.fkp_pages.specs.PageBytes.{last_fc}
@@ -34,20 +34,21 @@ use Rattle.save_laws.proofs.FullByRuns.{slot_there}
 use Rattle.save_laws.proofs.RunPlaces.{stream_of_row, ends_with_runs, run_told, told_as, upto_last, ending_bounded}
 use Rattle.save_laws.proofs.RunPlaces.{inner_bounded}
 use Rattle.append_save.specs.Saves.{FastSave, plan_of}
-use Rattle.append_save.specs.MarkRuns.{leaves_open, longer, reached, begun, runs_end}
+use Rattle.append_save.specs.MarkRuns.{leaves_open, longer, begun, runs_end}
 use Rattle.append_save.specs.MarkEnds.{EndsWithMark}
-use Rattle.append_save.specs.Appended.{old_stream, old_bins, added_runs, added_pages, runs_begin, bins_end, page_count}
-use Rattle.append_save.specs.Appended.{fast_bins, fast_bin_table, fast_wd, fast_saved_text}
+use Rattle.append_save.specs.Appended.{old_stream, old_bins, added_runs, runs_begin, bins_end}
+use Rattle.append_save.specs.Appended.{fast_bins, fast_bin_table, fast_saved_text}
 use Rattle.append_save.specs.Kept.{CanBeAppended}
 use Rattle.append_save.specs.Answers.{IsAppended}
 use Rattle.append_save.specs.FastByRuns.{FastSavesAreBounded}
 use Rattle.append_save.proofs.AddedRuns.{text_right, text_first, kept_end_low}
 use Rattle.append_save.proofs.MarkEnds.{runs_end_with_marks}
-use Rattle.append_save.proofs.ReadyLemmas.{Ready, base_is, old_table_is, added_are, none_there, items_writable, text_small}
+use Rattle.append_save.proofs.ReadyLemmas.{Ready, base_is, old_table_is, added_are, none_there, items_writable}
+use Rattle.append_save.proofs.ReadyLemmas.{text_small}
 use Rattle.append_save.proofs.ReadyLemmas.{pages_whole}
 use Rattle.append_save.proofs.TableLemmas.{text_stands, has_ranges, bins_printable, end_small}
 use Rattle.append_save.proofs.WrittenLemmas.{Made, the_save, new_wd, have_row}
-use Rattle.append_save.proofs.StreamLengths.{sepxes, length-fast_wd, length-added}
+use Rattle.append_save.proofs.StreamLengths.{length-fast_wd, length-added}
 use Rattle.append_save.proofs.RunTransfer.{HasOldPages, HasRowPages, named_low, old_bounded, row_bounded, row_begins}
 use Rattle.append_save.proofs.RunTransfer.{row_begins_back, row_run_back, row_run}
 
@@ -198,7 +199,8 @@ module _ (m : Made) (some : 0 < length (the_save m).added) where
             omega (arith, from, low);
         to = high;
       } in
-      let upto = upto_last (new_wd m) (fast_bin_table Chpx save_here) runs number row save_here.base first.run in_first in
+      let upto = upto_last (new_wd m) (fast_bin_table Chpx save_here) runs number row save_here.base first.run
+      in_first in
       omega (arith, high, upto)
 
   held_some : (fc : ℕ) → fc < save_here.base → fc < ranges_end (new_stream m)

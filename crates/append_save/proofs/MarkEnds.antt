@@ -1,8 +1,8 @@
 -- The run of an added unit ends with it where a mark does, and beyond it where none does.
 use Rattle.std.specs.Prelude.{slice_get, is_some}
-use Rattle.std.proofs.Common.{◌≡◌, ◌⊎◌, ◌∙◌, refl, sym, ap, subst, inl, inr, ℕ, zero, suc, ◌+◌, ◌-◌, ◌*◌, ◌<◌, ◌≤◌}
+use Rattle.std.proofs.Common.{◌≡◌, ◌∙◌, refl, sym, ap, subst, inl, inr, ℕ, zero, suc, ◌+◌, ◌-◌, ◌*◌, ◌<◌, ◌≤◌}
 use Rattle.std.proofs.Common.{Bool}
-use Rattle.std.proofs.Common.{true, false, not, cond, List, [], ◌∷◌, ◌++◌, length, map, Option, Some, None, arith}
+use Rattle.std.proofs.Common.{true, false, not, cond, List, [], ◌∷◌, length, map, Option, Some, arith}
 use Rattle.std.proofs.lemmas.Bool.{cases_Bool, cases_lt, cond-true, cond-false, true≢false}
 use Rattle.std.proofs.lemmas.Option.{same_Some, none-some, slice_get_within, get_or_from_slice_get}
 use Rattle.doc_bits.proofs.ListLemmas.{get-map}
@@ -19,8 +19,8 @@ use Rattle.full_save.proofs.BodyLemmas.{last_fc-text_runs}
 use Rattle.full_save.proofs.StreamLengths.{length-runs_from}
 use Rattle.save_bounds.proofs.RunLemmas.{Leads, leads}
 use Rattle.append_save.specs.KeptBins.{kept_end}
-use Rattle.append_save.specs.MarkRuns.{is_open, leaves_open, longer, reached, begun, mark_runs}
-use Rattle.append_save.specs.MarkEnds.{EndsWithMark, RunsEndWithMarks}
+use Rattle.append_save.specs.MarkRuns.{is_open, leaves_open, longer, reached, begun}
+use Rattle.append_save.specs.MarkEnds.{RunsEndWithMarks}
 use Rattle.append_save.proofs.AddedRuns.{text_first, kept_end_low}
 use Rattle.append_save.proofs.MarkLemmas.{reached_first}
 

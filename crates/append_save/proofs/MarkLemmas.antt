@@ -1,6 +1,6 @@
 -- Runs of which the first one begins at another place, and of which the last one may hold a unit more.
-use Rattle.std.specs.Prelude.{slice_get, slice_index, is_some}
-use Rattle.std.proofs.Common.{◌≡◌, ◌∙◌, refl, sym, ap, subst, ℕ, zero, suc, ◌+◌, ◌-◌, ◌*◌, ◌^◌, ◌<◌, ◌≤◌, true, false}
+use Rattle.std.specs.Prelude.{slice_get, slice_index}
+use Rattle.std.proofs.Common.{◌≡◌, ◌∙◌, refl, sym, ap, subst, ℕ, zero, suc, ◌+◌, ◌-◌, ◌^◌, ◌<◌, ◌≤◌, true, false}
 use Rattle.std.proofs.Common.{cond}
 use Rattle.std.proofs.Common.{Bool, List, [], ◌∷◌, ◌++◌, length, map, Some, All, arith}
 use Rattle.std.proofs.lemmas.List.Elements.{All-cons, All-head, All-tail}

@@ -1,20 +1,18 @@
 -- A text that is gone through once: its runs so far, and all of them at its end.
 use Rattle.std.specs.Prelude.{slice_get, is_some}
 use Rattle.std.specs.FinMap.{empty}
-use Rattle.std.proofs.Common.{◌≡◌, ◌≢◌, ◌∙◌, refl, sym, ap, inl, inr, ℕ, suc, ◌+◌, ◌-◌, ◌*◌, ◌<◌, ◌≤◌, true, false}
-use Rattle.std.proofs.Common.{Bool, not, cond}
+use Rattle.std.proofs.Common.{◌≡◌, ◌≢◌, ◌∙◌, refl, sym, ap, inl, inr, ℕ, ◌+◌, ◌-◌, ◌*◌, true, false}
+use Rattle.std.proofs.Common.{not, cond}
 use Rattle.std.proofs.Common.{List, [], ◌∷◌, ◌++◌, length, Option, Some, None, arith, length-append}
 use Rattle.std.proofs.lemmas.Bool.{cases_Bool, true≢false}
 use Rattle.std.proofs.lemmas.Option.{none-some}
 use Rattle.doc_bits.proofs.ListLemmas.{slice_get_push}
-use Rattle.prop_map.specs.Settings.{Settings}
 use Rattle.fkp_pages.specs.declared.kind.PageKind.TheVariants.{Papx}
 use Rattle.fkp_pages.specs.declared.lists.Run.{Run}
 use Rattle.plain_doc.specs.declared.item.Mark.{Mark}
 use Rattle.plain_doc.specs.declared.item.Item.{Item}
 use Rattle.plain_doc.specs.Stretches.{stretches}
 use Rattle.full_save.specs.Runs.{joins_run, runs_from, text_runs}
-use Rattle.full_save.specs.RunsSoFar.{AreParagraphsSoFar}
 use Rattle.full_save.proofs.SoFarLemmas.{paragraphs_go_on, paragraphs_end, paragraphs_none_left, paragraphs_left}
 use Rattle.append_save.specs.declared.runs.ParagraphRuns.{ParagraphRuns}
 use Rattle.append_save.specs.MarkRuns.{is_open, leaves_open, longer, reached, begun, begin_after}

@@ -1,41 +1,33 @@
 -- What a save that can be appended has: the streams that are there, and the runs that are added.
 use Rattle.std.specs.Prelude.{slice_range}
 use Rattle.std.proofs.Common.{◌≡◌, ◌∙◌, refl, sym, ap, subst, inl, inr, ℕ, ◌+◌, ◌*◌, ◌/◌, ◌<◌, ◌≤◌, ◌^◌}
-use Rattle.std.proofs.Common.{List, [], ◌∷◌, length, All, arith}
+use Rattle.std.proofs.Common.{List, [], length, All, arith}
 use Rattle.std.proofs.lemmas.Bool.{cases_lt}
 use Rattle.std.proofs.lemmas.List.{nil_from_length}
-use Rattle.std.proofs.lemmas.List.Elements.{All-nil}
-use Rattle.std.proofs.lemmas.Option.{none-some}
-use Rattle.std.proofs.Math.Nat.{min-le_right}
-use Rattle.doc_bits.proofs.ListLemmas.{All_at, All-from_slice_get}
 use Rattle.doc_bits.specs.declared.places.Where.TheVariants.{Wd}
-use Rattle.doc_bits.specs.Plc.{plc_cp}
 use Rattle.doc_bits.specs.Rules.{Hold, Nowhere}
 use Rattle.cfb_streams.specs.Contents.{Contents}
 use Rattle.cfb_streams.specs.Names.{wd_name, table_name}
-use Rattle.fib_form.specs.Fib.{early_form, fib_pair, table_part}
-use Rattle.fib_form.specs.FibFields.{pair_at}
+use Rattle.fib_form.specs.Fib.{form_size, fib_form, fib_size, fib_pair, table_part}
+use Rattle.fib_form.specs.FibFields.{FibFields, pair_at}
 use Rattle.fib_form.specs.FibRules.{fib_rules}
+use Rattle.fib_form.proofs.FibLemmas.{form_size-least}
 use Rattle.fib_form.specs.TableParts.{pair_of}
 use Rattle.fib_form.specs.declared.table_parts.TablePart.{TablePart}
 use Rattle.fib_form.specs.declared.table_parts.TablePart.TheVariants.{PlcfBteChpx, PlcfBtePapx}
 use Rattle.fkp_pages.specs.declared.kind.PageKind.{PageKind}
 use Rattle.fkp_pages.specs.declared.kind.PageKind.TheVariants.{Chpx, Papx}
-use Rattle.fkp_pages.specs.declared.lists.Run.{Run}
-use Rattle.fkp_pages.specs.Bin.{IsBinTable, bin_count}
-use Rattle.fkp_pages.specs.Runs.{IsWritableRun, AreRuns, HasFileNumbers}
+use Rattle.fkp_pages.specs.Bin.{IsBinTable}
+use Rattle.fkp_pages.specs.Runs.{AreRuns, HasFileNumbers}
 use Rattle.fkp_pages.specs.PageBytes.{last_fc}
 use Rattle.fkp_pages.specs.Pages.{first_fc, ArePagesOf, AreWholePages}
 use Rattle.fkp_pages.proofs.PackedLemmas.{runs_have_pages}
 use Rattle.fkp_pages.proofs.WholePages.{pages_are_whole}
 use Rattle.plain_doc.specs.declared.item.Item.{Item}
-use Rattle.plain_doc.specs.Collected.{joined_texts}
-use Rattle.plain_doc.specs.Document.{IsFormedItem, IsFormedText}
+use Rattle.plain_doc.specs.Document.{IsFormedText}
 use Rattle.plain_doc.specs.Formed.{IsFormed}
 use Rattle.plain_doc.specs.RightDocument.{IsRightDocument}
-use Rattle.plain_doc.specs.RulesOfItems.{HasShortSettings}
 use Rattle.plain_doc.specs.Stretches.{stretches}
-use Rattle.plain_doc.proofs.CutLemmas.{are_stretches}
 use Rattle.plain_doc.proofs.RightLemmas.{sound_is_right}
 use Rattle.doc_load.specs.Source.{part_bytes}
 use Rattle.doc_load.specs.PairRules.{BreaksPairs}
@@ -45,9 +37,9 @@ use Rattle.doc_load.proofs.NameLemmas.{named_one}
 use Rattle.doc_load.proofs.PartLemmas.{part-inside, pair-read, table_part-empty}
 use Rattle.doc_load.proofs.RightPlaces.{bin_tables, hold_out}
 use Rattle.doc_read.proofs.ExistFits.{text_held}
-use Rattle.full_save.specs.Runs.{joins_run, runs_from, text_runs}
+use Rattle.full_save.specs.Runs.{joins_run, text_runs}
 use Rattle.full_save.proofs.BodyLemmas.{last_fc-text_runs}
-use Rattle.full_save.proofs.StretchRuns.{IsWritableItem, AreTextRuns, text_runs_right}
+use Rattle.full_save.proofs.StretchRuns.{IsWritableItem}
 use Rattle.full_save.proofs.StreamLengths.{length-runs_from}
 use Rattle.save_bounds.proofs.RunLemmas.{few_stretches}
 use Rattle.save_laws.specs.Places.{PagedStream}
@@ -57,7 +49,7 @@ use Rattle.append_save.specs.MarkRuns.{mark_runs, runs_end}
 use Rattle.append_save.specs.RenewedStreams.{bytes_named}
 use Rattle.append_save.specs.OldParts.{StaysWithin, named_part}
 use Rattle.append_save.specs.Appended.{old_wd, old_table, old_bins, old_stream, added_end, added_runs, added_pages}
-use Rattle.append_save.specs.Appended.{page_count, runs_begin, bins_end, first_page}
+use Rattle.append_save.specs.Appended.{page_count, runs_begin, bins_end, first_page, fast_fib}
 use Rattle.append_save.specs.Kept.{CanBeAppended}
 use Rattle.append_save.proofs.MarkLemmas.{AreMade, made_first, length-made, end_is}
 use Rattle.append_save.proofs.AddedRuns.{writable_items, text_right, text_first, kept_end_low, marks_made, no_text}
@@ -118,8 +110,17 @@ pub old_table_is : (kind : PageKind) (r : Ready) → IsBinTable (old_bins kind r
 old_table_is Chpx r = subst (λ (s : PagedStream). IsBinTable s.characters) (sym (stream_is r)) (bins_are r).0
 old_table_is Papx r = subst (λ (s : PagedStream). IsBinTable s.paragraphs) (sym (stream_is r)) (bins_are r).1
 
+-- the form of the FIB that is there
+pub form_is : (r : Ready) → r.save.fib.form ≡ fib_form (old_wd r.save)
+form_is r = ap (λ (fib : FibFields). fib.form) r.can.fib ∙ ap fib_form (sym (wd_is r))
+
+-- a save keeps it
+pub form_stays : (save : FastSave) (clx : List ℕ) → (fast_fib save clx).form ≡ save.fib.form
+unfolding fast_fib
+form_stays save clx = refl
+
 -- WordDocument has a FIB
-pub long_wd : (r : Ready) → early_form.size ≤ length (old_wd r.save)
+pub long_wd : (r : Ready) → form_size r.save.fib.form ≤ length (old_wd r.save)
 long_wd r =
     let has = r.can.held.has_parts in
     let h = (rules_held r).loading in
@@ -130,9 +131,11 @@ long_wd r =
     subst (λ w. Hold (wd_rules r.can.held.parts.contents w)) wd h.1.1.1 in
     let rules = hold_out Wd (fib_rules (the_text r).wd) held.0 in
     let len = ap length (wd_is r) in
-    elim (cases_lt (length (the_text r).wd) early_form.size) [
+    let size : form_size r.save.fib.form ≡ fib_size (the_text r).wd =
+    ap (λ (fib : FibFields). form_size fib.form) r.can.fib in
+    elim (cases_lt (length (the_text r).wd) (fib_size (the_text r).wd)) [
       | inl short ↦ absurd (rules.0 (length (the_text r).wd) (refl, short))
-      | inr long ↦ omega (arith, long, len)
+      | inr long ↦ omega (arith, long, len, size)
     ]
 
 -- ---- the parts of its table stream
@@ -181,7 +184,7 @@ paragraphs_named r = part_named r PlcfBtePapx (omega arith)
 -- ---- where the added text stands
 
 pub record IsBase (r : Ready) : Type 0 where
-  pub long : 900 ≤ length (old_wd r.save)
+  pub long : form_size r.save.fib.form ≤ length (old_wd r.save)
   pub behind : length (old_wd r.save) ≤ r.save.base
   pub low : 1024 ≤ r.save.base
   pub whole : r.save.base ≡ 512 * (r.save.base / 512)
@@ -193,10 +196,11 @@ base_is r =
     let len = ap length (wd_is r) in
     let base = r.can.base in
     let room = r.can.room in
+    let least = form_size-least r.save.fib.form in
     record {
       long = omega (arith, long);
       behind = omega (arith, base, len);
-      low = omega (arith, base, len, long);
+      low = omega (arith, base, len, long, least);
       whole = omega (arith, base);
       small = omega (arith, room);
     }

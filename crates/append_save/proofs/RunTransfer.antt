@@ -1,7 +1,6 @@
 -- A unit that is bounded in one stream is so in another that tells the same runs at its place and behind it.
-use Rattle.std.proofs.Common.{◌≡◌, ◌⊎◌, ◌∙◌, refl, sym, ap, subst, inl, inr, ℕ, ◌+◌, ◌*◌, ◌<◌, ◌≤◌, Bool, true, false}
+use Rattle.std.proofs.Common.{◌≡◌, ◌∙◌, sym, ap, subst, inl, inr, ℕ, ◌+◌, ◌*◌, ◌<◌, ◌≤◌, Bool, true, false}
 use Rattle.std.proofs.Common.{List, length, arith}
-use Rattle.std.specs.Prelude.{slice_index}
 use Rattle.std.proofs.lemmas.Bool.{cases_lt}
 use Rattle.doc_bits.specs.Plc.{plc_cp}
 use Rattle.fkp_pages.specs.Bin.{bin_count, IsBinTable, IsBinPage, page_at}
@@ -11,7 +10,7 @@ use Rattle.fkp_pages.proofs.BinLemmas.{bin_fcs_ascend, bin_page_one}
 use Rattle.piece_table.specs.Piece.{unit_bytes}
 use Rattle.save_laws.specs.Places.{PagedStream}
 use Rattle.save_laws.specs.KeptPages.{KeepsBytes}
-use Rattle.save_laws.specs.ByRuns.{IsRunAt, ranges_end, BeginsRun, HasBegin, EndsRun, StaysInRun, MeetsRuns, IsBounded}
+use Rattle.save_laws.specs.ByRuns.{IsRunAt, ranges_end, BeginsRun, HasBegin, StaysInRun, MeetsRuns, IsBounded}
 use Rattle.save_laws.proofs.KeptLemmas.{page_kept, named_kept}
 
 -- a place with a page is before the end of all ranges

@@ -1,7 +1,7 @@
 -- What is written behind an old stream is a fast save of the document, and the file holds its streams.
 use Rattle.std.specs.Prelude.{slice_get, slice_index, take}
 use Rattle.std.proofs.Common.{◌≡◌, ◌∙◌, refl, sym, ap, subst, inl, inr, ℕ, ◌+◌, ◌<◌, ◌≤◌, ◌^◌, cond}
-use Rattle.std.proofs.Common.{[], ◌++◌, length, map, Some, Bool, true, false, eqb, arith}
+use Rattle.std.proofs.Common.{List, [], ◌++◌, length, map, Some, Bool, true, false, eqb, arith}
 use Rattle.std.proofs.lemmas.List.{length-map}
 use Rattle.std.proofs.lemmas.Option.{slice_get_within}
 use Rattle.doc_bits.proofs.ListLemmas.{All_at, All-from_slice_get, there_is}
@@ -27,7 +27,7 @@ use Rattle.doc_read.proofs.ContentsBounds.{contents-bounded}
 use Rattle.doc_load.proofs.RightPlaces.{hold_out}
 use Rattle.doc_read.proofs.PlaceLemmas.{place_at, place_in_piece}
 use Rattle.full_save.specs.TableStream.{entries_bytes, entries_pairs}
-use Rattle.full_save.proofs.EntriesFound.{AreNumbered, plain, entry_stands}
+use Rattle.full_save.proofs.EntriesFound.{AreNumbered, plain, entry_stands, no_bookmarks}
 use Rattle.doc_bits.specs.Together.{AreTogether}
 use Rattle.fib_form.specs.declared.fib.KeptFib.{KeptFib}
 use Rattle.plain_doc.specs.declared.carried.Carried.{Carried}
@@ -46,7 +46,7 @@ use Rattle.append_save.proofs.ReadyLemmas.{Ready, the_text, wd_is, base_is, have
 use Rattle.append_save.proofs.TableLemmas.{text_stands, has_ranges}
 use Rattle.append_save.proofs.WrittenLemmas.{Made, the_save, new_wd, parts_of, wd_parts, parts_cut, places}
 use Rattle.append_save.proofs.WrittenLemmas.{table_small, short_added, length-new_wd, fib_read, kept_of, kept_is}
-use Rattle.append_save.proofs.WrittenLemmas.{keeps_pages, written_plan, sections_fit}
+use Rattle.append_save.proofs.WrittenLemmas.{allowed, keeps_pages, written_plan, sections_fit}
 use Rattle.save_laws.proofs.FullSavedLemmas.{no_levels}
 
 -- ---- the pieces can be printed
@@ -289,6 +289,15 @@ carried_are r =
     ap (λ (c : Carried). c.streams) r.can.carried
     ∙ (r.can.held.document_is.carried.streams ∙ ap (λ (c : Contents). carried_streams c.streams) (sym r.can.contents))
 
+-- no bookmarks are written
+no_bookmarks_named : (m : Made) → (fib_pair (new_wd m) 21).1 ≡ 0
+unfolding fast_fib
+no_bookmarks_named m =
+    let pairs = ap (λ (fib : FibFields). fib.pairs) (fib_read m).fields in
+    sym (ap (λ (pair : ℕ × ℕ). pair.1) (pair_at-fib_pairs (new_wd m) 21 (omega arith)))
+    ∙ (ap (λ (all : List (ℕ × ℕ)). (pair_at all 21).1) pairs ∙ no_bookmarks (fast_entries (the_save m) m.clx)
+    (allowed m))
+
 pub fast_saved : (m : Made) →
     IsFastSaved (the_save m).document (old_stream (the_save m)) (plan_of (the_save m))
     (fast_saved_text (the_save m) m.clx) (fast_table (the_save m) m.clx) (fast_contents (the_save m) m.clx)
@@ -312,6 +321,7 @@ fast_saved m =
       printable = printable r;
       clx = m.printed;
       fib = read.rules;
+      bookmarks = no_bookmarks_named m;
       counts = ap (λ (fib : FibFields). fib.ccps) read.fields;
       kept = keeps_fields m;
       parts = part_there m;

@@ -5,7 +5,7 @@ use Rattle.cfb_layout.specs.Counts.{sectors_needed}
 use Rattle.cfb_layout.specs.Layout.{lengths_of}
 use Rattle.cfb_layout.specs.Laws.{IsLayout}
 use Rattle.cfb_layout.proofs.ShorterLemmas.{no_file_shorter}
-use Rattle.fib_form.specs.Fib.{fib_pair, early_form}
+use Rattle.fib_form.specs.Fib.{fib_pair, kept_pairs}
 use Rattle.fib_form.specs.FibFields.{fib_fields}
 use Rattle.fib_form.specs.TableEntries.{entry, IsPartAt}
 use Rattle.fib_form.specs.TableParts.{pair_of}
@@ -94,7 +94,7 @@ layout_of counts save file is made =
 
 -- the pair of a part has the length of its bytes
 pair_length : (save : FastSave) (file : List ℕ) (made : IsAppended save file) (part : TablePart) (bytes : List ℕ) →
-    pair_of part < early_form.pair_count →
+    pair_of part < kept_pairs →
     IsPartAt (fast_table save made.clx) (fib_pair (fast_wd save made.clx) (pair_of part)) (entry (pair_of part) bytes) →
     (named_pair (fib_fields (fast_wd save made.clx)) part).1 ≡ length bytes
 pair_length save file made part bytes below is =

@@ -17,7 +17,7 @@ use Rattle.cfb_streams.specs.Names.{wd_name, table_name, first_table_name, secon
 use Rattle.cfb_streams.proofs.SameNameLemmas.{same_name-is}
 use Rattle.cfb_layout.specs.Sectors.{filled}
 use Rattle.cfb_layout.proofs.BytesLemmas.{length-filled}
-use Rattle.fib_form.specs.Fib.{early_form}
+use Rattle.fib_form.specs.Fib.{kept_pairs, form_size}
 use Rattle.fib_form.specs.FibFields.{FibFields}
 use Rattle.fib_form.specs.FibBytes.{written_fib}
 use Rattle.fib_form.specs.declared.table_parts.TablePart.{TablePart}
@@ -48,7 +48,7 @@ use Rattle.append_save.specs.KeptBins.{kept_bins}
 use Rattle.append_save.specs.AppendedLengths.{bin_bytes_of, IsCounted}
 use Rattle.append_save.proofs.KeptBinLemmas.{kept_are_first}
 use Rattle.append_save.proofs.ReadyLemmas.{Ready, the_text, wd_is, table_is, old_table_is, base_is, characters_within}
-use Rattle.append_save.proofs.ReadyLemmas.{paragraphs_within, characters_named, paragraphs_named}
+use Rattle.append_save.proofs.ReadyLemmas.{paragraphs_within, characters_named, paragraphs_named, form_stays}
 use Rattle.append_save.proofs.BodyLemmas.{text_and_pages, body_sizes, body_is}
 use Rattle.append_save.proofs.WrittenLemmas.{sections_fit}
 use Rattle.append_save.proofs.RunLengths.{sepxes_are_counted}
@@ -71,7 +71,7 @@ length-added r =
       size.all,
     )
 
-fib_pairs_count : (save : FastSave) (clx : List ℕ) → length (fast_fib save clx).pairs ≡ early_form.pair_count
+fib_pairs_count : (save : FastSave) (clx : List ℕ) → length (fast_fib save clx).pairs ≡ kept_pairs
 unfolding fast_fib
 fib_pairs_count save clx =
     let allowed : AreAllowed (fast_entries save clx) =
@@ -86,9 +86,11 @@ length-fast_wd r clx =
     let long = base.long in
     let behind = base.behind in
     let fib = written_fib (fast_fib r.save clx) in
-    let rest = drop early_form.size (old_wd r.save) in
-    let head = length-written_fib (fast_fib r.save clx) (fib_pairs_count r.save clx) in
-    let tail = length-drop early_form.size (old_wd r.save) in
+    let end = form_size r.save.fib.form in
+    let rest = drop end (old_wd r.save) in
+    let head : length fib ≡ end = length-written_fib (fast_fib r.save clx) (fib_pairs_count r.save clx)
+    ∙ ap form_size (form_stays r.save clx) in
+    let tail = length-drop end (old_wd r.save) in
     let both = length-append fib rest in
     let front = length-filled r.save.base 0 (fib ++ rest) (omega (arith, head, tail, both, long, behind)) in
     omega (arith, front, length-append (filled r.save.base 0 (fib ++ rest)) (added_bytes r.save))

@@ -1,6 +1,6 @@
 -- The bin tables of a save behind an old stream.
-use Rattle.std.specs.Prelude.{slice_get, slice_index}
-use Rattle.std.proofs.Common.{◌≡◌, ◌∙◌, refl, sym, ap, subst, inl, inr, ℕ, ◌+◌, ◌<◌, ◌≤◌, ◌^◌}
+use Rattle.std.specs.Prelude.{slice_index}
+use Rattle.std.proofs.Common.{◌≡◌, refl, sym, ap, subst, inl, inr, ℕ, ◌+◌, ◌<◌, ◌≤◌, ◌^◌}
 use Rattle.std.proofs.Common.{List, [], ◌∷◌, length, Some, None, Option, Bool, true, false, IsSome, ◌-◌, arith}
 use Rattle.std.proofs.lemmas.Bool.{cases_lt, true≢false}
 use Rattle.std.proofs.lemmas.List.{length-append}
@@ -26,7 +26,7 @@ use Rattle.save_laws.specs.Saves.{HasRanges}
 use Rattle.save_laws.specs.FastSaves.{StandsInEither, IsGivenBy, StandsInSession}
 use Rattle.save_laws.proofs.PlaceLemmas.{mark_before}
 use Rattle.save_laws.proofs.SlotLemmas.{main_slot}
-use Rattle.append_save.specs.Saves.{FastSave, plan_of}
+use Rattle.append_save.specs.Saves.{plan_of}
 use Rattle.append_save.specs.KeptBins.{kept_bins}
 use Rattle.append_save.specs.Appended.{old_bins, old_stream, added_runs, added_pages, first_page}
 use Rattle.append_save.specs.Appended.{runs_begin, bins_end, fast_bins, fast_bin_table}

@@ -13,11 +13,11 @@ use Rattle.doc_bits.specs.Number.{u16_at}
 use Rattle.doc_bits.specs.Rules.{Hold}
 use Rattle.cfb_layout.specs.Sectors.{units_for, filled, padded}
 use Rattle.cfb_layout.proofs.BytesLemmas.{length-filled, entry_at, filled_at}
-use Rattle.fib_form.specs.Fib.{early_form}
+use Rattle.fib_form.specs.Fib.{kept_pairs, form_size, fib_form, fib_size}
 use Rattle.fib_form.specs.FibFields.{FibFields, fib_fields, IsFib, AreCounts, IsKeptFlags}
 use Rattle.fib_form.specs.FibBytes.{written_fib}
 use Rattle.fib_form.specs.FibRules.{fib_rules}
-use Rattle.fib_form.proofs.FibLemmas.{read_back, sum-three}
+use Rattle.fib_form.proofs.FibLemmas.{read_back, sum-three, form_size-most}
 use Rattle.fib_form.proofs.WriteLemmas.{length-written_fib}
 use Rattle.fkp_pages.specs.declared.kind.PageKind.{PageKind}
 use Rattle.fkp_pages.specs.declared.kind.PageKind.TheVariants.{Chpx, Papx}
@@ -59,6 +59,7 @@ use Rattle.append_save.specs.Appended.{fast_fib, fast_wd, fast_saved_text}
 use Rattle.append_save.proofs.PlannedLemmas.{length-planned}
 use Rattle.append_save.proofs.KeptBinLemmas.{first_are_before}
 use Rattle.append_save.proofs.ReadyLemmas.{Ready, is_right, base_is, the_text, items_writable, added_are, none_there}
+use Rattle.append_save.proofs.ReadyLemmas.{form_is, form_stays}
 use Rattle.append_save.proofs.ReadyLemmas.{marks_added, pages_are, pages_whole, have_room}
 use Rattle.append_save.proofs.BodyLemmas.{body_sizes}
 use Rattle.append_save.proofs.TableLemmas.{kept_low, bins_printable, begins_there, ranges_are_kept}
@@ -79,6 +80,13 @@ new_fib m = fast_fib (the_save m) m.clx
 abbrev pub new_wd : Made → List ℕ
 new_wd m = fast_wd (the_save m) m.clx
 
+-- where the FIB ends, in the old stream and in the new one, and what stands behind it
+abbrev pub fib_len : Made → ℕ
+fib_len m = form_size (the_save m).fib.form
+
+abbrev pub old_rest : Made → List ℕ
+old_rest m = drop (fib_len m) (old_wd (the_save m))
+
 -- ---- its parts
 
 -- FIB and old bytes and zeros; units and zeros; pages of characters; pages of paragraphs; Sepxes
@@ -94,7 +102,7 @@ added_units m = map (λ (item : Item). item.unit) (the_save m).added
 
 abbrev pub parts_of : Made → Parts
 parts_of m = record {
-  front = filled (the_save m).base 0 (written_fib (new_fib m) ++ drop early_form.size (old_wd (the_save m)));
+  front = filled (the_save m).base 0 (written_fib (new_fib m) ++ old_rest m);
   text = padded 512 0 (units_bytes (added_units m));
   chp = (added_pages Chpx (the_save m)).bytes;
   pap = (added_pages Papx (the_save m)).bytes;
@@ -155,15 +163,15 @@ counts_by r =
 counts_are : (m : Made) → AreCounts (story_counts (the_save m).document (the_save m).ends)
 counts_are m = counts_by m.ready
 
-pub pairs_count : (m : Made) → length (new_fib m).pairs ≡ early_form.pair_count
+pub pairs_count : (m : Made) → length (new_fib m).pairs ≡ kept_pairs
 unfolding fast_fib
 pairs_count m = (entries_are_pairs (fast_entries (the_save m) m.clx) (allowed m)).count
 
 -- ---- how long the parts are
 
 pub record Sizes (m : Made) : Type 0 where
-  pub old : length (written_fib (new_fib m) ++ drop early_form.size (old_wd (the_save m))) ≡ length
-      (old_wd (the_save m))
+  pub fib : length (written_fib (new_fib m)) ≡ fib_len m
+  pub old : length (written_fib (new_fib m) ++ old_rest m) ≡ length (old_wd (the_save m))
   pub front : length (parts_of m).front ≡ (the_save m).base
   pub text : length (parts_of m).text ≡ 512 * ((2 * length (the_save m).added + 511) / 512)
   pub units : length (units_bytes (added_units m)) ≡ 2 * length (the_save m).added
@@ -176,16 +184,17 @@ sizes m =
     let base = base_is r in
     let long = base.long in
     let behind = base.behind in
-    let fib = length-written_fib (new_fib m) (pairs_count m) in
-    let rest = length-drop early_form.size (old_wd (the_save m)) in
-    let both = length-append (written_fib (new_fib m)) (drop early_form.size (old_wd (the_save m))) in
-    let old : length (written_fib (new_fib m) ++ drop early_form.size (old_wd (the_save m)))
-    ≡ length (old_wd (the_save m)) = omega (arith, fib, rest, both, long) in
+    let fib : length (written_fib (new_fib m)) ≡ fib_len m = length-written_fib (new_fib m) (pairs_count m)
+    ∙ ap form_size (form_stays (the_save m) m.clx) in
+    let rest = length-drop (fib_len m) (old_wd (the_save m)) in
+    let both = length-append (written_fib (new_fib m)) (old_rest m) in
+    let old : length (written_fib (new_fib m) ++ old_rest m) ≡ length (old_wd (the_save m)) =
+    omega (arith, fib, rest, both, long) in
     let body = body_sizes r in
     record {
+      fib = fib;
       old = old;
-      front = length-filled (the_save m).base 0
-          (written_fib (new_fib m) ++ drop early_form.size (old_wd (the_save m))) (omega (arith, old, behind));
+      front = length-filled (the_save m).base 0 (written_fib (new_fib m) ++ old_rest m) (omega (arith, old, behind));
       text = body.text;
       units = body.units;
       chp = (pages_whole Chpx r).size;
@@ -315,7 +324,7 @@ unfolding filled
 fib_first m =
     let save = the_save m in
     let fib = written_fib (new_fib m) in
-    let old = drop early_form.size (old_wd save) in
+    let old = old_rest m in
     let zeros = replicate (save.base - length (fib ++ old)) 0 in
     let p = parts_of m in
     let rest = p.text ++ (p.chp ++ (p.pap ++ p.sepx)) in (
@@ -342,28 +351,34 @@ bytes_kept m i low high =
     let base = base_is m.ready in
     let behind = base.behind in
     let fib = written_fib (new_fib m) in
-    let old = drop early_form.size (old_wd save) in
+    let end = fib_len m in
+    let old = old_rest m in
     let p = parts_of m in
     let rest = p.text ++ (p.chp ++ (p.pap ++ p.sepx)) in
-    let width = length-written_fib (new_fib m) (pairs_count m) in
-    let at : i ≡ length fib + (i - early_form.size) = omega (arith, width, low) in
-    let back : early_form.size + (i - early_form.size) ≡ i = omega (arith, low) in
+    let there : end ≡ fib_size (old_wd save) = ap form_size (form_is m.ready) in
+    let at : i ≡ length fib + (i - end) = omega (arith, size.fib, low, there) in
+    let back : end + (i - end) ≡ i = omega (arith, low, there) in
     let one : slice_index (new_wd m) i ≡ slice_index p.front i =
     ap (λ (wd : List ℕ). slice_index wd i) (wd_parts m)
     ∙ get_or_append_left p.front rest 0 i (omega (arith, size.front, high, behind)) in
     let two : slice_index p.front i ≡ slice_index (fib ++ old) i =
     filled_at save.base 0 (fib ++ old) i (omega (arith, size.old, high)) in
-    let three : slice_index (fib ++ old) i ≡ slice_index old (i - early_form.size) =
-    ap (slice_index (fib ++ old)) at ∙ get_or-append-add fib old (i - early_form.size) 0 in
-    let four : slice_index old (i - early_form.size) ≡ slice_index (old_wd save) i =
-    get_or-drop early_form.size (old_wd save) (i - early_form.size) 0 ∙ ap (slice_index (old_wd save)) back in
+    let three : slice_index (fib ++ old) i ≡ slice_index old (i - end) =
+    ap (slice_index (fib ++ old)) at ∙ get_or-append-add fib old (i - end) 0 in
+    let four : slice_index old (i - end) ≡ slice_index (old_wd save) i =
+    get_or-drop end (old_wd save) (i - end) 0 ∙ ap (slice_index (old_wd save)) back in
     one ∙ (two ∙ (three ∙ four))
+
+-- the FIB has the form of the old one
+form_kept : (m : Made) → fib_form (new_wd m) ≡ fib_form (old_wd (the_save m))
+form_kept m =
+    ap (λ (fib : FibFields). fib.form) (fib_read m).fields ∙ (form_stays (the_save m) m.clx ∙ form_is m.ready)
 
 pub keeps_bytes : (m : Made) → KeepsBytes (old_wd (the_save m)) (new_wd m)
 keeps_bytes m =
     let len = length-new_wd m in
     let behind = (base_is m.ready).behind in
-    record { longer = omega (arith, len, behind); bytes = bytes_kept m; fib = omega arith }
+    record { longer = omega (arith, len, behind); bytes = bytes_kept m; form = form_kept m }
 
 pub keeps_pages : (m : Made) →
     KeepsPages (old_stream (the_save m)) (fast_saved_text (the_save m) m.clx).stream (the_save m).base
@@ -515,7 +530,7 @@ written_plan m =
     let a2 = length-append p.text (p.chp ++ (p.pap ++ p.sepx)) in
     let count = length-map save.added given_of in
     record {
-      behind_fib = omega (arith, low);
+      behind_fib = omega (arith, low, form_size-most (fib_form (new_wd m)));
       within = omega (arith, len, a1, a2, count, size.front, size.text);
       units = λ k given here.
           let found = from_map given_of save.added k given here in

@@ -5,7 +5,7 @@ use Rattle.cfb_streams.specs.Contents.{NamedBytes, Contents}
 use Rattle.cfb_streams.specs.Names.{wd_name, table_name}
 use Rattle.cfb_layout.specs.Sectors.{units_for, filled, padded}
 use Rattle.cfb_layout.specs.Layout.{contents_of}
-use Rattle.fib_form.specs.Fib.{early_form, table_part}
+use Rattle.fib_form.specs.Fib.{form_size, table_part}
 use Rattle.fib_form.specs.FibFields.{FibFields}
 use Rattle.fib_form.specs.FibBytes.{written_fib}
 use Rattle.fib_form.specs.TableParts.{pair_of}
@@ -130,9 +130,10 @@ fast_table save clx = entries_bytes (fast_entries save clx)
 
 -- ---- WordDocument
 
--- [MS-DOC] FIB after one more quick save
+-- [MS-DOC] FIB after one more quick save, of the same form
 unfoldable pub fast_fib : FastSave → List ℕ → FibFields
 fast_fib save clx = record {
+  form = save.fib.form;
   kept = save.fib.kept;
   quick_saves = save.fib.quick_saves + 1;
   complex = true;
@@ -145,7 +146,8 @@ fast_fib save clx = record {
 -- the old stream with its new FIB, zeros up to the added text, and what is added
 unfoldable pub fast_wd : FastSave → List ℕ → List ℕ
 fast_wd save clx =
-    filled save.base 0 (written_fib (fast_fib save clx) ++ drop early_form.size (old_wd save)) ++ added_bytes save
+    filled save.base 0 (written_fib (fast_fib save clx) ++ drop (form_size save.fib.form) (old_wd save))
+    ++ added_bytes save
 
 -- ---- the file
 

@@ -1,5 +1,5 @@
--- Fast saves by the runs of their pages: where the units that stand in the old stream are bounded there, all are bounded
--- in the new one.
+-- Fast saves by the runs of their pages: where the units that stand in the old stream are bounded there, all are
+-- bounded in the new one.
 use Rattle.std.specs.Prelude.{◌≡◌, ◌<◌, ℕ, List, Bool, Some, slice_get}
 use Rattle.piece_table.specs.Piece.{UnitPlace, flat_pieces}
 use Rattle.plain_doc.specs.Document.{IsFormedText}

@@ -61,7 +61,7 @@ fn raised(fib: &Fib, cb_mac: u32, counts: [u32; 3], pairs: &Pairs) -> Result<Fib
 }
 
 /// The file of a document that is saved behind the `WordDocument` of a file: its bytes from the FIB on stay, what was
-/// added since stands behind them, and the FIB counts one more quick save.
+/// added since stands behind them, and the FIB keeps its form and counts one more quick save.
 pub fn append(
     alloc: Global,
     old: &SavedFile<'_>,

@@ -1,17 +1,17 @@
 // The new `WordDocument`.
 ghost use Rattle.std.specs.Prelude.{◌≡◌, ◌≤◌, ◌++◌, length, drop, replicate, OnOk, IfOk};
 ghost use Rattle.cfb_layout.specs.Sectors.{filled};
-ghost use Rattle.fib_form.specs.Fib.{early_form};
+ghost use Rattle.fib_form.specs.Fib.{form_size};
 ghost use Rattle.fib_form.specs.FibBytes.{written_fib};
 
 use doc_bits::{Bytes, Memory};
 use fib_form::Fib;
 use std::alloc::Global;
 
-/// The size of a FIB.
-const FIB_LEN: usize = 900;
+/// The most bytes of a FIB.
+const MOST_FIB_LEN: usize = 1024;
 
-/// A `WordDocument` with another FIB, zeros up to a byte, and what is added there.
+/// A `WordDocument` with another FIB of its form, zeros up to a byte, and what is added there.
 pub(crate) fn appended(
     alloc: Global,
     old: &[u8],
@@ -19,12 +19,12 @@ pub(crate) fn appended(
     base: u32,
     added: &[u8],
 ) -> Result<Bytes, Memory>
-    requires { early_form.size ≤ length old.now }
+    requires { form_size fib.now.form ≤ length old.now }
     ensures { IfOk result (λ wd. wd
-        ≡ filled base 0 (written_fib fib.now ++ drop early_form.size old.now) ++ added.now) }
+        ≡ filled base 0 (written_fib fib.now ++ drop (form_size fib.now.form) old.now) ++ added.now) }
 {
     let mut wd = written(alloc, fib)?;
-    wd.push_all(&old[FIB_LEN..])?;
+    wd.push_all(&old[fib.size() as usize..])?;
     push_zeros(&mut wd, (base as usize).saturating_sub(old.len()))?;
     wd.push_all(added)?;
     Ok(wd)
@@ -33,11 +33,11 @@ pub(crate) fn appended(
 /// The bytes of a FIB.
 fn written(alloc: Global, fib: &Fib) -> Result<Bytes, Memory>
     ensures bytes { IfOk result (λ bytes. bytes ≡ written_fib fib.now) }
-    ensures len { IfOk result (λ bytes. length bytes ≡ early_form.size) }
+    ensures len { IfOk result (λ bytes. length bytes ≡ form_size fib.now.form) }
 {
-    let mut front = [0u8; FIB_LEN];
+    let mut front = [0u8; MOST_FIB_LEN];
     fib.write(&mut front);
-    let bytes = Bytes::from_slice(alloc, &front)?;
+    let bytes = Bytes::from_slice(alloc, &front[..fib.size() as usize])?;
     Ok(bytes)
 }
 

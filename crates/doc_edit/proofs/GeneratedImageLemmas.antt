@@ -75,7 +75,8 @@ pub run_of : (seed : ℕ) (session : SessionView) (policies : List Policy) (now 
 run_of seed session policies now told is none run =
     let begun = subst (λ s. IsRunTo (start_of s policies) (generated seed) (generated seed).count now told) is run in (
       told,
-      subst (λ p. IsRunTo (start_of (session_in_full blank_document) p) (generated seed) (generated seed).count now told)
+      subst
+          (λ p. IsRunTo (start_of (session_in_full blank_document) p) (generated seed) (generated seed).count now told)
           none begun,
     )
 

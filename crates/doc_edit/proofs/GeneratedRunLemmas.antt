@@ -18,7 +18,8 @@ use Rattle.edit_ops.specs.EditFacts.{edit_facts}
 use Rattle.doc_edit.specs.Saves.{save_mode, has_mode, save_count}
 use Rattle.doc_edit.specs.States.{RunState, edited, state_after}
 use Rattle.doc_edit.specs.Commands.{command_at, state_before}
-use Rattle.edit_generator.specs.Generated.{edit_number, edit_of_rest, generated_edit, generated_count, is_generated_save}
+use Rattle.edit_generator.specs.Generated.{edit_number, edit_of_rest, generated_edit, generated_count}
+use Rattle.edit_generator.specs.Generated.{is_generated_save}
 use Rattle.edit_generator.specs.Generated.{generated_command}
 use Rattle.doc_edit.specs.Generated.{generated}
 use Rattle.doc_edit.specs.Ends.{Passes, EndsInMode}

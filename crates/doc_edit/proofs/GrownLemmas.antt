@@ -1,5 +1,6 @@
 -- How a file grows by fast saves.
 use Rattle.std.proofs.Common.{◌≡◌, ◌∙◌, sym, ap, subst, ℕ, zero, suc, ◌+◌, ◌<◌, ◌≤◌, List, length, arith}
+use Rattle.fib_form.specs.Fib.{form_size}
 use Rattle.doc_read.specs.Holds.{FileParts}
 use Rattle.doc_read.proofs.PartsOfOneFile.{file_parts_one}
 use Rattle.save_laws.specs.KeptPages.{KeepsBytes}
@@ -16,13 +17,12 @@ keeps_on : (old middle new : List ℕ) → KeepsBytes old middle → KeepsBytes 
 keeps_on old middle new first second =
     let longer = first.longer in
     let then_longer = second.longer in
-    let fib = first.fib in
-    let then_fib = second.fib in
+    let fib = ap form_size first.form in
     record {
       longer = omega (arith, longer, then_longer);
       bytes = λ i from below. second.bytes i (omega (arith, from, fib)) (omega (arith, below, longer)) ∙ first.bytes i
           from below;
-      fib = omega (arith, fib, then_fib);
+      form = second.form ∙ first.form;
     }
 
 -- no longer than it may be

@@ -4,11 +4,11 @@ use Rattle.doc_bits.specs.declared.places.Where.{Where}
 use Rattle.doc_bits.specs.declared.places.Where.TheVariants.{File, Wd, Table}
 use Rattle.doc_bits.specs.Rules.{Rules, rule, ◌then◌, given, IsSingle, Ascends}
 use Rattle.doc_bits.specs.Places.{rules_in}
-use Rattle.fib_form.specs.Fib.{fib_pair}
+use Rattle.fib_form.specs.Fib.{fib_size, fib_pair}
 use Rattle.fib_form.specs.FibFields.{fib_fields, text_length}
 use Rattle.fib_form.specs.FibRules.{fib_rules}
 use Rattle.fib_form.proofs.FibRuleLemmas.{fib_rules-IsSingle, fib_rules-Ascends}
-use Rattle.piece_table.specs.ClxRules.{clx_rules, early_bounds}
+use Rattle.piece_table.specs.ClxRules.{clx_rules, text_bounds}
 use Rattle.piece_table.proofs.ClxRuleLemmas.{clx_rules-IsSingle, clx_rules-Ascends}
 use Rattle.cfb_streams.specs.Contents.{Contents}
 use Rattle.cfb_streams.specs.Container.{container_rules, HasContents}
@@ -66,13 +66,13 @@ story_single source = (
             λ heads h. tt,
           ),
         ),
-        tt,
+        (tt, tt),
       ),
     ),
   ),
 )
 
--- the rules 33 to 56
+-- the rules 33 to 57
 part_single : (source : DocSource) → IsSingle (part_rules source)
 part_single source = (layout_single source, (format_single source, ((tt, (tt, tt)), story_single source)))
 
@@ -104,7 +104,7 @@ layout_ascends source = (
   ),
 )
 
-story_ascends : (source : DocSource) → Ascends (story_rules source) 52 57
+story_ascends : (source : DocSource) → Ascends (story_rules source) 52 58
 story_ascends source = (
   53,
   (
@@ -133,7 +133,7 @@ story_ascends source = (
                       (
                         lit≤ tt,
                         lit≤ tt,
-                        (lit≤ tt, lit< tt),
+                        (57, ((lit≤ tt, lit< tt), (lit≤ tt, lit≤ tt, (lit≤ tt, lit< tt)))),
                       ),
                     ),
                   ),
@@ -190,7 +190,7 @@ sheet_ascends source = (
   ),
 )
 
-part_ascends : (source : DocSource) → Ascends (part_rules source) 33 57
+part_ascends : (source : DocSource) → Ascends (part_rules source) 33 58
 part_ascends source = (
   39,
   (
@@ -219,8 +219,8 @@ table_single wd table =
     let at = (fib_pair wd (pair_of Clx)).0 in
     let text_len = text_length (fib_fields wd).ccps in (
       tt,
-      single_in Table (clx_rules clx at (early_bounds (length wd)) text_len) (clx_rules-IsSingle clx at
-          (early_bounds (length wd)) text_len),
+      single_in Table (clx_rules clx at (text_bounds (fib_size wd) (length wd)) text_len) (clx_rules-IsSingle clx at
+          (text_bounds (fib_size wd) (length wd)) text_len),
     )
 
 table_ascends : (wd table : List ℕ) → Ascends (table_rules wd table) 26 33
@@ -228,8 +228,8 @@ table_ascends wd table =
     let clx = clx_of wd table in
     let at = (fib_pair wd (pair_of Clx)).0 in
     let text_len = text_length (fib_fields wd).ccps in
-    let clx_up = ascends_in Table (clx_rules clx at (early_bounds (length wd)) text_len) 27 33 (clx_rules-Ascends clx
-    at (early_bounds (length wd)) text_len) in
+    let bounds = text_bounds (fib_size wd) (length wd) in
+    let clx_up = ascends_in Table (clx_rules clx at bounds text_len) 27 33 (clx_rules-Ascends clx at bounds text_len) in
     (27, ((lit≤ tt, lit< tt), (lit≤ tt, lit≤ tt, clx_up)))
 
 wd_ascends : (contents : Contents) (wd : List ℕ) → Ascends (wd_rules contents wd) 16 33
@@ -244,7 +244,7 @@ wd_ascends contents wd = (
 text_ascends : (contents : Contents) → Ascends (loading_rules contents) 15 33
 text_ascends contents = (16, ((lit≤ tt, lit< tt), (lit≤ tt, lit≤ tt, (lit≤ tt, λ wd h. wd_ascends contents wd))))
 
-contents_ascends : (contents : Contents) → Ascends (contents_rules contents) 15 57
+contents_ascends : (contents : Contents) → Ascends (contents_rules contents) 15 58
 contents_ascends contents =
     (33, (text_ascends contents, (lit≤ tt, lit≤ tt, (lit≤ tt, λ text h. part_ascends (source_of text)))))
 
@@ -285,7 +285,7 @@ file_single file = (
   ),
 )
 
-pub file_ascends : (file : List ℕ) → Ascends (file_rules file) 1 57
+pub file_ascends : (file : List ℕ) → Ascends (file_rules file) 1 58
 file_ascends file = (
   15,
   (

@@ -91,3 +91,26 @@ none_in_stretch units sections main_len from cp stop next bare before =
     (λ j h. bare j (omega arith)) (λ k above below. inner k above (omega arith)) in
     none_joined (ends_at units sections main_len) from cp (stop - 1) before
     (λ k above below. none k above (omega arith))
+
+-- the next end of a section, where none of the units before its last one ends a paragraph
+pub record IsStop (units : List ℕ) (sections : List Sed) (main_len from cp stop : ℕ) : Type 0 where
+  pub behind : cp < stop
+  pub within : stop ≤ length units
+  pub none : HasNoneIn (ends_at units sections main_len) from (stop - 1)
+  pub last :
+      (found value : Bool) → found ≡ is_paragraph_end (slice_index units (stop - 1)) true → found ≡ value →
+      ends_at units sections main_len (stop - 1) ≡ value
+
+pub stop_is : (units : List ℕ) (sections : List Sed) (main_len from cp stop : ℕ) → IsNextEnd sections main_len cp
+    stop → main_len ≤ length units → AreBare (slice_range units cp stop) (stop - cp) → HasNoneIn (ends_at units sections
+    main_len) from cp → IsStop units sections main_len from cp stop
+stop_is units sections main_len from cp stop next main bare before =
+    let behind = next.behind in
+    let within = next.within in
+    record {
+      behind = omega arith;
+      within = omega arith;
+      none = none_in_stretch units sections main_len from cp stop next bare before;
+      last = λ found value is test. ap (is_paragraph_end (slice_index units (stop - 1))) (last_unit sections main_len
+          cp stop next) ∙ (sym is ∙ test);
+    }

@@ -6,12 +6,12 @@ use Rattle.doc_bits.specs.Places.{Place, Upto, IsFirstPlace, rules_in}
 use Rattle.cfb_streams.specs.Contents.{Stream, Contents, HasNamed, HasNoNamed}
 use Rattle.cfb_streams.specs.Container.{container_rules, HasContents}
 use Rattle.cfb_streams.specs.Names.{wd_name, table_name}
-use Rattle.fib_form.specs.Fib.{fib_pair, fib_which_table, table_part}
+use Rattle.fib_form.specs.Fib.{fib_size, fib_pair, fib_which_table, table_part}
 use Rattle.fib_form.specs.FibFields.{FibFields, fib_fields, text_length}
 use Rattle.fib_form.specs.FibRules.{fib_rules}
 use Rattle.piece_table.specs.Piece.{TextPiece}
 use Rattle.piece_table.specs.Clx.{IsClx}
-use Rattle.piece_table.specs.ClxRules.{clx_rules, early_bounds}
+use Rattle.piece_table.specs.ClxRules.{clx_rules, text_bounds}
 use Rattle.fib_form.specs.declared.table_parts.TablePart.TheVariants.{Clx}
 use Rattle.doc_load.specs.PairRules.{BreaksPairs}
 use Rattle.fib_form.specs.TableParts.{pair_of}
@@ -69,7 +69,7 @@ abbrev pub table_rules : List ℕ → List ℕ → Rules Place
 table_rules wd table =
     rules_in Wd (rule 26 (BreaksPairs wd (length table)))
     then rules_in Table
-    (clx_rules (clx_of wd table) (fib_pair wd (pair_of Clx)).0 (early_bounds (length wd))
+    (clx_rules (clx_of wd table) (fib_pair wd (pair_of Clx)).0 (text_bounds (fib_size wd) (length wd))
     (text_length (fib_fields wd).ccps))
 
 -- rules 16 to 32
@@ -84,11 +84,11 @@ loading_rules contents =
     rules_in File (rule 15 (HasNoStream contents wd_name 0))
     then given (HasNamed contents.streams wd_name) (wd_rules contents)
 
--- rules 15 to 56
+-- rules 15 to 57
 abbrev pub contents_rules : Contents → Rules Place
 contents_rules contents = loading_rules contents then given (HasText contents) (λ text. part_rules (source_of text))
 
--- the rules of a file, 1 to 56
+-- the rules of a file, 1 to 57
 abbrev pub file_rules : List ℕ → Rules Place
 file_rules file = rules_in File (container_rules file) then given (HasContents file) contents_rules
 

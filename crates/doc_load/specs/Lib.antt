@@ -12,6 +12,7 @@ pub mod NoteRules
 pub mod HeadRules
 pub mod EndRules
 pub mod ListRules
+pub mod BookmarkRules
 pub mod FormatRules
 pub mod EndSearch
 pub mod SheetRules

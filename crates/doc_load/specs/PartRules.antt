@@ -17,16 +17,17 @@ use Rattle.doc_load.specs.NoteRules.{rules_of_notes, HasRefs, HasNoteCuts}
 use Rattle.doc_load.specs.HeadRules.{rules_of_heads, HasHeadCuts}
 use Rattle.doc_load.specs.EndRules.{rules_of_ends}
 use Rattle.doc_load.specs.ListRules.{rules_of_lists, HasLevels}
+use Rattle.doc_load.specs.BookmarkRules.{rules_of_bookmarks}
 
 -- the rules 33 to 38
 abbrev pub layout_rules : DocSource → Rules Place
 layout_rules source = rules_of_sections source then rules_of_bins source
 
--- the rules 52 to 56; those on the document (60 to 71) come next
+-- the rules 52 to 57; those on the document (60 to 71) come next
 abbrev pub story_rules : DocSource → Rules Place
 story_rules source =
     rules_of_fields source then rules_of_notes source then rules_of_heads source then rules_of_ends source
-    then rules_of_lists source
+    then rules_of_lists source then rules_of_bookmarks source
 
 abbrev pub part_rules : DocSource → Rules Place
 part_rules source = layout_rules source then rules_of_formats source then rules_of_sheet source then story_rules source

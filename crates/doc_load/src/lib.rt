@@ -2,6 +2,7 @@
 #![tactic(auto)]
 
 mod bins;
+mod bookmarks;
 mod fault;
 mod formats;
 mod heads;
@@ -23,6 +24,7 @@ mod text_cuts;
 mod units;
 
 pub use bins::judge_bins;
+pub use bookmarks::judge_bookmarks;
 pub use fault::{ReadFault, refused_container};
 pub use formats::judge_formats;
 pub use heads::read_heads;

@@ -170,7 +170,8 @@ fn load_table<'a>(
     }
     let pair = fib.pair(TablePart::Clx.pair());
     let clx = part_at(table, pair);
-    let pieces = match read_clx(alloc, clx, pair.0, wd.len() as u32, fib.text_len()) {
+    let wd_len = wd.len() as u32;
+    let pieces = match read_clx(alloc, clx, pair.0, wd_len, fib.text_len(), fib.size()) {
         Ok(pieces) => pieces,
         Err(fault) => return Err(refused_clx(fault)),
     };

@@ -11,9 +11,9 @@ use fib_form::Fib;
 const READ_PAIRS: [usize; 16] = [1, 2, 3, 6, 11, 12, 13, 15, 16, 17, 18, 31, 32, 33, 73, 74];
 
 /// Where the FIB has its first pair, and the bytes of a pair.
-const FIRST_PAIR: u32 = 154;
+pub(crate) const FIRST_PAIR: u32 = 154;
 
-const PAIR_LEN: u32 = 8;
+pub(crate) const PAIR_LEN: u32 = 8;
 
 /// The first pair that names a wrong part, by its place in `WordDocument`.
 pub(crate) fn wrong_pair(fib: &Fib, table_len: usize) -> Option<u32>

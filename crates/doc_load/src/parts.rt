@@ -7,8 +7,8 @@ ghost use Rattle.doc_load.specs.SheetRules.{HasSheet};
 ghost use Rattle.doc_load.specs.PartRules.{layout_rules, story_rules, part_rules, HasPartLists};
 
 use crate::{
-    Notes, ReadFault, Source, StoryFields, judge_bins, judge_ends, judge_formats, read_fields,
-    read_heads, read_levels, read_notes, read_sections, read_sheet,
+    Notes, ReadFault, Source, StoryFields, judge_bins, judge_bookmarks, judge_ends, judge_formats,
+    read_fields, read_heads, read_levels, read_notes, read_sections, read_sheet,
 };
 use doc_parts::{Cuts, Seds};
 use std::alloc::Global;
@@ -90,6 +90,7 @@ fn read_stories<'a>(
     let heads = read_heads(alloc, source, &sections)?;
     judge_ends(source, &notes.cuts, &heads)?;
     let levels = read_levels(source)?;
+    judge_bookmarks(source)?;
     Ok(DocParts {
         sections,
         sheet,

@@ -1,4 +1,4 @@
--- A file that breaks none of the rules 1 to 56 holds a document, which is well formed.
+-- A file that breaks none of the rules 1 to 57 holds a document, which is well formed.
 use Rattle.std.proofs.Common.{◌≡◌, refl, subst, ℕ, ◌-◌, ◌<◌, ◌≤◌, ◌^◌, List, length, take, arith, length-take}
 use Rattle.std.proofs.lemmas.List.{length-map}
 use Rattle.std.proofs.lemmas.List.Elements.{All-take}
@@ -146,7 +146,7 @@ document_there file contents text bytes container has texts has_text hold =
     let levels = levels-short source lists.levels parts.has.has_levels in
     let carried = carried_there contents text lists.levels bounds has_text wd (clsid_long file contents container has)
     (carried_bytes file contents source lists.levels bytes has table parts.has.has_levels)
-    (all_short source lists.levels short levels) (lists-with_levels source lists.levels hold.1.1.1.1.1.1.1
+    (all_short source lists.levels short levels) (lists-with_levels source lists.levels hold.1.1.1.1.1.1.1.0
     parts.has.has_levels)
     (carried-stored contents (contents_stored file contents bytes has)) in (
       lists,

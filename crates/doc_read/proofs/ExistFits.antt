@@ -6,11 +6,11 @@ use Rattle.doc_bits.proofs.NumberLemmas.{number_at-bound}
 use Rattle.doc_bits.specs.Number.{AreBytes}
 use Rattle.cfb_streams.specs.Contents.{Contents}
 use Rattle.cfb_streams.specs.Container.{HasContents}
-use Rattle.fib_form.specs.Fib.{fib_pair}
+use Rattle.fib_form.specs.Fib.{fib_size, fib_pair}
 use Rattle.fib_form.specs.FibFields.{fib_fields, text_length}
 use Rattle.piece_table.specs.Piece.{TextPiece, flat_pieces}
 use Rattle.piece_table.specs.Clx.{ClxParts, IsClx, clx_pieces, plc_place}
-use Rattle.piece_table.specs.ClxRules.{clx_rules, early_bounds}
+use Rattle.piece_table.specs.ClxRules.{clx_rules, text_bounds}
 use Rattle.piece_table.proofs.ClxLemmas.{parts_unique}
 use Rattle.piece_table.proofs.ClxRuleLemmas.{ascends_of}
 use Rattle.piece_table.proofs.PieceLemmas.{total_of_pieces, length-flat_pieces}
@@ -43,7 +43,7 @@ text_fits wd table pieces are h is =
     let clx = clx_of wd table in
     let at = (fib_pair wd (pair_of Clx)).0 in
     let len = text_length (fib_fields wd).ccps in
-    let rules = hold_out Table (clx_rules clx at (early_bounds (length wd)) len) h.1 in
+    let rules = hold_out Table (clx_rules clx at (text_bounds (fib_size wd) (length wd)) len) h.1 in
     let parts = rules.1.0 in
     let spelt = rules.1.1.0 in
     let same = parts_unique clx is.parts parts is.spelt spelt in

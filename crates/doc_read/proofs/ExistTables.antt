@@ -1,6 +1,6 @@
 -- The references and the field characters of tables without a wrong entry.
 use Rattle.std.proofs.Common.{◌≡◌, ◌∙◌, inr, refl, sym, ap, ℕ, ◌+◌, ◌*◌, ◌%◌, ◌<◌, Bool, true, false, cond}
-use Rattle.std.proofs.Common.{List, Some, None, arith}
+use Rattle.std.proofs.Common.{List, Some, None}
 use Rattle.std.specs.Prelude.{slice_get, slice_index}
 use Rattle.std.specs.Option.{unwrap_or}
 use Rattle.std.proofs.lemmas.Option.{slice_get_within}

@@ -34,4 +34,9 @@ pub mod KeptPlaces
 pub mod ExistFits
 pub mod ExistCuts
 pub mod ExistCarried
-pub mod BareLemmas
+pub mod BesideLemmas
+pub mod MeetLemmas
+pub mod CutLemmas
+mod FrontLemmas
+mod PartsLemmas
+pub mod ShortStreams

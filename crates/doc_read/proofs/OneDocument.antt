@@ -1,5 +1,5 @@
 -- A file holds one document, and names one first broken rule.
-use Rattle.std.proofs.Common.{◌≡◌, ◌∙◌, ◌-◌, ◌≤◌, arith, sym, subst, ap, ℕ, List, [], ◌∷◌, length, lit≤}
+use Rattle.std.proofs.Common.{◌≡◌, ◌∙◌, ◌-◌, sym, subst, ap, ℕ, List, [], ◌∷◌, length, lit≤}
 use Rattle.std.proofs.Props.{props}
 use Rattle.doc_bits.specs.Rules.{Hold, IsSingle, Ascends}
 use Rattle.doc_bits.proofs.RuleLemmas.{ascends_wider}
@@ -169,7 +169,7 @@ all_single file =
 
 pub all_ascend : (file : List ℕ) → Ascends (all_rules file) 1 72
 all_ascend file = (
-  57,
+  58,
   (
     file_ascends file,
     (
@@ -178,7 +178,7 @@ all_ascend file = (
       (
         lit≤ tt,
         λ document h. ascends_wider (document_rules document) 60 72
-            57 72 (lit≤ tt) (lit≤ tt) (document_rules-Ascends document),
+            58 72 (lit≤ tt) (lit≤ tt) (document_rules-Ascends document),
       ),
     ),
   ),

@@ -3,7 +3,7 @@ use Rattle.std.proofs.Common.{◌≡◌, ◌∙◌, ap, ℕ, ◌<◌, ◌≤◌,
 use Rattle.std.proofs.Common.{slice_get, Some, flat_map, arith, get_or-take}
 use Rattle.std.specs.Prelude.{slice_index, slice_range}
 use Rattle.std.proofs.lemmas.Option.{slice_get_within, slice_get-get_or, get_or_from_slice_get}
-use Rattle.std.proofs.lemmas.List.{drop-drop, get_or-map, get_or-drop}
+use Rattle.std.proofs.lemmas.List.{get_or-map, get_or-drop}
 use Rattle.std.proofs.lemmas.List.Concat.{get_or-flat_map}
 use Rattle.piece_table.specs.Piece.{TextPiece, UnitPlace, unit_bytes, unit_places, flat_pieces, place_of_cp}
 use Rattle.piece_table.specs.Piece.{total_length}
@@ -50,17 +50,9 @@ pub range_at : (xs : List ℕ) (from to k : ℕ) → k < to - from →
     slice_index (slice_range xs from to) k ≡ slice_index xs (from + k)
 range_at xs from to k below = get_or-take (to - from) (drop from xs) k 0 below ∙ get_or-drop from xs k 0
 
--- a part of a list that begins at a CP: what stands in it, and some of it
+-- what stands in a part of a list that begins at a CP
 pub part_at : (all part : List ℕ) (begin cp : ℕ) → begin ≤ cp → part ≡ drop begin all →
     slice_index part (cp - begin) ≡ slice_index all cp
 part_at all part begin cp behind is =
     let there : begin + (cp - begin) ≡ cp = omega (arith, behind) in
     ap (λ l. slice_index l (cp - begin)) is ∙ (get_or-drop begin all (cp - begin) 0 ∙ ap (λ n. slice_index all n) there)
-
-pub part_range : (all part : List ℕ) (begin from len : ℕ) → begin ≤ from → part ≡ drop begin all →
-    take len (drop (from - begin) part) ≡ slice_range all from (from + len)
-part_range all part begin from len behind is =
-    let there : begin + (from - begin) ≡ from = omega (arith, behind) in
-    let count : len ≡ from + len - from = omega arith in
-    ap (λ l. take len (drop (from - begin) l)) is ∙ (ap (take len) (drop-drop (from - begin) begin all
-    ∙ ap (λ n. drop n all) there) ∙ ap (λ n. take n (drop from all)) count)

@@ -1,17 +1,14 @@
 -- The items that were read are those of the text.
-use Rattle.std.proofs.Common.{◌≡◌, ◌∙◌, sym, ap, subst, inl, inr, refl, zero-add, ℕ, ◌<◌, ◌≤◌, ◌+◌, ◌-◌, Bool}
-use Rattle.std.proofs.Common.{true, false, List, length, map, take, Option, Some, None, slice_get, min, arith}
+use Rattle.std.proofs.Common.{◌≡◌, ◌∙◌, sym, ap, subst, inl, inr, zero-add, ℕ, ◌<◌, ◌≤◌, ◌+◌, ◌-◌}
+use Rattle.std.proofs.Common.{List, length, map, take, Some, slice_get, min, arith}
 use Rattle.std.specs.Prelude.{slice_index, is_some}
 use Rattle.std.proofs.lemmas.Bool.{cases_lt}
 use Rattle.std.proofs.lemmas.List.{length-take}
 use Rattle.std.proofs.lemmas.Option.{slice_get_within}
-use Rattle.std.specs.Option.{option_map}
 use Rattle.prop_map.specs.Settings.{Settings}
-use Rattle.prop_map.specs.declared.modifiers.Modifier.{Modifier}
 use Rattle.direct_props.specs.Direct.{IsDirectCharacter}
 use Rattle.piece_table.specs.Piece.{TextPiece, UnitPlace, flat_pieces, total_length}
 use Rattle.plain_doc.specs.declared.item.Item.{Item}
-use Rattle.plain_doc.specs.declared.item.Mark.{Mark}
 use Rattle.fib_form.specs.declared.table_parts.TablePart.TheVariants.{PlcfBteChpx, PlcfBtePapx}
 use Rattle.doc_load.specs.Units.{unit_at}
 use Rattle.doc_load.specs.Source.{DocSource, part_bytes}

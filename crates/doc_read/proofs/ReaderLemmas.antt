@@ -6,7 +6,6 @@ use Rattle.std.proofs.lemmas.Option.{slice_get_read, slice_get_within}
 use Rattle.std.proofs.lemmas.List.Elements.{All-set}
 use Rattle.std.proofs.Math.ListN.{set}
 use Rattle.doc_bits.proofs.ListLemmas.{All_at, slice_get_push}
-use Rattle.prop_map.specs.Settings.{Settings}
 use Rattle.prop_map.specs.declared.modifiers.Modifier.{Modifier}
 use Rattle.fkp_pages.specs.declared.kind.PageKind.{PageKind}
 use Rattle.fkp_pages.specs.declared.kind.PageKind.TheVariants.{Chpx}

@@ -20,6 +20,11 @@ carried_streams streams =
     map (λ stream. record { name = stream.name; bytes = stream.bytes })
     (filter (λ stream. is_carried stream.name) streams)
 
+-- each stream is no longer than the longest file
+abbrev pub AreShortStreams : List NamedBytes → Type 0
+AreShortStreams streams =
+    (i : ℕ) (stream : NamedBytes) → slice_get streams i ≡ Some stream → length stream.bytes ≤ 7143936
+
 -- streams that a container may have: their names ascend, have 1 to 31 units, and are fewer than the entries of a
 -- directory; each is no longer than the longest file
 pub record AreWithinBounds (contents : Contents) : Type 0 where

@@ -61,7 +61,7 @@ pub record IsDocumentFrom (contents : Contents) (text : FileText) (lists : PartL
   pub document_is :
       IsDocumentOf (record { contents = contents; text = text; lists = lists; sections = sections }) document
 
--- the document that a file holds, which breaks none of the rules 1 to 56
+-- the document that a file holds, which breaks none of the rules 1 to 57
 pub record HoldsDocument (file : List ℕ) (document : Document) : Type 0 where
   pub rules : Hold (file_rules file)
   pub parts : FileParts

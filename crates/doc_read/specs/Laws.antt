@@ -5,13 +5,14 @@ use Rattle.doc_bits.specs.Places.{Place, Upto, IsFirstPlace}
 use Rattle.plain_doc.specs.declared.document.Document.{Document}
 use Rattle.plain_doc.specs.Formed.{IsFormed}
 use Rattle.doc_load.specs.FileRules.{file_rules}
+use Rattle.doc_read.specs.CarriedParts.{AreShortStreams}
 use Rattle.doc_read.specs.Holds.{HoldsDocument, all_rules}
 
 -- a file holds at most one document
 abbrev pub DocumentIsOne : Type 0
 DocumentIsOne = (file : List ℕ) (one other : Document) → HoldsDocument file one → HoldsDocument file other → one ≡ other
 
--- a file of bytes that breaks none of the rules 1 to 56 holds a document, which is well formed
+-- a file of bytes that breaks none of the rules 1 to 57 holds a document, which is well formed
 pub record HoldsFormed (file : List ℕ) : Type 0 where
   pub document : Document
   pub holds : HoldsDocument file document
@@ -25,3 +26,8 @@ abbrev pub FirstFaultIsLeast : Type 0
 FirstFaultIsLeast =
     (file : List ℕ) (number : ℕ) (place : Place) → IsFirstPlace (all_rules file) number place →
     IsLeastOfAll Upto (Breaks (all_rules file)) number place
+
+-- a document that a file holds carries streams that are no longer than the longest file
+abbrev pub CarriedStreamsAreShort : Type 0
+CarriedStreamsAreShort =
+    (file : List ℕ) (document : Document) → HoldsDocument file document → AreShortStreams document.carried.streams

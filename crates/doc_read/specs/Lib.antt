@@ -3,6 +3,10 @@ pub mod Marked
 pub mod Passing
 pub mod Reading
 pub mod Items
+pub mod Beside
+pub mod Walk
+pub mod ReadParts
+pub mod ReadTexts
 pub mod Texts
 pub mod CarriedParts
 pub mod Holds

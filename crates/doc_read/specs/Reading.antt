@@ -1,5 +1,5 @@
 -- What the items of a text are read from, as lists by CP, and what is read at each CP.
-use Rattle.std.specs.Prelude.{◌≡◌, ℕ, ◌+◌, ◌<◌, ◌≤◌, ◌^◌, Bool, List, length, map, zip, All, is_some, slice_get}
+use Rattle.std.specs.Prelude.{◌≡◌, ℕ, ◌<◌, ◌≤◌, ◌^◌, Bool, List, length, map, zip, All, is_some, slice_get}
 use Rattle.std.specs.Prelude.{slice_index, Option, Some, IsTrue, drop}
 use Rattle.prop_map.specs.Settings.{Settings}
 use Rattle.prop_map.specs.declared.modifiers.Modifier.{Modifier}
@@ -19,7 +19,6 @@ use Rattle.text_codes.specs.Paragraph.{is_paragraph_end}
 use Rattle.doc_load.specs.PartRules.{PartLists}
 use Rattle.doc_read.specs.declared.marked.TextMarks.{TextMarks}
 use Rattle.doc_read.specs.declared.reading.TextSource.{TextSource}
-use Rattle.doc_read.specs.declared.reading.TextPart.{TextPart}
 use Rattle.doc_read.specs.declared.reading.PieceReader.{PieceReader}
 use Rattle.doc_read.specs.declared.reading.Passed.{Passed}
 use Rattle.plain_doc.specs.Entries.{entry_at}
@@ -74,10 +73,6 @@ text_view text = record {
   maps = text.maps.now;
 }
 
--- the places of a part are those of its text from a CP on
-abbrev pub IsTextPart : TextPart → Type 0
-IsTextPart part = part.places ≡ drop part.from part.text.now.places
-
 -- what stands at a CP
 abbrev pub field_at : MarkLists → ℕ → Option ℕ
 field_at marks cp = entry_at (zip marks.field_cps marks.field_bytes) cp
@@ -109,6 +104,16 @@ pub record IsReadable (view : TextView) : Type 0 where
   pub sections : AreListed view.marks.section_cps view.maps
   pub formed : All (IsPropertyMap section_groups) view.maps
 
+-- a text from a CP on
+pub record TextRest : Type 0 where
+  pub view : TextView
+  pub from : ℕ
+
+-- the text can be read, and the places are those of its units from the CP on
+pub record IsTextPart (view : TextView) (from : ℕ) (places : List ℕ) : Type 0 where
+  pub readable : IsReadable view
+  pub places_are : places ≡ drop from view.places
+
 -- a reader of the characters and the marks of this text, for pieces with one modifier
 pub record IsPieceReader (view : TextView) (reader : PieceReader) : Type 0 where
   pub characters :
@@ -134,19 +139,10 @@ pub record ArePassed (marks : MarkLists) (passed : Passed) (cp : ℕ) : Type 0 w
   pub notes : IsPassed marks.note_cps passed.note cp
   pub sections : IsPassed marks.section_cps passed.section cp
 
--- each CP from one on, up to the next where something stands, is passed as they are
-abbrev pub AreBareUntil : MarkLists → Passed → ℕ → Type 0
-AreBareUntil marks passed cp = (at : ℕ) → cp ≤ at → at ≤ passed.until → ArePassed marks passed at
-
 -- the settings of the characters of a CP, in a piece with the modifier
 pub record IsReadCharacter (view : TextView) (modifier : Modifier) (cp : ℕ) (chp : Settings) : Type 0 where
   pub is : IsDirectCharacter view.wd view.characters (slice_index view.places cp) modifier chp
   pub formed : IsPropertyMap character_groups chp
-
--- those from a CP on
-abbrev pub AreCharactersFrom : TextView → Modifier → ℕ → List Settings → Type 0
-AreCharactersFrom view modifier from chps =
-    (j : ℕ) (chp : Settings) → slice_get chps j ≡ Some chp → IsReadCharacter view modifier (from + j) chp
 
 -- the item of a CP, in a piece with the modifier
 pub record IsReadAt (view : TextView) (modifier : Modifier) (cp : ℕ) (item : Item) : Type 0 where

@@ -1,60 +1,152 @@
-// The document of the parts of a file.
-ghost use Rattle.std.specs.Prelude.{IfOk};
+// The document of the parts of a file, by columns. What borrows from its text is read before the units are taken over.
+ghost use Rattle.std.specs.Prelude.{◌≡◌, ◌≤◌, length, take, IfOk};
 ghost use Rattle.doc_bits.specs.Rules.{Hold};
 ghost use Rattle.doc_load.specs.PartRules.{part_rules, HasPartLists};
 ghost use Rattle.doc_load.specs.FileRules.{HasText, source_of};
 ghost use Rattle.doc_read.specs.CarriedParts.{AreWithinBounds};
-ghost use Rattle.doc_read.specs.Holds.{IsDocumentFrom};
+ghost use Rattle.doc_read.specs.ReadParts.{AreDocumentParts, FitUnits};
+ghost use Rattle.doc_read.specs.ReadTexts.{AreCutsOf, AreTextsOf, IsDocumentWith};
 
 use crate::carried::read_carried;
-use crate::items::read_items;
+use crate::columns::{ReadColumns, read_columns};
 use crate::sections::read_section_maps;
-use crate::texts::cut_texts;
+use crate::texts::cut_columns;
 use cfb_streams::Container;
 use doc_bits::Memory;
+use doc_columns::{ColumnDocument, ColumnTexts, Columns};
 use doc_load::{DocParts, LoadedText};
-use fib_form::StoryKind;
-use plain_doc::{Document, HEADS_A_SECTION, SEPARATORS};
+use doc_parts::Cuts;
+use fib_form::{Fib, StoryKind};
+use plain_doc::{Carried, HEADS_A_SECTION, SEPARATORS};
 use std::alloc::Global;
+use style_sheet::StyleSheet;
 
-/// Reads the document of a file whose parts have been read.
-pub(crate) fn read_document(
+/// Where the notes and the header texts are cut, and how many header texts there are.
+#[derive(Drop)]
+struct StoryCuts {
+    notes: Cuts,
+    heads: Cuts,
+    head_count: usize,
+}
+
+/// What a document is made of, but for the units of its text.
+#[derive(Drop)]
+pub(crate) struct DocumentParts {
+    columns: ReadColumns,
+    cuts: StoryCuts,
+    sheet: StyleSheet,
+    carried: Carried,
+}
+
+/// The texts of a document.
+#[derive(Drop)]
+struct ReadTexts {
+    main: Columns,
+    notes: ColumnTexts,
+    heads: ColumnTexts,
+}
+
+/// Reads what the document of a file is made of, whose parts have been read.
+pub(crate) fn read_document_parts(
     alloc: Global,
     container: &Container,
     text: &LoadedText<'_>,
     parts: DocParts<'_>,
-) -> Result<Document, Memory>
+) -> Result<DocumentParts, Memory>
     requires bounds { AreWithinBounds container.now }
     requires text { HasText container.now text.now }
     requires rules { Hold (part_rules (source_of text.now)) }
     requires lists { HasPartLists (source_of text.now) parts }
-    ensures { IfOk result (IsDocumentFrom container.now text.now parts.entry) }
+    ensures { IfOk result (AreDocumentParts container.now text.now parts.entry) }
 {
     let sections = read_section_maps(alloc, text, &parts.sections)?;
     let carried = read_carried(alloc, container, text, &parts)?;
-    let mut main = read_items(alloc, text, &parts, &sections)?;
-    let fib = text.fib();
-    let count = SEPARATORS + HEADS_A_SECTION * parts.sections.len();
-    let notes = cut_texts(
-        alloc,
-        &main,
-        fib.story_begin(StoryKind::Notes),
-        &parts.notes.cuts,
-        parts.notes.cuts.len().saturating_sub(1),
-    )?;
-    let heads = cut_texts(
-        alloc,
-        &main,
-        fib.story_begin(StoryKind::Heads),
-        &parts.heads,
-        count,
-    )?;
-    main.truncate(fib.story_len(StoryKind::Main) as usize);
-    Ok(Document {
-        main,
-        notes,
-        heads,
+    let columns = read_columns(alloc, text, &parts, &sections)?;
+    let head_count = SEPARATORS + HEADS_A_SECTION * parts.sections.len();
+    let notes = parts.notes;
+    Ok(DocumentParts {
+        columns,
+        cuts: StoryCuts {
+            notes: notes.cuts,
+            heads: parts.heads,
+            head_count,
+        },
         sheet: parts.sheet,
         carried,
     })
+}
+
+/// The document of its parts and of the units of its text, which it takes over.
+pub(crate) fn document_with(
+    alloc: Global,
+    fib: &Fib,
+    units: Vec<u16>,
+    parts: DocumentParts,
+) -> Result<ColumnDocument, Memory>
+    requires units { FitUnits units.items parts.columns }
+    requires cuts { AreCutsOf fib.now parts.cuts (length units.items) }
+    ensures { IfOk result (IsDocumentWith fib.now units.items parts) }
+{
+    let DocumentParts {
+        columns,
+        cuts,
+        sheet,
+        carried,
+    } = parts;
+    let all = Columns::from_parts(units, columns.chps, columns.besides);
+    let texts = read_texts(alloc, fib, all, &cuts)?;
+    Ok(document_of(texts, sheet, carried))
+}
+
+/// Cuts the text into the texts of the document.
+fn read_texts(alloc: Global, fib: &Fib, all: Columns, cuts: &StoryCuts) -> Result<ReadTexts, Memory>
+    requires { AreCutsOf fib.now cuts.now (length all) }
+    ensures { IfOk result (AreTextsOf fib.now cuts.now all) }
+{
+    let notes = cut_columns(
+        alloc,
+        &all,
+        fib.story_begin(StoryKind::Notes),
+        &cuts.notes,
+        cuts.notes.len().saturating_sub(1),
+    )?;
+    let heads = cut_columns(
+        alloc,
+        &all,
+        fib.story_begin(StoryKind::Heads),
+        &cuts.heads,
+        cuts.head_count,
+    )?;
+    let main = front(alloc, all, fib.story_len(StoryKind::Main) as usize)?;
+    Ok(ReadTexts { main, notes, heads })
+}
+
+/// The first items of a text. None is moved.
+fn front(alloc: Global, text: Columns, len: usize) -> Result<Columns, Memory>
+    requires { len ≤ length text }
+    ensures { IfOk result (λ front. front ≡ take len text) }
+{
+    let all = text.len();
+    let front = text.splice(alloc, len, all, Columns::new(alloc))?;
+    Ok(front)
+}
+
+/// The document of its parts. It takes no memory.
+fn document_of(texts: ReadTexts, sheet: StyleSheet, carried: Carried) -> ColumnDocument
+    ensures { result ≡ record {
+      main = texts.main;
+      notes = texts.notes;
+      heads = texts.heads;
+      sheet = sheet;
+      carried = carried;
+    } }
+{
+    let ReadTexts { main, notes, heads } = texts;
+    ColumnDocument {
+        main,
+        notes,
+        heads,
+        sheet,
+        carried,
+    }
 }

@@ -1,5 +1,6 @@
 // Laws over the definitions alone.
 ghost use Rattle.doc_read.specs.Laws.{DocumentIsOne, FirstFaultIsLeast, FilesHoldDocuments};
+ghost use Rattle.doc_read.specs.Laws.{CarriedStreamsAreShort};
 
 /// A file holds at most one document.
 pub fn document_is_one()
@@ -11,7 +12,12 @@ pub fn first_fault_is_least()
     ensures { FirstFaultIsLeast }
 {}
 
-/// A file of bytes that breaks none of the rules 1 to 56 holds a document, which is well formed.
+/// A file of bytes that breaks none of the rules 1 to 57 holds a document, which is well formed.
 pub fn files_hold_documents()
     ensures { FilesHoldDocuments }
+{}
+
+/// A document that a file holds carries streams that are no longer than the longest file.
+pub fn carried_streams_are_short()
+    ensures { CarriedStreamsAreShort }
 {}

@@ -10,8 +10,8 @@ ghost use Rattle.doc_read.specs.Marked.{note_kind};
 ghost use Rattle.doc_read.specs.Passing.{AreListed, IsPassed};
 ghost use Rattle.doc_read.specs.Reading.{AreMarksOf, mark_lists, field_at, note_at, section_at};
 
-use crate::SectionMaps;
 use crate::entries::step;
+use crate::sections::SectionMaps;
 use doc_bits::Memory;
 use doc_load::{DocParts, Source};
 use doc_parts::{Flds, Refs, Seds};

@@ -1,22 +1,16 @@
-// Reading a whole file.
-ghost use Rattle.std.specs.Prelude.{◌≡◌, MatchResult};
-ghost use Rattle.doc_bits.specs.declared.places.Where.TheVariants.{File};
-ghost use Rattle.doc_bits.specs.Rules.{Hold};
-ghost use Rattle.doc_bits.specs.Places.{rules_in};
-ghost use Rattle.cfb_streams.specs.Container.{container_rules, HasContents};
-ghost use Rattle.plain_doc.specs.Sound.{IsSound, document_rules};
+// Reading a whole file into a plain document.
+ghost use Rattle.std.specs.Prelude.{◌≡◌, IfOk, MatchResult};
 ghost use Rattle.doc_load.specs.Faults.{IsReadFault};
-ghost use Rattle.doc_load.specs.FileRules.{contents_rules};
-ghost use Rattle.doc_read.specs.CarriedParts.{AreWithinBounds};
 ghost use Rattle.doc_read.specs.Holds.{all_rules};
-ghost use Rattle.doc_read.specs.Opened.{IsFoundIn, IsOpened};
+ghost use Rattle.doc_read.specs.Opened.{IsOpened};
 
-use crate::document::read_document;
+use crate::column_file::{ColumnFile, open};
 use cfb_streams::Container;
-use doc_load::{ReadFault, load_text, read_parts, refused_container};
+use doc_bits::Memory;
+use doc_load::ReadFault;
 use fib_form::Fib;
 use piece_table::PieceList;
-use plain_doc::{Document, check};
+use plain_doc::Document;
 use std::alloc::Global;
 use std::marker::Model;
 
@@ -91,70 +85,22 @@ impl Opened {
 pub fn read(alloc: Global, file: &[u8]) -> Result<Opened, ReadFault>
     ensures { MatchResult result (IsOpened file.now) (IsReadFault (all_rules file.now)) }
 {
-    let container = load(alloc, file)?;
-    let found = read_contents(alloc, &container)?;
-    judge(&found.document)?;
+    let found = open(alloc, file)?;
+    let opened = expand(alloc, found)?;
+    Ok(opened)
+}
+
+/// The file with its document item by item. Maps and styles are shared.
+fn expand(alloc: Global, file: ColumnFile) -> Result<Opened, Memory>
+    ensures { IfOk result (λ opened. opened ≡ file) }
+{
+    let document = file.document().expand(alloc)?;
+    let (columns, fib, container, pieces) = file.into_parts();
+    drop(columns);
     Ok(Opened {
-        document: found.document,
-        fib: found.fib,
-        container,
-        pieces: found.pieces,
-    })
-}
-
-/// The streams of a file.
-pub fn load(alloc: Global, file: &[u8]) -> Result<Container, ReadFault>
-    ensures { MatchResult result
-        (λ container. Hold (rules_in File (container_rules file.now)) × HasContents file.now container
-        × AreWithinBounds container)
-        (IsReadFault (rules_in File (container_rules file.now))) }
-{
-    match Container::load(alloc, file) {
-        Ok(container) => Ok(container),
-        Err(fault) => Err(refused_container(fault)),
-    }
-}
-
-/// What is read from the streams of a file.
-#[derive(Drop)]
-struct Found {
-    document: Document,
-    fib: Fib,
-    pieces: PieceList,
-}
-
-/// Reads the streams of a file.
-fn read_contents(alloc: Global, container: &Container) -> Result<Found, ReadFault>
-    requires { AreWithinBounds container.now }
-    ensures { MatchResult result
-        (λ found. Hold (contents_rules container.now)
-        × IsFoundIn container.now found.document found.fib found.pieces.pieces)
-        (IsReadFault (contents_rules container.now)) }
-{
-    let text = load_text(alloc, container)?;
-    let source = text.source();
-    let parts = read_parts(alloc, &source)?;
-    let document = read_document(alloc, container, &text, parts)?;
-    let (fib, pieces) = text.into_parts();
-    Ok(Found {
         document,
         fib,
+        container,
         pieces,
     })
-}
-
-/// Judges a document by the rules on documents.
-fn judge(document: &Document) -> Result<(), ReadFault>
-    ensures { MatchResult result
-        (λ _. IsSound document.now)
-        (IsReadFault (document_rules document.now)) }
-{
-    match check(document) {
-        Ok(()) => Ok(()),
-        Err(fault) => Err(ReadFault::Refused {
-            rule: fault.rule,
-            place: fault.place,
-            offset: fault.at,
-        }),
-    }
 }

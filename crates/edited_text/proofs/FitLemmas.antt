@@ -1,18 +1,17 @@
 -- The modifiers of places on which one more modifier acts: they fit the pages, and are not longer than both.
-use Rattle.std.specs.Prelude.{slice_get, slice_range, List, ℕ, IsSome}
+use Rattle.std.specs.Prelude.{slice_range, List, ℕ, IsSome}
 use Rattle.std.specs.List.{All, AllZip}
 use Rattle.std.specs.Option.{option_map, ForSome}
 use Rattle.std.specs.FinMap.{empty}
-use Rattle.std.proofs.Common.{◌≡◌, ◌∙◌, ◌⊎◌, ◌++◌, ◌∷◌, ◌+◌, ◌-◌, ◌<◌, ◌≤◌, [], refl, sym, ap, subst, zero, suc, inl}
+use Rattle.std.proofs.Common.{◌≡◌, ◌∙◌, ◌⊎◌, ◌++◌, ◌+◌, ◌-◌, ◌<◌, ◌≤◌, refl, sym, ap, subst, inl}
 use Rattle.std.proofs.Common.{inr, Bool, false}
 use Rattle.std.proofs.Common.{Option, Some, None, length, map, take, drop, arith}
-use Rattle.std.proofs.lemmas.Option.{same_Some, none-some, slice_get_within}
+use Rattle.std.proofs.lemmas.Option.{slice_get_within}
 use Rattle.std.proofs.lemmas.List.{take-append-drop}
 use Rattle.std.proofs.lemmas.List.Folds.{drop_split}
 use Rattle.std.proofs.lemmas.List.Elements.{All-append}
 use Rattle.doc_bits.specs.Together.{AreTogether}
 use Rattle.doc_bits.proofs.ListLemmas.{All_at, All-from_slice_get, from_map, there_is}
-use Rattle.doc_bits.proofs.TogetherLemmas.{Beside}
 use Rattle.prop_map.specs.declared.modifiers.Modifier.{Modifier}
 use Rattle.prop_map.specs.Settings.{Settings}
 use Rattle.prop_map.specs.Printing.{printed_list}

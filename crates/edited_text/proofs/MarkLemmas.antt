@@ -1,11 +1,11 @@
 -- A splice of the notes or of the header texts splices the whole text.
 use Rattle.std.specs.Prelude.{slice_set, List, ℕ}
-use Rattle.std.specs.List.{splice, drop-map, take-map}
+use Rattle.std.specs.List.{splice}
 use Rattle.std.proofs.Common.{◌≡◌, ◌∙◌, ◌++◌, ◌∷◌, ◌+◌, ◌≤◌, [], refl, sym, ap, subst, suc, Bool, true}
 use Rattle.std.proofs.Common.{false}
 use Rattle.std.proofs.Common.{length, map, take, drop, arith}
-use Rattle.std.proofs.lemmas.List.{length-map, length-append, length-take, length-drop, take-append-drop, map-append}
-use Rattle.std.proofs.lemmas.List.{take-append-le, drop-append-le, append_assoc, append-nil}
+use Rattle.std.proofs.lemmas.List.{length-map, length-append, length-take, length-drop, take-append-drop}
+use Rattle.std.proofs.lemmas.List.{take-append-le, append_assoc, append-nil}
 use Rattle.plain_doc.specs.declared.item.Item.{Item}
 use Rattle.plain_doc.specs.Collected.{joined_texts}
 use Rattle.save_laws.specs.Slots.{Slot, shown, loose, last, loose_if, note_slots, head_slots, last_slots}

@@ -14,7 +14,6 @@ use Rattle.edit_ops.specs.declared.changes.Change.TheVariants.{SpliceText, Modif
 use Rattle.edit_ops.specs.declared.changes.Change.TheVariants.{SpliceHeads, SetStyleCharacters, SetStyleParagraphs}
 use Rattle.edit_ops.specs.Changes.{changed, changed_at, with_section}
 use Rattle.edit_ops.specs.Makes.{CanSplice}
-use Rattle.edit_ops.specs.Ranges.{HasRange}
 use Rattle.save_laws.specs.Places.{Given, given_of}
 use Rattle.save_laws.specs.ByRuns.{slot_end}
 use Rattle.save_laws.specs.Slots.{Slot, StoryEnds, shown, note_slots, head_slots, last_slots, whole_text}
@@ -181,11 +180,6 @@ pub range_there : (o : Option (List Item)) (from to : ℕ) (fresh : List Item) �
     MatchOption o ⊥ (CanSplice from to fresh) → MatchOption o ⊥ (IsRangeOf from to)
 range_there None from to fresh has = has
 range_there (Some text) from to fresh has = record { order = has.ordered; within = has.within }
-
-pub some_range : (o : Option (List Item)) (from to : ℕ) → MatchOption o ⊥ (HasRange from to) →
-    MatchOption o ⊥ (IsRangeOf from to)
-some_range None from to has = has
-some_range (Some text) from to has = record { order = omega (arith, has.0); within = has.1 }
 
 counted_text : (count : ℕ) (texts other : List (List Item)) (number from to : ℕ) (fresh : List Item) →
     count ≡ length (joined_texts other) → other ≡ texts →

@@ -1,5 +1,5 @@
 -- Pieces that are written again stand for the slots that they stood for.
-use Rattle.std.specs.Prelude.{slice_get, slice_range, List, ℕ, IsSome, ◌↔◌, IsTrue, MatchOption}
+use Rattle.std.specs.Prelude.{slice_get, slice_range, List, ℕ, ◌↔◌, IsTrue, MatchOption}
 use Rattle.std.specs.Option.{option_map}
 use Rattle.std.specs.List.{All}
 use Rattle.std.proofs.Common.{◌≡◌, ◌∙◌, ◌⊎◌, ◌++◌, ◌∷◌, ◌+◌, ◌-◌, ◌*◌, ◌<◌, ◌≤◌, ◌^◌, [], refl, sym, ap}
@@ -13,12 +13,11 @@ use Rattle.std.proofs.lemmas.List.{append-nil, length-append, length-map, take_a
 use Rattle.std.proofs.lemmas.List.{take-append-drop, take-take}
 use Rattle.std.specs.List.{take-map, drop-map}
 use Rattle.std.proofs.lemmas.Slice.{between_is}
-use Rattle.std.proofs.lemmas.List.Folds.{drop_split}
 use Rattle.std.proofs.lemmas.List.Elements.{All-append, All-nil, All-cons, All-map}
 use Rattle.std.proofs.lemmas.List.Sums.{sum_by-cons, sum_by-append}
 use Rattle.std.proofs.lemmas.Option.{same_Some, none-some, slice_get_within, get_or_from_slice_get}
 use Rattle.doc_bits.specs.Together.{AreTogether}
-use Rattle.doc_bits.proofs.ListLemmas.{All_at, All-from_slice_get, from_map, get-map, range_mid, there_is}
+use Rattle.doc_bits.proofs.ListLemmas.{All_at, All-from_slice_get, get-map, range_mid}
 use Rattle.doc_bits.proofs.TogetherLemmas.{together_joined, together_take, together_drop}
 use Rattle.doc_bits.specs.declared.places.Where.{Where}
 use Rattle.doc_bits.specs.declared.places.Where.TheVariants.{Main, Note, Head}
@@ -30,7 +29,8 @@ use Rattle.piece_table.specs.Piece.{TextPiece, UnitPlace, bare_piece, piece_end,
 use Rattle.piece_table.specs.Piece.{total_length}
 use Rattle.piece_table.specs.Changes.{fresh_places}
 use Rattle.piece_table.proofs.FlatLemmas.{flat_pieces-append, flat_pieces-cons, flat_pieces-nil}
-use Rattle.piece_table.proofs.PieceLemmas.{length-unit_places, length-flat_pieces, get_or-unit_places, flat_pieces-push}
+use Rattle.piece_table.proofs.PieceLemmas.{length-unit_places, length-flat_pieces, get_or-unit_places}
+use Rattle.piece_table.proofs.PieceLemmas.{flat_pieces-push}
 use Rattle.plain_doc.specs.declared.item.Item.{Item}
 use Rattle.plain_doc.specs.declared.document.Document.{Document}
 use Rattle.plain_doc.specs.Document.{HasPropertyMaps, IsFormedItem, IsFormedText}
@@ -53,7 +53,7 @@ use Rattle.save_laws.proofs.SlotLemmas.{length-story_slots}
 use Rattle.edited_text.specs.declared.added.Added.{Added}
 use Rattle.edited_text.specs.declared.session_text.SessionText.{SessionText}
 use Rattle.edited_text.specs.AddedText.{plan_of, IsAddedFor, added_piece}
-use Rattle.piece_table.specs.Renewals.{renewed_piece, renewed_pieces, HasRoomAt, AreNewPlaces}
+use Rattle.piece_table.specs.Renewals.{renewed_piece, renewed_pieces, HasRoomAt}
 use Rattle.edited_text.specs.WrittenAgain.{SetsMarks, IsRewritten, IsChosen, renewed_units, slot_item, place_for}
 use Rattle.edited_text.specs.WrittenAgain.{items_for}
 use Rattle.edited_text.specs.WrittenAgain.{AreWritten, IsWrittenAgain}

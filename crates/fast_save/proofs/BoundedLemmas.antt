@@ -1,17 +1,14 @@
 -- The text of a file by its runs: what a session begins with is bounded where the file is.
 use Rattle.std.specs.Prelude.{slice_get, slice_index, IsSome, All}
 use Rattle.std.specs.List.{filter_map, cons_option}
-use Rattle.std.proofs.Common.{◌≡◌, ◌∙◌, refl, sym, ap, subst, ℕ, zero, suc, ◌+◌, ◌<◌, Bool, true, false, List, [], ◌∷◌}
+use Rattle.std.proofs.Common.{◌≡◌, ◌∙◌, refl, sym, ap, ℕ, zero, suc, ◌+◌, Bool, true, false, List, [], ◌∷◌}
 use Rattle.std.proofs.Common.{◌++◌, length, map, Option, Some, None, arith, append_assoc, length-append}
 use Rattle.std.proofs.lemmas.List.Elements.{All-nil, All-cons, All-head, All-tail, All-map, All-append}
 use Rattle.std.proofs.lemmas.Option.{same_Some, none-some}
-use Rattle.fib_form.specs.FibFields.{fib_fields}
-use Rattle.piece_table.specs.Piece.{TextPiece, UnitPlace, flat_pieces}
 use Rattle.plain_doc.specs.declared.item.Item.{Item}
 use Rattle.plain_doc.specs.declared.document.Document.{Document}
 use Rattle.plain_doc.specs.Collected.{joined_texts}
-use Rattle.save_laws.specs.ByRuns.{IsBounded, AreBounded, slot_end, text_ends}
-use Rattle.save_laws.specs.Ends.{ends_of}
+use Rattle.save_laws.specs.ByRuns.{slot_end, text_ends}
 use Rattle.save_laws.specs.Slots.{Slot, shown, loose, last, StoryEnds, loose_if, story_slots, note_slots, head_slots}
 use Rattle.save_laws.specs.Slots.{last_slots, whole_text, story_counts}
 
@@ -86,7 +83,8 @@ end_there document ends k slot end here is =
     let behind = last_slots (notes ++ heads) in
     let front = main ++ (notes ++ heads) in
     let whole : main ++ (notes ++ (heads ++ behind)) ≡ front ++ behind =
-    sym (append_assoc main (notes ++ heads) behind ∙ ap (λ (l : List Slot). main ++ l) (append_assoc notes heads behind))
+    sym (append_assoc main (notes ++ heads) behind
+    ∙ ap (λ (l : List Slot). main ++ l) (append_assoc notes heads behind))
     in
     let P : Slot → Type 0 = λ s. IsSome (slot_end s) in
     let all : All P front =

@@ -37,7 +37,8 @@ use Rattle.save_bounds.specs.ClxLengths.{HaveShortPrcs}
 use Rattle.save_bounds.specs.FastSizes.{reckoned_sectors}
 use Rattle.save_bounds.proofs.ClxLemmas.{clx_is_short, reckoned_prcs_are_short}
 use Rattle.save_bounds.proofs.TableLemmas.{tables_are_short}
-use Rattle.append_save.specs.Appended.{old_stream, old_wd, old_table, old_bins, bins_end, added_pages, page_count, first_page}
+use Rattle.append_save.specs.Appended.{old_stream, old_wd, old_table, old_bins, bins_end, added_pages, page_count}
+use Rattle.append_save.specs.Appended.{first_page}
 use Rattle.append_save.specs.Appended.{pages_end}
 use Rattle.append_save.specs.Appended.{fast_bins, fast_bin_table, fast_text, fast_table}
 use Rattle.append_save.specs.AppendedLengths.{IsCounted as IsCountedSave}

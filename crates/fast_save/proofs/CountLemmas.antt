@@ -5,9 +5,7 @@ use Rattle.std.proofs.Common.{None, take, get_or}
 use Rattle.std.proofs.lemmas.List.{length-map}
 use Rattle.std.proofs.lemmas.List.Sums.{fold_more, sum_by-cons}
 use Rattle.std.proofs.lemmas.Option.{none-some, same_Some, slice_get_within, get_or_from_slice_get}
-use Rattle.std.proofs.Common.{inl, inr}
-use Rattle.std.proofs.lemmas.Bool.{cases_lt}
-use Rattle.doc_bits.proofs.ListLemmas.{get-map, All_at, All-from_slice_get}
+use Rattle.doc_bits.proofs.ListLemmas.{get-map}
 use Rattle.std.proofs.Common.{◌≡◌, ◌∙◌, ◌∷◌, ◌+◌, ◌*◌, ◌-◌, ◌^◌, ◌<◌, ◌≤◌, ◌||◌, [], refl, sym, ap, subst, Bool}
 use Rattle.std.proofs.Common.{true, false, Some, length, map, arith, All}
 use Rattle.std.proofs.lemmas.List.Elements.{All-nil, All-cons, All-head, All-tail}
@@ -28,7 +26,7 @@ use Rattle.edited_text.specs.EditSteps.{growth_of, pieces_added}
 use Rattle.edited_text.specs.TextEdits.{IsTextEdit, IsSectionsEdit}
 use Rattle.fast_save.specs.declared.ledgers.Counts.{Counts}
 use Rattle.fast_save.specs.declared.parts.SessionParts.{SessionParts}
-use Rattle.fast_save.specs.Ledgers.{AreCountsOf, AreUnmodified, most_printed, is_formatting, modifier_growth}
+use Rattle.fast_save.specs.Ledgers.{AreCountsOf, most_printed, is_formatting, modifier_growth}
 use Rattle.fast_save.specs.Ledgers.{after_edit}
 use Rattle.cfb_sectors.specs.Header.{sector_count}
 use Rattle.fast_save.specs.Session.{IsCounted, bin_length}
@@ -99,33 +97,6 @@ pub modifier_at : (pieces : List TextPiece) (i : ℕ) (modifier : Modifier) →
 modifier_at pieces i modifier has =
     let found = found_modifier (slice_get pieces i) modifier has in
     record { piece = found.0; there = found.1.0; is = found.1.1 }
-
--- the pieces so far have no modifier
-abbrev pub UnmodifiedUpTo : List TextPiece → ℕ → Type 0
-UnmodifiedUpTo pieces i =
-    (k : ℕ) (piece : TextPiece) → k < i → slice_get pieces k ≡ Some piece → piece.modifier ≡ no_modifier
-
-pub unmodified_step : (pieces : List TextPiece) (i : ℕ) (piece : TextPiece) → UnmodifiedUpTo pieces i →
-    slice_get pieces i ≡ Some piece → piece.modifier ≡ no_modifier → UnmodifiedUpTo pieces (i + 1)
-unmodified_step pieces i piece before there is k other low here = elim (cases_lt k i) [
-  | inl earlier ↦ before k other earlier here
-  | inr high ↦
-      let at : k ≡ i = omega (arith, high, low) in
-      let same : slice_get pieces i ≡ Some other = subst (λ (n : ℕ). slice_get pieces n ≡ Some other) at here in
-      let one : piece ≡ other = same_Some piece other (sym there ∙ same) in
-      ap (λ (p : TextPiece). p.modifier) (sym one) ∙ is
-]
-
-pub unmodified_all : (pieces : List TextPiece) (i : ℕ) → length pieces ≤ i → UnmodifiedUpTo pieces i →
-    AreUnmodified pieces
-unmodified_all pieces i all before =
-    All-from_slice_get (λ (piece : TextPiece). piece.modifier ≡ no_modifier) pieces
-    (λ k piece there. let low = slice_get_within pieces k piece there in before k piece (omega (arith, low, all)) there)
-
-pub unmodified_at : (pieces : List TextPiece) (i : ℕ) (piece : TextPiece) → slice_get pieces i ≡ Some piece →
-    AreUnmodified pieces → piece.modifier ≡ no_modifier
-unmodified_at pieces i piece there all =
-    All_at (λ (other : TextPiece). other.modifier ≡ no_modifier) pieces i piece all there
 
 pub printed_step : (pieces : List TextPiece) (i : ℕ) (piece : TextPiece) → slice_get pieces i ≡ Some piece →
     most_printed (take (i + 1) pieces) ≡ max (most_printed (take i pieces)) (printed_at piece)

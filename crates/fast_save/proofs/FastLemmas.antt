@@ -182,7 +182,8 @@ module _ (document : Document) (parts : SessionParts) (can : CanSaveFast documen
     before_bounded old_file k place end here there low =
         let old = can.session.bounded old_file in
         let slot = slot_there document (ends_of parts.text.ends) k end there in
-        subst (λ (s : PagedStream). IsBounded s place.at place.wide end) (sym (old_stream_is document parts can formed items pieces))
+        subst (λ (s : PagedStream). IsBounded s place.at place.wide end)
+        (sym (old_stream_is document parts can formed items pieces))
         (old.each k place slot.slot here slot.here low end slot.is)
 
     abbrev saved_as : SavedCopy

@@ -1,10 +1,11 @@
 -- What is known of the streams, the FIB and the pieces of a file that was read.
 use Rattle.std.specs.Prelude.{slice_index, slice_range, ℕ, List}
 use Rattle.std.specs.List.{flat_map, range_with_len}
-use Rattle.std.proofs.Common.{◌≡◌, ◌∙◌, ◌∷◌, ◌+◌, ◌*◌, ◌≤◌, [], sym, ap, subst, length, arith}
+use Rattle.std.proofs.Common.{◌≡◌, ◌∙◌, ◌∷◌, ◌+◌, ◌*◌, ◌<◌, ◌≤◌, [], sym, ap, subst, length, arith}
 use Rattle.std.proofs.Common.{All}
 use Rattle.std.proofs.lemmas.List.Elements.{All-nil, All-append, All-map, All-head, All-tail}
 use Rattle.doc_bits.specs.declared.places.Where.TheVariants.{File, Wd, Table}
+use Rattle.doc_bits.specs.Number.{AreBytes}
 use Rattle.doc_bits.specs.Rules.{Hold, Nowhere, Among, Rules}
 use Rattle.doc_bits.proofs.RuleLemmas.{hold_or_first}
 use Rattle.cfb_streams.specs.Contents.{Contents, HasNamed}
@@ -17,9 +18,10 @@ use Rattle.cfb_sectors.specs.Judged.{IsCfbFault}
 use Rattle.cfb_sectors.specs.Opening.{IsWhole}
 use Rattle.cfb_sectors.proofs.OpeningLemmas.{whole_length}
 use Rattle.cfb_streams.proofs.UniqueLemmas.{contents_unique}
-use Rattle.fib_form.specs.Fib.{fib_pair}
+use Rattle.fib_form.specs.Fib.{fib_size, fib_pair}
 use Rattle.fib_form.specs.FibFields.{FibFields, fib_fields, pair_at, text_length}
 use Rattle.fib_form.specs.FibRules.{fib_rules}
+use Rattle.fib_form.proofs.FibRuleLemmas.{is_fib}
 use Rattle.fib_form.specs.TableParts.{pair_of}
 use Rattle.fib_form.specs.declared.table_parts.TablePart.TheVariants.{Clx, PlcfSed}
 use Rattle.fib_form.specs.declared.stories.StoryKind.TheVariants.{Main}
@@ -35,7 +37,7 @@ use Rattle.doc_load.proofs.OneLemmas.{sections_one}
 use Rattle.prop_map.specs.declared.modifiers.Modifier.{Modifier}
 use Rattle.piece_table.specs.Piece.{TextPiece, UnitPlace, unit_bytes, unit_places, flat_pieces}
 use Rattle.piece_table.specs.Clx.{ClxParts}
-use Rattle.piece_table.specs.ClxRules.{clx_rules, early_bounds, IsLongPrc, FitsPages}
+use Rattle.piece_table.specs.ClxRules.{clx_rules, text_bounds, IsLongPrc, FitsPages}
 use Rattle.piece_table.proofs.ClxLemmas.{parts_unique}
 use Rattle.piece_table.proofs.FitLemmas.{pieces_fit}
 use Rattle.plain_doc.specs.declared.document.Document.{Document}
@@ -45,6 +47,7 @@ use Rattle.doc_load.proofs.NameLemmas.{named_one}
 use Rattle.doc_load.proofs.RightPlaces.{hold_out}
 use Rattle.doc_read.specs.CarriedParts.{AreWithinBounds}
 use Rattle.doc_read.specs.Holds.{FileParts, HasFileParts, HoldsDocument}
+use Rattle.doc_read.proofs.ExistText.{named_bytes}
 use Rattle.doc_read.specs.Opened.{OpenedFile}
 use Rattle.doc_read.proofs.ContentsBounds.{contents-bounded}
 use Rattle.doc_read.proofs.ExistFits.{text_held}
@@ -205,6 +208,15 @@ fib_holds file parts h has =
     subst (λ (w : List ℕ). Hold (wd_rules parts.contents w)) wd loading.1.1.1 in
     hold_out Wd (fib_rules parts.text.wd) held.0
 
+-- its FIB counts 15 quick saves at most
+pub few_quick_saves : (file : List ℕ) (document : Document) (held : HoldsDocument file document) → AreBytes file →
+    (fib_fields held.parts.text.wd).quick_saves < 16
+few_quick_saves file document held bytes =
+    let parts = held.parts in
+    let has = held.has_parts in
+    let wd = named_bytes file parts.contents wd_name parts.text.wd bytes has.has_contents has.has_text.has_wd in
+    (is_fib parts.text.wd wd (fib_holds file parts held.rules has)).quick_saves
+
 -- the modifiers of a file's pieces fit a page
 pub given_fit : (file : List ℕ) (document : Document) (held : HoldsDocument file document) →
     HaveFitModifiers held.parts.text.pieces
@@ -213,7 +225,7 @@ given_fit file document held =
     let wd = text.wd in
     let clx = clx_of wd text.table in
     let at = (fib_pair wd (pair_of Clx)).0 in
-    let bounds = early_bounds (length wd) in
+    let bounds = text_bounds (fib_size wd) (length wd) in
     let table = table_holds file held.parts held.rules held.has_parts in
     let rules = hold_out Table (clx_rules clx at bounds (text_length (fib_fields wd).ccps)) table.1 in
     let parts = rules.1.0 in

@@ -20,7 +20,7 @@ pub record IsOpenFile (opened : OpenedFile) : Type 0 where
   pub bytes : AreBytes file
   pub is : IsOpened file opened
 
--- the streams and the FIB of a file that breaks none of the rules 1 to 56
+-- the streams and the FIB of a file that breaks none of the rules 1 to 57
 pub record IsReadFile (contents : Contents) (fib : FibFields) : Type 0 where
   pub file : List ℕ
   pub rules : Hold (file_rules file)

@@ -13,11 +13,6 @@ pub no_zeros : (tail : List ℕ) → zeros 0 ++ tail ≡ tail
 unfolding zeros
 no_zeros tail = refl
 
--- the number 0 in two bytes
-pub zeros-two : zeros 2 ≡ number_bytes 2 0
-unfolding zeros number_bytes
-zeros-two = refl
-
 -- a number that is put over the first zeros
 pub put_over_zeros : (front tail before : List ℕ) (place width rest number : ℕ) → place ≡ length front →
     before ≡ front ++ (zeros (width + rest) ++ tail) → take place before ++ (number_bytes width number ++ drop

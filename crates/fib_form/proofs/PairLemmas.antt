@@ -9,25 +9,25 @@ use Rattle.std.specs.Prelude.{slice_set}
 use Rattle.std.proofs.lemmas.Grind.{flat_map-append}
 use Rattle.doc_bits.specs.Number.{number_at, number_bytes}
 use Rattle.doc_bits.proofs.NumberLemmas.{length-number_bytes}
-use Rattle.fib_form.specs.Fib.{early_form, fib_pair, fib_pairs}
+use Rattle.fib_form.specs.Fib.{kept_pairs, fib_pair, fib_pairs}
 use Rattle.fib_form.specs.FibFields.{pair_at, empty_pairs, ArePairs, IsWidePair}
 use Rattle.fib_form.specs.FibBytes.{pair_bytes, zeros}
-use Rattle.fib_form.proofs.FieldLemmas.{read_here, put_over_zeros, zeros-two}
+use Rattle.fib_form.proofs.FieldLemmas.{read_here, put_over_zeros, no_zeros}
 
 -- pairs that are all those of a stream
-pub fib_pairs-by_place : (wd : List ℕ) (pairs : List (ℕ × ℕ)) → length pairs ≡ early_form.pair_count →
-    ((n : ℕ) → n < early_form.pair_count → get_or pairs n (0, 0) ≡ fib_pair wd n) → pairs ≡ fib_pairs wd
+pub fib_pairs-by_place : (wd : List ℕ) (pairs : List (ℕ × ℕ)) → length pairs ≡ kept_pairs →
+    ((n : ℕ) → n < kept_pairs → get_or pairs n (0, 0) ≡ fib_pair wd n) → pairs ≡ fib_pairs wd
 unfolding fib_pairs
-fib_pairs-by_place wd pairs count same = fill_by_all (fib_pair wd) pairs early_form.pair_count (0, 0) count same
+fib_pairs-by_place wd pairs count same = fill_by_all (fib_pair wd) pairs kept_pairs (0, 0) count same
 
-pub length-fib_pairs : (wd : List ℕ) → length (fib_pairs wd) ≡ early_form.pair_count
+pub length-fib_pairs : (wd : List ℕ) → length (fib_pairs wd) ≡ kept_pairs
 unfolding fib_pairs
-length-fib_pairs wd = length-map-range_with_len (fib_pair wd) 0 early_form.pair_count
+length-fib_pairs wd = length-map-range_with_len (fib_pair wd) 0 kept_pairs
 
 -- a pair of a stream
-pub pair_at-fib_pairs : (wd : List ℕ) (n : ℕ) → n < early_form.pair_count → pair_at (fib_pairs wd) n ≡ fib_pair wd n
+pub pair_at-fib_pairs : (wd : List ℕ) (n : ℕ) → n < kept_pairs → pair_at (fib_pairs wd) n ≡ fib_pair wd n
 unfolding fib_pairs
-pair_at-fib_pairs wd n h = get_or-map-range_with_len (fib_pair wd) 0 early_form.pair_count n n (0, 0) h (zero-add n)
+pair_at-fib_pairs wd n h = get_or-map-range_with_len (fib_pair wd) 0 kept_pairs n n (0, 0) h (zero-add n)
 
 -- a pair has eight bytes
 pub length-pair_bytes : (pair : ℕ × ℕ) → length (pair_bytes pair) ≡ 8
@@ -88,10 +88,10 @@ read_pair (pair ∷ pairs) (suc n) front tail h wide =
 
 -- the bytes of one pair more are put over zeros
 pub pairs_more : (pairs : List (ℕ × ℕ)) (n : ℕ) (front tail before next after : List ℕ) → n < 93 → length pairs ≡ 93 →
-    length front ≡ 154 → before ≡ front ++ (flat_map pair_bytes (take n pairs) ++ (zeros (746 - 8 * n) ++ tail)) →
+    length front ≡ 154 → before ≡ front ++ (flat_map pair_bytes (take n pairs) ++ (zeros (744 - 8 * n) ++ tail)) →
     next ≡ take (154 + 8 * n) before ++ (number_bytes 4 (pair_at pairs n).0 ++ drop (154 + 8 * n + 4) before) →
     after ≡ take (154 + 8 * n + 4) next ++ (number_bytes 4 (pair_at pairs n).1 ++ drop (154 + 8 * n + 4 + 4) next) →
-    after ≡ front ++ (flat_map pair_bytes (take (n + 1) pairs) ++ (zeros (746 - 8 * (n + 1)) ++ tail))
+    after ≡ front ++ (flat_map pair_bytes (take (n + 1) pairs) ++ (zeros (744 - 8 * (n + 1)) ++ tail))
 pairs_more pairs n front tail before next after h count size is_before is_next is_after =
     let done = flat_map pair_bytes (take n pairs) in
     let fc = number_bytes 4 (pair_at pairs n).0 in
@@ -101,35 +101,35 @@ pairs_more pairs n front tail before next after h count size is_before is_next i
       length-flat_map-pair_bytes (take n pairs),
       length-take n pairs,
     ) in
-    let left : 746 - 8 * n ≡ 4 + (742 - 8 * n) = omega arith in
-    let left_next : 742 - 8 * n ≡ 4 + (746 - 8 * (n + 1)) = omega arith in
-    let apart : before ≡ (front ++ done) ++ (zeros (4 + (742 - 8 * n)) ++ tail) = rw (is_before, ← left)
-    (sym (append_assoc front done (zeros (746 - 8 * n) ++ tail))) in
-    let put = put_over_zeros (front ++ done) tail before (154 + 8 * n) 4 (742 - 8 * n) (pair_at pairs n).0
+    let left : 744 - 8 * n ≡ 4 + (740 - 8 * n) = omega arith in
+    let left_next : 740 - 8 * n ≡ 4 + (744 - 8 * (n + 1)) = omega arith in
+    let apart : before ≡ (front ++ done) ++ (zeros (4 + (740 - 8 * n)) ++ tail) = rw (is_before, ← left)
+    (sym (append_assoc front done (zeros (744 - 8 * n) ++ tail))) in
+    let put = put_over_zeros (front ++ done) tail before (154 + 8 * n) 4 (740 - 8 * n) (pair_at pairs n).0
     (omega (arith, length-append front done)) apart in
-    let apart_next : next ≡ ((front ++ done) ++ fc) ++ (zeros (4 + (746 - 8 * (n + 1))) ++ tail) = rw (
+    let apart_next : next ≡ ((front ++ done) ++ fc) ++ (zeros (4 + (744 - 8 * (n + 1))) ++ tail) = rw (
       is_next,
       put,
       ← left_next,
-    ) (sym (append_assoc (front ++ done) fc (zeros (742 - 8 * n) ++ tail))) in
+    ) (sym (append_assoc (front ++ done) fc (zeros (740 - 8 * n) ++ tail))) in
     let size_next : 154 + 8 * n + 4 ≡ length ((front ++ done) ++ fc) = omega (
       arith,
       length-append (front ++ done) fc,
       length-append front done,
       length-number_bytes 4 (pair_at pairs n).0,
     ) in
-    let put_next = put_over_zeros ((front ++ done) ++ fc) tail next (154 + 8 * n + 4) 4 (746 - 8 * (n + 1))
+    let put_next = put_over_zeros ((front ++ done) ++ fc) tail next (154 + 8 * n + 4) 4 (744 - 8 * (n + 1))
     (pair_at pairs n).1 size_next apart_next in
     rw (is_after, put_next, flat_map-take pairs n (omega arith)) (simp append_assoc)
 
--- the bytes of all pairs, and two zeros
+-- the bytes of all pairs
 pub pairs_all : (pairs : List (ℕ × ℕ)) (n : ℕ) (front tail out : List ℕ) → n ≡ 93 → length pairs ≡ 93 →
-    out ≡ front ++ (flat_map pair_bytes (take n pairs) ++ (zeros (746 - 8 * n) ++ tail)) →
-    out ≡ front ++ (flat_map pair_bytes pairs ++ (number_bytes 2 0 ++ tail))
+    out ≡ front ++ (flat_map pair_bytes (take n pairs) ++ (zeros (744 - 8 * n) ++ tail)) →
+    out ≡ front ++ (flat_map pair_bytes pairs ++ tail)
 pairs_all pairs n front tail out n_is count e =
-    let left : 746 - 8 * n ≡ 2 = omega arith in
+    let left : 744 - 8 * n ≡ 0 = omega arith in
     let all : take n pairs ≡ pairs = take_all n pairs (omega arith) in
-    rw (e, left, all, zeros-two) refl
+    rw (e, left, all, no_zeros tail) refl
 
 -- empty pairs, and pairs of parts that may be there, are those of a FIB
 pub empty-ArePairs : ArePairs empty_pairs
@@ -139,24 +139,21 @@ empty-ArePairs =
     (get_or-replicate {A = ℕ × ℕ} 93 n (0, 0) (0, 0) h) in
     record {
       count = length-replicate {A = ℕ × ℕ} 93 (0, 0);
-      bookmarks = omega (arith, none 21 (lit< tt));
       main_drawings = omega (arith, none 40 (lit< tt));
       header_drawings = omega (arith, none 41 (lit< tt));
       endnotes = omega (arith, none 46 (lit< tt));
     }
 
-pub put-ArePairs : (pairs : List (ℕ × ℕ)) (n : ℕ) (pair : ℕ × ℕ) → ArePairs pairs → n ≢ 21 → n ≢ 40 → n ≢ 41 →
-    n ≢ 46 → ArePairs (slice_set pairs n pair)
-put-ArePairs pairs n pair are a b c d =
+pub put-ArePairs : (pairs : List (ℕ × ℕ)) (n : ℕ) (pair : ℕ × ℕ) → ArePairs pairs → n ≢ 40 → n ≢ 41 → n ≢ 46 →
+    ArePairs (slice_set pairs n pair)
+put-ArePairs pairs n pair are b c d =
     let stays : (k : ℕ) → k ≢ n → (pair_at (slice_set pairs n pair) k).1 ≡ (pair_at pairs k).1 = λ k ne. ap (λ q. q.1)
     (get_or-set_other pairs n k pair (0, 0) ne) in
-    let bookmarks = are.bookmarks in
     let main_drawings = are.main_drawings in
     let header_drawings = are.header_drawings in
     let endnotes = are.endnotes in
     record {
       count = length-set pairs n pair ∙ are.count;
-      bookmarks = omega (arith, stays 21 (λ e. a (sym e)));
       main_drawings = omega (arith, stays 40 (λ e. b (sym e)));
       header_drawings = omega (arith, stays 41 (λ e. c (sym e)));
       endnotes = omega (arith, stays 46 (λ e. d (sym e)));

@@ -1,21 +1,29 @@
 -- [MS-DOC] FIB, the file information block that WordDocument begins with. One table has the fields with their offsets
 -- and
--- widths; each field's number is read by it. `wd` is the bytes of WordDocument.
-use Rattle.std.specs.Prelude.{ℕ, ◌+◌, ◌*◌, ◌/◌, ◌%◌, ◌^◌, List, map, slice_range}
+-- widths; each field's number is read by it. `wd` is the bytes of WordDocument. It has one of two forms, of which both
+-- have the same fields up to the pairs.
+use Rattle.std.specs.Prelude.{ℕ, ◌+◌, ◌*◌, ◌/◌, ◌%◌, ◌^◌, ◌==◌, List, map, slice_range, if◌then◌else◌}
 use Rattle.std.specs.List.{range_with_len}
 use Rattle.doc_bits.specs.Number.{number_at, u32_at}
+use Rattle.fib_form.specs.declared.form.Form.{Form}
+use Rattle.fib_form.specs.declared.form.Form.TheVariants.{Early, Later}
 
--- what one form of the FIB fixes: its size in bytes and its number of pairs
-pub record FibForm : Type 0 where
-  pub size : ℕ
-  pub pair_count : ℕ
+-- the size of a form in bytes
+abbrev pub form_size : Form → ℕ
+form_size Early = 900
+form_size Later = 1024
 
--- the form with cbRgFcLcb 0x5D and cswNew 0
-abbrev pub early_form : FibForm
-early_form = record { size = 900; pair_count = 93 }
+-- [MS-DOC] cbRgFcLcb of a form: the number of its pairs
+abbrev pub form_pairs : Form → ℕ
+form_pairs Early = 0x5D
+form_pairs Later = 0x6C
+
+-- Profile: the first 93 pairs are kept, in both forms. The later form's other pairs are dropped
+abbrev pub kept_pairs : ℕ
+kept_pairs = 93
 
 -- the fields that are read, judged or written, by the standard's names: FibBase, csw and FibRgW97, cslw and FibRgLw97,
--- cbRgFcLcb, cswNew
+-- cbRgFcLcb, and behind the pairs cswNew, in the later form with nFibNew and cQuickSavesNew
 pub data FibField : Type 0 where
   WIdent : FibField
   NFib : FibField
@@ -32,6 +40,9 @@ pub data FibField : Type 0 where
   CcpAtn : FibField
   CbRgFcLcb : FibField
   CswNew : FibField
+  LaterCswNew : FibField
+  NFibNew : FibField
+  CQuickSavesNew : FibField
 
 -- the offset of a field, and its width in bytes
 abbrev pub field_place : FibField → ℕ × ℕ
@@ -50,6 +61,9 @@ field_place CcpHdd = (84, 4)
 field_place CcpAtn = (92, 4)
 field_place CbRgFcLcb = (152, 2)
 field_place CswNew = (898, 2)
+field_place LaterCswNew = (1018, 2)
+field_place NFibNew = (1020, 2)
+field_place CQuickSavesNew = (1022, 2)
 
 abbrev pub field_offset : FibField → ℕ
 field_offset field = (field_place field).0
@@ -57,6 +71,14 @@ field_offset field = (field_place field).0
 -- the number of a field
 abbrev pub fib_number : FibField → List ℕ → ℕ
 fib_number field wd = number_at wd (field_place field).0 (field_place field).1
+
+-- the form of a stream's FIB: later with cbRgFcLcb 0x6C. Whether it is 0x5D else is a rule
+abbrev pub fib_form : List ℕ → Form
+fib_form wd = if fib_number CbRgFcLcb wd == form_pairs Later then Later else Early
+
+-- the size of a stream's FIB in bytes
+abbrev pub fib_size : List ℕ → ℕ
+fib_size wd = form_size (fib_form wd)
 
 -- [MS-DOC] FibBase
 abbrev pub fib_lid : List ℕ → ℕ
@@ -76,8 +98,13 @@ fib_glossary wd = bit 1 (fib_flags wd)
 abbrev pub fib_complex : List ℕ → ℕ
 fib_complex wd = bit 2 (fib_flags wd)
 
+-- the number of quick saves: cQuickSaves of the flags, in the later form cQuickSavesNew
+abbrev pub quick_saves_in : Form → List ℕ → ℕ
+quick_saves_in Early wd = fib_flags wd / 16 % 16
+quick_saves_in Later wd = fib_number CQuickSavesNew wd
+
 abbrev pub fib_quick_saves : List ℕ → ℕ
-fib_quick_saves wd = fib_flags wd / 16 % 16
+fib_quick_saves wd = quick_saves_in (fib_form wd) wd
 
 abbrev pub fib_encrypted : List ℕ → ℕ
 fib_encrypted wd = bit 8 (fib_flags wd)
@@ -118,9 +145,9 @@ pair_place n = 154 + 8 * n
 abbrev pub fib_pair : List ℕ → ℕ → ℕ × ℕ
 fib_pair wd n = (u32_at wd (pair_place n), u32_at wd (pair_place n + 4))
 
--- all pairs, by their numbers
+-- all pairs that are kept, by their numbers
 unfoldable pub fib_pairs : List ℕ → List (ℕ × ℕ)
-fib_pairs wd = map (fib_pair wd) (range_with_len 0 early_form.pair_count)
+fib_pairs wd = map (fib_pair wd) (range_with_len 0 kept_pairs)
 
 -- the bytes of the table stream that pair n names
 abbrev pub table_part : List ℕ → List ℕ → ℕ → List ℕ

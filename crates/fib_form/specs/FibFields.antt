@@ -2,11 +2,14 @@
 use Rattle.std.specs.Prelude.{◌≡◌, ℕ, ◌+◌, ◌^◌, ◌<◌, ◌≤◌, ◌==◌, min, List, [], ◌∷◌, replicate, sum, take, length}
 use Rattle.std.specs.Prelude.{slice_index, slice_index_or, Bool, All}
 use Rattle.fib_form.specs.declared.fib.KeptFib.{KeptFib}
-use Rattle.fib_form.specs.Fib.{early_form, kept_flags, fib_flags, fib_lid, fib_lid_fe, fib_quick_saves, fib_complex}
-use Rattle.fib_form.specs.Fib.{fib_which_table, fib_cb_mac, fib_ccp_text, fib_ccp_ftn, fib_ccp_hdd, fib_pairs}
+use Rattle.fib_form.specs.declared.form.Form.{Form}
+use Rattle.fib_form.specs.Fib.{kept_pairs, fib_form, kept_flags, fib_flags, fib_lid, fib_lid_fe, fib_quick_saves}
+use Rattle.fib_form.specs.Fib.{fib_complex, fib_which_table, fib_cb_mac, fib_ccp_text, fib_ccp_ftn, fib_ccp_hdd}
+use Rattle.fib_form.specs.Fib.{fib_pairs}
 
 -- what this profile keeps of a FIB; `ccps` are those of the main text, the notes and the header texts
 pub record FibFields : Type 0 where
+  pub form : Form
   pub kept : KeptFib
   pub quick_saves : ℕ
   pub complex : Bool
@@ -18,6 +21,7 @@ pub record FibFields : Type 0 where
 -- the fields that a stream has
 abbrev pub fib_fields : List ℕ → FibFields
 fib_fields wd = record {
+  form = fib_form wd;
   kept = record { lid = fib_lid wd; lid_fe = fib_lid_fe wd; flags = kept_flags (fib_flags wd) };
   quick_saves = fib_quick_saves wd;
   complex = fib_complex wd == 1;
@@ -29,7 +33,7 @@ fib_fields wd = record {
 
 -- pairs of parts that are all empty
 unfoldable pub empty_pairs : List (ℕ × ℕ)
-empty_pairs = replicate early_form.pair_count (0, 0)
+empty_pairs = replicate kept_pairs (0, 0)
 
 -- a pair of the list
 abbrev pub pair_at : List (ℕ × ℕ) → ℕ → ℕ × ℕ
@@ -53,10 +57,9 @@ pub record AreCounts (ccps : List ℕ) : Type 0 where
   pub main : 1 ≤ slice_index ccps 0
   pub all : sum ccps ≤ 500000
 
--- pairs that a FIB may have. Profile: no bookmarks, fields of text boxes and comments, or endnotes
+-- pairs that a FIB may have. Profile: no drawings in the main text or in the header texts, and no endnotes
 pub record ArePairs (pairs : List (ℕ × ℕ)) : Type 0 where
-  pub count : length pairs ≡ early_form.pair_count
-  pub bookmarks : (pair_at pairs 21).1 ≤ 6
+  pub count : length pairs ≡ kept_pairs
   pub main_drawings : (pair_at pairs 40).1 ≤ 4
   pub header_drawings : (pair_at pairs 41).1 ≤ 4
   pub endnotes : (pair_at pairs 46).1 ≤ 4

@@ -2,18 +2,21 @@
 use Rattle.std.specs.Prelude.{◌≡◌, ◌≢◌, ◌⊎◌, ℕ, ◌+◌, ◌*◌, ◌<◌, ◌≤◌, List, length}
 use Rattle.doc_bits.specs.Number.{u32_at}
 use Rattle.doc_bits.specs.Rules.{Rules, rule, ◌then◌, IsFirst, Among, Breaks, IsLeastOfAll}
+use Rattle.fib_form.specs.declared.form.Form.{Form}
+use Rattle.fib_form.specs.declared.form.Form.TheVariants.{Early, Later}
 use Rattle.fib_form.specs.Fib.{FibField, WIdent, NFib, Flags, Csw, Cslw, CcpText, CcpAtn, CbRgFcLcb, CswNew}
+use Rattle.fib_form.specs.Fib.{LaterCswNew, NFibNew, CQuickSavesNew, form_pairs, fib_form, fib_size}
 use Rattle.fib_form.specs.Fib.{field_offset, fib_number}
-use Rattle.fib_form.specs.Fib.{early_form, fib_encrypted, fib_obfuscated, fib_glossary, fib_ccp_text, fib_ccp_ftn}
+use Rattle.fib_form.specs.Fib.{fib_encrypted, fib_obfuscated, fib_glossary, fib_ccp_text, fib_ccp_ftn}
 use Rattle.fib_form.specs.Fib.{fib_ccp_hdd, fib_pair, pair_place}
 
 -- the field has another number than the wanted one
 abbrev pub IsOther : List ℕ → FibField → ℕ → ℕ → Type 0
 IsOther wd field wanted p = (p ≡ field_offset field) × (fib_number field wd ≢ wanted)
 
--- the stream is shorter than a FIB
+-- the stream is shorter than a FIB of its form
 abbrev pub IsShort : List ℕ → ℕ → Type 0
-IsShort wd p = (p ≡ length wd) × (length wd < early_form.size)
+IsShort wd p = (p ≡ length wd) × (length wd < fib_size wd)
 
 -- the document is encrypted or obfuscated
 abbrev pub IsHidden : List ℕ → ℕ → Type 0
@@ -23,11 +26,28 @@ IsHidden wd p = (p ≡ field_offset Flags) × ((fib_encrypted wd ≡ 1) ⊎ (fib
 abbrev pub IsGlossary : List ℕ → ℕ → Type 0
 IsGlossary wd p = (p ≡ field_offset Flags) × (fib_glossary wd ≡ 1)
 
--- csw, cslw, cbRgFcLcb or cswNew is not that of the form
+-- the number of pairs is that of neither form
+abbrev pub IsOtherForm : List ℕ → ℕ → Type 0
+IsOtherForm wd p =
+    (p ≡ field_offset CbRgFcLcb) × ((fib_number CbRgFcLcb wd ≢ form_pairs Early) × (fib_number CbRgFcLcb wd ≢
+    form_pairs Later))
+
+-- the number of quick saves behind the pairs is above 15
+abbrev pub IsOverCount : List ℕ → ℕ → Type 0
+IsOverCount wd p = (p ≡ field_offset CQuickSavesNew) × (15 < fib_number CQuickSavesNew wd)
+
+-- what stands behind the pairs is not that of the form
+abbrev pub IsWrongTail : Form → List ℕ → ℕ → Type 0
+IsWrongTail Early wd p = IsOther wd CswNew 0 p
+IsWrongTail Later wd p = IsOther wd LaterCswNew 2 p ⊎ (IsOther wd NFibNew 0x00D9 p ⊎ IsOverCount wd p)
+
+-- cbRgFcLcb or what stands behind the pairs is not that of a form
+abbrev pub IsWrongForm : List ℕ → ℕ → Type 0
+IsWrongForm wd p = IsOtherForm wd p ⊎ IsWrongTail (fib_form wd) wd p
+
+-- csw, cslw, cbRgFcLcb or what stands behind the pairs is not that of a form
 abbrev pub IsWrongSize : List ℕ → ℕ → Type 0
-IsWrongSize wd p =
-    IsOther wd Csw 14 p ⊎ (IsOther wd Cslw 22 p ⊎ (IsOther wd CbRgFcLcb early_form.pair_count p ⊎ IsOther wd CswNew 0
-    p))
+IsWrongSize wd p = IsOther wd Csw 14 p ⊎ (IsOther wd Cslw 22 p ⊎ IsWrongForm wd p)
 
 -- Profile: comments, endnotes and text boxes are refused. One of their four counts, which stand
 -- from ccpAtn on, is not 0
@@ -43,10 +63,9 @@ IsWrongLength wd p =
 abbrev pub IsLongPart : List ℕ → ℕ → ℕ → ℕ → Type 0
 IsLongPart wd n most p = (p ≡ pair_place n) × (most < (fib_pair wd n).1)
 
--- Profile: bookmarks, drawings and endnotes are refused
+-- Profile: drawings and endnotes are refused
 abbrev pub HasRefusedPart : List ℕ → ℕ → Type 0
-HasRefusedPart wd p =
-    IsLongPart wd 21 6 p ⊎ (IsLongPart wd 40 4 p ⊎ (IsLongPart wd 41 4 p ⊎ IsLongPart wd 46 4 p))
+HasRefusedPart wd p = IsLongPart wd 40 4 p ⊎ (IsLongPart wd 41 4 p ⊎ IsLongPart wd 46 4 p)
 
 abbrev pub fib_rules : List ℕ → Rules ℕ
 fib_rules wd =

@@ -1,10 +1,10 @@
 ghost use Rattle.std.specs.Prelude.{◌≡◌, ◌+◌, ◌<◌, ◌≤◌, [], ◌∷◌};
 ghost use Rattle.std.specs.Prelude.{slice_index, true, false, MatchResult};
-ghost use Rattle.fib_form.specs.Fib.{early_form};
+ghost use Rattle.fib_form.specs.Fib.{kept_pairs, form_size};
 ghost use Rattle.fib_form.specs.FibFields.{pair_at, text_length, AreCounts, ArePairs, IsKeptFlags};
 
 use crate::offsets::MAX_QUICK_SAVES;
-use crate::{Pairs, QuickSavesFull};
+use crate::{Form, Pairs, QuickSavesFull};
 use std::marker::Model;
 
 /// What a save keeps of a FIB: the languages, and the flags fDot, fReadOnlyRecommended and fFarEast at their places.
@@ -18,6 +18,7 @@ pub struct KeptFib {
 /// A FIB, as far as this profile keeps it.
 #[derive(Drop)]
 pub struct Fib {
+    pub(crate) form: Form,
     pub(crate) kept: KeptFib,
     pub(crate) quick_saves: u8,
     pub(crate) complex: bool,
@@ -33,6 +34,7 @@ impl Model for Fib {
     ghost Value = { FibFields };
 
     ghost view = { λ f. record {
+      form = f.form;
       kept = f.kept;
       quick_saves = f.quick_saves;
       complex = f.complex;
@@ -43,6 +45,7 @@ impl Model for Fib {
     } };
 
     ghost invariant = { λ f. IsFib (record {
+      form = f.form;
       kept = f.kept;
       quick_saves = f.quick_saves;
       complex = f.complex;
@@ -54,13 +57,14 @@ impl Model for Fib {
 }
 
 impl Fib {
-    /// A FIB after a full save: no quick saves, and the table stream is `1Table`. `cb_mac` is in bytes, `ccps` are the
-    /// characters of the main text, the notes and the header texts.
-    pub fn made(kept: KeptFib, cb_mac: u32, ccps: [u32; 3], pairs: &Pairs) -> Fib
+    /// A FIB of that form after a full save: no quick saves, and the table stream is `1Table`. `cb_mac` is in bytes,
+    /// `ccps` are the characters of the main text, the notes and the header texts.
+    pub fn made(form: Form, kept: KeptFib, cb_mac: u32, ccps: [u32; 3], pairs: &Pairs) -> Fib
         requires flags { IsKeptFlags kept.flags }
         requires counts { AreCounts ccps }
         requires pairs { ArePairs pairs.now }
         ensures { result ≡ record {
+          form = form;
           kept = kept;
           quick_saves = 0;
           complex = false;
@@ -71,6 +75,7 @@ impl Fib {
         } }
     {
         Fib {
+            form,
             kept,
             quick_saves: 0,
             complex: false,
@@ -81,7 +86,7 @@ impl Fib {
         }
     }
 
-    /// The FIB after one more quick save. The languages, the kept flags and the table stream stay.
+    /// The FIB after one more quick save. The form, the languages, the kept flags and the table stream stay.
     pub fn with_quick_save(
         &self,
         cb_mac: u32,
@@ -104,6 +109,7 @@ impl Fib {
             return Err(QuickSavesFull);
         }
         Ok(Fib {
+            form: self.form,
             kept: self.kept,
             quick_saves: self.quick_saves + 1,
             complex: true,
@@ -112,6 +118,22 @@ impl Fib {
             ccps,
             pairs: pairs.copy(),
         })
+    }
+
+    /// The form.
+    pub fn form(&self) -> Form
+        ensures { result ≡ self.now.form }
+    {
+        self.form
+    }
+
+    /// The size of the form in bytes.
+    pub fn size(&self) -> u32
+        ensures value { result ≡ form_size self.now.form }
+        ensures least { 900 ≤ result }
+        ensures most { result ≤ 1024 }
+    {
+        self.form.size() as u32
     }
 
     /// The number of quick saves in a row, up to 15.
@@ -176,7 +198,7 @@ impl Fib {
 
     /// The place of part `n` in the table stream and its length, in bytes.
     pub fn pair(&self, n: usize) -> (u32, u32)
-        requires { n < early_form.pair_count }
+        requires { n < kept_pairs }
         ensures { result ≡ pair_at self.now.pairs n }
     {
         self.pairs.get(n)

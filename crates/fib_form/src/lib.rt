@@ -3,6 +3,7 @@
 
 mod fault;
 mod fib;
+mod form;
 mod laws;
 mod offsets;
 mod pairs;
@@ -13,6 +14,7 @@ mod writing;
 
 pub use fault::{FibFault, QuickSavesFull};
 pub use fib::{Fib, KeptFib};
+pub use form::Form;
 pub use laws::{fib_is_read_back, first_fib_fault_is_least};
 pub use pairs::Pairs;
 pub use stories::StoryKind;

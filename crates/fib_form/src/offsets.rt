@@ -1,9 +1,18 @@
 // Offsets and numbers of the FIB by the standard's names.
 
-/// The size of the FIB in bytes.
-pub const FIB_SIZE: usize = 900;
+/// The size of the early form in bytes.
+pub const EARLY_SIZE: usize = 900;
 
-/// The number of pairs, and with it the value of cbRgFcLcb.
+/// The size of the later form in bytes.
+pub const LATER_SIZE: usize = 1024;
+
+/// cbRgFcLcb of the early form.
+pub const EARLY_PAIRS: u16 = 0x5D;
+
+/// cbRgFcLcb of the later form.
+pub const LATER_PAIRS: u16 = 0x6C;
+
+/// The number of pairs that are kept.
 pub const PAIR_COUNT: usize = 93;
 
 // [MS-DOC] FibBase
@@ -41,6 +50,13 @@ pub const RG_FC_LCB: usize = 154;
 
 pub const CSW_NEW: usize = 898;
 
+// The later form's cswNew, nFibNew and cQuickSavesNew
+pub const LATER_CSW_NEW: usize = 1018;
+
+pub const N_FIB_NEW: usize = 1020;
+
+pub const C_QUICK_SAVES_NEW: usize = 1022;
+
 pub const IDENT: u16 = 0xA5EC;
 
 pub const NFIB_WORD97: u16 = 0x00C1;
@@ -49,9 +65,11 @@ pub const CSW_WORD97: u16 = 14;
 
 pub const CSLW_WORD97: u16 = 22;
 
-pub const CB_RG_FC_LCB_WORD97: u16 = PAIR_COUNT as u16;
-
 pub const CSW_NEW_WORD97: u16 = 0;
+
+pub const CSW_NEW_WORD2000: u16 = 2;
+
+pub const NFIB_WORD2000: u16 = 0x00D9;
 
 // The bits of the flags, counted from the lowest
 pub const F_DOT: u32 = 0;
@@ -81,16 +99,11 @@ pub const MAX_QUICK_SAVES: u8 = 15;
 pub const MAX_CCP: u64 = 500_000;
 
 // Pairs of parts that must be empty
-pub const STTBF_BKMK: usize = 21;
-
 pub const PLC_SPA_MOM: usize = 40;
 
 pub const PLC_SPA_HDR: usize = 41;
 
 pub const PLCFEND_REF: usize = 46;
-
-/// The bytes of a table of names without a name.
-pub const MOST_BKMK: u32 = 6;
 
 /// The bytes of a Plc without an entry.
 pub const MOST_PLC: u32 = 4;

@@ -1,7 +1,6 @@
 ghost use Rattle.std.specs.Prelude.{◌≡◌, ℕ, ◌<◌, List, length, ◌++◌};
 ghost use Rattle.std.specs.Prelude.{take, drop, flat_map, slice_set, ◌≤◌};
-ghost use Rattle.doc_bits.specs.Number.{number_bytes};
-ghost use Rattle.fib_form.specs.Fib.{early_form};
+ghost use Rattle.fib_form.specs.Fib.{kept_pairs};
 ghost use Rattle.fib_form.specs.FibFields.{pair_at, empty_pairs};
 ghost use Rattle.fib_form.specs.FibBytes.{pair_bytes, zeros};
 
@@ -17,14 +16,14 @@ pub struct Pairs {
 
 impl Model for Pairs {
     ghost use Rattle.std.specs.Prelude.{◌≡◌, ℕ, List, length, All};
-    ghost use Rattle.fib_form.specs.Fib.{early_form};
+    ghost use Rattle.fib_form.specs.Fib.{kept_pairs};
     ghost use Rattle.fib_form.specs.FibFields.{IsWidePair};
 
     ghost Value = { List (ℕ × ℕ) };
 
     ghost view = { λ p. p.items };
 
-    ghost invariant = { λ p. (length p.items ≡ early_form.pair_count) × All IsWidePair p.items };
+    ghost invariant = { λ p. (length p.items ≡ kept_pairs) × All IsWidePair p.items };
 }
 
 impl Pairs {
@@ -39,7 +38,7 @@ impl Pairs {
 
     /// Puts the place and the length of part `n`. All other pairs stay.
     pub fn put(&mut self, n: usize, fc: u32, lcb: u32)
-        requires { n < early_form.pair_count }
+        requires { n < kept_pairs }
         ensures { self.new ≡ slice_set self.old n (fc, lcb) }
     {
         self.items[n] = (fc, lcb);
@@ -47,7 +46,7 @@ impl Pairs {
 
     /// The place and the length of part `n`.
     pub(crate) fn get(&self, n: usize) -> (u32, u32)
-        requires { n < early_form.pair_count }
+        requires { n < kept_pairs }
         ensures { result ≡ pair_at self.now n }
     {
         self.items[n]
@@ -60,12 +59,11 @@ impl Pairs {
         Pairs { items: self.items }
     }
 
-    /// Writes the pairs at their places in a FIB, over zeros that reach to its end.
+    /// Writes the pairs at their places in a FIB, over zeros.
     pub(crate) fn write(&self, out: &mut [u8])
-        requires size { early_form.size ≤ length out.old }
-        requires clear { drop 154 out.old ≡ zeros 746 ++ drop early_form.size out.old }
-        ensures { out.new ≡ take 154 out.old
-            ++ (flat_map pair_bytes self.now ++ (number_bytes 2 0 ++ drop early_form.size out.old)) }
+        requires size { 898 ≤ length out.old }
+        requires clear { drop 154 out.old ≡ zeros 744 ++ drop 898 out.old }
+        ensures { out.new ≡ take 154 out.old ++ (flat_map pair_bytes self.now ++ drop 898 out.old) }
     {
         for n in 0..PAIR_COUNT {
             let (fc, lcb) = self.items[n];

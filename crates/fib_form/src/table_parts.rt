@@ -1,6 +1,6 @@
 // [MS-DOC] FibRgFcLcb97: the parts of the table stream, by the standard's names.
 ghost use Rattle.std.specs.Prelude.{◌≡◌, ◌<◌};
-ghost use Rattle.fib_form.specs.Fib.{early_form};
+ghost use Rattle.fib_form.specs.Fib.{kept_pairs};
 ghost use Rattle.fib_form.specs.TableParts.{pair_of};
 
 /// A part of the table stream that is read, or carried unread.
@@ -28,7 +28,7 @@ impl TablePart {
     /// The number of its pair in the FIB.
     pub fn pair(self) -> usize
         ensures number { result ≡ pair_of self }
-        ensures below { result < early_form.pair_count }
+        ensures below { result < kept_pairs }
     {
         match self {
             TablePart::Stshf => 1,

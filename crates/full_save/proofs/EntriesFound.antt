@@ -243,7 +243,6 @@ entries_are_pairs parts allowed =
     λ n others. ap (λ (pair : ℕ × ℕ). pair.1) (other_kept n 0 empty_pairs parts others) in
     record {
       count = length-pairs_from 0 empty_pairs parts ∙ none.count;
-      bookmarks = omega (arith, kept 21 allowed.bookmarks, none.bookmarks);
       main_drawings = omega (arith, kept 40 allowed.main_drawings, none.main_drawings);
       header_drawings = omega (arith, kept 41 allowed.header_drawings, none.header_drawings);
       endnotes = omega (arith, kept 46 allowed.endnotes, none.endnotes);
@@ -276,6 +275,11 @@ no_pair n = elim (cases_lt n 93) [
   | inl low ↦ get_or-replicate {A = ℕ × ℕ} 93 n (0, 0) (0, 0) low
   | inr high ↦ get_or_past (replicate 93 (0, 0)) n (0, 0) (omega (arith, high, length-replicate {A = ℕ × ℕ} 93 (0, 0)))
 ]
+
+-- parts that a FIB may have name no bookmarks
+pub no_bookmarks : (parts : List TableEntry) → AreAllowed parts → (pair_at (pairs_from 0 empty_pairs parts) 21).1 ≡ 0
+no_bookmarks parts allowed =
+    ap (λ (pair : ℕ × ℕ). pair.1) (other_kept 21 0 empty_pairs parts allowed.bookmarks ∙ no_pair 21)
 
 empty_wide : All IsWidePair empty_pairs
 unfolding empty_pairs

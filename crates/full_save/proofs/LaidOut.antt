@@ -9,11 +9,11 @@ use Rattle.doc_bits.specs.Number.{u16_at}
 use Rattle.doc_bits.specs.Rules.{Hold}
 use Rattle.doc_bits.proofs.ListLemmas.{All_at, get-map}
 use Rattle.doc_bits.proofs.NumberLemmas.{number_at-after, number_at-before}
-use Rattle.fib_form.specs.Fib.{early_form}
+use Rattle.fib_form.specs.Fib.{kept_pairs}
 use Rattle.fib_form.specs.FibFields.{fib_fields, IsFib}
 use Rattle.fib_form.specs.FibRules.{fib_rules}
 use Rattle.fib_form.specs.FibBytes.{written_fib}
-use Rattle.fib_form.proofs.FibLemmas.{read_back}
+use Rattle.fib_form.proofs.FibLemmas.{read_back, form_size-most}
 use Rattle.fib_form.proofs.WriteLemmas.{length-written_fib}
 use Rattle.fkp_pages.specs.declared.kind.PageKind.{PageKind}
 use Rattle.fkp_pages.specs.declared.kind.PageKind.TheVariants.{Chpx, Papx}
@@ -88,14 +88,15 @@ body_cut b = (simp (append_assoc) refl, (simp (append_assoc) refl, simp (append_
 pub allowed : (document : Document) → AreAllowed (full_entries document)
 allowed document = record { bookmarks = refl; main_drawings = refl; header_drawings = refl; endnotes = refl }
 
-fib_pairs_count : (document : Document) → length (full_fib document).pairs ≡ early_form.pair_count
+fib_pairs_count : (document : Document) → length (full_fib document).pairs ≡ kept_pairs
 unfolding full_fib
 fib_pairs_count document = (entries_are_pairs (full_entries document) (allowed document)).count
 
 pub length-front : (document : Document) → length (front_bytes document) ≡ 1024
 length-front document =
     let len = length-written_fib (full_fib document) (fib_pairs_count document) in
-    length-filled text_at 0 (written_fib (full_fib document)) (omega (arith, len))
+    let most = form_size-most (full_fib document).form in
+    length-filled text_at 0 (written_fib (full_fib document)) (omega (arith, len, most))
 
 -- WordDocument is short, whatever the document
 pub short_wd : (s : LaidOut) → length (wd_stream s.document) < 2 ^ 31

@@ -3,6 +3,7 @@
 use Rattle.std.specs.Prelude.{ℕ, ◌+◌, ◌*◌, true, false, List, [], ◌∷◌, ◌++◌, length, map}
 use Rattle.std.specs.List.{flat_map}
 use Rattle.doc_bits.specs.Number.{number_bytes}
+use Rattle.fib_form.specs.declared.form.Form.TheVariants.{Early}
 use Rattle.fib_form.specs.FibFields.{FibFields}
 use Rattle.fib_form.specs.FibBytes.{written_fib}
 use Rattle.fkp_pages.specs.declared.kind.PageKind.{PageKind}
@@ -94,9 +95,10 @@ full_entries document = table_entries document (full_text document)
 unfoldable pub table_stream : Document → List ℕ
 table_stream document = entries_bytes (full_entries document)
 
--- [MS-DOC] FIB after a full save: no quick saves, and the table stream is 1Table
+-- [MS-DOC] FIB after a full save: the early form, no quick saves, and the table stream is 1Table
 unfoldable pub full_fib : Document → FibFields
 full_fib document = record {
+  form = Early;
   kept = record { lid = document.carried.lid; lid_fe = document.carried.lid_fe; flags = document.carried.flags };
   quick_saves = 0;
   complex = false;

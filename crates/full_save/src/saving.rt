@@ -14,7 +14,7 @@ use crate::streams::{lengths_with, streams_with};
 use crate::word_document::WordBody;
 use cfb_layout::{LayoutFault, sectors_needed, whole};
 use doc_bits::{Bytes, Memory};
-use fib_form::{Fib, KeptFib, Pairs};
+use fib_form::{Fib, Form, KeptFib, Pairs};
 use plain_doc::{Document, documents_are_formed};
 use std::alloc::Global;
 
@@ -99,7 +99,7 @@ pub fn table_len(alloc: Global, document: &Document) -> Result<u64, Memory>
     Ok(len)
 }
 
-/// The FIB of the full save.
+/// The FIB of the full save, of the early form.
 fn fib_of(document: &Document, body: &WordBody, pairs: &Pairs) -> Fib
     requires formed { IsFormed document.now }
     requires right { IsRightDocument document.now }
@@ -113,5 +113,5 @@ fn fib_of(document: &Document, body: &WordBody, pairs: &Pairs) -> Fib
         lid_fe: carried.lid_fe,
         flags: carried.flags,
     };
-    Fib::made(kept, body.cb_mac(), body.text.counts, pairs)
+    Fib::made(Form::Early, kept, body.cb_mac(), body.text.counts, pairs)
 }

@@ -1,5 +1,6 @@
 pub mod FormedLemmas
 pub mod StreamLemmas
+pub mod WithBytesLemmas
 pub mod MarkLemmas
 pub mod WalkLemmas
 pub mod EndLemmas

@@ -1,5 +1,6 @@
 -- What a document carries along unread: which parts and streams it may carry.
-use Rattle.std.specs.Prelude.{◌≡◌, ℕ, ◌+◌, ◌*◌, ◌^◌, ◌<◌, ◌≤◌, List, length, Some, IsTrue, nat_lt, slice_get}
+use Rattle.std.specs.Prelude.{◌≡◌, ℕ, ◌+◌, ◌*◌, ◌^◌, ◌<◌, ◌≤◌, List, [], length, Some, IsTrue, nat_lt, slice_get}
+use Rattle.std.specs.Prelude.{slice_set, slice_index_or}
 use Rattle.std.specs.List.{list_all, sum_by}
 use Rattle.doc_bits.specs.Number.{u16_at}
 use Rattle.doc_parts.specs.Levels.{level_count, AreLevelsFrom}
@@ -28,3 +29,9 @@ pub record AreCarriedStreams (streams : List NamedBytes) : Type 0 where
   pub few : length streams ≤ 1021
   pub total : sum_by (λ stream. length stream.bytes) streams < 2 ^ 40
   pub names : (i : ℕ) (stream : NamedBytes) → slice_get streams i ≡ Some stream → IsCarriedName stream.name
+
+-- the streams, of which that at a place has other bytes and the same name
+abbrev pub with_bytes : List NamedBytes → ℕ → List ℕ → List NamedBytes
+with_bytes streams i bytes =
+    let old = slice_index_or streams i (record { name = []; bytes = [] }) in
+    slice_set streams i (record { name = old.name; bytes = bytes })

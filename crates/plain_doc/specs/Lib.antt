@@ -2,6 +2,7 @@ pub mod Document
 pub mod Paragraphs
 pub mod Carried
 pub mod NothingCarried
+pub mod OtherBytes
 pub mod Blank
 pub mod Nesting
 pub mod OpenFields

@@ -11,6 +11,7 @@ mod items;
 mod judge;
 mod laws;
 mod lists;
+mod other_bytes;
 mod paragraphs;
 mod ranges;
 mod rows;

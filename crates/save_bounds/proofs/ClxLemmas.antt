@@ -15,7 +15,8 @@ use Rattle.doc_bits.specs.Number.{number_bytes}
 use Rattle.doc_bits.proofs.NumberLemmas.{length-number_bytes}
 use Rattle.prop_map.specs.declared.modifiers.Modifier.{Modifier}
 use Rattle.prop_map.specs.Modifiers.{no_modifier, printed_modifier}
-use Rattle.piece_table.specs.Piece.{TextPiece, UnitPlace, bare_piece, unit_bytes, unit_places, flat_pieces, IsTextPiece}
+use Rattle.piece_table.specs.Piece.{TextPiece, UnitPlace, bare_piece, unit_bytes, unit_places, flat_pieces}
+use Rattle.piece_table.specs.Piece.{IsTextPiece}
 use Rattle.piece_table.specs.ClxRules.{FitsPages}
 use Rattle.piece_table.proofs.PieceLemmas.{length-unit_places}
 use Rattle.piece_table.specs.Clx.{prc_bytes, pcdt_bytes}

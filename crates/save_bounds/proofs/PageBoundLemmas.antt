@@ -1,6 +1,5 @@
 -- The pages of a text are counted: texts that are joined have no more than both, and bare marks share one.
-use Rattle.std.specs.Prelude.{is_some}
-use Rattle.std.proofs.Common.{◌≡◌, ◌∙◌, refl, sym, ap, ℕ, zero, suc, ◌+◌, ◌≤◌, Bool, true, false, cond}
+use Rattle.std.proofs.Common.{◌≡◌, refl, ap, ℕ, zero, suc, ◌+◌, ◌≤◌, Bool, true, false, cond}
 use Rattle.std.proofs.Common.{List, [], ◌∷◌, ◌++◌, length, map, All, arith}
 use Rattle.std.proofs.lemmas.List.{length-map, map-append}
 use Rattle.std.proofs.lemmas.List.Elements.{All-head, All-tail}
@@ -16,7 +15,7 @@ use Rattle.plain_doc.specs.Settings.{is_alike}
 use Rattle.plain_doc.specs.Stretches.{stretches}
 use Rattle.full_save.specs.Runs.{text_runs}
 use Rattle.full_save.proofs.StreamLengths.{length-runs_from}
-use Rattle.save_bounds.specs.SharedPages.{pages_begun, pages_taken, marks_of, is_bare_mark, page_bound}
+use Rattle.save_bounds.specs.SharedPages.{pages_begun, pages_taken, marks_of, is_bare_mark}
 use Rattle.save_bounds.specs.SharedPages.{PageBoundsAreFewer, PageBoundsAdd, TextPagesAreFew, BareMarksShare}
 use Rattle.save_bounds.proofs.RunLemmas.{joined_stretches}
 use Rattle.save_bounds.proofs.MarkRunLemmas.{length-marks, both_marks, mark_of_run, last_marks, text_marks}

@@ -1,5 +1,5 @@
 -- Pages are counted where runs for which nothing is written share one.
-use Rattle.std.proofs.Common.{◌≡◌, ◌⊎◌, ◌∙◌, refl, sym, ap, inl, inr, ℕ, zero, suc, ◌+◌, ◌*◌, ◌<◌, ◌≤◌, Bool, true}
+use Rattle.std.proofs.Common.{◌≡◌, ◌⊎◌, ◌∙◌, refl, ap, inl, inr, ℕ, zero, suc, ◌+◌, ◌<◌, ◌≤◌, Bool, true}
 use Rattle.std.proofs.Common.{false}
 use Rattle.std.proofs.Common.{cond, List, [], ◌∷◌, ◌++◌, length, map, arith, length-append}
 use Rattle.std.proofs.lemmas.Bool.{cases_Bool}
@@ -9,7 +9,7 @@ use Rattle.fkp_pages.specs.declared.lists.Run.{Run}
 use Rattle.fkp_pages.specs.Fkp.{spelled_list}
 use Rattle.fkp_pages.specs.Runs.{run_list}
 use Rattle.fkp_pages.specs.Written.{is_bare, written}
-use Rattle.fkp_pages.specs.PageBytes.{lowered, limit_after, first_limit, entries_end, FitsPage}
+use Rattle.fkp_pages.specs.PageBytes.{lowered, limit_after, first_limit, entries_end}
 use Rattle.fkp_pages.specs.Pages.{first_fc}
 use Rattle.fkp_pages.specs.Packed.{fits_page, packed_from, packed}
 use Rattle.fkp_pages.proofs.LimitLemmas.{limit_after-append, limit_after-none, limit_after-one}

@@ -5,15 +5,16 @@ use Rattle.std.proofs.Common.{◌∷◌, length, take, Some, arith, All}
 use Rattle.std.proofs.lemmas.Option.{slice_get_within}
 use Rattle.doc_bits.specs.Rules.{Hold}
 use Rattle.doc_bits.proofs.ListLemmas.{there_is, All_at, All-from_slice_get}
-use Rattle.fib_form.specs.Fib.{fib_pair}
+use Rattle.fib_form.specs.Fib.{fib_size, fib_pair}
 use Rattle.fib_form.specs.FibFields.{fib_fields, text_length}
 use Rattle.fib_form.specs.TableParts.{pair_of}
 use Rattle.fib_form.specs.declared.table_parts.TablePart.TheVariants.{Clx}
 use Rattle.fib_form.proofs.FibLemmas.{sum-three}
 use Rattle.piece_table.specs.Piece.{TextPiece, UnitPlace, unit_bytes, bare_piece, total_length, place_of_cp}
 use Rattle.piece_table.specs.Piece.{IsTextPiece}
+use Rattle.piece_table.specs.declared.pieces.TextBounds.{TextBounds}
 use Rattle.piece_table.specs.Clx.{IsClx}
-use Rattle.piece_table.specs.ClxRules.{StaysInStream, clx_rules, early_bounds}
+use Rattle.piece_table.specs.ClxRules.{StaysInStream, clx_rules, text_bounds}
 use Rattle.piece_table.specs.Printing.{IsReadBack}
 use Rattle.piece_table.proofs.PrintedClxLemmas.{read_back}
 use Rattle.doc_load.specs.FileRules.{clx_of}
@@ -22,6 +23,10 @@ use Rattle.save_laws.specs.Places.{StandsInside, fib_end}
 use Rattle.save_laws.specs.Slots.{story_counts}
 use Rattle.save_laws.proofs.PlaceLemmas.{stands_there}
 use Rattle.save_laws.proofs.SavedLemmas.{Save, the_whole, the_flat, main_some, total_is, part_is}
+
+-- the bounds of the text
+abbrev pub saved_bounds : Save → TextBounds
+saved_bounds s = text_bounds (fib_size s.saved.stream.wd) (length s.saved.stream.wd)
 
 -- the place of each CP stands in the stream
 cp_stands : (s : Save) (cp : ℕ) (place : UnitPlace) → place_of_cp s.saved.pieces cp ≡ Some place →
@@ -38,7 +43,7 @@ stays_by from at len end true some first last = (omega (arith, first), omega (ar
 stays_by from at len end false some first last = (omega (arith, first), omega (arith, some, last))
 
 piece_stays : (s : Save) (k : ℕ) (piece : TextPiece) → slice_get s.saved.pieces k ≡ Some piece →
-    StaysInStream (early_bounds (length s.saved.stream.wd)) (bare_piece piece)
+    StaysInStream (saved_bounds s) (bare_piece piece)
 piece_stays s k piece here =
     let is = All_at IsTextPiece s.saved.pieces k piece s.is.pieces.each here in
     let some = is.units.some in
@@ -54,11 +59,11 @@ piece_stays s k piece here =
     stays_by (fib_end wd) piece.at piece.len (length wd) piece.wide some first.behind_fib last.inside
 
 pieces_stay : (s : Save) →
-    All (λ (piece : TextPiece). StaysInStream (early_bounds (length s.saved.stream.wd)) (bare_piece piece))
+    All (λ (piece : TextPiece). StaysInStream (saved_bounds s) (bare_piece piece))
     s.saved.pieces
 pieces_stay s =
     All-from_slice_get
-    (λ (piece : TextPiece). StaysInStream (early_bounds (length s.saved.stream.wd)) (bare_piece piece))
+    (λ (piece : TextPiece). StaysInStream (saved_bounds s) (bare_piece piece))
     s.saved.pieces (piece_stays s)
 
 some_by : (pieces : List TextPiece) → 1 ≤ total_length pieces → 1 ≤ length pieces
@@ -70,9 +75,9 @@ some_pieces s =
     let counted = sum-three (story_counts s.document s.saved.ends) refl in
     some_by s.saved.pieces (omega (arith, counted, total_is s, main_some s))
 
-clx_read : (s : Save) (at : ℕ) → IsReadBack s.saved.pieces s.saved.clx at (early_bounds (length s.saved.stream.wd))
+clx_read : (s : Save) (at : ℕ) → IsReadBack s.saved.pieces s.saved.clx at (saved_bounds s)
 clx_read s at =
-    read_back s.saved.pieces s.saved.clx at (early_bounds (length s.saved.stream.wd)) s.is.pieces s.is.printable
+    read_back s.saved.pieces s.saved.clx at (saved_bounds s) s.is.pieces s.is.printable
     (some_pieces s) (pieces_stay s) s.is.clx
 
 clx_part : (s : Save) → clx_of s.saved.stream.wd s.table ≡ s.saved.clx
@@ -83,11 +88,11 @@ pieces_are s = subst (λ clx. IsClx clx s.saved.pieces) (sym (clx_part s)) (clx_
 
 pub clx_holds : (s : Save) →
     Hold (clx_rules (clx_of s.saved.stream.wd s.table) (fib_pair s.saved.stream.wd (pair_of Clx)).0
-    (early_bounds (length s.saved.stream.wd)) (text_length (fib_fields s.saved.stream.wd).ccps))
+    (saved_bounds s) (text_length (fib_fields s.saved.stream.wd).ccps))
 clx_holds s =
     let wd = s.saved.stream.wd in
     let at = (fib_pair wd (pair_of Clx)).0 in
-    let bounds = early_bounds (length wd) in
+    let bounds = saved_bounds s in
     let len : total_length s.saved.pieces ≡ text_length (fib_fields wd).ccps =
     total_is s ∙ ap text_length (sym s.is.counts) in
     subst (λ clx. Hold (clx_rules clx at bounds (text_length (fib_fields wd).ccps))) (sym (clx_part s))

@@ -4,7 +4,7 @@ use Rattle.std.specs.Option.{option_or}
 use Rattle.std.specs.FinMap.{get, get-empty}
 use Rattle.std.proofs.Common.{◌≡◌, inl, ℕ, zero, suc, ◌+◌, ◌*◌, ◌<◌, true}
 use Rattle.std.proofs.Common.{List, [], ◌∷◌, ◌++◌, length, map, Some, None, Option, refl, sym, ap, ◌∙◌, subst, arith}
-use Rattle.std.proofs.Common.{append_assoc}
+use Rattle.std.proofs.Common.{append_assoc, lit<}
 use Rattle.std.proofs.lemmas.List.{length-map, map-append, append-nil, nil_from_length}
 use Rattle.std.proofs.lemmas.List.Elements.{All-nil}
 use Rattle.std.proofs.lemmas.Option.{slice_get_within, same_Some, none-some, get_or_from_slice_get}
@@ -15,8 +15,9 @@ use Rattle.prop_map.specs.Settings.{Settings}
 use Rattle.prop_map.specs.Modifiers.{no_modifier, IsCharacterAfter}
 use Rattle.cfb_streams.specs.Contents.{Contents, HasNamed}
 use Rattle.cfb_streams.specs.Names.{table_name, second_table_name}
-use Rattle.fib_form.specs.Fib.{fib_pair, fib_which_table}
+use Rattle.fib_form.specs.Fib.{fib_form, fib_pair, fib_which_table}
 use Rattle.fib_form.specs.FibFields.{FibFields, pair_at}
+use Rattle.fib_form.proofs.FibLemmas.{form_size-most}
 use Rattle.fib_form.proofs.PairLemmas.{pair_at-fib_pairs}
 use Rattle.fkp_pages.specs.declared.kind.PageKind.{PageKind}
 use Rattle.fkp_pages.specs.declared.kind.PageKind.TheVariants.{Chpx, Papx}
@@ -44,6 +45,7 @@ use Rattle.save_laws.specs.Places.{PagedStream, Given, given_of, StandsInside, G
 use Rattle.save_laws.specs.Slots.{Slot, shown, loose, last, StoryEnds, loose_if, note_slots, head_slots}
 use Rattle.save_laws.specs.Slots.{last_slots, whole_text, story_counts, IsPlaced}
 use Rattle.save_laws.specs.Saves.{saved_entries, HasRanges, AreSavedSections, StandsForText, IsSavedAs}
+use Rattle.doc_load.specs.BookmarkRules.{bookmark_pair}
 use Rattle.doc_load.specs.FileRules.{table_stream_name}
 use Rattle.fkp_pages.specs.Bin.{IsBinPage}
 use Rattle.fkp_pages.specs.Rows.{IsRow, NamesRow}
@@ -53,9 +55,9 @@ use Rattle.plain_doc.proofs.TextListLemmas.{collected_from}
 use Rattle.fkp_pages.proofs.RowTableLemmas.{table_of_row}
 use Rattle.save_laws.proofs.PlanLemmas.{plans_give}
 use Rattle.full_save.proofs.StretchRuns.{character_run, paragraph_run}
-use Rattle.full_save.proofs.EntriesFound.{AreNumbered, plain, entry_stands}
-use Rattle.full_save.proofs.LaidOut.{LaidOut, few_items, short_wd, fib_read, unit_there, text_within, HasRowTable}
-use Rattle.full_save.proofs.LaidOut.{character_table, paragraph_table, stand_sepxes}
+use Rattle.full_save.proofs.EntriesFound.{AreNumbered, plain, entry_stands, no_bookmarks}
+use Rattle.full_save.proofs.LaidOut.{LaidOut, allowed, few_items, short_wd, fib_read, unit_there, text_within}
+use Rattle.full_save.proofs.LaidOut.{HasRowTable, character_table, paragraph_table, stand_sepxes}
 use Rattle.save_laws.proofs.FullSections.{FitsSepx, sections_saved}
 
 -- ---- slots and items
@@ -150,7 +152,7 @@ written s =
     let count = length-map items given_of in
     let within = text_within s in
     record {
-      behind_fib = omega arith;
+      behind_fib = omega (arith, form_size-most (fib_form (wd_stream d)));
       within = omega (arith, count, within);
       units = λ k given here.
           let found = from_map given_of items k given here in
@@ -359,6 +361,16 @@ full_part s k part here =
     ∙ pair_at-fib_pairs (wd_stream d) part.number stands.below in
     subst (λ pair. IsPartAt (entries_bytes (full_entries d)) pair part) pairs stands.there
 
+-- no bookmarks stand there
+without_bookmarks : (s : LaidOut) → (fib_pair (wd_stream s.document) bookmark_pair).1 ≡ 0
+unfolding full_fib
+without_bookmarks s =
+    let d = s.document in
+    let pairs : pair_at (entries_pairs (full_entries d)) bookmark_pair ≡ fib_pair (wd_stream d) bookmark_pair =
+    ap (λ (fib : FibFields). pair_at fib.pairs bookmark_pair) (sym (fib_read s).fields)
+    ∙ pair_at-fib_pairs (wd_stream d) bookmark_pair (lit< tt) in
+    sym (ap (λ (pair : ℕ × ℕ). pair.1) pairs) ∙ no_bookmarks (full_entries d) (allowed d)
+
 -- the parts of the saved text are those of the layout
 entries_same : (document : Document) → saved_entries document (full_saved_text document) ≡ full_entries document
 entries_same document =
@@ -398,6 +410,7 @@ saved_of s contents has =
         flags = sym (ap (λ (fib : FibFields). fib.kept.flags) read.fields);
       };
       parts = λ k part here. full_part s k part (subst (λ parts. slice_get parts k ≡ Some part) (entries_same d) here);
+      bookmarks = without_bookmarks s;
       wd_small = omega (arith, short);
       has_wd = has.wd;
       has_table = subst (λ name. HasNamed contents.streams name (table_stream d)) (sym named) has.table;

@@ -16,7 +16,7 @@ use Rattle.doc_bits.specs.Rules.{Hold, Nowhere}
 use Rattle.doc_bits.specs.declared.places.Where.TheVariants.{Table}
 use Rattle.prop_map.specs.Settings.{Settings}
 use Rattle.prop_map.specs.declared.modifiers.Modifier.{Modifier}
-use Rattle.fib_form.specs.Fib.{fib_pair, early_form}
+use Rattle.fib_form.specs.Fib.{fib_size, fib_pair}
 use Rattle.fib_form.specs.FibFields.{fib_fields, text_length}
 use Rattle.fib_form.specs.TableParts.{pair_of}
 use Rattle.fib_form.specs.declared.table_parts.TablePart.TheVariants.{Clx}
@@ -24,9 +24,10 @@ use Rattle.fib_form.specs.declared.stories.StoryKind.TheVariants.{Main, Notes, H
 use Rattle.fkp_pages.specs.declared.kind.PageKind.TheVariants.{Chpx, Papx}
 use Rattle.direct_props.specs.PageRules.{IsRightPlace}
 use Rattle.direct_props.proofs.RightLemmas.{right_places_have_lists}
+use Rattle.piece_table.specs.declared.pieces.TextBounds.{TextBounds}
 use Rattle.piece_table.specs.Piece.{TextPiece, UnitPlace, unit_bytes, unit_places, bare_piece, flat_pieces}
 use Rattle.piece_table.specs.Clx.{ClxParts, IsClx, clx_pieces, plc_place}
-use Rattle.piece_table.specs.ClxRules.{StaysInStream, clx_rules, early_bounds}
+use Rattle.piece_table.specs.ClxRules.{StaysInStream, clx_rules, text_bounds}
 use Rattle.piece_table.proofs.ClxLemmas.{parts_unique}
 use Rattle.piece_table.proofs.ClxRuleLemmas.{stays_of}
 use Rattle.piece_table.proofs.PieceLemmas.{All-seen}
@@ -93,9 +94,9 @@ read_stream r = stream_of (source_of r.text)
 
 -- ---- each place stands in the stream
 
--- a place between the end of the FIB and the end of the stream
-abbrev StandsBy : ℕ → UnitPlace → Type 0
-StandsBy end place = (early_form.size ≤ place.at) × (place.at + unit_bytes place.wide ≤ end)
+-- a place within the bounds of text
+abbrev StandsBy : TextBounds → UnitPlace → Type 0
+StandsBy bounds place = (bounds.from ≤ place.at) × (place.at + unit_bytes place.wide ≤ bounds.end)
 
 unit_stands : (from at len j end : ℕ) (wide : Bool) → from ≤ at → at + len * unit_bytes wide ≤ end → j < len →
     (from ≤ at + j * unit_bytes wide) × (at + j * unit_bytes wide + unit_bytes wide ≤ end)
@@ -108,32 +109,37 @@ below_len n = λ k d below.
     let at = get_or-range_with_len 0 n k d (omega (arith, below, len)) in
     omega (arith, at, below, len)
 
-units_stand : (end : ℕ) (piece : TextPiece) → StaysInStream (early_bounds end) (bare_piece piece) →
-    All (StandsBy end) (unit_places piece)
-units_stand end piece stays =
+units_stand : (bounds : TextBounds) (piece : TextPiece) → StaysInStream bounds (bare_piece piece) →
+    All (StandsBy bounds) (unit_places piece)
+units_stand bounds piece stays =
     let place : ℕ → UnitPlace =
     λ j. record { at = piece.at + j * unit_bytes piece.wide; wide = piece.wide; modifier = piece.modifier } in
-    All-map (StandsBy end) place (range_with_len 0 piece.len)
-    (All-weaker (λ c. c < piece.len) (λ j. StandsBy end (place j))
-    (λ j below. unit_stands early_form.size piece.at piece.len j end piece.wide stays.0 stays.1 below)
+    All-map (StandsBy bounds) place (range_with_len 0 piece.len)
+    (All-weaker (λ c. c < piece.len) (λ j. StandsBy bounds (place j))
+    (λ j below. unit_stands bounds.from piece.at piece.len j bounds.end piece.wide stays.0 stays.1 below)
     (range_with_len 0 piece.len) (below_len piece.len))
 
-flat_stands : (end : ℕ) (pieces : List TextPiece) →
-    All (λ (piece : TextPiece). StaysInStream (early_bounds end) (bare_piece piece)) pieces →
-    All (StandsBy end) (flat_map unit_places pieces)
-flat_stands end [] all = All-nil (StandsBy end)
-flat_stands end (piece ∷ pieces) all =
-    let Stays : TextPiece → Type 0 = λ piece. StaysInStream (early_bounds end) (bare_piece piece) in
-    All-append (StandsBy end) (unit_places piece) (flat_map unit_places pieces)
-    (units_stand end piece (All-head Stays piece pieces all)) (flat_stands end pieces (All-tail Stays piece pieces all))
+flat_stands : (bounds : TextBounds) (pieces : List TextPiece) →
+    All (λ (piece : TextPiece). StaysInStream bounds (bare_piece piece)) pieces →
+    All (StandsBy bounds) (flat_map unit_places pieces)
+flat_stands bounds [] all = All-nil (StandsBy bounds)
+flat_stands bounds (piece ∷ pieces) all =
+    let Stays : TextPiece → Type 0 = λ piece. StaysInStream bounds (bare_piece piece) in
+    All-append (StandsBy bounds) (unit_places piece) (flat_map unit_places pieces)
+    (units_stand bounds piece (All-head Stays piece pieces all))
+    (flat_stands bounds pieces (All-tail Stays piece pieces all))
+
+-- the bounds of the text that was read
+abbrev read_bounds : ReadText → TextBounds
+read_bounds r = text_bounds (fib_size r.text.wd) (length r.text.wd)
 
 pieces_stand : (r : ReadText) →
-    All (λ (piece : TextPiece). StaysInStream (early_bounds (length r.text.wd)) (bare_piece piece)) r.text.pieces
+    All (λ (piece : TextPiece). StaysInStream (read_bounds r) (bare_piece piece)) r.text.pieces
 pieces_stand r =
     let wd = r.text.wd in
     let clx = clx_of wd r.text.table in
     let at = (fib_pair wd (pair_of Clx)).0 in
-    let bounds = early_bounds (length wd) in
+    let bounds = read_bounds r in
     let rules = hold_out Table (clx_rules clx at bounds (text_length (fib_fields wd).ccps)) r.table.1 in
     let parts = rules.1.0 in
     let same : r.clx.parts ≡ parts = parts_unique clx r.clx.parts parts r.clx.spelt rules.1.1.0 in
@@ -146,9 +152,9 @@ pub place_stands : (r : ReadText) (cp : ℕ) (place : UnitPlace) → slice_get (
     StandsInside (read_stream r) place.at place.wide
 unfolding flat_pieces
 place_stands r cp place here =
-    let end = length r.text.wd in
-    let by = All_at (StandsBy end) (flat_map unit_places r.text.pieces) cp place
-    (flat_stands end r.text.pieces (pieces_stand r)) here in
+    let bounds = read_bounds r in
+    let by = All_at (StandsBy bounds) (flat_map unit_places r.text.pieces) cp place
+    (flat_stands bounds r.text.pieces (pieces_stand r)) here in
     record { behind_fib = by.0; inside = by.1 }
 
 -- ---- an item that is read at a CP is shown there

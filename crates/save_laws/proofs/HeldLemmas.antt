@@ -11,23 +11,25 @@ use Rattle.cfb_streams.specs.Container.{container_rules}
 use Rattle.cfb_streams.specs.Names.{wd_name}
 use Rattle.fib_form.specs.Fib.{fib_pair}
 use Rattle.fib_form.specs.FibFields.{fib_fields, text_length}
-use Rattle.fib_form.specs.FibRules.{fib_rules}
+use Rattle.fib_form.specs.FibRules.{fib_rules, IsLongPart}
 use Rattle.fib_form.specs.TableParts.{pair_of}
 use Rattle.fib_form.specs.declared.table_parts.TablePart.TheVariants.{Stshf, SttbfFfn, Dop, SttbfAssoc, Clx, PlfLst}
 use Rattle.fib_form.specs.declared.table_parts.TablePart.TheVariants.{PlfLfo}
 use Rattle.fib_form.specs.declared.stories.StoryKind.TheVariants.{Notes, Heads}
-use Rattle.piece_table.specs.ClxRules.{clx_rules, early_bounds}
+use Rattle.piece_table.specs.ClxRules.{clx_rules}
 use Rattle.doc_parts.specs.declared.lists.Sed.{Sed}
 use Rattle.style_sheet.specs.Stsh.{stsh_rules}
 use Rattle.plain_doc.specs.Collected.{sections_of}
 use Rattle.plain_doc.proofs.RightLemmas.{sound_is_right}
 use Rattle.doc_load.specs.Source.{story_begin, part_bytes, part_place}
 use Rattle.doc_load.specs.FileRules.{file_rules, HasText, loading_rules, table_stream_name, clx_of, contents_rules}
+use Rattle.doc_load.specs.BookmarkRules.{bookmark_pair, rules_of_bookmarks}
+use Rattle.doc_load.specs.ListRules.{rules_of_lists}
 use Rattle.doc_load.specs.SheetRules.{rules_of_sheet}
 use Rattle.doc_load.specs.PairRules.{BreaksPairs}
 use Rattle.doc_load.specs.PartRules.{HasPartLists, part_rules}
 use Rattle.doc_load.proofs.RowLemmas.{index_of_get}
-use Rattle.doc_load.proofs.RefusalLemmas.{stream-there}
+use Rattle.doc_load.proofs.RefusalLemmas.{holds-rule, stream-there}
 use Rattle.doc_load.specs.SectionRules.{section_fc}
 use Rattle.doc_read.specs.Holds.{HoldsDocument, IsDocumentFrom}
 use Rattle.doc_read.specs.Sections.{IsSectionSettings, HaveSettings}
@@ -45,7 +47,7 @@ use Rattle.save_laws.proofs.ItemsHeld.{the_lists, the_maps, the_parts, main_held
 use Rattle.save_laws.proofs.FormatRulesHeld.{formats_hold}
 use Rattle.save_laws.proofs.StoryRulesHeld.{fields_hold, notes_hold, heads_hold, ends_hold, notes_cut, notes_counted}
 use Rattle.save_laws.proofs.StoryRulesHeld.{length-heads}
-use Rattle.save_laws.proofs.ClxHeld.{pieces_are, clx_holds}
+use Rattle.save_laws.proofs.ClxHeld.{saved_bounds, pieces_are, clx_holds}
 
 -- ---- the rules
 
@@ -55,12 +57,21 @@ sheet_holds s =
     hold_in Table (stsh_rules (part_bytes source Stshf) (part_place source Stshf))
     ((sheet_part s).rules (part_place source Stshf))
 
+lists_hold : (s : Save) → Hold (rules_of_lists (the_source s))
+lists_hold s = (levels_part s).rules
+
+-- no bookmarks were written
+bookmarks_hold : (s : Save) → Hold (rules_of_bookmarks (the_source s))
+bookmarks_hold s =
+    let none = s.is.bookmarks in
+    holds-rule Wd 57 (IsLongPart s.saved.stream.wd bookmark_pair 6) (λ place long. omega (arith, long.1, none))
+
 parts_hold : (s : Save) → Hold (part_rules (the_source s))
 parts_hold s = (
   (sections_hold s, bins_hold s),
   (
     formats_hold s,
-    (sheet_holds s, (fields_hold s, (notes_hold s, (heads_hold s, (ends_hold s, (levels_part s).rules))))),
+    (sheet_holds s, (fields_hold s, (notes_hold s, (heads_hold s, (ends_hold s, (lists_hold s, bookmarks_hold s)))))),
   ),
 )
 
@@ -70,9 +81,9 @@ text_held s = record { has_wd = s.is.has_wd; has_table = s.is.has_table; has_pie
 rules_hold : (s : Save) → Hold (contents_rules s.contents)
 rules_hold s =
     let wd = s.saved.stream.wd in
-    let bounds = early_bounds (length wd) in
     let name = table_stream_name wd in
-    let clx = clx_rules (clx_of wd s.table) (fib_pair wd (pair_of Clx)).0 bounds (text_length (fib_fields wd).ccps) in
+    let text_len = text_length (fib_fields wd).ccps in
+    let clx = clx_rules (clx_of wd s.table) (fib_pair wd (pair_of Clx)).0 (saved_bounds s) text_len in
     let loading : Hold (loading_rules s.contents) = (
       stream-there File s.contents wd_name wd 15 0 s.is.has_wd,
       (

@@ -11,6 +11,8 @@ use Rattle.sprm_table.specs.Sprm.{IsAcceptedList}
 use Rattle.prop_map.specs.Settings.{Settings}
 use Rattle.prop_map.specs.Formed.{section_groups}
 use Rattle.prop_map.specs.Modifiers.{no_modifier}
+use Rattle.fib_form.specs.Fib.{form_size, fib_form}
+use Rattle.fib_form.proofs.FibLemmas.{form_size-most}
 use Rattle.fkp_pages.specs.declared.kind.PageKind.TheVariants.{Chpx, Papx}
 use Rattle.fkp_pages.specs.declared.kind.PageKind.{PageKind}
 use Rattle.fkp_pages.specs.Fkp.{HasRunAnswer}
@@ -30,6 +32,10 @@ use Rattle.doc_read.proofs.PlaceLemmas.{range_at}
 use Rattle.save_laws.specs.Places.{PagedStream, fib_end, StandsInside}
 use Rattle.save_laws.specs.KeptPages.{KeepsBytes, KeepsPages}
 use Rattle.save_laws.specs.Laws.{KeptSettingsAreThere, KeptPlacesGive}
+
+-- the FIB ends where that of the older stream does
+same_end : (old new : List ℕ) → KeepsBytes old new → fib_end new ≡ fib_end old
+same_end old new keeps = ap form_size keeps.form
 
 -- ---- bytes
 
@@ -54,7 +60,8 @@ range_kept old new from to keeps low high =
 pub page_kept : (old new : List ℕ) (number : ℕ) → KeepsBytes old new → 2 ≤ number → 512 * number + 512 ≤ length old →
     page_at new number ≡ page_at old number
 page_kept old new number keeps low within =
-    range_kept old new (512 * number) (512 * number + 512) keeps (omega (arith, low)) within
+    range_kept old new (512 * number) (512 * number + 512) keeps (omega (arith, low, form_size-most (fib_form old)))
+    within
 
 pub named_kept : (old new : List ℕ) (before fc number : ℕ) → KeepsRanges old new before → fc < before →
     IsBinPage old fc number → IsBinPage new fc number
@@ -118,7 +125,7 @@ place_inside old new before at true keeps stands =
     let low = stands.behind_fib in
     let within = keeps.within in
     let longer = keeps.bytes.longer in
-    let fib = keeps.bytes.fib in (
+    let fib = same_end old.wd new.wd keeps.bytes in (
       omega (arith, inside, within),
       record { behind_fib = omega (arith, low, fib); inside = omega (arith, inside, longer) },
     )
@@ -127,7 +134,7 @@ place_inside old new before at false keeps stands =
     let low = stands.behind_fib in
     let within = keeps.within in
     let longer = keeps.bytes.longer in
-    let fib = keeps.bytes.fib in (
+    let fib = same_end old.wd new.wd keeps.bytes in (
       omega (arith, inside, within),
       record { behind_fib = omega (arith, low, fib); inside = omega (arith, inside, longer) },
     )
@@ -176,10 +183,11 @@ sepx_kept old new fc keeps there =
     let after = there.after_fib in
     let within = there.within in
     let longer = keeps.longer in
+    let most = form_size-most (fib_form old) in
     let count : u16_at new fc ≡ u16_at old fc =
-    number_kept old new fc 2 keeps (omega (arith, after)) (omega (arith, within)) in
+    number_kept old new fc 2 keeps (omega (arith, after, most)) (omega (arith, within)) in
     let same : slice_range new (fc + 2) (fc + 2 + u16_at old fc) ≡ sepx_list old fc =
-    range_kept old new (fc + 2) (fc + 2 + u16_at old fc) keeps (omega (arith, after)) within in
+    range_kept old new (fc + 2) (fc + 2 + u16_at old fc) keeps (omega (arith, after, most)) within in
     record {
       there = record { after_fib = after; within = omega (arith, within, longer, count) };
       list = ap (λ n. slice_range new (fc + 2) (fc + 2 + n)) count ∙ same;

@@ -16,7 +16,7 @@ use Rattle.save_laws.specs.GivenFiles.{StandsTogether}
 use Rattle.save_laws.specs.Saves.{SavedText, HasSettingsAt, AreSavedSections, IsSavedAs, IsHeldBy, IsFileOf}
 use Rattle.save_laws.specs.Saves.{file_text}
 
--- a well-formed sound document that is saved is held by the contents, which break none of the rules 15 to 56
+-- a well-formed sound document that is saved is held by the contents, which break none of the rules 15 to 57
 abbrev pub SavedDocumentsAreHeld : Type 0
 SavedDocumentsAreHeld =
     (document : Document) (saved : SavedText) (table : List ℕ) (contents : Contents) → IsFormed document →

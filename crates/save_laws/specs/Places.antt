@@ -7,7 +7,7 @@ use Rattle.prop_map.specs.Settings.{Settings}
 use Rattle.prop_map.specs.Formed.{character_groups, paragraph_groups}
 use Rattle.prop_map.specs.declared.modifiers.Modifier.{Modifier}
 use Rattle.prop_map.specs.Modifiers.{no_modifier, mark_style, IsCharacterAfter, IsMarkAfter}
-use Rattle.fib_form.specs.Fib.{early_form}
+use Rattle.fib_form.specs.Fib.{fib_size}
 use Rattle.fkp_pages.specs.declared.kind.PageKind.TheVariants.{Chpx, Papx}
 use Rattle.direct_props.specs.Direct.{MakesSettings}
 use Rattle.direct_props.specs.RightLists.{HasRightListAt}
@@ -24,7 +24,7 @@ pub record PagedStream : Type 0 where
 
 -- the end of the FIB of a WordDocument: text may stand behind it
 abbrev pub fib_end : List ℕ → ℕ
-fib_end wd = early_form.size
+fib_end wd = fib_size wd
 
 -- what a place gives: the unit, its settings, and those of its mark, if it has one
 pub record Given : Type 0 where

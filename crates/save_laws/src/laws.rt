@@ -7,7 +7,7 @@ ghost use Rattle.save_laws.specs.FullByRuns.{FullSavesAreBounded};
 ghost use Rattle.save_laws.specs.FullSaves.{FullSavesAreSaves};
 ghost use Rattle.save_laws.specs.Sessions.{SplicesStayTogether, ModifiedStayTogether, LongerPlansKeep, MainSplices};
 
-/// A well-formed sound document that is saved is held by the contents, which break none of the rules 15 to 56.
+/// A well-formed sound document that is saved is held by the contents, which break none of the rules 15 to 57.
 pub fn saved_documents_are_held()
     ensures { SavedDocumentsAreHeld }
 {}

@@ -1,9 +1,8 @@
-use Rattle.std.proofs.Common.{◌≡◌, ◌∙◌, ◌+◌, ◌*◌, ◌^◌, ◌<◌, ap, subst, sym, List, ℕ, length, arith, All}
+use Rattle.std.proofs.Common.{◌∙◌, ap, subst, sym, List, ℕ, arith}
 use Rattle.fkp_pages.specs.declared.kind.PageKind.TheVariants.{Chpx, Papx}
 use Rattle.fkp_pages.specs.Bin.{IsBinTable}
 use Rattle.fkp_pages.specs.Runs.{AreRuns}
 use Rattle.plain_doc.specs.declared.item.Item.{Item}
-use Rattle.plain_doc.specs.Document.{IsFormedText}
 use Rattle.full_save.specs.Runs.{text_runs}
 use Rattle.save_bounds.specs.SharedPages.{pages_taken}
 use Rattle.append_save.specs.AddedPages.{paragraph_bins}

@@ -5,7 +5,8 @@ use Rattle.cfb_layout.specs.Counts.{Fits, sectors_needed}
 use Rattle.cfb_layout.specs.Faults.{IsLayoutFault}
 use Rattle.cfb_layout.specs.declared.faults.LayoutFault.TheVariants.{TooLarge}
 use Rattle.cfb_layout.specs.Layout.{lengths_of, compound_file}
-use Rattle.fib_form.specs.FibFields.{AreCounts, ArePairs}
+use Rattle.fib_form.specs.Fib.{form_size}
+use Rattle.fib_form.specs.FibFields.{FibFields, AreCounts, ArePairs}
 use Rattle.full_save.specs.declared.table_text.TableText.{TableText}
 use Rattle.full_save.specs.TableText.{table_entries}
 use Rattle.full_save.specs.TableStream.{entries_bytes, entries_pairs}
@@ -118,7 +119,9 @@ appended-requires c =
     ∙ ap (bytes_named save.contents.streams) c.word_document.ensures in
     let len = ap length old in
     let long = long_wd r in
-    omega (arith, len, long)
+    let size : form_size c.in_ok-fib.fib.form ≡ form_size save.fib.form =
+    ap (λ (fib : FibFields). form_size fib.form) c.in_ok-fib.ensures.1 in
+    omega (arith, len, long, size)
 
 pub renewed_streams-requires : goal.renewed_streams-requires
 unfolding fast_table

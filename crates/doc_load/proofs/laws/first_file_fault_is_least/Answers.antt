@@ -5,5 +5,5 @@ use Rattle.doc_load.proofs.FileLemmas.{file_single, file_ascends}
 use Rattle.doc_load.proofs.laws.first_file_fault_is_least.Goals as goal
 
 pub returns : goal.returns
-returns c = λ file number place first. least_of_all Upto (file_rules file) 1 57 number place (file_single file)
+returns c = λ file number place first. least_of_all Upto (file_rules file) 1 58 number place (file_single file)
     (file_ascends file) first

@@ -3,10 +3,10 @@ use Rattle.doc_bits.specs.declared.places.Where.TheVariants.{Wd, Table}
 use Rattle.doc_bits.specs.Rules.{rule}
 use Rattle.doc_bits.specs.Places.{rules_in}
 use Rattle.doc_bits.proofs.RuleLemmas.{hold_in}
-use Rattle.fib_form.specs.Fib.{fib_pair}
+use Rattle.fib_form.specs.Fib.{form_size, fib_size, fib_pair}
 use Rattle.fib_form.specs.FibFields.{FibFields, fib_fields, text_length}
 use Rattle.piece_table.specs.Piece.{total_length}
-use Rattle.piece_table.specs.ClxRules.{clx_rules, early_bounds}
+use Rattle.piece_table.specs.ClxRules.{clx_rules, text_bounds}
 use Rattle.fib_form.specs.declared.table_parts.TablePart.TheVariants.{Clx}
 use Rattle.doc_load.specs.PairRules.{BreaksPairs}
 use Rattle.fib_form.specs.TableParts.{pair_of}
@@ -27,11 +27,13 @@ returns-in-Err c =
     let table = c.args.table.now in
     let len : c.text_len.result ≡ text_length (fib_fields wd).ccps = c.text_len.ensures.value ∙ ap (λ (f : FibFields).
     text_length f.ccps) c.requires.fields in
-    let rules = clx_rules (clx_of wd table) (fib_pair wd (pair_of Clx)).0 (early_bounds (length wd)) (text_length
-    (fib_fields wd).ccps) in
+    let bounds = text_bounds (fib_size wd) (length wd) in
+    let rules = clx_rules (clx_of wd table) (fib_pair wd (pair_of Clx)).0 bounds (text_length (fib_fields wd).ccps) in
     let pair : c.pair-pair.result ≡ fib_pair wd (pair_of Clx) = clx_pair c.pair.result wd c.args.fib
     c.pair-pair.result c.pair.ensures.number c.pair-pair.ensures c.requires.fields in
-    let first = rw (len, c.part_at-clx.ensures.bytes, pair) at c.in-Err.ensures.read in
+    let from : c.size.result ≡ fib_size wd = c.size.ensures.value ∙ ap (λ (f : FibFields). form_size f.form)
+    c.requires.fields in
+    let first = rw (len, c.part_at-clx.ensures.bytes, pair, from) at c.in-Err.ensures.read in
     let pairs = BreaksPairs wd (length table) in
     rw c.refused_clx.ensures (refused-next (rules_in Wd (rule 26 pairs)) (rules_in Table rules) (clx_refusal
     c.in-Err.fault) (holds-rule Wd 26 pairs (c.in_default.ensures wd c.requires.fields)) (refused-clx rules
@@ -61,11 +63,13 @@ returns c =
     let table = c.args.table.now in
     let len : c.text_len.result ≡ text_length (fib_fields wd).ccps = c.text_len.ensures.value ∙ ap (λ (f : FibFields).
     text_length f.ccps) c.requires.fields in
-    let rules = clx_rules (clx_of wd table) (fib_pair wd (pair_of Clx)).0 (early_bounds (length wd)) (text_length
-    (fib_fields wd).ccps) in
+    let bounds = text_bounds (fib_size wd) (length wd) in
+    let rules = clx_rules (clx_of wd table) (fib_pair wd (pair_of Clx)).0 bounds (text_length (fib_fields wd).ccps) in
     let pair : c.pair-pair.result ≡ fib_pair wd (pair_of Clx) = clx_pair c.pair.result wd c.args.fib
     c.pair-pair.result c.pair.ensures.number c.pair-pair.ensures c.requires.fields in
-    let read = rw (len, c.part_at-clx.ensures.bytes, pair) at c.in-Ok.ensures.read in (
+    let from : c.size.result ≡ fib_size wd = c.size.ensures.value ∙ ap (λ (f : FibFields). form_size f.form)
+    c.requires.fields in
+    let read = rw (len, c.part_at-clx.ensures.bytes, pair, from) at c.in-Ok.ensures.read in (
       (
         holds-rule Wd 26 (BreaksPairs wd (length table)) (c.in_default.ensures wd c.requires.fields),
         hold_in Table rules read.0,

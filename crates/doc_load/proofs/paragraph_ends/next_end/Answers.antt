@@ -1,10 +1,8 @@
-use Rattle.std.proofs.Common.{◌∙◌, ap, sym, ◌+◌, ◌-◌, ◌≤◌, length, arith}
-use Rattle.std.specs.Prelude.{slice_index}
-use Rattle.text_codes.specs.Paragraph.{is_paragraph_end}
+use Rattle.std.proofs.Common.{◌∙◌, ◌+◌, ◌-◌, ◌≤◌, true, false, length, arith}
 use Rattle.doc_load.specs.EndSearch.{IsNextEnd, ends_at}
 use Rattle.doc_load.proofs.EndLemmas.{met_behind, none_joined, none_more}
-use Rattle.doc_load.proofs.StretchLemmas.{first_in_part, none_in_part, none_in_stretch}
-use Rattle.doc_load.proofs.StretchLemmas.{inner_units, last_unit, outer_units}
+use Rattle.doc_load.proofs.StretchLemmas.{first_in_part, none_in_part, stop_is}
+use Rattle.doc_load.proofs.StretchLemmas.{inner_units, outer_units}
 use Rattle.doc_load.proofs.paragraph_ends.next_end.Goals as goal
 
 pub returns-then-at-stop-clause-first : goal.returns-then-at-stop-clause-first
@@ -25,22 +23,19 @@ returns-then-at-stop-clause-first c =
 
 pub returns-then-ends_paragraph-clause-first : goal.returns-then-ends_paragraph-clause-first
 returns-then-ends_paragraph-clause-first c =
-    let units = c.args.units.now in
     let sections = c.args.ends.now.sections.now in
     let main_len = c.args.ends.now.main_len in
-    let cp = c.loop-cp.cp in
-    let stop = c.behind-stop.result in
     let so_far = c.loop-cp.invariant in
-    let next : IsNextEnd sections main_len cp stop = rw (so_far.same, so_far.main) at c.behind-stop.ensures.next in
-    let behind = next.behind in
-    let within = next.within in
-    let last = ap (is_paragraph_end (slice_index units (stop - 1))) (last_unit sections main_len cp stop next) in
+    let next : IsNextEnd sections main_len c.loop-cp.cp c.behind-stop.result = rw (so_far.same, so_far.main) at
+    c.behind-stop.ensures.next in
+    let stop = stop_is c.args.units.now sections main_len c.args.from c.loop-cp.cp c.behind-stop.result next
+    c.requires.main (λ j h. c.bare_len.ensures.bare j (omega arith)) so_far.none in
+    let within = stop.within in
     record {
-      behind = omega (arith, behind, so_far.behind);
-      within = omega (arith, behind, within, c.requires.main);
-      is_so = last ∙ (sym c.ends_paragraph.ensures ∙ c.if-ends_paragraph.true);
-      none_before = none_in_stretch units sections main_len c.args.from cp stop next
-          (λ j h. c.bare_len.ensures.bare j (omega arith)) so_far.none;
+      behind = omega (arith, stop.behind, so_far.behind);
+      within = omega (arith, stop.behind, within);
+      is_so = stop.last c.ends_paragraph.result true c.ends_paragraph.ensures c.if-ends_paragraph.true;
+      none_before = stop.none;
     }
 
 pub loop-cp-preserved : goal.loop-cp-preserved
@@ -49,21 +44,19 @@ loop-cp-preserved c =
     let sections = c.args.ends.now.sections.now in
     let main_len = c.args.ends.now.main_len in
     let from = c.args.from in
-    let cp = c.loop-cp.cp in
-    let stop = c.behind-stop.result in
+    let end = c.behind-stop.result in
     let so_far = c.loop-cp.invariant in
-    let next : IsNextEnd sections main_len cp stop = rw (so_far.same, so_far.main) at c.behind-stop.ensures.next in
-    let behind = next.behind in
-    let within = next.within in
-    let last = ap (is_paragraph_end (slice_index units (stop - 1))) (last_unit sections main_len cp stop next) in
-    let none = none_in_stretch units sections main_len from cp stop next
+    let next : IsNextEnd sections main_len c.loop-cp.cp end = rw (so_far.same, so_far.main) at
+    c.behind-stop.ensures.next in
+    let stop = stop_is units sections main_len from c.loop-cp.cp end next c.requires.main
     (λ j h. c.bare_len.ensures.bare j (omega arith)) so_far.none in
+    let behind = stop.behind in
     record {
       behind = omega (arith, behind, so_far.behind);
-      within = omega (arith, behind, within, c.requires.main);
-      none = none_more (ends_at units sections main_len) from (stop - 1) stop (omega arith) none
-          (last ∙ (sym c.ends_paragraph.ensures ∙ c.if-ends_paragraph.false));
-      met = met_behind _ _ cp stop c.behind-stop.ensures.met (omega arith);
+      within = stop.within;
+      none = none_more (ends_at units sections main_len) from (end - 1) end (omega arith) stop.none
+          (stop.last c.ends_paragraph.result false c.ends_paragraph.ensures c.if-ends_paragraph.false);
+      met = met_behind _ _ c.loop-cp.cp end c.behind-stop.ensures.met (omega arith);
       same = c.behind-stop.ensures.sections ∙ so_far.same;
       main = c.behind-stop.ensures.main ∙ so_far.main;
     }

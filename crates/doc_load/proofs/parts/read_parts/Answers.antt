@@ -1,4 +1,4 @@
-use Rattle.std.proofs.lemmas.Result.{err_from_is_err_and}
+use Rattle.std.proofs.lemmas.Result.{err_from_is_err_and, MatchResult-weaker}
 use Rattle.doc_bits.specs.Rules.{◌then◌}
 use Rattle.doc_load.specs.FormatRules.{rules_of_formats}
 use Rattle.doc_load.specs.SheetRules.{rules_of_sheet}
@@ -17,3 +17,17 @@ returns-in_err-sheet c =
     (refused-next (layout_rules source) (rules_of_formats source then sheet then story_rules source) fault
     c.in_ok-sections.ensures.0
     (refused-next (rules_of_formats source) (sheet then story_rules source) fault c.in_ok-judge_formats.ensures after))
+
+pub returns : goal.returns
+returns c =
+    let source = c.args.source.now in
+    let layout = c.in_ok-sections.ensures.0 in
+    let formats = c.in_ok-judge_formats.ensures in
+    let sheet = c.in_ok-sheet.ensures.0 in
+    let stories = story_rules source in
+    MatchResult-weaker c.read_stories.result c.read_stories.ensures
+    (λ parts read. ((layout, (formats, (sheet, read.0))), read.1))
+    (λ fault refused. refused-next (layout_rules source)
+    (rules_of_formats source then rules_of_sheet source then stories) fault layout
+    (refused-next (rules_of_formats source) (rules_of_sheet source then stories) fault formats
+    (refused-next (rules_of_sheet source) stories fault sheet refused)))

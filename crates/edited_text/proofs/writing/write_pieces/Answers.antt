@@ -1,11 +1,11 @@
-use Rattle.std.proofs.Common.{◌≡◌, ◌∙◌, ◌+◌, ◌++◌, ◌∷◌, [], List, refl, sym, ap, subst, take, drop, map, length}
+use Rattle.std.proofs.Common.{◌≡◌, ◌∙◌, ◌+◌, ◌++◌, ◌∷◌, [], refl, sym, ap, take, drop, map, length}
 use Rattle.std.proofs.Common.{suc, arith, add-one}
 use Rattle.std.specs.Prelude.{slice_get, slice_range, IsTrue, ◌↔◌}
-use Rattle.std.proofs.lemmas.List.{length-map, take_all}
-use Rattle.piece_table.specs.Piece.{TextPiece, total_length}
+use Rattle.std.proofs.lemmas.List.{length-map}
+use Rattle.piece_table.specs.Piece.{total_length}
 use Rattle.save_laws.specs.Slots.{whole_text}
 use Rattle.save_laws.specs.Ends.{ends_of}
-use Rattle.edited_text.specs.WrittenAgain.{AreWritten, IsRewritten, slot_item, items_for, place_for}
+use Rattle.edited_text.specs.WrittenAgain.{IsRewritten, slot_item, items_for, place_for}
 use Rattle.edited_text.proofs.WritingLemmas.{nothing_written, next_piece, written_more, units_few, total_within, told}
 use Rattle.edited_text.proofs.WritingLemmas.{whole_short, total_more}
 use Rattle.edited_text.proofs.writing.write_pieces.Goals as goal

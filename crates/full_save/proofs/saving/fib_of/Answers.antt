@@ -1,4 +1,5 @@
 use Rattle.std.proofs.Common.{◌+◌, List, ℕ, false, length, ap, sym, subst, ◌∙◌, arith}
+use Rattle.fib_form.specs.declared.form.Form.TheVariants.{Early}
 use Rattle.fib_form.specs.FibFields.{AreCounts, ArePairs}
 use Rattle.full_save.specs.declared.table_text.TableText.{TableText}
 use Rattle.full_save.specs.WordDocument.{text_at, full_fib, full_entries}
@@ -32,6 +33,7 @@ returns c =
     let mac = c.cb_mac.ensures ∙ ap (λ (bytes : List ℕ). text_at + length bytes) c.requires.body.bytes in
     let counts = ap (λ (t : TableText). t.counts) c.requires.body.text in
     c.made.ensures ∙ (λ i. record {
+      form = Early;
       kept = record { lid = d.carried.lid; lid_fe = d.carried.lid_fe; flags = d.carried.flags };
       quick_saves = 0;
       complex = false;

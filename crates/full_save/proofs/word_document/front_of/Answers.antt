@@ -1,6 +1,10 @@
 use Rattle.std.proofs.Common.{◌∙◌}
+use Rattle.fib_form.proofs.FibLemmas.{form_size-most}
 use Rattle.full_save.proofs.FrontLemmas.{front_is}
 use Rattle.full_save.proofs.word_document.front_of.Goals as goal
+
+pub write-requires : goal.write-requires
+write-requires c = form_size-most c.args.fib.now.form
 
 pub returns : goal.returns
 returns c =

@@ -1,4 +1,4 @@
-use Rattle.std.proofs.Common.{List, [], ◌∷◌, ◌++◌, ap, ◌∙◌, refl}
+use Rattle.std.proofs.Common.{[], ◌∷◌, ◌++◌, ap, ◌∙◌, refl}
 use Rattle.prop_map.specs.Settings.{Settings}
 use Rattle.append_save.proofs.MarkSteps.{one_more, one_ended}
 use Rattle.append_save.proofs.runs.ParagraphRuns.push.Goals as goal

@@ -1,6 +1,6 @@
-use Rattle.std.proofs.Common.{◌≡◌, sym, subst}
+use Rattle.std.proofs.Common.{sym, subst}
 use Rattle.prop_map.specs.Formed.{IsPropertyMap, section_groups}
-use Rattle.doc_read.specs.Sections.{IsMetSection, IsSectionSettings}
+use Rattle.doc_read.specs.Sections.{IsSectionSettings}
 use Rattle.doc_read.proofs.SettingsLemmas.{met_before, one_met}
 use Rattle.doc_read.proofs.sections.MetSections.settings.Goals as goal
 

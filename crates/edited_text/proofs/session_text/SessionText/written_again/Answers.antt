@@ -1,6 +1,4 @@
-use Rattle.std.proofs.Common.{◌≡◌, ◌∙◌, ◌++◌, refl, sym, ap, subst, arith, List, Option, ℕ}
-use Rattle.save_laws.specs.Slots.{whole_text}
-use Rattle.save_laws.specs.Ends.{ends_of}
+use Rattle.std.proofs.Common.{◌≡◌, ◌∙◌, ◌++◌, refl, ap, subst, arith, List, Option, ℕ}
 use Rattle.piece_table.specs.Renewals.{renewed_pieces}
 use Rattle.edited_text.proofs.GrowLemmas.{sound_few}
 use Rattle.edited_text.proofs.WritingLemmas.{written_text}

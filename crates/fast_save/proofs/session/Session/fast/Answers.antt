@@ -12,10 +12,17 @@ use Rattle.fast_save.specs.Fast.{CanSaveFast, IsFastFile, IsFastFault, IsHeldFil
 use Rattle.fast_save.proofs.CanLemmas.{are_small, counted_as_added}
 use Rattle.fast_save.proofs.FastLemmas.{AreAfter, session_after_fast, counted_after_fast, saved_fast}
 use Rattle.fast_save.proofs.WrittenLemmas.{can_written, pieces_chosen}
+use Rattle.fast_save.proofs.OpenLemmas.{few_quick_saves}
 use Rattle.fast_save.proofs.session.Session.fast.Goals as goal
 
 pub judged-requires-clause-saves : goal.judged-requires-clause-saves
-judged-requires-clause-saves c = omega (arith, ap (λ (fib : FibFields). fib.quick_saves) c.self.invariant.0.fib)
+judged-requires-clause-saves c =
+    let session = c.self.invariant.0 in
+    omega (
+      arith,
+      ap (λ (fib : FibFields). fib.quick_saves) session.fib,
+      few_quick_saves c.self.inside.file session.saved session.held session.bytes,
+    )
 
 pub returns-in_err-sectors-clause-err : goal.returns-in_err-sectors-clause-err
 returns-in_err-sectors-clause-err c =

@@ -2,6 +2,7 @@
 use Rattle.std.proofs.Common.{◌≡◌, ◌++◌, take, drop, refl, sym, subst}
 use Rattle.doc_bits.specs.Number.{number_bytes}
 use Rattle.fib_form.specs.FibBytes.{written_flags, written_fields, spelled}
+use Rattle.fib_form.specs.Fib.{form_pairs}
 use Rattle.fib_form.proofs.FieldLemmas.{Puts}
 use Rattle.fib_form.proofs.FibLemmas.{fields_of}
 use Rattle.fib_form.proofs.WriteLemmas.{puts_fields}
@@ -10,7 +11,7 @@ use Rattle.fib_form.proofs.fib.Fib.write_fields.Goals as goal
 pub returns : goal.returns
 returns c =
     let in_self = c.self.inside in
-    let fib = fields_of in_self.kept.lid in_self.kept.lid_fe in_self.kept.flags in_self.quick_saves
+    let fib = fields_of in_self.form in_self.kept.lid in_self.kept.lid_fe in_self.kept.flags in_self.quick_saves
     in_self.which_table in_self.cb_mac in_self.complex in_self.ccps in_self.pairs in
     let flags : c.flags.result ≡ written_flags fib = subst (λ f. c.flags.result ≡ written_flags f)
     (sym c.self.view_is) c.flags.ensures in
@@ -18,6 +19,10 @@ returns c =
     12 c.put16-3.new.bytes) =
     subst (λ n. c.put16-4.new.bytes ≡ take 10 c.put16-3.new.bytes ++ (number_bytes 2 n ++ drop 12
     c.put16-3.new.bytes)) flags c.put16-4.ensures in
+    let pairs_put : c.put16-9.new.bytes ≡ take 152 c.put32-4.new.bytes ++ (number_bytes 2 (form_pairs fib.form) ++ drop
+    154 c.put32-4.new.bytes) =
+    subst (λ n. c.put16-9.new.bytes ≡ take 152 c.put32-4.new.bytes ++ (number_bytes 2 n ++ drop 154
+    c.put32-4.new.bytes)) c.pairs.ensures c.put16-9.ensures in
     let puts : Puts (written_fields fib) c.args.out.now c.put16-9.new.bytes = (
       c.put16.new.bytes,
       (
@@ -69,7 +74,7 @@ returns c =
                                                     (
                                                       c.put16-9.new.bytes,
                                                       (
-                                                        c.put16-9.ensures,
+                                                        pairs_put,
                                                         refl,
                                                       ),
                                                     ),

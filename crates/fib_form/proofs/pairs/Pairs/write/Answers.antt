@@ -26,12 +26,12 @@ loop-n-preserved c =
     next)) c.self.view_is c.put32-in-loop-n.ensures in
     let size : length (take 154 c.args.out.now) ≡ 154 = let long = c.requires.size in
     omega (arith, length-take 154 c.args.out.now) in
-    pairs_more pairs n (take 154 c.args.out.now) (drop 900 c.args.out.now) out next last c.loop-n-test.true count size
+    pairs_more pairs n (take 154 c.args.out.now) (drop 898 c.args.out.now) out next last c.loop-n-test.true count size
     c.loop-n.invariant fc lcb
 
 pub returns : goal.returns
 returns c =
     let count : length c.args.self.now ≡ 93 = subst (λ ps. length ps ≡ 93) c.self.view_is c.self.invariant.0 in
     let ended : c.loop-n.n ≡ 93 = omega arith in
-    pairs_all c.args.self.now c.loop-n.n (take 154 c.args.out.now) (drop 900 c.args.out.now) c.loop-n.out ended count
+    pairs_all c.args.self.now c.loop-n.n (take 154 c.args.out.now) (drop 898 c.args.out.now) c.loop-n.out ended count
     c.loop-n.invariant

@@ -1,10 +1,9 @@
 use Rattle.std.proofs.Common.{◌≡◌, ◌-◌, ◌*◌, ◌++◌, take, drop, flat_map}
-use Rattle.fib_form.specs.Fib.{early_form}
 use Rattle.fib_form.specs.FibBytes.{pair_bytes, zeros}
 use Rattle.fib_form.proofs.pairs.Pairs.write.Given as goal
 
 -- the pairs before this one are written, and zeros follow
 abbrev pub invariant-loop-n : goal.invariant-loop-n
 invariant-loop-n l =
-    l.out ≡ take 154 l.fn.out ++ (flat_map pair_bytes (take l.n l.self) ++ (zeros (746 - 8 * l.n) ++ drop
-    early_form.size l.fn.out))
+    l.out ≡ take 154 l.fn.out ++ (flat_map pair_bytes (take l.n l.self) ++ (zeros (744 - 8 * l.n) ++ drop 898
+    l.fn.out))

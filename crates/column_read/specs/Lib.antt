@@ -1,4 +1,0 @@
-pub mod Beside
-pub mod Walk
-pub mod ReadParts
-pub mod ReadTexts

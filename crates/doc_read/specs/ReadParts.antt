@@ -1,0 +1,45 @@
+-- What is read of a document before the units of its text are taken over.
+use Rattle.std.specs.Prelude.{◌≡◌, ℕ, ◌<◌, ◌^◌, List, length, All}
+use Rattle.prop_map.specs.Settings.{Settings}
+use Rattle.cfb_streams.specs.Contents.{Contents}
+use Rattle.plain_doc.specs.Document.{HasPropertyMaps}
+use Rattle.doc_load.specs.FormatRules.{judged_units, text_count}
+use Rattle.doc_load.specs.PartRules.{PartLists}
+use Rattle.doc_load.specs.FileRules.{FileText, source_of}
+use Rattle.doc_columns.specs.Columns.{items_of}
+use Rattle.doc_read.specs.Sections.{AreSectionMaps}
+use Rattle.doc_read.specs.Items.{TextParts, HoldsItems}
+use Rattle.doc_read.specs.CarriedParts.{HoldsCarried}
+use Rattle.doc_read.specs.Holds.{head_texts}
+use Rattle.doc_read.specs.declared.columns.ReadColumns.{ReadColumns}
+use Rattle.doc_read.specs.declared.document.StoryCuts.{StoryCuts}
+use Rattle.doc_read.specs.declared.document.DocumentParts.{DocumentParts}
+
+-- the columns have a value for each unit, and make well-formed items with the units
+pub record FitUnits (units : List ℕ) (read : ReadColumns) : Type 0 where
+  pub few : length units < 2 ^ 32
+  pub chps : length read.chps ≡ length units
+  pub besides : length read.besides ≡ length units
+  pub maps : All HasPropertyMaps (items_of units read.chps read.besides)
+
+-- with the units of the three stories they make the items of the CPs
+pub record AreColumnsOf (parts : TextParts) (read : ReadColumns) : Type 0 where
+  pub fit : FitUnits (judged_units parts.source) read
+  pub holds :
+      HoldsItems parts 0 (text_count parts.source) (items_of (judged_units parts.source) read.chps read.besides)
+
+-- the cuts of a file, and the number of header texts that belong to its sections
+abbrev pub cuts_of : PartLists → StoryCuts
+cuts_of lists = record { notes = lists.notes; heads = lists.heads; head_count = head_texts lists }
+
+-- the parts of the document of these streams, this text and these lists
+pub record AreDocumentParts (contents : Contents) (text : FileText) (lists : PartLists) (parts : DocumentParts) :
+    Type 0 where
+  pub sections : List Settings
+  pub has_sections : AreSectionMaps text.wd lists.sections sections
+  pub columns_are :
+      AreColumnsOf (record { source = source_of text; pieces = text.pieces; lists = lists; sections = sections })
+      parts.columns
+  pub cuts_are : parts.cuts ≡ cuts_of lists
+  pub sheet_is : parts.sheet ≡ lists.sheet
+  pub carried_is : HoldsCarried contents (source_of text) lists.levels parts.carried

@@ -1,0 +1,184 @@
+// What stands beside the units of a piece, stretch by stretch.
+ghost use Rattle.std.specs.Prelude.{◌≡◌, ◌+◌, ◌-◌, ◌<◌, ◌≤◌, ℕ, false, length, slice_index};
+ghost use Rattle.std.specs.Prelude.{IfOk, IfSome, OnOk};
+ghost use Rattle.prop_map.specs.Formed.{IsPropertyMap, paragraph_groups};
+ghost use Rattle.prop_map.specs.declared.modifiers.Modifier.{Modifier as ModifierValue};
+ghost use Rattle.text_codes.specs.Paragraph.{is_paragraph_end};
+ghost use Rattle.doc_read.specs.Passing.{AddsEach};
+ghost use Rattle.doc_read.specs.Items.{IsMarkAt};
+ghost use Rattle.doc_read.specs.Reading.{ArePassed, IsPieceReader, ends_at};
+ghost use Rattle.doc_read.specs.Beside.{IsBesideAt};
+
+use crate::part::TextPart;
+use crate::reading::{Passed, PieceReader, mark_at};
+use doc_bits::Memory;
+use doc_columns::Beside;
+use plain_doc::Mark;
+use run_lists::Runs;
+use std::alloc::Global;
+use text_codes::{bare_len, ends_paragraph};
+
+/// The CPs of a piece that are left: from one to before another.
+#[derive(Clone, Copy)]
+pub(crate) struct Left {
+    pub(crate) cp: usize,
+    pub(crate) end: usize,
+}
+
+/// Appends what stands beside the units of a piece.
+pub(crate) fn push_besides(
+    alloc: Global,
+    part: &TextPart<'_>,
+    piece: Left,
+    reader: &mut PieceReader<'_>,
+    besides: &mut Runs<Beside>,
+    passed: &mut Passed,
+) -> Result<(), Memory>
+    requires from { part.now.from ≤ piece.cp }
+    requires reader { IsPieceReader part.now.view reader.old }
+    requires ordered { piece.cp ≤ piece.end }
+    requires within { piece.end ≤ length part.now.view.units }
+    requires here { length besides.old ≡ piece.cp }
+    requires passed { ArePassed part.now.view.marks passed.old piece.cp }
+    ensures same { reader.new ≡ reader.old }
+    ensures passed { OnOk result (ArePassed part.now.view.marks passed.new piece.end) }
+    ensures besides { OnOk result (AddsEach (IsBesideAt part.now.view reader.old.characters.modifier)
+        (piece.end - piece.cp) besides.old besides.new) }
+{
+    let mut cp = piece.cp;
+    while cp < piece.end {
+        let left = Left { cp, end: piece.end };
+        cp = push_stretch(alloc, part, left, reader, besides, passed)?;
+    }
+    Ok(())
+}
+
+/// Appends what stands beside the units up to where something stands, and what stands there. It answers the next CP.
+fn push_stretch(
+    alloc: Global,
+    part: &TextPart<'_>,
+    left: Left,
+    reader: &mut PieceReader<'_>,
+    besides: &mut Runs<Beside>,
+    passed: &mut Passed,
+) -> Result<usize, Memory>
+    requires from { part.now.from ≤ left.cp }
+    requires reader { IsPieceReader part.now.view reader.old }
+    requires some { left.cp < left.end }
+    requires within { left.end ≤ length part.now.view.units }
+    requires here { length besides.old ≡ left.cp }
+    requires passed { ArePassed part.now.view.marks passed.old left.cp }
+    ensures same { reader.new ≡ reader.old }
+    ensures on { IfOk result (λ next. left.cp < next) }
+    ensures inside { IfOk result (λ next. next ≤ left.end) }
+    ensures passed { IfOk result (ArePassed part.now.view.marks passed.new) }
+    ensures besides { IfOk result (λ next.
+        AddsEach (IsBesideAt part.now.view reader.old.characters.modifier)
+        (next - left.cp) besides.old besides.new) }
+{
+    let bare = push_bare(part, left, besides, passed)?;
+    if bare == left.end {
+        return Ok(bare);
+    }
+    let beside = beside_at(alloc, part, bare as u32, reader, passed)?;
+    besides.add(1, beside)?;
+    Ok(bare + 1)
+}
+
+/// Appends nothing for each unit before the first where something may stand, and answers the CP of that one.
+fn push_bare(
+    part: &TextPart<'_>,
+    left: Left,
+    besides: &mut Runs<Beside>,
+    passed: &Passed,
+) -> Result<usize, Memory>
+    requires some { left.cp < left.end }
+    requires within { left.end ≤ length part.now.view.units }
+    requires here { length besides.old ≡ left.cp }
+    requires passed { ArePassed part.now.view.marks passed.now left.cp }
+    ensures behind { IfOk result (λ bare. left.cp ≤ bare) }
+    ensures inside { IfOk result (λ bare. bare ≤ left.end) }
+    ensures few { IfOk result (λ bare. bare ≤ 500000) }
+    ensures here { IfOk result (λ bare. length besides.new ≡ bare) }
+    ensures passed { IfOk result (ArePassed part.now.view.marks passed.now) }
+    ensures besides { IfOk result (λ bare. (modifier : ModifierValue)
+        → AddsEach (IsBesideAt part.now.view modifier) (bare - left.cp) besides.old besides.new) }
+{
+    let marked = (part.next_marked(passed) as usize).min(left.end);
+    let until = bare_until(part.text().units, left.cp, marked);
+    if until <= left.cp {
+        return Ok(left.cp);
+    }
+    besides.add((until - left.cp) as u32, Beside::none())?;
+    Ok(until)
+}
+
+/// The first CP from one to before another whose unit ends a paragraph wherever it stands, or the other CP.
+fn bare_until(units: &[u16], cp: usize, until: usize) -> usize
+    requires within { until ≤ length units.now }
+    ensures inside { cp < result → result ≤ until }
+    ensures bare { (at : ℕ) → cp ≤ at → at < result → is_paragraph_end (slice_index units.now at) false ≡ false }
+{
+    if until <= cp {
+        return until;
+    }
+    cp + bare_len(&units[cp..until])
+}
+
+/// Reads what stands beside the unit of a CP, which stands in a piece of the reader.
+fn beside_at(
+    alloc: Global,
+    part: &TextPart<'_>,
+    cp: u32,
+    reader: &mut PieceReader<'_>,
+    passed: &mut Passed,
+) -> Result<Beside, Memory>
+    requires within { cp < length part.now.view.units }
+    requires from { part.now.from ≤ cp }
+    requires reader { IsPieceReader part.now.view reader.old }
+    requires passed { ArePassed part.now.view.marks passed.old cp }
+    ensures same { reader.new ≡ reader.old }
+    ensures passed { OnOk result (ArePassed part.now.view.marks passed.new (cp + 1)) }
+    ensures beside { IfOk result (IsBesideAt part.now.view reader.old.characters.modifier cp) }
+{
+    let text = part.text();
+    let unit = text.units[cp as usize];
+    let fld = text.marks.byte_at(&mut passed.field, cp);
+    let note = text.marks.kind_at(&mut passed.note, cp);
+    let sect = text
+        .marks
+        .section_at(alloc, text.maps, &mut passed.section, cp)?;
+    let ends = ends_paragraph(unit, sect.is_some());
+    let mark = mark_of(alloc, part, cp, ends, reader)?;
+    Ok(Beside {
+        fld,
+        note,
+        mark,
+        sect,
+    })
+}
+
+/// Reads the mark of a CP, where its unit ends a paragraph. No place is looked for where it does not.
+fn mark_of(
+    alloc: Global,
+    part: &TextPart<'_>,
+    cp: u32,
+    ends: bool,
+    reader: &mut PieceReader<'_>,
+) -> Result<Option<Mark>, Memory>
+    requires within { cp < length part.now.view.units }
+    requires from { part.now.from ≤ cp }
+    requires reader { IsPieceReader part.now.view reader.old }
+    requires ends { ends ≡ ends_at part.now.view cp }
+    ensures same { reader.new ≡ reader.old }
+    ensures mark { IfOk result (IsMarkAt ends part.now.view.wd part.now.view.paragraphs
+        (slice_index part.now.view.places cp) reader.old.characters.modifier) }
+    ensures formed { IfOk result (λ mark. IfSome mark (λ mark. IsPropertyMap paragraph_groups mark.pap)) }
+{
+    if !ends {
+        return Ok(None);
+    }
+    let place = part.place(cp as usize);
+    let mark = mark_at(alloc, place, ends, &mut reader.marks)?;
+    Ok(mark)
+}

@@ -1,0 +1,175 @@
+// Reading a whole file into columns.
+ghost use Rattle.std.specs.Prelude.{◌≡◌, MatchResult};
+ghost use Rattle.doc_bits.specs.declared.places.Where.TheVariants.{File};
+ghost use Rattle.doc_bits.specs.Rules.{Hold};
+ghost use Rattle.doc_bits.specs.Places.{rules_in};
+ghost use Rattle.cfb_streams.specs.Container.{container_rules, HasContents};
+ghost use Rattle.plain_doc.specs.Sound.{IsSound, document_rules};
+ghost use Rattle.doc_load.specs.Faults.{IsReadFault};
+ghost use Rattle.doc_load.specs.FileRules.{contents_rules};
+ghost use Rattle.doc_read.specs.CarriedParts.{AreWithinBounds};
+ghost use Rattle.doc_read.specs.Holds.{all_rules};
+ghost use Rattle.doc_read.specs.Opened.{IsFoundIn, IsOpened};
+
+use crate::document::{document_with, read_document_parts};
+use cfb_streams::Container;
+use doc_columns::{ColumnDocument, is_sound};
+use doc_load::{ReadFault, load_text, read_parts, refused_container};
+use fib_form::Fib;
+use piece_table::PieceList;
+use plain_doc::{Document, check};
+use std::alloc::Global;
+use std::marker::Model;
+
+/// An accepted file: its document by columns, its FIB, its streams, and the pieces of its text.
+#[derive(Drop)]
+pub struct ColumnFile {
+    document: ColumnDocument,
+    fib: Fib,
+    container: Container,
+    pieces: PieceList,
+}
+
+impl Model for ColumnFile {
+    ghost use Rattle.doc_read.specs.Opened.{OpenedFile};
+    ghost use Rattle.std.specs.Coded.{codes};
+    ghost use Rattle.piece_table.specs.Codes.{piece_code};
+    ghost use Rattle.plain_doc.specs.contracts.document.Document as whole;
+
+    ghost Value = { OpenedFile };
+
+    ghost coded = { Prim.hlevel (codes, whole.the_row.coded, piece_code) };
+
+    ghost view = { λ o. record {
+      document = o.document;
+      fib = o.fib;
+      contents = o.container;
+      pieces = o.pieces.pieces;
+    } };
+}
+
+impl ColumnFile {
+    /// The document of the file.
+    pub fn document(&self) -> &ColumnDocument
+        ensures { result.now ≡ self.now.document }
+    {
+        &self.document
+    }
+
+    /// The FIB of its `WordDocument`.
+    pub fn fib(&self) -> &Fib
+        ensures { result.now ≡ self.now.fib }
+    {
+        &self.fib
+    }
+
+    /// Its streams, with the CLSID.
+    pub fn container(&self) -> &Container
+        ensures { result.now ≡ self.now.contents }
+    {
+        &self.container
+    }
+
+    /// The pieces of its text.
+    pub fn pieces(&self) -> &PieceList
+        ensures { result.now.pieces ≡ self.now.pieces }
+    {
+        &self.pieces
+    }
+
+    /// The same four. It takes no memory.
+    pub fn into_parts(self) -> (ColumnDocument, Fib, Container, PieceList)
+        ensures document { result.0 ≡ self.document }
+        ensures fib { result.1 ≡ self.fib }
+        ensures contents { result.2 ≡ self.contents }
+        ensures pieces { result.3.pieces ≡ self.pieces }
+    {
+        (self.document, self.fib, self.container, self.pieces)
+    }
+}
+
+/// Reads a file by columns. A file that is refused breaks a rule, and the first is named, at its least place.
+pub fn open(alloc: Global, file: &[u8]) -> Result<ColumnFile, ReadFault>
+    ensures { MatchResult result (IsOpened file.now) (IsReadFault (all_rules file.now)) }
+{
+    let container = load(alloc, file)?;
+    let found = read_contents(alloc, &container)?;
+    judge(alloc, &found.document)?;
+    Ok(ColumnFile {
+        document: found.document,
+        fib: found.fib,
+        container,
+        pieces: found.pieces,
+    })
+}
+
+/// The streams of a file.
+fn load(alloc: Global, file: &[u8]) -> Result<Container, ReadFault>
+    ensures { MatchResult result
+        (λ container. Hold (rules_in File (container_rules file.now)) × HasContents file.now container
+        × AreWithinBounds container)
+        (IsReadFault (rules_in File (container_rules file.now))) }
+{
+    match Container::load(alloc, file) {
+        Ok(container) => Ok(container),
+        Err(fault) => Err(refused_container(fault)),
+    }
+}
+
+/// What is read from the streams of a file.
+#[derive(Drop)]
+struct Found {
+    document: ColumnDocument,
+    fib: Fib,
+    pieces: PieceList,
+}
+
+/// Reads the streams of a file.
+fn read_contents(alloc: Global, container: &Container) -> Result<Found, ReadFault>
+    requires { AreWithinBounds container.now }
+    ensures { MatchResult result
+        (λ found. Hold (contents_rules container.now)
+        × IsFoundIn container.now found.document found.fib found.pieces.pieces)
+        (IsReadFault (contents_rules container.now)) }
+{
+    let text = load_text(alloc, container)?;
+    let source = text.source();
+    let parts = read_parts(alloc, &source)?;
+    let read = read_document_parts(alloc, container, &text, parts)?;
+    let (fib, pieces, units) = text.into_parts_with_units();
+    let document = document_with(alloc, &fib, units, read)?;
+    Ok(Found {
+        document,
+        fib,
+        pieces,
+    })
+}
+
+/// Judges a document by the rules on documents. Where its columns do not tell, its items are put one by one.
+fn judge(alloc: Global, document: &ColumnDocument) -> Result<(), ReadFault>
+    ensures { MatchResult result
+        (λ _. IsSound document.now)
+        (IsReadFault (document_rules document.now)) }
+{
+    if is_sound(alloc, document)? {
+        return Ok(());
+    }
+    let items = document.expand(alloc)?;
+    judge_items(&items)
+}
+
+/// Judges a document, item by item, by the rules on documents.
+fn judge_items(document: &Document) -> Result<(), ReadFault>
+    ensures { MatchResult result
+        (λ _. IsSound document.now)
+        (IsReadFault (document_rules document.now)) }
+{
+    match check(document) {
+        Ok(()) => Ok(()),
+        Err(fault) => Err(ReadFault::Refused {
+            rule: fault.rule,
+            place: fault.place,
+            offset: fault.at,
+        }),
+    }
+}
