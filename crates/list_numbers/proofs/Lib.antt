@@ -1,1 +1,15 @@
+pub mod TabulatedLemmas
+pub mod ListLemmas
+pub mod MarkValueLemmas
+pub mod FirstLemmas
+pub mod CountLemmas
+pub mod CounterLemmas
+pub mod KnownLemmas
+pub mod AlikeLemmas
+pub mod NumberedLemmas
+pub mod OneLemmas
 pub mod RomanLemmas
+pub mod ParagraphLemmas
+pub mod DocumentValueLemmas
+pub mod FitLemmas
+pub mod OutlineLemmas

@@ -1,7 +1,10 @@
 -- What the definitions imply.
-use Rattle.std.specs.Prelude.{◌≡◌, ℕ, ◌+◌, ◌-◌, ◌≤◌, ◌==◌, ◌||◌, nat_lt, if◌then◌else◌, List, [], ◌∷◌}
+use Rattle.std.specs.Prelude.{◌≡◌, ℕ, ◌+◌, ◌-◌, ◌≤◌, ◌==◌, ◌||◌, nat_lt, if◌then◌else◌, List, [], ◌∷◌, Option}
 use Rattle.list_numbers.specs.declared.number_kind.LetterCase.{LetterCase}
+use Rattle.plain_doc.specs.declared.document.Document.{Document}
 use Rattle.list_numbers.specs.NumberText.{roman}
+use Rattle.list_numbers.specs.Numbers.{AreNumbers}
+use Rattle.list_numbers.specs.Outline.{AreOutlineLines}
 
 -- the value of a letter, capital or small
 unfoldable pub letter_value : ℕ → ℕ
@@ -26,3 +29,15 @@ roman_value (letter ∷ next ∷ rest) =
 abbrev pub RomanNumeralsAreReadBack : Type 0
 RomanNumeralsAreReadBack =
     (case : LetterCase) (number : ℕ) → 1 ≤ number → number ≤ 3999 → roman_value (roman case number) ≡ number
+
+-- a document has one list of numbers
+abbrev pub NumbersAreOne : Type 0
+NumbersAreOne =
+    (document : Document) (one other : List (Option (List ℕ))) → AreNumbers document one → AreNumbers document other →
+    one ≡ other
+
+-- a document has one text of outline lines
+abbrev pub OutlineLinesAreOne : Type 0
+OutlineLinesAreOne =
+    (document : Document) (one other : List ℕ) → AreOutlineLines document one → AreOutlineLines document other →
+    one ≡ other

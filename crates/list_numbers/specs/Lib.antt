@@ -1,3 +1,11 @@
 pub mod NumberKind
 pub mod NumberText
+pub mod Tabulated
+pub mod Lists
+pub mod MarkValues
+pub mod Places
+pub mod Counts
+pub mod Counters
+pub mod Numbers
+pub mod Outline
 pub mod Laws

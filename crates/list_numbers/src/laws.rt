@@ -1,7 +1,17 @@
 // Laws over the definitions alone.
-ghost use Rattle.list_numbers.specs.Laws.{RomanNumeralsAreReadBack};
+ghost use Rattle.list_numbers.specs.Laws.{RomanNumeralsAreReadBack, NumbersAreOne, OutlineLinesAreOne};
 
 /// A Roman number is what its letters say: the sum of their values, a letter before a greater one taken off.
 pub fn roman_numerals_are_read_back()
     ensures { RomanNumeralsAreReadBack }
+{}
+
+/// The main paragraphs of a document have one list of numbers.
+pub fn numbers_are_one()
+    ensures { NumbersAreOne }
+{}
+
+/// A document has one text of outline lines.
+pub fn outline_lines_are_one()
+    ensures { OutlineLinesAreOne }
 {}

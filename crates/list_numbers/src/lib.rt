@@ -2,10 +2,32 @@
 //! its level makes of that.
 #![tactic(auto)]
 
+mod counters;
+mod document_lists;
+mod document_numbers;
+mod first_lists;
 mod laws;
+mod level;
+mod level_text;
+mod levels;
+mod list_format;
+mod list_formats;
+mod list_place;
+mod mark_values;
 mod number_kind;
+mod numbering;
+mod numbers_list;
+mod numbers_of_places;
 mod numeral;
+mod outline;
+mod outline_line;
+mod paragraphs;
+mod reading;
 mod roman;
+mod style_values;
 
-pub use laws::roman_numerals_are_read_back;
+pub use document_numbers::numbers;
+pub use laws::{numbers_are_one, outline_lines_are_one, roman_numerals_are_read_back};
+pub use numbers_list::Numbers;
 pub use numeral::number_text;
+pub use outline::outline_lines;

@@ -1,0 +1,7 @@
+use Rattle.list_numbers.proofs.OutlineLemmas.{HasLines}
+use Rattle.list_numbers.proofs.outline.lines_of.Given as goal
+
+abbrev pub invariant-loop-i : goal.invariant-loop-i
+invariant-loop-i l =
+    HasLines (record { items = l.document.main; lists = l.lists; values = l.values; places = l.places }) l.text
+    l.counts.items l.at l.i

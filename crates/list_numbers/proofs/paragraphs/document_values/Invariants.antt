@@ -1,0 +1,13 @@
+use Rattle.std.proofs.Common.{◌-◌, length}
+use Rattle.list_numbers.specs.MarkValues.{AreKnownValues}
+use Rattle.list_numbers.proofs.DocumentValueLemmas.{HaveValues}
+use Rattle.list_numbers.proofs.paragraphs.document_values.Given as goal
+
+abbrev pub invariant-loop-at : goal.invariant-loop-at
+invariant-loop-at l = record {
+  values : HaveValues l.document l.values.items l.at;
+  known : AreKnownValues l.document.sheet l.known.items;
+}
+
+abbrev pub decreases-loop-at : goal.decreases-loop-at
+decreases-loop-at l = length l.document.main - l.at

@@ -1,0 +1,146 @@
+// The number of a level, by how far it and those below it have counted.
+ghost use Rattle.std.specs.Prelude.{◌≡◌, ◌++◌, ◌<◌, length, slice_index, OnOk, IfOk};
+ghost use Rattle.std.specs.List.{flat_map};
+ghost use Rattle.list_numbers.specs.NumberText.{text_in};
+ghost use Rattle.list_numbers.specs.Counts.{list_value};
+ghost use Rattle.list_numbers.specs.Numbers.{text_within, placed_unit, number_units};
+
+use crate::level::Level;
+use crate::levels::Levels;
+use crate::number_kind::NumberKind;
+use crate::numeral::push_number;
+use doc_bits::{Memory, Units};
+use std::alloc::Global;
+
+/// Units from here on stand for themselves.
+const PLACEHOLDERS: u16 = 9;
+
+/// The units of a number at a level of a list.
+pub(crate) fn number_units(
+    alloc: Global,
+    levels: &Levels,
+    own: usize,
+    counts: &[u32],
+) -> Result<Units, Memory>
+    ensures { IfOk result (λ units. units ≡ number_units levels.now own (λ level. slice_index counts.now level)) }
+{
+    let mut units = Units::new(alloc);
+    if own < levels.len() {
+        push_level(alloc, &mut units, levels, own, counts)?;
+    }
+    Ok(units)
+}
+
+/// Appends the number of a level that is there.
+fn push_level(
+    alloc: Global,
+    units: &mut Units,
+    levels: &Levels,
+    own: usize,
+    counts: &[u32],
+) -> Result<(), Memory>
+    requires { own < length levels.now }
+    ensures { OnOk result
+        (units.new ≡ units.old ++ number_units levels.now own (λ level. slice_index counts.now level)) }
+{
+    let level = levels.get(own);
+    let text = level.text.as_slice();
+    match level.kind {
+        NumberKind::Bullet => units.push_all(text),
+        NumberKind::Nothing => Ok(()),
+        NumberKind::Decimal => push_text(alloc, units, levels, own, counts, text),
+        NumberKind::Roman(_) => push_text(alloc, units, levels, own, counts, text),
+        NumberKind::Letters(_) => push_text(alloc, units, levels, own, counts, text),
+    }
+}
+
+/// Appends a text of a level, each unit below 9 replaced.
+fn push_text(
+    alloc: Global,
+    units: &mut Units,
+    levels: &Levels,
+    own: usize,
+    counts: &[u32],
+    text: &[u16],
+) -> Result<(), Memory>
+    ensures { OnOk result (units.new ≡ units.old
+        ++ flat_map (placed_unit levels.now own (λ level. slice_index counts.now level)) text.now) }
+{
+    for unit in text {
+        push_placed(alloc, units, levels, own, counts, *unit)?;
+    }
+    Ok(())
+}
+
+/// Appends what a unit of a text stands for.
+fn push_placed(
+    alloc: Global,
+    units: &mut Units,
+    levels: &Levels,
+    own: usize,
+    counts: &[u32],
+    unit: u16,
+) -> Result<(), Memory>
+    ensures { OnOk result (units.new ≡ units.old
+        ++ placed_unit levels.now own (λ level. slice_index counts.now level) unit) }
+{
+    if unit >= PLACEHOLDERS {
+        return units.push_all(&[unit]);
+    }
+    let named = unit as usize;
+    if named <= own && named < levels.len() {
+        return push_within(alloc, units, levels.get(named), count_in(counts, named));
+    }
+    Ok(())
+}
+
+/// How far a level has counted.
+fn count_in(counts: &[u32], level: usize) -> u32
+    ensures { result ≡ slice_index counts.now level }
+{
+    if level < counts.len() {
+        counts[level]
+    } else {
+        0
+    }
+}
+
+/// Appends the number of a level as it stands within another.
+fn push_within(alloc: Global, units: &mut Units, level: &Level, count: u32) -> Result<(), Memory>
+    ensures { OnOk result (units.new ≡ units.old ++ text_within level.now.kind level.now count) }
+{
+    match level.kind {
+        NumberKind::Bullet => Ok(()),
+        NumberKind::Nothing => Ok(()),
+        NumberKind::Decimal => push_value(alloc, units, level.kind, list_value(level, count)),
+        NumberKind::Roman(_) => push_value(alloc, units, level.kind, list_value(level, count)),
+        NumberKind::Letters(_) => push_value(alloc, units, level.kind, list_value(level, count)),
+    }
+}
+
+/// Appends the text of a value.
+fn push_value(alloc: Global, units: &mut Units, kind: NumberKind, value: i64) -> Result<(), Memory>
+    ensures { OnOk result (units.new ≡ units.old ++ text_in kind value) }
+{
+    let mut text = String::new(alloc);
+    push_number(alloc, &mut text, kind, value)?;
+    push_bytes(units, text.as_bytes())
+}
+
+/// Appends bytes, each as a unit.
+fn push_bytes(units: &mut Units, bytes: &[u8]) -> Result<(), Memory>
+    ensures { OnOk result (units.new ≡ units.old ++ bytes.now) }
+{
+    for byte in bytes {
+        units.push_all(&[*byte as u16])?;
+    }
+    Ok(())
+}
+
+/// The value of a level that has counted so far. One that was not met has its start value.
+fn list_value(level: &Level, count: u32) -> i64
+    ensures { result ≡ list_value level.now count }
+{
+    let past = if count > 1 { count - 1 } else { 0 };
+    level.start as i64 + past as i64
+}

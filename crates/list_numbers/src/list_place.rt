@@ -1,0 +1,10 @@
+// Where a paragraph stands.
+
+/// A list and a level in it.
+#[derive(Clone, Copy, Debug, PartialEq, Eq)]
+pub(crate) struct ListPlace {
+    /// The index of the list.
+    pub(crate) list: usize,
+    /// The level, below 9.
+    pub(crate) level: usize,
+}

@@ -1,0 +1,144 @@
+// The three values of a paragraph mark that numbers and outlines go by.
+ghost use Rattle.std.specs.Prelude.{◌≡◌, ◌<◌, List, ℕ, IfOk, OnOk, length, slice_index, option_map};
+ghost use Rattle.std.specs.FinMap.{get};
+ghost use Rattle.doc_bits.specs.Number.{u16_at};
+ghost use Rattle.style_sheet.specs.Chain.{kind_at, HasSoundBases};
+ghost use Rattle.effective_props.specs.Layers.{paragraph_settings, settings_of_styles};
+ghost use Rattle.list_numbers.specs.MarkValues.{no_values, own_values, over, values_in, word_in, byte_in, AreStyleValues};
+
+use doc_bits::Memory;
+use prop_map::PropMap;
+use sprm_table::Code;
+use std::alloc::Global;
+use style_sheet::{Chain, Kind, Style, StyleSheet};
+
+/// Names the use of a list, from 1.
+const SPRM_P_ILFO: Code = Code(0x460B);
+
+/// The level in the list.
+const SPRM_P_ILVL: Code = Code(0x260A);
+
+/// The level in the outline.
+const SPRM_P_OUT_LVL: Code = Code(0x2640);
+
+/// The values of a paragraph mark, or what some layers say of them.
+#[derive(Clone, Copy, Debug, PartialEq, Eq)]
+pub(crate) struct MarkValues {
+    /// [MS-DOC] sprmPIlfo.
+    pub(crate) ilfo: Option<u16>,
+    /// [MS-DOC] sprmPIlvl.
+    pub(crate) ilvl: Option<u8>,
+    /// [MS-DOC] sprmPOutLvl.
+    pub(crate) outline: Option<u8>,
+}
+
+impl MarkValues {
+    /// Nothing is said.
+    pub(crate) fn none() -> MarkValues
+        ensures { result ≡ no_values }
+    {
+        MarkValues {
+            ilfo: None,
+            ilvl: None,
+            outline: None,
+        }
+    }
+
+    /// What a map says.
+    pub(crate) fn own(map: &PropMap) -> MarkValues
+        ensures { result ≡ own_values map.now }
+    {
+        MarkValues {
+            ilfo: word_at(map, SPRM_P_ILFO),
+            ilvl: byte_at(map, SPRM_P_ILVL),
+            outline: byte_at(map, SPRM_P_OUT_LVL),
+        }
+    }
+
+    /// What these values say, and else the values below.
+    pub(crate) fn over(self, below: MarkValues) -> MarkValues
+        ensures { result ≡ over self below }
+    {
+        MarkValues {
+            ilfo: self.ilfo.or(below.ilfo),
+            ilvl: self.ilvl.or(below.ilvl),
+            outline: self.outline.or(below.outline),
+        }
+    }
+
+    /// What a style and its bases say. The styles are gone through once, from the root.
+    pub(crate) fn of_style(
+        alloc: Global,
+        sheet: &StyleSheet,
+        istd: u16,
+    ) -> Result<MarkValues, Memory>
+        requires bases { HasSoundBases sheet.now }
+        requires style { 0 < kind_at sheet.now istd }
+        ensures { IfOk result (AreStyleValues sheet.now istd) }
+    {
+        let chain = sheet.chain(alloc, istd)?;
+        let values = values_of_chain(sheet, &chain);
+        Ok(values)
+    }
+}
+
+/// What the styles of a chain say, the last of them above all others.
+fn values_of_chain(sheet: &StyleSheet, chain: &Chain) -> MarkValues
+    ensures { result ≡ values_in (settings_of_styles paragraph_settings sheet.now chain.now) }
+{
+    let mut values = MarkValues::none();
+    for i in 0..chain.len() {
+        let own = values_of_slot(sheet.get(chain.get(i)));
+        values = own.over(values);
+    }
+    values
+}
+
+/// What a style says by itself, where it is there.
+#[tactic(auto, using(crate::proofs::MarkValueLemmas::own_of_empty))]
+fn values_of_slot(style: Option<&Style>) -> MarkValues
+    ensures { result ≡ own_values (paragraph_settings (option_map (λ s. s.now) style.entry)) }
+{
+    let Some(style) = style else {
+        return MarkValues::none();
+    };
+    match &style.kind {
+        Kind::Para { pap, .. } => MarkValues::own(pap),
+        Kind::Char { .. } => MarkValues::none(),
+        Kind::Other { .. } => MarkValues::none(),
+    }
+}
+
+/// The 16-bit number that a map has at a code.
+fn word_at(map: &PropMap, code: Code) -> Option<u16>
+    ensures { result ≡ word_in (get map.now code.0) }
+{
+    match map.get(code) {
+        None => None,
+        Some(value) => Some(word(value)),
+    }
+}
+
+/// The byte that a map has at a code.
+fn byte_at(map: &PropMap, code: Code) -> Option<u8>
+    ensures { result ≡ byte_in (get map.now code.0) }
+{
+    match map.get(code) {
+        None => None,
+        Some(value) => Some(byte(value, 0)),
+    }
+}
+
+/// The 16-bit number of a value. Bytes that are not there are 0.
+fn word(value: &[u8]) -> u16
+    ensures { result ≡ u16_at value.now 0 }
+{
+    byte(value, 0) as u16 + 256 * byte(value, 1) as u16
+}
+
+/// A byte of a value, or 0.
+fn byte(value: &[u8], i: usize) -> u8
+    ensures { result ≡ slice_index value.now i }
+{
+    if i < value.len() { value[i] } else { 0 }
+}
