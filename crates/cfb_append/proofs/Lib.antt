@@ -11,3 +11,5 @@ pub mod PickLemmas
 pub mod FileAfter
 pub mod TablesThere
 pub mod SectorsThere
+pub mod OverLemmas
+pub mod FreeLemmas

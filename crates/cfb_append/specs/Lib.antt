@@ -4,3 +4,5 @@ pub mod Appended
 pub mod Save
 pub mod InPlace
 pub mod Laws
+pub mod Writing
+pub mod Contract
