@@ -1,6 +1,6 @@
 -- Outcomes of one run: they are alike, and are the same but where something leaves the bytes open.
 use Rattle.std.proofs.Common.{◌≡◌, ◌∙◌, sym, ap, ℕ, List}
-use Rattle.doc_run.specs.Outcomes.{Outcome, puts, put_name, AreAlike}
+use Rattle.doc_tasks.specs.Outcomes.{Outcome, puts, put_name, AreAlike}
 
 abbrev pub IsOne : Type 0 → Outcome → Outcome → Type 0
 IsOne free a b = AreAlike a b × (¬ free → a ≡ b)
@@ -18,10 +18,6 @@ one_same free a b e = (alike_same a b e, λ closed. e)
 -- what leaves the bytes open may be said in other words
 pub one_when : (free other : Type 0) (a b : Outcome) → (free → other) → IsOne free a b → IsOne other a b
 one_when free other a b up one = (one.0, λ closed. one.1 (λ f. closed (up f)))
-
--- where nothing does, they are the same
-pub same_of : (a b : Outcome) → IsOne ⊥ a b → a ≡ b
-same_of a b one = one.1 (λ never. never)
 
 -- outcomes that put under one name and print one text
 pub puts_alike :

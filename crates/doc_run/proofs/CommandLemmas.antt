@@ -3,8 +3,9 @@ use Rattle.std.proofs.Common.{◌≡◌, ◌∙◌, sym, ap, ℕ, ◌+◌, ◌*�
 use Rattle.std.proofs.Common.{arith}
 use Rattle.std.specs.Prelude.{slice_index, slice_index_or}
 use Rattle.std.specs.Str.Parse.{digits_value}
-use Rattle.doc_run.specs.declared.command.View.TheVariants.{Text, Check, Show, Props}
-use Rattle.doc_run.specs.Commands.{Request, streams, look, full, compare, edit, generate, IsCommand}
+use Rattle.doc_tasks.specs.Tasks.{text_task, check_task, show_task, props_task, outline_task, full_task}
+use Rattle.doc_tasks.specs.Tasks.{title_task, retitle_task, compare_task}
+use Rattle.doc_run.specs.Commands.{Request, streams, on_document, on_two, edit, generate, IsCommand}
 
 -- the word that stands there
 word_at : ℕ → List (List ℕ) → List ℕ
@@ -17,12 +18,17 @@ letters words = slice_index (word_at 0 words) 0 * 256 + slice_index (word_at 0 w
 -- the only command that the words can be
 decoded : List (List ℕ) → Request
 decoded words =
-    if letters words == 116 * 256 + 101 then look Text (word_at 1 words)
-    else if letters words == 99 * 256 + 104 then look Check (word_at 1 words)
-    else if letters words == 115 * 256 + 104 then look Show (word_at 1 words)
-    else if letters words == 112 * 256 + 114 then look (Props (digits_value 10 (word_at 2 words))) (word_at 1 words)
-    else if letters words == 102 * 256 + 117 then full (word_at 1 words) (word_at 2 words)
-    else if letters words == 101 * 256 + 113 then compare (word_at 1 words) (word_at 2 words)
+    if letters words == 116 * 256 + 101 then on_document text_task (word_at 1 words)
+    else if letters words == 99 * 256 + 104 then on_document check_task (word_at 1 words)
+    else if letters words == 115 * 256 + 104 then on_document show_task (word_at 1 words)
+    else if letters words == 112 * 256 + 114 then
+    on_document (props_task (digits_value 10 (word_at 2 words))) (word_at 1 words)
+    else if letters words == 111 * 256 + 117 then on_document outline_task (word_at 1 words)
+    else if letters words == 102 * 256 + 117 then on_document (full_task (word_at 2 words)) (word_at 1 words)
+    else if letters words == 116 * 256 + 105 then on_document title_task (word_at 1 words)
+    else if letters words == 114 * 256 + 101 then
+    on_document (retitle_task (word_at 2 words) (word_at 3 words)) (word_at 1 words)
+    else if letters words == 101 * 256 + 113 then on_two compare_task (word_at 1 words) (word_at 2 words)
     else if letters words == 103 * 256 + 101 then generate (digits_value 10 (word_at 1 words)) (word_at 2 words)
     else if letters words == 101 * 256 + 100 then edit (word_at 1 words) (word_at 2 words) (word_at 3 words)
     else streams (word_at 1 words)
@@ -30,12 +36,16 @@ decoded words =
 is_decoded : (words : List (List ℕ)) (command : Request) → IsCommand words command → decoded words ≡ command
 unfolding word_at letters decoded
 is_decoded words (streams file) h = ap decoded h
-is_decoded words (look Text file) h = ap decoded h
-is_decoded words (look Check file) h = ap decoded h
-is_decoded words (look Show file) h = ap decoded h
-is_decoded words (look (Props pos) file) h = ap decoded h.spelt ∙ ap (λ n. look (Props n) file) (sym h.number.value)
-is_decoded words (full file out) h = ap decoded h
-is_decoded words (compare first second) h = ap decoded h
+is_decoded words (on_document text_task file) h = ap decoded h
+is_decoded words (on_document check_task file) h = ap decoded h
+is_decoded words (on_document show_task file) h = ap decoded h
+is_decoded words (on_document (props_task pos) file) h =
+    ap decoded h.spelt ∙ ap (λ n. on_document (props_task n) file) (sym h.number.value)
+is_decoded words (on_document outline_task file) h = ap decoded h
+is_decoded words (on_document (full_task out) file) h = ap decoded h
+is_decoded words (on_document title_task file) h = ap decoded h
+is_decoded words (on_document (retitle_task title out) file) h = ap decoded h.spelt
+is_decoded words (on_two compare_task first second) h = ap decoded h
 is_decoded words (edit file script out) h = ap decoded h
 is_decoded words (generate seed out) h = ap decoded h.spelt ∙ ap (λ n. generate n out) (sym h.number.number.value)
 

@@ -1,35 +1,52 @@
 -- A command in whose way nothing stands is served.
-use Rattle.std.proofs.Common.{◌≡◌, ◌≢◌, ◌<◌, ◌≤◌, inl, inr, ap, subst, ℕ, List, Some, length, sym, arith}
-use Rattle.doc_bits.specs.Rules.{Rules, Hold, IsSingle}
-use Rattle.doc_bits.specs.Places.{Place, Upto}
-use Rattle.doc_bits.proofs.RuleLemmas.{hold_or_first}
+use Rattle.std.proofs.Common.{◌≡◌, ◌≢◌, ◌<◌, ◌≤◌, inl, inr, refl, subst, ℕ, List, Some, length, arith}
+use Rattle.doc_bits.specs.declared.places.Where.TheVariants.{File}
+use Rattle.doc_bits.specs.Rules.{Rules, Hold, IsSingle, IsFirst}
+use Rattle.doc_bits.specs.Places.{Place, Upto, IsFirstPlace}
+use Rattle.doc_bits.proofs.RuleLemmas.{hold_or_first, first_in}
 use Rattle.doc_outer.specs.Held.{Files}
-use Rattle.plain_doc.specs.declared.document.Document.{Document}
+use Rattle.cfb_streams.specs.Container.{container_rules}
 use Rattle.doc_read.specs.Holds.{all_rules}
 use Rattle.doc_read.proofs.OneDocument.{all_single}
-use Rattle.full_save.specs.Layout.{FitsCompoundFile}
-use Rattle.doc_run.specs.declared.command.View.{View}
-use Rattle.doc_run.specs.declared.command.View.TheVariants.{Text, Check, Show, Props}
-use Rattle.doc_run.specs.Commands.{Request, streams, look, full, compare, edit, generate, IsCommand}
-use Rattle.doc_run.specs.Outcomes.{Outcome, says}
-use Rattle.doc_run.specs.Stages.{Judges, ReadsFile}
-use Rattle.edit_script.specs.declared.commands.Command.{Command}
-use Rattle.edit_script.specs.Scripts.{IsScript}
-use Rattle.edit_script.proofs.ScriptLemmas.{script_one, fault_is_one}
 use Rattle.edit_guards.specs.Policies.{Policy}
-use Rattle.doc_edit.specs.States.{RunState, start_of}
-use Rattle.doc_edit.specs.Commands.{listed}
-use Rattle.doc_edit.specs.Ends.{IsAcceptedScript}
-use Rattle.doc_edit.proofs.EndLemmas.{ends_once}
-use Rattle.doc_run.specs.Stages.{longest_file}
-use Rattle.doc_run.specs.Edits.{Edits, EditsBy, EditsFile}
-use Rattle.doc_run.specs.Endings.{stream_rules, ListsStreams, Shows, ShowsFile, Saves, SavesFile, Compares}
-use Rattle.doc_run.specs.Endings.{ComparesFiles, ReadsSecond, Ends, IsEnding}
-use Rattle.doc_run.specs.Completeness.{HoldsRight, HasPosition, CanServe}
+use Rattle.doc_edit.specs.States.{start_of}
+use Rattle.doc_tasks.specs.Outcomes.{Outcome}
+use Rattle.doc_tasks.specs.Replies.{EndsBy}
+use Rattle.doc_tasks.specs.Judged.{Judges, stream_rules}
+use Rattle.doc_tasks.specs.Answers.{ListsStreams, AnswersFile, AnswersTwo}
+use Rattle.doc_tasks.proofs.OutcomeLemmas.{status_said}
+use Rattle.doc_tasks.proofs.JudgedLemmas.{streams_single}
+use Rattle.doc_tasks.proofs.AnswerLemmas.{file_done, two_done}
+use Rattle.doc_run.specs.Commands.{Request, streams, on_document, on_two, edit, generate, IsCommand}
+use Rattle.doc_run.specs.Stages.{longest_file, BreaksLengthRule, ReadsFile}
+use Rattle.doc_run.specs.Edits.{EditsBy, IsOverlongScript, EditsFile}
+use Rattle.doc_run.specs.Endings.{ReadsSecond, Ends, IsEnding}
+use Rattle.doc_run.specs.Completeness.{HoldsRight, CanServe}
 use Rattle.doc_run.proofs.CommandLemmas.{command_one}
 use Rattle.doc_run.proofs.GenerateLemmas.{generated_done}
-use Rattle.doc_run.proofs.EditLemmas.{SaysScript, script_settled}
-use Rattle.doc_run.proofs.OneLemmas.{Says, BreakFirst, settled, streams_break, all_break, streams_single}
+use Rattle.doc_run.proofs.EditLemmas.{edited_done}
+use Rattle.doc_run.proofs.OneLemmas.{Says, settled}
+
+-- a file that is too long breaks rule 1
+long_breaks : (file : List ℕ) → 7143936 < length file → IsFirst (container_rules file) 1 7143937
+long_breaks file h =
+    inl (inl (
+      refl,
+      record {
+        broken = record { here = omega arith; wrong = inr (inr h) };
+        least = λ p b. let here = b.here in omega arith;
+      },
+    ))
+
+-- rules that a file which is overlong breaks first
+abbrev BreakFirst : (List ℕ → Rules Place) → Type 0
+BreakFirst rules = (bytes : List ℕ) → 7143936 < length bytes → IsFirstPlace (rules bytes) 1 (File, 7143937)
+
+streams_break : BreakFirst stream_rules
+streams_break file h = first_in File (container_rules file) 1 7143937 (long_breaks file h)
+
+all_break : BreakFirst all_rules
+all_break file h = inl (inl (first_in File (container_rules file) 1 7143937 (long_breaks file h)))
 
 -- where the rules hold the next stage goes on
 judged_right :
@@ -39,6 +56,15 @@ judged_right rules name next outcome single hold (inl x) =
     absurd (hold_or_first Upto rules x.rule x.place single hold x.first)
 judged_right rules name next outcome single hold (inr x) = x.1
 
+right_says :
+    (name : List ℕ) (rules : List ℕ → Rules Place) (next : List ℕ → Outcome → Type 0) (bytes : List ℕ)
+    (outcome : Outcome) → BreakFirst rules → IsSingle (rules bytes) → Hold (rules bytes) →
+    Says name (BreaksLengthRule name) (λ b. Judges (rules b) name (next b)) (Some bytes) outcome → next bytes outcome
+right_says name rules next bytes outcome breaks single hold (inl x) =
+    absurd (hold_or_first Upto (rules bytes) 1 (File, 7143937) single hold (breaks bytes x.0))
+right_says name rules next bytes outcome breaks single hold (inr x) =
+    judged_right (rules bytes) name (next bytes) outcome single hold x.1
+
 -- a file that is there and right goes to the next stage
 read_right :
     (name : List ℕ) (files : Files) (rules : List ℕ → Rules Place) (next : List ℕ → Outcome → Type 0)
@@ -47,59 +73,18 @@ read_right :
     next right.bytes outcome
 read_right name files rules next outcome breaks single right reads calm =
     let bytes = right.bytes in
-    let said : Says name rules next (Some bytes) outcome =
-    subst (λ t. Says name rules next t outcome) right.there
-    (settled name files rules next outcome breaks reads calm) in
-    judged_right (rules bytes) name (next bytes) outcome (single bytes) right.hold said
+    let judges = λ (b : List ℕ). Judges (rules b) name (next b) in
+    let said : Says name (BreaksLengthRule name) judges (Some bytes) outcome =
+    subst (λ t. Says name (BreaksLengthRule name) judges t outcome) right.there
+    (settled name files (BreaksLengthRule name) judges outcome reads calm) in
+    right_says name rules next bytes outcome breaks (single bytes) right.hold said
 
-status_of : (status : ℕ) (text : List ℕ) (outcome : Outcome) → outcome ≡ says status text → outcome.status ≡ status
-status_of status text outcome e = ap (λ (o : Outcome). o.status) e
-
-shown :
-    (view : View) (document : Document) (outcome : Outcome) → HasPosition view document →
-    Shows view document outcome → outcome.status ≡ 0
-shown Text document outcome has s = status_of 0 _ outcome s
-shown Check document outcome has s = status_of 0 _ outcome s
-shown Show document outcome has s = status_of 0 _ outcome s
-shown (Props pos) document outcome has (inl s) = status_of 0 _ outcome s.ends
-shown (Props pos) document outcome has (inr s) =
-    let beyond = s.beyond in
-    let within : pos < length document.main = has in
-    absurd (omega (arith, beyond, within))
-
-saved :
-    (out : List ℕ) (document : Document) (outcome : Outcome) → FitsCompoundFile document →
-    Saves out document outcome → outcome.status ≡ 0
-saved out document outcome fits (inl s) = ap (λ (o : Outcome). o.status) s.ends
-saved out document outcome fits (inr s) = let over = s.over in absurd (omega (arith, fits, over))
-
-compared :
-    (first second : Document) (outcome : Outcome) → first ≡ second → Compares first second outcome →
-    outcome.status ≡ 0
-compared first second outcome same (inl x) = status_of 0 _ outcome x.1
-compared first second outcome same (inr x) = absurd (x.0 same)
-
-edited :
-    (start : RunState) (commands : List Command) (out : List ℕ) (outcome : Outcome) →
-    IsAcceptedScript start commands → Edits start commands out outcome → outcome.status ≡ 0
-edited start commands out outcome accepted (inl x) =
-    absurd (ends_once.none start (listed commands) x.index x.stop accepted x.at)
-edited start commands out outcome accepted (inr x) = ap (λ (o : Outcome). o.status) x.ends
-
-edited_by :
-    (start : RunState) (out bytes : List ℕ) (commands : List Command) (outcome : Outcome) → IsScript bytes commands →
-    IsAcceptedScript start commands → EditsBy start out bytes outcome → outcome.status ≡ 0
-edited_by start out bytes commands outcome is accepted (inl x) =
-    absurd (fault_is_one.none bytes commands x.fault x.cause is x.is)
-edited_by start out bytes commands outcome is accepted (inr x) =
-    let same : x.commands ≡ commands = script_one bytes x.commands commands x.is is in
-    edited start x.commands out outcome (subst (IsAcceptedScript start) (sym same) accepted) x.edits
-
-said_of_script :
-    (start : RunState) (script out bytes : List ℕ) (outcome : Outcome) → length bytes ≤ longest_file →
-    SaysScript start script out (Some bytes) outcome → EditsBy start out bytes outcome
-said_of_script start script out bytes outcome short (inl x) = let long = x.0 in absurd (omega (arith, long, short))
-said_of_script start script out bytes outcome short (inr x) = x.edits
+short_says :
+    (name : List ℕ) (overlong : Outcome → Type 0) (next : List ℕ → Outcome → Type 0) (bytes : List ℕ)
+    (outcome : Outcome) → length bytes ≤ longest_file → Says name overlong next (Some bytes) outcome →
+    next bytes outcome
+short_says name overlong next bytes outcome short (inl x) = let long = x.0 in absurd (omega (arith, long, short))
+short_says name overlong next bytes outcome short (inr x) = x.1
 
 served :
     (policies : List Policy) (command : Request) (files : Files) (outcome : Outcome) →
@@ -107,32 +92,29 @@ served :
     outcome.status ≡ 0
 served policies (streams file) files outcome can ends calm =
     let lists = read_right file files stream_rules ListsStreams outcome streams_break streams_single can ends calm in
-    status_of 0 lists.text outcome lists.ends
-served policies (look view file) files outcome can ends calm =
-    let shows = read_right file files all_rules (ShowsFile view) outcome all_break all_single can.right ends calm in
-    shown view shows.document outcome (can.has shows.document shows.holds) shows.shows
-served policies (full file out) files outcome can ends calm =
-    let said = read_right file files all_rules (SavesFile out) outcome all_break all_single can.right ends calm in
-    saved out said.document outcome (can.fits said.document said.holds) said.saves
-served policies (compare first second) files outcome can ends calm =
+    status_said 0 lists.text outcome lists.ends
+served policies (on_document task file) files outcome can ends calm =
+    file_done task file can.right.bytes outcome can.can
+    (read_right file files all_rules (AnswersFile task file) outcome all_break all_single can.right ends calm)
+served policies (on_two pair first second) files outcome can ends calm =
     let one = can.right_first in
+    let other = can.right_second in
     let reads =
-    read_right first files all_rules (ReadsSecond second (Some files)) outcome all_break all_single one ends calm in
-    let said =
-    read_right second files all_rules (ComparesFiles one.bytes) outcome all_break all_single can.right_second reads
+    read_right first files all_rules (ReadsSecond pair second (Some files)) outcome all_break all_single one ends
     calm in
-    compared said.first said.second outcome (can.same said.first said.second said.holds_first said.holds_second)
-    said.compares
+    two_done pair one.bytes other.bytes outcome can.can
+    (read_right second files all_rules (AnswersTwo pair one.bytes) outcome all_break all_single other reads calm)
 served policies (edit file script out) files outcome can ends calm =
     let x =
     read_right file files all_rules (EditsFile policies script out (Some files)) outcome all_break all_single
     can.right ends calm in
     let start = start_of x.session policies in
-    let said =
-    subst (λ t. SaysScript start script out t outcome) can.there
-    (script_settled start script out files outcome x.reads calm) in
-    edited_by start out can.bytes can.commands outcome can.is (can.accepted x.session x.started)
-    (said_of_script start script out can.bytes outcome can.short said)
+    let next = λ (b : List ℕ). EndsBy (Some out) (EditsBy start b) in
+    let said : Says script IsOverlongScript next (Some can.bytes) outcome =
+    subst (λ t. Says script IsOverlongScript next t outcome) can.there
+    (settled script files IsOverlongScript next outcome x.reads calm) in
+    edited_done start out can.bytes can.commands outcome can.is (can.accepted x.session x.started)
+    (short_says script IsOverlongScript next can.bytes outcome can.short said)
 served policies (generate seed out) files outcome can ends calm = generated_done seed out outcome ends calm
 
 pub complete :

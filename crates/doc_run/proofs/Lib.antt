@@ -1,9 +1,8 @@
-pub mod EndingLemmas
-pub mod PutLemmas
-pub mod ListingLemmas
 pub mod PositionLemmas
 pub mod CommandLemmas
 pub mod AlikeLemmas
+pub mod StageLemmas
+pub mod PutLemmas
 pub mod SessionLemmas
 pub mod EditLemmas
 pub mod GenerateLemmas

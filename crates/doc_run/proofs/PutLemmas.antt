@@ -1,135 +1,117 @@
--- What a run puts, and where.
-use Rattle.std.proofs.Common.{◌≡◌, ◌≢◌, ◌∙◌, inl, inr, ap, sym, subst, refl, ℕ, List, [], Option, Some, None}
+-- What a run puts, and where; and that its status is none of those for what fails later.
+use Rattle.std.proofs.Common.{◌≡◌, ◌≢◌, ◌∙◌, inl, inr, ap, sym, subst, refl, ℕ, ◌<◌, List, Option, Some, arith}
 use Rattle.std.proofs.lemmas.Option.{none-some}
 use Rattle.doc_bits.specs.Rules.{Rules}
 use Rattle.doc_bits.specs.Places.{Place}
 use Rattle.doc_outer.specs.Held.{Files, StaysAt, OthersStay}
-use Rattle.plain_doc.specs.declared.document.Document.{Document}
 use Rattle.doc_read.specs.Holds.{all_rules}
-use Rattle.doc_run.specs.declared.command.View.{View}
-use Rattle.doc_run.specs.declared.command.View.TheVariants.{Text, Check, Show, Props}
-use Rattle.doc_run.specs.Commands.{Request, streams, look, full, compare, edit, generate, IsCommand, PutsUnder}
-use Rattle.doc_run.specs.Lines.{shelf_fault_line}
-use Rattle.doc_run.specs.Outcomes.{Outcome, PutFile, says}
-use Rattle.doc_run.specs.Stages.{Judges, ReadsFile}
-use Rattle.edit_script.specs.declared.commands.Command.{Command}
 use Rattle.edit_guards.specs.Policies.{Policy}
-use Rattle.doc_edit.specs.States.{RunState, start_of}
-use Rattle.doc_run.specs.Generates.{EndsGenerated}
-use Rattle.doc_run.specs.Edits.{Edits, EditsBy, EditsFile, ReadsScript}
-use Rattle.doc_run.specs.Endings.{stream_rules, ListsStreams, Shows, ShowsFile, Saves, SavesFile, Compares}
-use Rattle.doc_run.specs.Endings.{ComparesFiles, ReadsSecond, Ends, IsEnding}
+use Rattle.doc_edit.specs.States.{start_of}
+use Rattle.doc_tasks.specs.declared.reply.Reply.{Reply}
+use Rattle.doc_tasks.specs.Lines.{shelf_fault_line}
+use Rattle.doc_tasks.specs.Outcomes.{Outcome, PutFile, says}
+use Rattle.doc_tasks.specs.Tasks.{out_of, out_of_two}
+use Rattle.doc_tasks.specs.Replies.{EndsBy, Replies, RepliesTwo}
+use Rattle.doc_tasks.specs.Judged.{Judges, stream_rules}
+use Rattle.doc_tasks.specs.Answers.{ListsStreams, AnswersFile, AnswersTwo}
+use Rattle.doc_tasks.proofs.OutcomeLemmas.{status_said, ends_put, ends_inside, after_reading_inside}
+use Rattle.doc_run.specs.Commands.{Request, streams, on_document, on_two, edit, generate, put_under, IsCommand}
+use Rattle.doc_run.specs.Commands.{PutsUnder}
+use Rattle.doc_run.specs.Stages.{BreaksLengthRule, Reads, ReadsFile}
+use Rattle.doc_run.specs.Generates.{Generates}
+use Rattle.doc_run.specs.Edits.{IsOverlongScript, EditsBy, EditsFile}
+use Rattle.doc_run.specs.Endings.{ReadsSecond, Ends, IsEnding}
 
--- what is put has such a name, and the status is 0
-abbrev pub PutsAt : (List ℕ → Type 0) → Outcome → Type 0
-PutsAt at outcome = (file : PutFile) → outcome.put ≡ Some file → at file.name × (outcome.status ≡ 0)
+-- none of the statuses of a failing sink and of want of memory
+abbrev pub IsCalm : ℕ → Type 0
+IsCalm status = (status ≢ 5) × (status ≢ 6)
+
+-- what is put has the command's name, and then the status is 0
+pub record IsFine (out : Option (List ℕ)) (outcome : Outcome) : Type 0 where
+  pub puts : (file : PutFile) → outcome.put ≡ Some file → (out ≡ Some file.name) × (outcome.status ≡ 0)
+  pub calm : IsCalm outcome.status
+
+calm_below : (status : ℕ) → status < 5 → IsCalm status
+calm_below status small = (λ s. omega (arith, small, s), λ s. omega (arith, small, s))
 
 -- what prints alone puts nothing
-says_puts :
-    (at : List ℕ → Type 0) (outcome : Outcome) (status : ℕ) (text : List ℕ) → outcome ≡ says status text →
-    PutsAt at outcome
-says_puts at outcome status text e file put =
-    absurd (none-some file (sym (ap (λ (o : Outcome). o.put) e) ∙ put))
+said_fine :
+    (out : Option (List ℕ)) (status : ℕ) (text : List ℕ) (outcome : Outcome) → outcome ≡ says status text →
+    IsCalm status → IsFine out outcome
+said_fine out status text outcome e calm = record {
+  puts = λ file put. absurd (none-some file (sym (ap (λ (o : Outcome). o.put) e) ∙ put));
+  calm = subst (λ n. IsCalm n) (sym (status_said status text outcome e)) calm;
+}
 
-judges_put :
-    (at : List ℕ → Type 0) (rules : Rules Place) (name : List ℕ) (next : Outcome → Type 0) (outcome : Outcome) →
-    (next outcome → PutsAt at outcome) → Judges rules name next outcome → PutsAt at outcome
-judges_put at rules name next outcome step (inl r) = says_puts at outcome _ _ r.ends
-judges_put at rules name next outcome step (inr r) = step r.1
+reply_fine :
+    (out : Option (List ℕ)) (such : Reply → Type 0) (outcome : Outcome) → EndsBy out such outcome → IsFine out outcome
+reply_fine out such outcome ends = record {
+  puts = λ file put. ends_put out such outcome file ends put;
+  calm = after_reading_inside outcome.status (ends_inside out such outcome ends);
+}
 
-reads_put :
-    (at : List ℕ → Type 0) (name : List ℕ) (held : Option Files) (rules : List ℕ → Rules Place)
+judges_fine :
+    (out : Option (List ℕ)) (rules : Rules Place) (name : List ℕ) (next : Outcome → Type 0) (outcome : Outcome) →
+    (next outcome → IsFine out outcome) → Judges rules name next outcome → IsFine out outcome
+judges_fine out rules name next outcome step (inl x) = said_fine out 1 _ outcome x.ends (calm_below 1 (omega arith))
+judges_fine out rules name next outcome step (inr x) = step x.1
+
+reads_fine :
+    (out : Option (List ℕ)) (name : List ℕ) (held : Option Files) (overlong : Outcome → Type 0)
+    (next : List ℕ → Outcome → Type 0) (outcome : Outcome) → (overlong outcome → IsFine out outcome) →
+    ((bytes : List ℕ) → next bytes outcome → IsFine out outcome) → Reads name held overlong next outcome →
+    IsFine out outcome
+reads_fine out name held overlong next outcome long step (inl x) =
+    said_fine out 3 _ outcome x.ends (calm_below 3 (omega arith))
+reads_fine out name held overlong next outcome long step (inr (inl x)) =
+    said_fine out 4 _ outcome x (calm_below 4 (omega arith))
+reads_fine out name held overlong next outcome long step (inr (inr (inl x))) = long x.ends
+reads_fine out name held overlong next outcome long step (inr (inr (inr x))) = step x.bytes x.goes_on
+
+file_fine :
+    (out : Option (List ℕ)) (name : List ℕ) (held : Option Files) (rules : List ℕ → Rules Place)
     (next : List ℕ → Outcome → Type 0) (outcome : Outcome) →
-    ((bytes : List ℕ) → next bytes outcome → PutsAt at outcome) → ReadsFile name held rules next outcome →
-    PutsAt at outcome
-reads_put at name held rules next outcome step (inl x) = says_puts at outcome _ _ x.ends
-reads_put at name held rules next outcome step (inr (inl x)) = says_puts at outcome _ _ x
-reads_put at name held rules next outcome step (inr (inr (inl x))) = says_puts at outcome _ _ x.ends
-reads_put at name held rules next outcome step (inr (inr (inr x))) =
-    judges_put at (rules x.bytes) name (next x.bytes) outcome (step x.bytes) x.goes_on
-
-shows_put :
-    (at : List ℕ → Type 0) (view : View) (document : Document) (outcome : Outcome) → Shows view document outcome →
-    PutsAt at outcome
-shows_put at Text document outcome s = says_puts at outcome _ _ s
-shows_put at Check document outcome s = says_puts at outcome _ _ s
-shows_put at Show document outcome s = says_puts at outcome _ _ s
-shows_put at (Props pos) document outcome (inl s) = says_puts at outcome _ _ s.ends
-shows_put at (Props pos) document outcome (inr s) = says_puts at outcome _ _ s.ends
-
--- the name of a file that is put
-name_of : Option PutFile → List ℕ
-name_of None = []
-name_of (Some file) = file.name
-
-saves_put :
-    (out : List ℕ) (document : Document) (outcome : Outcome) → Saves out document outcome →
-    PutsAt (λ name. name ≡ out) outcome
-unfolding name_of
-saves_put out document outcome (inl s) file put =
-    (sym (ap name_of (sym (ap (λ (o : Outcome). o.put) s.ends) ∙ put)), ap (λ (o : Outcome). o.status) s.ends)
-saves_put out document outcome (inr s) file put = says_puts (λ name. name ≡ out) outcome _ _ s.ends file put
-
-compares_put :
-    (at : List ℕ → Type 0) (first second : Document) (outcome : Outcome) → Compares first second outcome →
-    PutsAt at outcome
-compares_put at first second outcome (inl c) = says_puts at outcome _ _ c.1
-compares_put at first second outcome (inr c) = says_puts at outcome _ _ c.1
-
-edits_put :
-    (start : RunState) (commands : List Command) (out : List ℕ) (outcome : Outcome) →
-    Edits start commands out outcome → PutsAt (λ name. name ≡ out) outcome
-unfolding name_of
-edits_put start commands out outcome (inl s) file put = says_puts (λ name. name ≡ out) outcome _ _ s.ends file put
-edits_put start commands out outcome (inr s) file put =
-    (sym (ap name_of (sym (ap (λ (o : Outcome). o.put) s.ends) ∙ put)), ap (λ (o : Outcome). o.status) s.ends)
-
-edits_by_put :
-    (start : RunState) (out bytes : List ℕ) (outcome : Outcome) → EditsBy start out bytes outcome →
-    PutsAt (λ name. name ≡ out) outcome
-edits_by_put start out bytes outcome (inl x) = says_puts (λ name. name ≡ out) outcome _ _ x.ends
-edits_by_put start out bytes outcome (inr x) = edits_put start x.commands out outcome x.edits
-
-script_put :
-    (start : RunState) (script out : List ℕ) (held : Option Files) (outcome : Outcome) →
-    ReadsScript script out held start outcome → PutsAt (λ name. name ≡ out) outcome
-script_put start script out held outcome (inl x) = says_puts (λ name. name ≡ out) outcome _ _ x.ends
-script_put start script out held outcome (inr (inl x)) = says_puts (λ name. name ≡ out) outcome _ _ x
-script_put start script out held outcome (inr (inr (inl x))) = says_puts (λ name. name ≡ out) outcome _ _ x.ends
-script_put start script out held outcome (inr (inr (inr x))) =
-    let said = x.goes_on in edits_by_put start out x.bytes outcome said.edits
-
-generated_put :
-    (seed : ℕ) (out : List ℕ) (outcome : Outcome) → EndsGenerated seed out outcome →
-    PutsAt (λ name. name ≡ out) outcome
-unfolding name_of
-generated_put seed out outcome (inl x) file put = says_puts (λ name. name ≡ out) outcome _ _ x file put
-generated_put seed out outcome (inr x) file put =
-    (sym (ap name_of (sym (ap (λ (o : Outcome). o.put) x.ends) ∙ put)), ap (λ (o : Outcome). o.status) x.ends)
+    ((bytes : List ℕ) → next bytes outcome → IsFine out outcome) → ReadsFile name held rules next outcome →
+    IsFine out outcome
+file_fine out name held rules next outcome step reads =
+    reads_fine out name held (BreaksLengthRule name) (λ bytes. Judges (rules bytes) name (next bytes)) outcome
+    (λ e. said_fine out 1 _ outcome e (calm_below 1 (omega arith)))
+    (λ bytes j. judges_fine out (rules bytes) name (next bytes) outcome (step bytes) j) reads
 
 -- a command puts under its own name
-ends_put :
+ends_fine :
     (policies : List Policy) (command : Request) (held : Option Files) (outcome : Outcome) →
-    Ends policies command held outcome → PutsAt (PutsUnder command) outcome
-ends_put policies (streams file) held outcome e =
-    reads_put (PutsUnder (streams file)) file held stream_rules ListsStreams outcome
-    (λ bytes l. says_puts _ outcome _ _ l.ends) e
-ends_put policies (look view file) held outcome e =
-    let at = PutsUnder (look view file) in
-    reads_put at file held all_rules (ShowsFile view) outcome (λ bytes s. shows_put at view s.document outcome s.shows)
-    e
-ends_put policies (full file out) held outcome e =
-    reads_put (λ name. name ≡ out) file held all_rules (SavesFile out) outcome
-    (λ bytes s. saves_put out s.document outcome s.saves) e
-ends_put policies (compare first second) held outcome e =
-    let at = PutsUnder (compare first second) in
-    reads_put at first held all_rules (ReadsSecond second held) outcome
-    (λ one reads. reads_put at second held all_rules (ComparesFiles one) outcome (λ other c. compares_put at c.first
-    c.second outcome c.compares) reads) e
-ends_put policies (edit file script out) held outcome e =
-    reads_put (λ name. name ≡ out) file held all_rules (EditsFile policies script out held) outcome
-    (λ bytes x. script_put (start_of x.session policies) script out held outcome x.reads) e
-ends_put policies (generate seed out) held outcome e = generated_put seed out outcome e
+    Ends policies command held outcome → IsFine (put_under command) outcome
+ends_fine policies (streams file) held outcome e =
+    let out = put_under (streams file) in
+    file_fine out file held stream_rules ListsStreams outcome
+    (λ bytes x. said_fine out 0 x.text outcome x.ends (calm_below 0 (omega arith))) e
+ends_fine policies (on_document task file) held outcome e =
+    file_fine (out_of task) file held all_rules (AnswersFile task file) outcome
+    (λ bytes x. reply_fine (out_of task) (Replies task file x.document) outcome x.answers) e
+ends_fine policies (on_two pair first second) held outcome e =
+    let out = out_of_two pair in
+    file_fine out first held all_rules (ReadsSecond pair second held) outcome
+    (λ one reads. file_fine out second held all_rules (AnswersTwo pair one) outcome
+    (λ other x. reply_fine out (RepliesTwo pair x.first x.second) outcome x.answers) reads) e
+ends_fine policies (edit file script out) held outcome e =
+    file_fine (Some out) file held all_rules (EditsFile policies script out held) outcome
+    (λ bytes x. let by = EditsBy (start_of x.session policies) in
+    reads_fine (Some out) script held IsOverlongScript (λ b. EndsBy (Some out) (by b)) outcome
+    (λ long. said_fine (Some out) 7 _ outcome long (λ s. omega (arith, s), λ s. omega (arith, s)))
+    (λ b y. reply_fine (Some out) (by b) outcome y) x.reads) e
+ends_fine policies (generate seed out) held outcome (inl fault) =
+    said_fine (Some out) 4 _ outcome fault (calm_below 4 (omega arith))
+ends_fine policies (generate seed out) held outcome (inr made) = reply_fine (Some out) (Generates seed) outcome made
+
+-- a run has no status of what fails later
+pub ending_calm :
+    (policies : List Policy) (words : List (List ℕ)) (held : Option Files) (outcome : Outcome) →
+    IsEnding policies words held outcome → IsCalm outcome.status
+ending_calm policies words held outcome (inl usage) =
+    subst (λ n. IsCalm n) (sym (status_said 2 _ outcome usage.ends)) (calm_below 2 (omega arith))
+ending_calm policies words held outcome (inr served) =
+    let fine = ends_fine policies served.command held outcome served.ends in fine.calm
 
 -- a run puts under a name of its command
 pub ending_puts :
@@ -139,7 +121,8 @@ pub ending_puts :
 ending_puts policies words held outcome file (inl usage) put =
     absurd (none-some file (sym (ap (λ (o : Outcome). o.put) usage.ends) ∙ put))
 ending_puts policies words held outcome file (inr served) put =
-    let puts = ends_put policies served.command held outcome served.ends file put in
+    let fine = ends_fine policies served.command held outcome served.ends in
+    let puts = fine.puts file put in
     (served.command, ((served.asked, puts.0), puts.1))
 
 -- a run that puts may end by a failing shelf
@@ -147,9 +130,8 @@ faulted :
     (policies : List Policy) (command : Request) (held : Option Files) →
     Ends policies command held (says 4 shelf_fault_line)
 faulted policies (streams file) held = inr (inl refl)
-faulted policies (look view file) held = inr (inl refl)
-faulted policies (full file out) held = inr (inl refl)
-faulted policies (compare first second) held = inr (inl refl)
+faulted policies (on_document task file) held = inr (inl refl)
+faulted policies (on_two pair first second) held = inr (inl refl)
 faulted policies (edit file script out) held = inr (inl refl)
 faulted policies (generate seed out) held = inl refl
 

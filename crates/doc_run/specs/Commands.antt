@@ -1,9 +1,11 @@
 -- What the words of a run ask for.
-use Rattle.std.specs.Prelude.{◌≡◌, ◌≤◌, List, [], ◌∷◌, ℕ, length, codes}
+use Rattle.std.specs.Prelude.{◌≡◌, ◌≤◌, List, [], ◌∷◌, ℕ, length, codes, Option, Some, None}
 use Rattle.std.specs.Str.Parse.{IsNumeral, digits_value}
 use Rattle.doc_edit.specs.GeneratedRuns.{most_seed}
-use Rattle.doc_run.specs.declared.command.View.{View}
-use Rattle.doc_run.specs.declared.command.View.TheVariants.{Text, Check, Show, Props}
+use Rattle.doc_tasks.specs.Tasks.{FileTask, text_task, check_task, show_task, props_task, outline_task, full_task}
+use Rattle.doc_tasks.specs.Tasks.{title_task, retitle_task, task_of, out_of}
+use Rattle.summary_set.specs.Written.{IsTitle}
+use Rattle.doc_tasks.specs.Tasks.{PairTask, compare_task, pair_of, out_of_two}
 use Rattle.doc_run.specs.declared.command.Command as asked
 use Rattle.doc_run.specs.declared.command.Command.TheVariants as asked_for
 
@@ -11,12 +13,10 @@ use Rattle.doc_run.specs.declared.command.Command.TheVariants as asked_for
 pub data Request : Type 0 where
   -- list the streams of a file
   streams : (file : List ℕ) → Request
-  -- look at the document of a file
-  look : (view : View) → (file : List ℕ) → Request
-  -- put the full save of the document of a file under a name
-  full : (file out : List ℕ) → Request
-  -- compare the documents of two files
-  compare : (first second : List ℕ) → Request
+  -- do a task on the document of a file
+  on_document : (task : FileTask) → (file : List ℕ) → Request
+  -- do a task on the documents of two files
+  on_two : (pair : PairTask) → (first second : List ℕ) → Request
   -- edit the document of a file by a script, and put its last save under a name
   edit : (file script out : List ℕ) → Request
   -- put what the generator makes of a seed under a name
@@ -25,9 +25,8 @@ pub data Request : Type 0 where
 -- the command that the program keeps
 abbrev pub request_of : asked.Command → Request
 request_of (asked_for.Streams file) = streams file.now
-request_of (asked_for.Look view file) = look view file.now
-request_of (asked_for.Full file out) = full file.now out.now
-request_of (asked_for.Equal first second) = compare first.now second.now
+request_of (asked_for.OnDocument task file) = on_document (task_of task) file.now
+request_of (asked_for.OnTwo pair first second) = on_two (pair_of pair) first.now second.now
 request_of (asked_for.Edit file script out) = edit file.now script.now out.now
 request_of (asked_for.Gen seed out) = generate seed out.now
 
@@ -54,19 +53,31 @@ pub record AsksForGenerated (words : List (List ℕ)) (seed : ℕ) (out : List �
   pub number : IsSeed word seed
   pub spelt : words ≡ codes "gen" ∷ word ∷ out ∷ []
 
--- the words ask for a view of the document of a file
-abbrev pub AsksForView : List (List ℕ) → View → (file : List ℕ) → Type 0
-AsksForView words Text file = words ≡ codes "text" ∷ file ∷ []
-AsksForView words Check file = words ≡ codes "check" ∷ file ∷ []
-AsksForView words Show file = words ≡ codes "show" ∷ file ∷ []
-AsksForView words (Props pos) file = AsksAtPosition words pos file
+-- the words ask for another title of the document of a file
+pub record AsksToRetitle (words : List (List ℕ)) (title out file : List ℕ) : Type 0 where
+  pub plain : IsTitle title
+  pub spelt : words ≡ codes "retitle" ∷ file ∷ title ∷ out ∷ []
+
+-- the words ask for a task on the document of a file
+abbrev pub AsksFor : List (List ℕ) → FileTask → (file : List ℕ) → Type 0
+AsksFor words text_task file = words ≡ codes "text" ∷ file ∷ []
+AsksFor words check_task file = words ≡ codes "check" ∷ file ∷ []
+AsksFor words show_task file = words ≡ codes "show" ∷ file ∷ []
+AsksFor words (props_task pos) file = AsksAtPosition words pos file
+AsksFor words outline_task file = words ≡ codes "outline" ∷ file ∷ []
+AsksFor words (full_task out) file = words ≡ codes "full" ∷ file ∷ out ∷ []
+AsksFor words title_task file = words ≡ codes "title" ∷ file ∷ []
+AsksFor words (retitle_task title out) file = AsksToRetitle words title out file
+
+-- the words ask for a task on the documents of two files
+abbrev pub AsksForTwo : List (List ℕ) → PairTask → (first second : List ℕ) → Type 0
+AsksForTwo words compare_task first second = words ≡ codes "equal" ∷ first ∷ second ∷ []
 
 -- the words are the command
 abbrev pub IsCommand : List (List ℕ) → Request → Type 0
 IsCommand words (streams file) = words ≡ codes "streams" ∷ file ∷ []
-IsCommand words (look view file) = AsksForView words view file
-IsCommand words (full file out) = words ≡ codes "full" ∷ file ∷ out ∷ []
-IsCommand words (compare first second) = words ≡ codes "equal" ∷ first ∷ second ∷ []
+IsCommand words (on_document task file) = AsksFor words task file
+IsCommand words (on_two pair first second) = AsksForTwo words pair first second
 IsCommand words (edit file script out) = words ≡ codes "edit" ∷ file ∷ script ∷ out ∷ []
 IsCommand words (generate seed out) = AsksForGenerated words seed out
 
@@ -78,11 +89,14 @@ IsNoCommand words = (command : Request) → ¬ (IsCommand words command)
 abbrev pub CommandIsOne : Type 0
 CommandIsOne = (words : List (List ℕ)) (a b : Request) → IsCommand words a → IsCommand words b → a ≡ b
 
+-- the name under which the command puts bytes, where it has one
+abbrev pub put_under : Request → Option (List ℕ)
+put_under (streams file) = None
+put_under (on_document task file) = out_of task
+put_under (on_two pair first second) = out_of_two pair
+put_under (edit file script out) = Some out
+put_under (generate seed out) = Some out
+
 -- the command puts bytes under the name
 abbrev pub PutsUnder : Request → List ℕ → Type 0
-PutsUnder (streams file) name = ⊥
-PutsUnder (look view file) name = ⊥
-PutsUnder (full file out) name = name ≡ out
-PutsUnder (compare first second) name = ⊥
-PutsUnder (edit file script out) name = name ≡ out
-PutsUnder (generate seed out) name = name ≡ out
+PutsUnder command name = put_under command ≡ Some name

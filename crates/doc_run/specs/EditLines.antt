@@ -9,7 +9,7 @@ use Rattle.edit_ops.specs.declared.faults.EditFault.{EditFault}
 use Rattle.edit_ops.specs.declared.faults.EditFault.TheVariants.{Range, Code, Rule, Limit, Memory as NoMemory}
 use Rattle.doc_edit.specs.declared.faults.Stop.{Stop}
 use Rattle.doc_edit.specs.declared.faults.Stop.TheVariants.{Refused, Guarded, Sixteenth, TooManyPieces, TooLarge}
-use Rattle.doc_run.specs.Lines.{place_name}
+use Rattle.doc_tasks.specs.Lines.{place_name}
 
 -- why bytes are no script; want of memory has no line
 abbrev pub script_line : ScriptFault → List ℕ

@@ -1,5 +1,6 @@
 -- How a run ends that makes a file by the generator.
-use Rattle.std.specs.Prelude.{◌≡◌, ◌⊎◌, ℕ, true, false, List}
+use Rattle.std.specs.Prelude.{◌≡◌, ◌⊎◌, ℕ, true, false, List, ◌++◌, Some, codes}
+use Rattle.std.specs.Fmt.{decimal}
 use Rattle.plain_doc.specs.Blank.{blank_document}
 use Rattle.plain_doc.specs.RulesOfSheet.{item_count}
 use Rattle.full_save.specs.Layout.{full_save_image}
@@ -7,9 +8,20 @@ use Rattle.doc_edit.specs.Saves.{save_count}
 use Rattle.doc_edit.specs.Generated.{generated}
 use Rattle.doc_edit.specs.Ends.{IsAcceptedRun, IsLastSave, end_state}
 use Rattle.doc_edit.specs.GeneratedRuns.{generator_start, commands_run, mark_count}
-use Rattle.doc_run.specs.Lines.{generated_line}
-use Rattle.doc_run.specs.Outcomes.{Outcome, puts}
+use Rattle.doc_tasks.specs.declared.reply.Reply.{Reply}
+use Rattle.doc_tasks.specs.declared.reply.Reply.TheVariants.{Made}
+use Rattle.doc_tasks.specs.Outcomes.{Outcome}
+use Rattle.doc_tasks.specs.Replies.{EndsBy}
+use Rattle.doc_show.specs.Story.{line}
 use Rattle.doc_run.specs.Stages.{IsShelfFault}
+
+-- what the generator made of a seed: the items of all texts, the marks of the main text, and the saves of each mode
+abbrev pub generated_line : (seed units paragraphs fast full : ℕ) → List ℕ
+generated_line seed units paragraphs fast full =
+    line (codes "gen " ++ (decimal seed
+    ++ (codes ": units " ++ (decimal units
+    ++ (codes " paragraphs " ++ (decimal paragraphs
+    ++ (codes " fast " ++ (decimal fast ++ (codes " full " ++ decimal full)))))))))
 
 -- the line of what is made of a seed: how much the document has after all commands, and how many of them saved
 abbrev pub generated_counts_line : ℕ → List ℕ
@@ -20,14 +32,14 @@ generated_counts_line seed =
     (save_count true commands)
 
 -- all commands of the generator are made, on the full save of the blank document and under no guard, and the bytes of
--- the last save are put under a name, as those of a script; from 0 there is none, and that full save is put
-pub record Generates (seed : ℕ) (out : List ℕ) (outcome : Outcome) : Type 0 where
+-- the last save are to be put, as those of a script; from 0 there is none, and that full save is put
+pub record Generates (seed : ℕ) (answer : Reply) : Type 0 where
   pub accepted : IsAcceptedRun generator_start (generated seed)
   pub image : List ℕ
   pub last : IsLastSave generator_start (generated seed) image
   pub blank : seed ≡ 0 → image ≡ full_save_image blank_document
-  pub ends : outcome ≡ puts (generated_counts_line seed) out image
+  pub ends : answer ≡ Made (generated_counts_line seed) image
 
 -- it is put, or the shelf failed; no name is read
 abbrev pub EndsGenerated : (seed : ℕ) → (out : List ℕ) → Outcome → Type 0
-EndsGenerated seed out outcome = IsShelfFault outcome ⊎ Generates seed out outcome
+EndsGenerated seed out outcome = IsShelfFault outcome ⊎ EndsBy (Some out) (Generates seed) outcome

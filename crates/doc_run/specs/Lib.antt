@@ -1,11 +1,10 @@
 pub mod Commands
-pub mod Lines
 pub mod EditLines
 pub mod Outcomes
 pub mod Stages
 pub mod Reading
-pub mod Sessions
 pub mod Edits
 pub mod Generates
 pub mod Endings
 pub mod Completeness
+pub mod Quota

@@ -1,41 +1,26 @@
--- How a run ends: its status, what it prints, and what it puts.
-use Rattle.std.specs.Prelude.{◌≡◌, ◌≢◌, ◌⊎◌, ℕ, List, Option, Some, None, option_map}
-use Rattle.doc_outer.specs.Counts.{Rose}
+-- What a run leaves of a shelf, and what its status says of it.
+use Rattle.std.specs.Prelude.{◌≡◌, ◌≢◌, ◌⊎◌, ℕ, Option, Some, None}
+use Rattle.doc_outer.specs.Counts.{Rose, GoesOn}
 use Rattle.doc_outer.specs.Held.{Files, held_with}
-
--- bytes under a name
-pub record PutFile : Type 0 where
-  pub name : List ℕ
-  pub bytes : List ℕ
-
--- a status, what is printed, and perhaps a file that is put
-pub record Outcome : Type 0 where
-  pub status : ℕ
-  pub text : List ℕ
-  pub put : Option PutFile
-
--- the text is printed, and nothing is put
-abbrev pub says : ℕ → List ℕ → Outcome
-says status text = record { status = status; text = text; put = None }
-
--- the bytes are put under the name, and the text is printed
-abbrev pub puts : (text name bytes : List ℕ) → Outcome
-puts text name bytes = record { status = 0; text = text; put = Some (record { name = name; bytes = bytes }) }
-
--- the name under which bytes are put
-abbrev pub put_name : Outcome → Option (List ℕ)
-put_name outcome = option_map (λ file. file.name) outcome.put
-
--- one status, one text, and one name for what is put
-pub record AreAlike (one other : Outcome) : Type 0 where
-  pub status : one.status ≡ other.status
-  pub text : one.text ≡ other.text
-  pub name : put_name one ≡ put_name other
+use Rattle.doc_outer.specs.declared.shelf.Shelf.{Ghosts}
+use Rattle.doc_tasks.specs.Outcomes.{PutFile, Outcome}
 
 -- a status for a missing name or a failing shelf comes only where its count rose
 pub record HasCause (status missed_before missed_now faults_before faults_now : ℕ) : Type 0 where
   pub missing : status ≡ 3 → Rose missed_before missed_now
   pub shelf_fault : status ≡ 4 → Rose faults_before faults_now
+
+-- the same between two states of a shelf
+abbrev pub IsCaused : {S : Type 0} → Ghosts S → S → S → ℕ → Type 0
+IsCaused shelf before now status =
+    HasCause status (shelf.missed before) (shelf.missed now) (shelf.faults before) (shelf.faults now)
+
+-- the shelf was read and nothing else: it holds what it held, counts go on, and no put failed
+pub record IsOnlyRead {S : Type 0} (shelf : Ghosts S) (before now : S) : Type 0 where
+  pub kept : shelf.held now ≡ shelf.held before
+  pub faults : GoesOn (shelf.faults before) (shelf.faults now)
+  pub missed : GoesOn (shelf.missed before) (shelf.missed now)
+  pub put_faults : shelf.put_faults now ≡ shelf.put_faults before
 
 -- what names hold after a put, where that is told
 abbrev pub held_after : Option PutFile → Option Files → Option Files

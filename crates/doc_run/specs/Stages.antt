@@ -1,11 +1,13 @@
--- The stages of a run: a file is read, then judged. Each stage ends the run or hands on to the next one.
-use Rattle.std.specs.Prelude.{◌≡◌, ◌⊎◌, ℕ, ◌+◌, List, Option}
+-- The stages of a run that read: each ends the run, or hands the bytes of a name on to the next one.
+use Rattle.std.specs.Prelude.{◌≡◌, ◌⊎◌, ℕ, ◌+◌, ◌≤◌, List, Option, length}
 use Rattle.doc_bits.specs.declared.places.Where.TheVariants.{File}
-use Rattle.doc_bits.specs.Rules.{Rules, Hold}
-use Rattle.doc_bits.specs.Places.{Place, IsFirstPlace}
+use Rattle.doc_bits.specs.Number.{AreBytes}
+use Rattle.doc_bits.specs.Rules.{Rules}
+use Rattle.doc_bits.specs.Places.{Place}
 use Rattle.doc_outer.specs.Held.{Files, Told, IsAbsent, IsLonger, IsWhole}
-use Rattle.doc_run.specs.Lines.{rule_line, missing_line, shelf_fault_line}
-use Rattle.doc_run.specs.Outcomes.{Outcome, says}
+use Rattle.doc_tasks.specs.Lines.{rule_line, missing_line, shelf_fault_line}
+use Rattle.doc_tasks.specs.Outcomes.{Outcome, says}
+use Rattle.doc_tasks.specs.Judged.{Judges}
 
 -- the most bytes of a file
 abbrev pub longest_file : ℕ
@@ -26,11 +28,13 @@ pub record IsOverlong
   pub longer : Told held name (IsLonger longest_file)
   pub ends : overlong outcome
 
--- the name was read whole, and the next stage goes on with its bytes
+-- the name was read whole: it holds bytes, no more than any file has, and the next stage goes on with them
 pub record IsReadWhole
     (name : List ℕ) (held : Option Files) (next : List ℕ → Outcome → Type 0) (outcome : Outcome) : Type 0 where
   pub bytes : List ℕ
   pub told : Told held name (IsWhole bytes)
+  pub are : AreBytes bytes
+  pub short : length bytes ≤ longest_file
   pub goes_on : next bytes outcome
 
 -- a stage that reads a name: what an overlong file means is the stage's own
@@ -38,17 +42,6 @@ abbrev pub Reads : (name : List ℕ) → Option Files → (Outcome → Type 0) �
 Reads name held overlong next outcome =
     IsMissing name held outcome
     ⊎ (IsShelfFault outcome ⊎ (IsOverlong name held overlong outcome ⊎ IsReadWhole name held next outcome))
-
--- a rule is broken, and the line names the first one at its least place
-pub record IsRefused (rules : Rules Place) (name : List ℕ) (outcome : Outcome) : Type 0 where
-  pub rule : ℕ
-  pub place : Place
-  pub first : IsFirstPlace rules rule place
-  pub ends : outcome ≡ says 1 (rule_line name rule place)
-
--- a stage that judges: a rule is broken, or the next stage goes on
-abbrev pub Judges : Rules Place → (name : List ℕ) → (Outcome → Type 0) → Outcome → Type 0
-Judges rules name next outcome = IsRefused rules name outcome ⊎ (Hold rules × next outcome)
 
 -- a file that is overlong breaks rule 1
 abbrev pub BreaksLengthRule : (name : List ℕ) → Outcome → Type 0

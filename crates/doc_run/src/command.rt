@@ -1,42 +1,28 @@
 // What the words of a run ask for.
 ghost use Rattle.std.specs.Prelude.{◌≡◌, ℕ, List, [], ◌∷◌, MatchOption, map, codes};
 ghost use Rattle.std.specs.String.{string_bytes};
-ghost use Rattle.doc_run.specs.Commands.{request_of, AsksForView, IsCommand, IsNoCommand, IsPosition, IsSeed};
+ghost use Rattle.summary_set.specs.Written.{IsTitle};
+ghost use Rattle.doc_tasks.specs.Tasks.{FileTask, retitle_task, task_of};
+ghost use Rattle.doc_run.specs.Commands.{request_of, AsksFor, IsCommand, IsNoCommand, IsPosition, IsSeed};
 
 use doc_edit::MOST_SEED;
-
-/// What is looked at in a document.
-#[derive(Clone, Copy, Debug, PartialEq, Eq)]
-pub enum View {
-    /// The main text.
-    Text,
-    /// How much it has.
-    Check,
-    /// Its styles and texts.
-    Show,
-    /// An item of the main text, by its position.
-    Props(u32),
-}
+use doc_tasks::{Pair, Task, Title};
 
 /// A command, with the names that it is given.
-#[derive(Clone, Copy)]
+#[derive(Drop)]
 pub enum Command<'a> {
     /// List the streams of the root.
     Streams {
         file: &'a str,
     },
-    /// Look at the document of a file.
-    Look {
-        view: View,
+    /// Ask something of the document of a file.
+    OnDocument {
+        task: Task<'a>,
         file: &'a str,
     },
-    /// Put the full save of the document of a file under a name.
-    Full {
-        file: &'a str,
-        out: &'a str,
-    },
-    /// Compare the documents of two files.
-    Equal {
+    /// Ask something of the documents of two files.
+    OnTwo {
+        pair: Pair,
         first: &'a str,
         second: &'a str,
     },
@@ -81,8 +67,8 @@ fn command_on<'a>(word: &str, file: &'a str) -> Option<Command<'a>>
     if word == "streams" {
         return Some(Command::Streams { file });
     }
-    let view = view_of(word)?;
-    Some(Command::Look { view, file })
+    let task = task_named(word)?;
+    Some(Command::OnDocument { task, file })
 }
 
 /// The command that a word names, where two words stand behind it.
@@ -92,55 +78,78 @@ fn command_on_two<'a>(word: &str, first: &'a str, second: &'a str) -> Option<Com
         (λ command. IsCommand (word.now ∷ first.now ∷ second.now ∷ []) (request_of command)) }
 {
     if word == "full" {
-        return Some(Command::Full {
-            file: first,
-            out: second,
-        });
+        let task = Task::Full { out: second };
+        return Some(Command::OnDocument { task, file: first });
     }
     if word == "equal" {
-        return Some(Command::Equal { first, second });
+        let pair = Pair::Compare;
+        return Some(Command::OnTwo {
+            pair,
+            first,
+            second,
+        });
     }
     if word == "gen" {
         let seed = seed_of(first)?;
         return Some(Command::Gen { seed, out: second });
     }
     let pos = props_position(word, second)?;
-    Some(Command::Look {
-        view: View::Props(pos),
-        file: first,
-    })
+    let task = Task::Props(pos);
+    Some(Command::OnDocument { task, file: first })
 }
 
 /// The command that a word names, where three words stand behind it.
 fn command_on_three<'a>(
     word: &str,
     file: &'a str,
-    script: &'a str,
+    second: &'a str,
     out: &'a str,
 ) -> Option<Command<'a>>
     ensures { MatchOption result
-        (IsNoCommand (word.now ∷ file.now ∷ script.now ∷ out.now ∷ []))
-        (λ command. IsCommand (word.now ∷ file.now ∷ script.now ∷ out.now ∷ []) (request_of command)) }
+        (IsNoCommand (word.now ∷ file.now ∷ second.now ∷ out.now ∷ []))
+        (λ command. IsCommand (word.now ∷ file.now ∷ second.now ∷ out.now ∷ []) (request_of command)) }
 {
     if word == "edit" {
-        Some(Command::Edit { file, script, out })
-    } else {
-        None
+        return Some(Command::Edit {
+            file,
+            script: second,
+            out,
+        });
     }
+    let task = retitle_asked(word, second, out)?;
+    Some(Command::OnDocument { task, file })
 }
 
-/// The view that a word names, where it asks for no more than a file.
-fn view_of(word: &str) -> Option<View>
+/// The task where another title is asked for, and it is one that may be put.
+fn retitle_asked<'a>(word: &str, text: &'a str, out: &'a str) -> Option<Task<'a>>
     ensures { MatchOption result
-        ((view : View) (file : List ℕ) → ¬ (AsksForView (word.now ∷ file ∷ []) view file))
-        (λ view. (file : List ℕ) → AsksForView (word.now ∷ file ∷ []) view file) }
+        (word.now ≡ codes "retitle" → ¬ IsTitle text.now)
+        (λ task. (word.now ≡ codes "retitle") × (IsTitle text.now
+        × (task_of task ≡ retitle_task text.now out.now))) }
+{
+    if word != "retitle" {
+        return None;
+    }
+    let title = Title::of(text)?;
+    Some(Task::Retitle { title, out })
+}
+
+/// The task that a word names, where it asks for no more than a file.
+fn task_named<'a>(word: &str) -> Option<Task<'a>>
+    ensures { MatchOption result
+        ((task : FileTask) (file : List ℕ) → ¬ (AsksFor (word.now ∷ file ∷ []) task file))
+        (λ task. (file : List ℕ) → AsksFor (word.now ∷ file ∷ []) (task_of task) file) }
 {
     if word == "text" {
-        Some(View::Text)
+        Some(Task::Text)
     } else if word == "check" {
-        Some(View::Check)
+        Some(Task::Check)
     } else if word == "show" {
-        Some(View::Show)
+        Some(Task::Show)
+    } else if word == "outline" {
+        Some(Task::Outline)
+    } else if word == "title" {
+        Some(Task::Title)
     } else {
         None
     }

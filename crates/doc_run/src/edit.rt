@@ -1,17 +1,20 @@
 // The endings of a run that edits a document.
-ghost use Rattle.std.specs.Prelude.{◌≡◌, ◌≤◌, length, IfOk, map};
+ghost use Rattle.std.specs.Prelude.{◌≡◌, ◌≤◌, Some, length, IfOk, map};
+ghost use Rattle.doc_bits.specs.Number.{AreBytes};
 ghost use Rattle.edit_script.specs.Laws.{IsCause};
 ghost use Rattle.edit_script.specs.Scripts.{EndsWithSave, most_commands};
 ghost use Rattle.doc_edit.specs.States.{start_of};
 ghost use Rattle.doc_edit.specs.Ends.{IsUnchanged};
+ghost use Rattle.doc_tasks.specs.Replies.{EndsBy};
+ghost use Rattle.doc_tasks.specs.declared.reply.Reply.TheVariants.{Made, Refused};
+ghost use Rattle.doc_tasks.specs.declared.reply.Refusal.TheVariants.{Script as no_script};
 ghost use Rattle.doc_run.specs.EditLines.{script_line as script_of, stop_line as stop_of, edited_line as edited_of};
-ghost use Rattle.doc_run.specs.Edits.{stop_status, Edits, EditsBy, IsOverlongScript};
-ghost use Rattle.doc_run.specs.Outcomes.{says, puts};
+ghost use Rattle.doc_run.specs.Edits.{refusal_of as why_of, Edits, EditsBy, IsOverlongScript};
 
 use crate::edit_lines::{edited_line, script_line, stop_line};
-use crate::ending::{Ending, FilePut, STATUS_EDIT, STATUS_GUARD, STATUS_SAVE, STATUS_SCRIPT};
-use doc_bits::{Memory, Text};
+use doc_bits::Memory;
 use doc_edit::{RunFault, Saved, Stop, run_script};
+use doc_tasks::{Ending, Refusal, Reply, STATUS_SCRIPT};
 use edit_guards::Guard;
 use edit_ops::{Script, ScriptFault, read_script};
 use fast_save::Session;
@@ -19,7 +22,7 @@ use std::alloc::Global;
 
 /// The ending where a session is run by the bytes of a script, under the eyes of guards, and its last save is put under
 /// a name.
-pub(crate) fn edit_by(
+pub(crate) fn edit_under(
     alloc: Global,
     session: Session,
     script: &[u8],
@@ -27,21 +30,37 @@ pub(crate) fn edit_by(
     guards: &mut [Box<dyn Guard>],
 ) -> Result<Ending, Memory>
     requires { IsUnchanged session }
-    ensures { IfOk result (λ e.
-        EditsBy (start_of session (map (λ b. policy b) guards.old)) out.now script.now e) }
+    ensures ends { IfOk result (λ e.
+        EndsBy (Some out.now) (EditsBy (start_of session (map (λ b. policy b) guards.old)) script.now) e) }
+    ensures bytes { AreBytes script.now }
+{
+    let reply = edit_by(alloc, session, script, guards)?;
+    Ending::under(alloc, Some(out), reply)
+}
+
+/// What running a session by the bytes of a script comes to.
+fn edit_by(
+    alloc: Global,
+    session: Session,
+    script: &[u8],
+    guards: &mut [Box<dyn Guard>],
+) -> Result<Reply, Memory>
+    requires { IsUnchanged session }
+    ensures { IfOk result (λ r. EditsBy (start_of session (map (λ b. policy b) guards.old)) script.now r) }
 {
     match read_script(alloc, script) {
-        Ok(script) => edit(alloc, session, &script, out, guards),
+        Ok(script) => edit(alloc, session, &script, guards),
         Err(fault) => no_script(alloc, fault),
     }
 }
 
-/// The ending of bytes that are no script.
-fn no_script(alloc: Global, fault: ScriptFault) -> Result<Ending, Memory>
-    ensures { IfOk result (λ e. IsCause fault × (e ≡ says 7 (script_of fault))) }
+/// What bytes come to that are no script.
+fn no_script(alloc: Global, fault: ScriptFault) -> Result<Reply, Memory>
+    ensures { IfOk result (λ r. IsCause fault × (r ≡ Refused no_script (script_of fault))) }
 {
     let text = script_line(alloc, fault)?;
-    Ok(Ending::new(STATUS_SCRIPT, text))
+    let why = Refusal::Script;
+    Ok(Reply::Refused { why, text })
 }
 
 /// The ending of a script that has more bytes than any file.
@@ -52,31 +71,29 @@ pub(crate) fn overlong_script(alloc: Global) -> Result<Ending, Memory>
     Ok(Ending::new(STATUS_SCRIPT, text))
 }
 
-/// The ending where a session is run by commands.
+/// What running a session by commands comes to.
 fn edit(
     alloc: Global,
     session: Session,
     script: &Script,
-    out: &str,
     guards: &mut [Box<dyn Guard>],
-) -> Result<Ending, Memory>
+) -> Result<Reply, Memory>
     requires unchanged { IsUnchanged session }
     requires few { length script.now ≤ most_commands }
     requires saved { EndsWithSave script.now }
-    ensures { IfOk result (λ e.
-        Edits (start_of session (map (λ b. policy b) guards.old)) script.now out.now e) }
+    ensures { IfOk result (λ r. Edits (start_of session (map (λ b. policy b) guards.old)) script.now r) }
 {
     match run_script(alloc, session, script, guards) {
-        Ok(saved) => edited(alloc, saved, out),
+        Ok(saved) => edited(alloc, saved),
         Err(RunFault::Stopped { index, stop }) => stopped(alloc, index, stop),
         Err(RunFault::Memory) => Err(Memory),
     }
 }
 
-/// The ending that puts what a script left under a name.
-fn edited(alloc: Global, saved: Saved, out: &str) -> Result<Ending, Memory>
-    ensures { IfOk result (λ e.
-        e ≡ puts (edited_of saved.commands saved.saves.fast saved.saves.full) out.now saved.image) }
+/// What a script left.
+fn edited(alloc: Global, saved: Saved) -> Result<Reply, Memory>
+    ensures { IfOk result (λ r.
+        r ≡ Made (edited_of saved.commands saved.saves.fast saved.saves.full) saved.image) }
 {
     let Saved {
         image,
@@ -84,27 +101,26 @@ fn edited(alloc: Global, saved: Saved, out: &str) -> Result<Ending, Memory>
         saves,
     } = saved;
     let text = edited_line(alloc, commands, saves)?;
-    let mut name = Text::new(alloc);
-    name.push_all(out)?;
-    let file = FilePut { name, bytes: image };
-    Ok(Ending::with_file(text, file))
+    Ok(Reply::Made { text, bytes: image })
 }
 
-/// The ending of a script that a command stops.
-fn stopped(alloc: Global, index: usize, stop: Stop) -> Result<Ending, Memory>
-    ensures { IfOk result (λ e. e ≡ says (stop_status stop) (stop_of index stop)) }
+/// What a script comes to that a command stops.
+fn stopped(alloc: Global, index: usize, stop: Stop) -> Result<Reply, Memory>
+    ensures { IfOk result (λ r. r ≡ Refused (why_of stop) (stop_of index stop)) }
 {
     let text = stop_line(alloc, index, stop)?;
-    Ok(Ending::new(status_of(stop), text))
+    let why = refusal_of(stop);
+    Ok(Reply::Refused { why, text })
 }
 
-/// The status of a run whose script a command stops.
-fn status_of(stop: Stop) -> u8
-    ensures { result ≡ stop_status stop }
+/// Why a script is refused that a command stops.
+fn refusal_of(stop: Stop) -> Refusal
+    ensures { result ≡ why_of stop }
 {
     match stop {
-        Stop::Refused(_) => STATUS_EDIT,
-        Stop::Guarded { .. } => STATUS_GUARD,
-        Stop::Sixteenth { .. } | Stop::TooManyPieces { .. } | Stop::TooLarge { .. } => STATUS_SAVE,
+        Stop::Refused(_) => Refusal::Edit,
+        Stop::Guarded { .. } => Refusal::Guarded,
+        Stop::Sixteenth { .. } | Stop::TooManyPieces { .. } | Stop::TooLarge { .. } =>
+            Refusal::Save,
     }
 }

@@ -7,9 +7,9 @@ ghost use Rattle.doc_edit.specs.declared.faults.Stop.TheVariants.{Refused, Guard
 ghost use Rattle.doc_run.specs.EditLines.{script_line as script_of, rule_text as rule_of, cause_text as cause_of};
 ghost use Rattle.doc_run.specs.EditLines.{stop_line as stop_of, edited_line as edited_of};
 
-use crate::lines::part_name;
 use doc_bits::{Memory, Text, Where};
 use doc_edit::{SaveCounts, Stop};
+use doc_tasks::part_name;
 use edit_ops::{EditFault, ScriptFault};
 use std::alloc::Global;
 

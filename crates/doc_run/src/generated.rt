@@ -1,19 +1,27 @@
 // The ending of a run that makes a file by the generator.
-ghost use Rattle.std.specs.Prelude.{◌≡◌, ◌≤◌, IfOk};
+ghost use Rattle.std.specs.Prelude.{◌≡◌, ◌≤◌, Some, IfOk};
 ghost use Rattle.doc_edit.specs.GeneratedRuns.{most_seed};
-ghost use Rattle.doc_run.specs.Generates.{EndsGenerated};
+ghost use Rattle.doc_tasks.specs.Replies.{EndsBy};
+ghost use Rattle.doc_run.specs.Generates.{generated_line as generated_of, Generates};
 
-use crate::ending::{Ending, FilePut};
-use crate::lines::generated_line;
 use doc_bits::{Memory, Text};
-use doc_edit::{Generated, generate};
+use doc_edit::{Generated, SaveCounts, generate};
+use doc_tasks::{Ending, Reply};
 use std::alloc::Global;
 
 /// The ending where what the generator makes of a seed is put under a name.
 pub(crate) fn generate_under(alloc: Global, seed: u32, out: &str) -> Result<Ending, Memory>
     requires { seed ≤ most_seed }
-    ensures ends { IfOk result (λ e. EndsGenerated seed out.now e) }
-    ensures done { IfOk result (λ e. e.status ≡ 0) }
+    ensures { IfOk result (λ e. EndsBy (Some out.now) (Generates seed) e) }
+{
+    let reply = generate_reply(alloc, seed)?;
+    Ending::under(alloc, Some(out), reply)
+}
+
+/// What the generator makes of a seed.
+fn generate_reply(alloc: Global, seed: u32) -> Result<Reply, Memory>
+    requires { seed ≤ most_seed }
+    ensures { IfOk result (λ r. Generates seed r) }
 {
     let Generated {
         image,
@@ -22,7 +30,23 @@ pub(crate) fn generate_under(alloc: Global, seed: u32, out: &str) -> Result<Endi
         saves,
     } = generate(alloc, seed)?;
     let text = generated_line(alloc, seed, units, paragraphs, saves)?;
-    let mut name = Text::new(alloc);
-    name.push_all(out)?;
-    Ok(Ending::with_file(text, FilePut { name, bytes: image }))
+    Ok(Reply::Made { text, bytes: image })
+}
+
+/// The line for what the generator made: the items of all texts, the marks of the main text, and the saves of each
+/// mode.
+fn generated_line(
+    alloc: Global,
+    seed: u32,
+    units: u128,
+    paragraphs: usize,
+    saves: SaveCounts,
+) -> Result<Text, Memory>
+    ensures { IfOk result (λ text. text ≡ generated_of seed units paragraphs saves.fast saves.full) }
+{
+    let SaveCounts { fast, full } = saves;
+    let line = format!(in alloc;
+        "gen {seed}: units {units} paragraphs {paragraphs} fast {fast} full {full}\n"
+    )?;
+    Ok(Text::from_string(line))
 }

@@ -6,20 +6,20 @@ mod begin;
 mod command;
 mod edit;
 mod edit_lines;
-mod ending;
 mod generated;
-mod lines;
-mod listing;
-mod look;
+mod quota;
 mod run;
-mod save;
+mod serve;
 mod stage;
-mod view;
+mod status;
 
-pub use command::{Command, View};
-pub use ending::{
-    STATUS_DIFFERENT, STATUS_DONE, STATUS_EDIT, STATUS_MEMORY, STATUS_MISSING, STATUS_POSITION,
-    STATUS_REFUSED, STATUS_SAVE, STATUS_SCRIPT, STATUS_SHELF_FAULT, STATUS_SINK_FAULT,
-    STATUS_USAGE,
+pub use command::Command;
+pub use doc_tasks::{
+    STATUS_DIFFERENT, STATUS_DONE, STATUS_EDIT, STATUS_GUARD, STATUS_NO_SUMMARY, STATUS_POSITION,
+    STATUS_REFUSED, STATUS_SAVE, STATUS_SCRIPT, STATUS_WRONG_SUMMARY,
 };
+pub use quota::run_under_quota;
 pub use run::docbin_run;
+pub use status::{
+    STATUS_MEMORY, STATUS_MISSING, STATUS_SHELF_FAULT, STATUS_SINK_FAULT, STATUS_USAGE,
+};

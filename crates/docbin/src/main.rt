@@ -2,33 +2,22 @@
 #![tactic(auto)]
 
 use doc_outer::{HostShelf, HostSink};
-use doc_run::{STATUS_MEMORY, docbin_run};
-use edit_guards::{Guard, UnitQuota};
+use doc_run::{STATUS_MEMORY, run_under_quota};
 use std::alloc::{AllocError, Global};
 use std::env;
 use std::io::{Eprint, ErrorKind};
 use std::process::ExitCode;
 use std::rt::Env;
 
-/// How many items the edits of a run may add.
-const UNITS: u64 = 1_000_000;
-
-/// Runs the words over real files and the standard output, with a quota on the items that the edits add.
+/// Runs the words over real files and the standard output.
 fn main(rt: HostRuntime) -> ExitCode {
     let alloc = rt.alloc();
     let Ok(words) = words(&rt) else {
         return ExitCode::from(STATUS_MEMORY);
     };
-    let mut guards: Vec<Box<dyn Guard>> = Vec::new(alloc);
-    let Ok(quota) = Box::new(alloc, UnitQuota::new(UNITS)) else {
-        return ExitCode::from(STATUS_MEMORY);
-    };
-    if guards.push(quota).is_err() {
-        return ExitCode::from(STATUS_MEMORY);
-    }
     let mut shelf = HostShelf::new(alloc, &rt, &rt);
     let mut out = HostSink::new(&rt, &rt);
-    let status = docbin_run(alloc, &words, &mut shelf, &mut out, guards);
+    let status = run_under_quota(alloc, &words, &mut shelf, &mut out);
     ExitCode::from(status)
 }
 

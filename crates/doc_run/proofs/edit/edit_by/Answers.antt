@@ -2,8 +2,9 @@ use Rattle.std.proofs.Common.{◌≡◌, inl, inr, map}
 use Rattle.std.proofs.lemmas.Result.{IfOk-weaker}
 use Rattle.edit_script.specs.Laws.{IsCause}
 use Rattle.doc_edit.specs.States.{start_of}
+use Rattle.doc_tasks.specs.declared.reply.Reply.TheVariants.{Refused}
+use Rattle.doc_tasks.specs.declared.reply.Refusal.TheVariants.{Script}
 use Rattle.doc_run.specs.EditLines.{script_line}
-use Rattle.doc_run.specs.Outcomes.{says}
 use Rattle.doc_run.specs.Edits.{Edits, EditsBy}
 use Rattle.doc_run.proofs.EditLemmas.{script_few}
 use Rattle.doc_run.proofs.edit.edit_by.Goals as goal
@@ -15,19 +16,17 @@ pub returns-in-Err : goal.returns-in-Err
 returns-in-Err g c =
     let start =
     start_of c.args.session (map (λ b. (goal.Guard-dyn g (b.vtable, b.value)).policy b.value) c.args.guards.now) in
-    let out = c.args.out.now in
     let bytes = c.args.script.now in
     let fault = c.in-Err.fault in
-    IfOk-weaker c.no_script.result (λ e. IsCause fault × (e ≡ says 7 (script_line fault)))
-    (λ e. EditsBy start out bytes e)
-    (λ e h. inl (record { fault = fault; cause = h.0; is = c.in-Err.ensures; ends = h.1 })) c.no_script.ensures
+    IfOk-weaker c.no_script.result (λ r. IsCause fault × (r ≡ Refused Script (script_line fault)))
+    (λ r. EditsBy start bytes r)
+    (λ r h. inl (record { fault = fault; cause = h.0; is = c.in-Err.ensures; ends = h.1 })) c.no_script.ensures
 
 pub returns-in-Ok : goal.returns-in-Ok
 returns-in-Ok g c =
     let start =
     start_of c.args.session (map (λ b. (goal.Guard-dyn g (b.vtable, b.value)).policy b.value) c.args.guards.now) in
-    let out = c.args.out.now in
     let bytes = c.args.script.now in
     let commands = c.in-Ok.script in
-    IfOk-weaker c.edit.result (λ e. Edits start commands out e) (λ e. EditsBy start out bytes e)
-    (λ e h. inr (record { commands = commands; is = c.in-Ok.ensures; edits = h })) c.edit.ensures
+    IfOk-weaker c.edit.result (λ r. Edits start commands r) (λ r. EditsBy start bytes r)
+    (λ r h. inr (record { commands = commands; is = c.in-Ok.ensures; edits = h })) c.edit.ensures

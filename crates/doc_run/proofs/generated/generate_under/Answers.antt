@@ -1,8 +1,14 @@
-use Rattle.std.proofs.Common.{rules, inr}
-use Rattle.doc_run.proofs.GenerateLemmas.{generated_puts}
+use Rattle.std.proofs.Common.{◌≡◌, refl, Some}
+use Rattle.std.proofs.lemmas.Result.{IfOk-weaker}
+use Rattle.doc_tasks.specs.Replies.{outcome_of, EndsBy}
+use Rattle.doc_tasks.proofs.OutcomeLemmas.{ends_by}
+use Rattle.doc_run.specs.Generates.{Generates}
 use Rattle.doc_run.proofs.generated.generate_under.Goals as goal
 
-pub returns-clause-ends : goal.returns-clause-ends
-returns-clause-ends c =
-    inr (generated_puts c.args.seed c.args.out.now c.in_ok-image.field-0 c.with_file.result c.in_ok-image.ensures
-    (search rules))
+pub returns : goal.returns
+returns c =
+    let out = Some c.args.out.now in
+    let reply = c.in_ok-reply.reply in
+    let such = Generates c.args.seed in
+    IfOk-weaker c.under.result (λ e. e ≡ outcome_of out reply) (λ e. EndsBy out such e)
+    (λ e h. ends_by out out such reply e c.in_ok-reply.ensures refl h) c.under.ensures

@@ -1,5 +1,6 @@
 use Rattle.std.proofs.Common.{◌∙◌, subst, map}
 use Rattle.std.specs.String.{string_bytes}
+use Rattle.fast_save.proofs.FullFileLemmas.{equal_files_have_one_save}
 use Rattle.doc_run.specs.Endings.{IsEnding}
 use Rattle.doc_run.proofs.OneLemmas.{ending_one}
 use Rattle.doc_run.proofs.CompleteLemmas.{complete}
@@ -13,6 +14,15 @@ returns-in-Ok-write_all-clause-only g c = ending_one
 
 pub returns-clause-only : goal.returns-clause-only
 returns-clause-only g c = ending_one
+
+pub returns-in_default-clause-equal_saves : goal.returns-in_default-clause-equal_saves
+returns-in_default-clause-equal_saves g c = equal_files_have_one_save
+
+pub returns-in-Ok-write_all-clause-equal_saves : goal.returns-in-Ok-write_all-clause-equal_saves
+returns-in-Ok-write_all-clause-equal_saves g c = equal_files_have_one_save
+
+pub returns-clause-equal_saves : goal.returns-clause-equal_saves
+returns-clause-equal_saves g c = equal_files_have_one_save
 
 pub returns-in-Ok-write_all-clause-complete : goal.returns-in-Ok-write_all-clause-complete
 returns-in-Ok-write_all-clause-complete g c command files asked told can no_fault no_sink_fault memory =

@@ -2,14 +2,14 @@ use Rattle.std.proofs.Common.{◌≡◌, ◌∙◌, ap, sym, subst, map}
 use Rattle.std.specs.String.{string_bytes}
 use Rattle.doc_outer.specs.Held.{StaysAt}
 use Rattle.doc_outer.proofs.HeldLemmas.{StaysAt-refl}
-use Rattle.doc_run.specs.Outcomes.{PutFile}
-use Rattle.doc_run.proofs.PutLemmas.{ending_puts, stays_by_put}
+use Rattle.doc_tasks.specs.Outcomes.{PutFile}
+use Rattle.doc_run.proofs.PutLemmas.{ending_calm, ending_puts, stays_by_put}
 use Rattle.doc_run.proofs.run.ending_after_put.Goals as goal
 
 pub returns-in_err-shelf_fault_line-clause-kept : goal.returns-in_err-shelf_fault_line-clause-kept
 returns-in_err-shelf_fault_line-clause-kept g c name never =
     let held = g.S.Shelf.held c.args.shelf.now in
-    subst (λ h. StaysAt name held h) (sym c.in_ok-ending.ensures.kept) (StaysAt-refl name held)
+    subst (λ h. StaysAt name held h) (sym c.in_ok-ending.ensures.read.kept) (StaysAt-refl name held)
 
 pub returns-in-Ok-clause-kept : goal.returns-in-Ok-clause-kept
 returns-in-Ok-clause-kept g c name never =
@@ -19,7 +19,7 @@ returns-in-Ok-clause-kept g c name never =
     stays_by_put (map (λ b. (goal.Guard-dyn g (b.vtable, b.value)).policy b.value) c.args.guards.now)
     (map string_bytes c.args.words.now) (held c.args.shelf.now) (held c.ending_of.new.shelf) (held c.put.new.self)
     c.in_ok-ending.ending file c.as_str.result.now name c.in_ok-ending.ensures.ending (sym c.in-Some.ensures)
-    c.in_ok-ending.ensures.kept at c.put.ensures.others never
+    c.in_ok-ending.ensures.read.kept at c.put.ensures.others never
 
 pub returns-in-Ok-clause-unchanged : goal.returns-in-Ok-clause-unchanged
 returns-in-Ok-clause-unchanged g c other told =
@@ -37,7 +37,7 @@ returns-in-Err-Failed-clause-kept g c name never =
     stays_by_put (map (λ b. (goal.Guard-dyn g (b.vtable, b.value)).policy b.value) c.args.guards.now)
     (map string_bytes c.args.words.now) (held c.args.shelf.now) (held c.ending_of.new.shelf) (held c.put.new.self)
     c.in_ok-ending.ending file c.as_str.result.now name c.in_ok-ending.ensures.ending (sym c.in-Some.ensures)
-    c.in_ok-ending.ensures.kept at c.put.ensures.others never
+    c.in_ok-ending.ensures.read.kept at c.put.ensures.others never
 
 pub returns-clause-kept : goal.returns-clause-kept
 returns-clause-kept g c name never =
@@ -47,4 +47,16 @@ returns-clause-kept g c name never =
     stays_by_put (map (λ b. (goal.Guard-dyn g (b.vtable, b.value)).policy b.value) c.args.guards.now)
     (map string_bytes c.args.words.now) (held c.args.shelf.now) (held c.ending_of.new.shelf) (held c.put.new.self)
     c.in_ok-ending.ending file c.as_str.result.now name c.in_ok-ending.ensures.ending (sym c.in-Some.ensures)
-    c.in_ok-ending.ensures.kept at c.put.ensures.others never
+    c.in_ok-ending.ensures.read.kept at c.put.ensures.others never
+
+pub returns-in_default-clause-status : goal.returns-in_default-clause-status
+returns-in_default-clause-status g c =
+    ending_calm (map (λ b. (goal.Guard-dyn g (b.vtable, b.value)).policy b.value) c.args.guards.now)
+    (map string_bytes c.args.words.now) (g.S.Shelf.held c.args.shelf.now) c.in_ok-ending.ending
+    c.in_ok-ending.ensures.ending
+
+pub returns-in-Ok-clause-status : goal.returns-in-Ok-clause-status
+returns-in-Ok-clause-status g c =
+    ending_calm (map (λ b. (goal.Guard-dyn g (b.vtable, b.value)).policy b.value) c.args.guards.now)
+    (map string_bytes c.args.words.now) (g.S.Shelf.held c.args.shelf.now) c.in_ok-ending.ending
+    c.in_ok-ending.ensures.ending

@@ -1,0 +1,57 @@
+use Rattle.std.proofs.Common.{◌≡◌, ◌∙◌, ◌∷◌, [], ap, refl, subst, sym, map, rules}
+use Rattle.std.specs.String.{string_bytes}
+use denote.Param.Object.{read_made}
+use Rattle.edit_guards.specs.Policies.{Policy, quota_of}
+use Rattle.fast_save.proofs.FullFileLemmas.{equal_files_have_one_save}
+use Rattle.doc_run.specs.Endings.{IsEnding}
+use Rattle.doc_run.specs.Completeness.{CanServe}
+use Rattle.doc_run.specs.Quota.{program_policies}
+use Rattle.doc_run.proofs.OneLemmas.{ending_one}
+use Rattle.doc_run.proofs.quota.run_under_quota.OwnLists.{own-1, at-1-1}
+use Rattle.doc_run.proofs.quota.run_under_quota.Given.{Over}
+use Rattle.doc_run.proofs.quota.run_under_quota.Goals as goal
+
+-- the one guard is the quota
+quota_policies :
+    (g : Over) (c : goal.After-docbin_run g) →
+    map (λ b. ((own-1).entry b.vtable).1.policy b.value) c.push.new.self.items ≡ program_policies
+quota_policies g c =
+    let policy : ((own-1).entry c.into_dyn_box.result.vtable).1.policy c.into_dyn_box.result.value
+    ≡ quota_of c.in-Ok.quota.value =
+    read_made own-1 ((own-1).entry at-1-1) at-1-1 refl Policy (λ j v. j.1.policy v) c.into_dyn_box.result.vtable
+    c.into_dyn_box.result.value c.in-Ok.quota.value c.into_dyn_box.ensures.1 in
+    let items : c.push.new.self.items ≡ c.into_dyn_box.result ∷ [] = search rules in
+    let units : c.in-Ok.quota.value ≡ 1000000 = search rules in
+    ap (map (λ b. ((own-1).entry b.vtable).1.policy b.value)) items
+    ∙ (ap (λ p. p ∷ []) (policy ∙ ap quota_of units))
+
+pub returns-clause-ending : goal.returns-clause-ending
+returns-clause-ending g c five six =
+    let e = c.docbin_run.ensures.ending five six in
+    let words = map string_bytes c.args.words.now in
+    let held = g.S.Shelf.held c.args.shelf.now in
+    (e.0, (e.1.0, (subst (λ p. IsEnding p words held e.0) (quota_policies g c) e.1.1.0, e.1.1.1)))
+
+pub returns-clause-prefix : goal.returns-clause-prefix
+returns-clause-prefix g c five =
+    let e = c.docbin_run.ensures.prefix five in
+    let words = map string_bytes c.args.words.now in
+    let held = g.S.Shelf.held c.args.shelf.now in
+    (e.0, (subst (λ p. IsEnding p words held e.0) (quota_policies g c) e.1.0, e.1.1))
+
+pub returns-clause-complete : goal.returns-clause-complete
+returns-clause-complete g c command files asked told can =
+    c.docbin_run.ensures.complete command files asked told
+    (subst (λ p. CanServe p command files) (sym (quota_policies g c)) can)
+
+pub returns-in_default-clause-only : goal.returns-in_default-clause-only
+returns-in_default-clause-only g c = ending_one
+
+pub returns-then-is_err-clause-only : goal.returns-then-is_err-clause-only
+returns-then-is_err-clause-only g c = ending_one
+
+pub returns-in_default-clause-equal_saves : goal.returns-in_default-clause-equal_saves
+returns-in_default-clause-equal_saves g c = equal_files_have_one_save
+
+pub returns-then-is_err-clause-equal_saves : goal.returns-then-is_err-clause-equal_saves
+returns-then-is_err-clause-equal_saves g c = equal_files_have_one_save

@@ -1,0 +1,15 @@
+use Rattle.doc_tasks.specs.Judged.{stream_rules}
+use Rattle.doc_tasks.specs.Answers.{ListsStreams}
+use Rattle.doc_tasks.proofs.AnswerLemmas.{lists_inside}
+use Rattle.doc_run.proofs.StageLemmas.{file_reads, file_caused}
+use Rattle.doc_run.proofs.serve.serve_streams.Goals as goal
+
+pub returns-clause-ends : goal.returns-clause-ends
+returns-clause-ends g c =
+    file_reads c.args.file.now (g.S.Shelf.held c.args.shelf.now) c.in_ok-taken.taken stream_rules ListsStreams
+    c.list_taken.result c.in_ok-taken.ensures.is c.list_taken.ensures
+
+pub returns-clause-cause : goal.returns-clause-cause
+returns-clause-cause g c =
+    file_caused g.S.Shelf c.args.shelf.now c.take_whole.new.shelf c.args.file.now c.in_ok-taken.taken stream_rules
+    ListsStreams c.list_taken.result lists_inside c.in_ok-taken.ensures.cause c.list_taken.ensures

@@ -1,0 +1,71 @@
+// A run of the program, whose one guard is a quota.
+ghost use Rattle.std.specs.Prelude.{◌≡◌, ◌≢◌, ℕ, List, Some, map};
+ghost use Rattle.std.specs.String.{string_bytes};
+ghost use Rattle.doc_outer.specs.Counts.{Rose};
+ghost use Rattle.doc_outer.specs.Held.{Files, StaysAt};
+ghost use Rattle.doc_outer.specs.Written.{Appends, AppendsPrefix};
+ghost use Rattle.fast_save.specs.Laws.{EqualFilesHaveOneSave};
+ghost use Rattle.doc_tasks.specs.Outcomes.{Outcome};
+ghost use Rattle.doc_run.specs.Commands.{Request, IsCommand, CommandIsOne, PutsUnder};
+ghost use Rattle.doc_run.specs.Outcomes.{HasCause, IsToldOfPut, LeavesPut};
+ghost use Rattle.doc_run.specs.Endings.{IsEnding, EndingIsOne};
+ghost use Rattle.doc_run.specs.Completeness.{CanServe};
+ghost use Rattle.doc_run.specs.Quota.{program_policies};
+
+use crate::run::docbin_run;
+use crate::status::STATUS_MEMORY;
+use doc_outer::{Shelf, Sink};
+use edit_guards::{Guard, UnitQuota};
+use std::alloc::Global;
+
+/// How many items the edits of a run may add.
+const UNITS: u64 = 1_000_000;
+
+/// Runs the words of a command over the files of a shelf under one guard, a quota on the items that edits add, and
+/// answers the status. Where there is no memory for the quota, that is the status for want of it.
+pub fn run_under_quota<S: Shelf, K: Sink>(
+    alloc: Global,
+    words: &[String],
+    shelf: &mut S,
+    out: &mut K,
+) -> u8
+    // Each clause is that of `docbin_run`, with the policy of the quota.
+    ensures kept { (name : List ℕ)
+        → ((command : Request) → IsCommand (map string_bytes words.now) command → ¬ (PutsUnder command name))
+        → StaysAt name (S.held shelf.old) (S.held shelf.new) }
+    ensures unchanged { result ≢ 0 → result ≢ 5
+        → IsToldOfPut result (S.put_faults shelf.old) (S.put_faults shelf.new)
+        → S.held shelf.new ≡ S.held shelf.old }
+    ensures ending { result ≢ 5 → result ≢ 6 → (outcome : Outcome)
+        × ((outcome.status ≡ result)
+        × (IsEnding program_policies (map string_bytes words.now) (S.held shelf.old) outcome
+        × (Appends (K.written out.old) (K.written out.new) outcome.text
+        × LeavesPut outcome (S.put_faults shelf.old) (S.put_faults shelf.new) (S.held shelf.old) (S.held shelf.new)))) }
+    ensures one_command { CommandIsOne }
+    ensures only { EndingIsOne }
+    ensures equal_saves { EqualFilesHaveOneSave }
+    ensures complete { (command : Request) (files : Files)
+        → IsCommand (map string_bytes words.now) command
+        → S.held shelf.old ≡ Some files → CanServe program_policies command files
+        → ¬ (Rose (S.faults shelf.old) (S.faults shelf.new))
+        → ¬ (Rose (K.faults out.old) (K.faults out.new)) → result ≢ 6 → result ≡ 0 }
+
+    ensures missing { result ≡ 3 → Rose (S.missed shelf.old) (S.missed shelf.new) }
+    ensures shelf_fault { result ≡ 4 → Rose (S.faults shelf.old) (S.faults shelf.new) }
+    ensures sink_fault { result ≡ 5 → Rose (K.faults out.old) (K.faults out.new) }
+    ensures prefix { result ≡ 5 → (outcome : Outcome)
+        × (IsEnding program_policies (map string_bytes words.now) (S.held shelf.old) outcome
+        × (HasCause outcome.status (S.missed shelf.old) (S.missed shelf.new) (S.faults shelf.old) (S.faults shelf.new)
+        × (AppendsPrefix (K.written out.old) (K.written out.new) outcome.text
+        × LeavesPut outcome (S.put_faults shelf.old) (S.put_faults shelf.new) (S.held shelf.old) (S.held shelf.new)))) }
+    ensures nothing { result ≡ 6 → K.written out.new ≡ K.written out.old }
+{
+    let mut guards: Vec<Box<dyn Guard>> = Vec::new(alloc);
+    let Ok(quota) = Box::new(alloc, UnitQuota::new(UNITS)) else {
+        return STATUS_MEMORY;
+    };
+    if guards.push(quota).is_err() {
+        return STATUS_MEMORY;
+    }
+    docbin_run(alloc, words, shelf, out, guards)
+}

@@ -1,0 +1,220 @@
+// The endings of a run that reads files: each is read and judged before the next one is looked for.
+ghost use Rattle.std.specs.Prelude.{Some, map, IfOk};
+ghost use Rattle.doc_bits.specs.Number.{AreBytes};
+ghost use Rattle.plain_doc.specs.Sound.{IsSound};
+ghost use Rattle.doc_read.specs.Holds.{all_rules};
+ghost use Rattle.doc_edit.specs.States.{start_of};
+ghost use Rattle.doc_edit.specs.Ends.{IsUnchanged};
+ghost use Rattle.doc_tasks.specs.Tasks.{task_of, pair_of};
+ghost use Rattle.doc_tasks.specs.Replies.{EndsBy};
+ghost use Rattle.doc_tasks.specs.Judged.{stream_rules, Judges};
+ghost use Rattle.doc_tasks.specs.Answers.{ListsStreams, AnswersFile};
+ghost use Rattle.doc_run.specs.Outcomes.{IsCaused, IsOnlyRead};
+ghost use Rattle.doc_run.specs.Stages.{BreaksLengthRule, ReadsFile};
+ghost use Rattle.doc_run.specs.Reading.{Follows, AnswersBeside};
+ghost use Rattle.doc_run.specs.Edits.{EditsBy, IsOverlongScript, ReadsScript, EditsFile};
+ghost use Rattle.doc_run.specs.Endings.{ReadsSecond};
+
+use crate::begin::{Begun, begin_taken};
+use crate::edit::{edit_under, overlong_script};
+use crate::stage::{Taken, open_taken, overlong, take_whole};
+use doc_bits::Memory;
+use doc_outer::Shelf;
+use doc_tasks::{Ending, Pair, Reached, Task, answer_file, answer_two, list_streams, open_file};
+use edit_guards::Guard;
+use fast_save::Session;
+use plain_doc::Document;
+use std::alloc::Global;
+
+/// The ending where the streams of a file are asked for.
+pub(crate) fn serve_streams<S: Shelf>(
+    alloc: Global,
+    shelf: &mut S,
+    file: &str,
+) -> Result<Ending, Memory>
+    ensures read { IsOnlyRead S.Shelf shelf.old shelf.new }
+    ensures ends { IfOk result (λ e. ReadsFile file.now (S.held shelf.old) stream_rules ListsStreams e) }
+    ensures cause { IfOk result (λ e. IsCaused S.Shelf shelf.old shelf.new e.status) }
+{
+    let taken = take_whole(alloc, shelf, file)?;
+    list_taken(alloc, file, taken)
+}
+
+/// The ending where the streams of what was read are asked for.
+fn list_taken(alloc: Global, name: &str, taken: Taken) -> Result<Ending, Memory>
+    ensures { IfOk result (λ e. Follows taken (BreaksLengthRule name.now)
+        (λ bytes. Judges (stream_rules bytes) name.now (ListsStreams bytes)) e) }
+{
+    match taken {
+        Taken::Whole(bytes) => list_streams(alloc, name, bytes.as_slice()),
+        Taken::Overlong => overlong(alloc, name),
+        Taken::Stopped(ending) => Ok(ending),
+    }
+}
+
+/// The ending where something is asked of the document of a file.
+pub(crate) fn serve_document<S: Shelf>(
+    alloc: Global,
+    shelf: &mut S,
+    task: Task<'_>,
+    file: &str,
+) -> Result<Ending, Memory>
+    ensures read { IsOnlyRead S.Shelf shelf.old shelf.new }
+    ensures ends { IfOk result (λ e.
+        ReadsFile file.now (S.held shelf.old) all_rules (AnswersFile (task_of task.entry) file.now) e) }
+    ensures cause { IfOk result (λ e. IsCaused S.Shelf shelf.old shelf.new e.status) }
+{
+    let taken = take_whole(alloc, shelf, file)?;
+    answer_taken(alloc, task, file, taken)
+}
+
+/// The ending where something is asked of the document of what was read.
+fn answer_taken(alloc: Global, task: Task<'_>, name: &str, taken: Taken) -> Result<Ending, Memory>
+    ensures { IfOk result (λ e. Follows taken (BreaksLengthRule name.now)
+        (λ bytes. Judges (all_rules bytes) name.now (AnswersFile (task_of task.entry) name.now bytes)) e) }
+{
+    match taken {
+        Taken::Whole(bytes) => answer_file(alloc, task, name, bytes.as_slice()),
+        Taken::Overlong => overlong(alloc, name),
+        Taken::Stopped(ending) => Ok(ending),
+    }
+}
+
+/// The ending where something is asked of the documents of two files. The first is judged before the second is looked
+/// for.
+pub(crate) fn serve_two<S: Shelf>(
+    alloc: Global,
+    shelf: &mut S,
+    pair: Pair,
+    first: &str,
+    second: &str,
+) -> Result<Ending, Memory>
+    ensures read { IsOnlyRead S.Shelf shelf.old shelf.new }
+    ensures ends { IfOk result (λ e. ReadsFile first.now (S.held shelf.old) all_rules
+        (ReadsSecond (pair_of pair) second.now (S.held shelf.old)) e) }
+    ensures cause { IfOk result (λ e. IsCaused S.Shelf shelf.old shelf.new e.status) }
+{
+    let taken = take_whole(alloc, shelf, first)?;
+    let reached = open_taken(alloc, first, taken)?;
+    match reached {
+        Reached::Opened(document) => serve_second(alloc, shelf, pair, &document, second),
+        Reached::Stopped(ending) => Ok(ending),
+    }
+}
+
+/// The ending where something is asked of a document and of that of a file.
+fn serve_second<S: Shelf>(
+    alloc: Global,
+    shelf: &mut S,
+    pair: Pair,
+    first: &Document,
+    second: &str,
+) -> Result<Ending, Memory>
+    requires { IsSound first.now }
+    ensures read { IsOnlyRead S.Shelf shelf.old shelf.new }
+    ensures ends { IfOk result (λ e.
+        ReadsFile second.now (S.held shelf.old) all_rules (AnswersBeside (pair_of pair) first.now) e) }
+    ensures cause { IfOk result (λ e. IsCaused S.Shelf shelf.old shelf.new e.status) }
+{
+    let taken = take_whole(alloc, shelf, second)?;
+    second_taken(alloc, pair, first, second, taken)
+}
+
+/// The ending where something is asked of a document and of that of what was read.
+fn second_taken(
+    alloc: Global,
+    pair: Pair,
+    first: &Document,
+    name: &str,
+    taken: Taken,
+) -> Result<Ending, Memory>
+    requires { IsSound first.now }
+    ensures { IfOk result (λ e. Follows taken (BreaksLengthRule name.now)
+        (λ bytes. Judges (all_rules bytes) name.now (AnswersBeside (pair_of pair) first.now bytes)) e) }
+{
+    match taken {
+        Taken::Whole(bytes) => answer_second(alloc, pair, first, name, bytes.as_slice()),
+        Taken::Overlong => overlong(alloc, name),
+        Taken::Stopped(ending) => Ok(ending),
+    }
+}
+
+/// The ending where something is asked of a document and of that of a file that was read whole.
+fn answer_second(
+    alloc: Global,
+    pair: Pair,
+    first: &Document,
+    name: &str,
+    file: &[u8],
+) -> Result<Ending, Memory>
+    requires { IsSound first.now }
+    ensures judges { IfOk result (λ e.
+        Judges (all_rules file.now) name.now (AnswersBeside (pair_of pair) first.now file.now) e) }
+    ensures bytes { AreBytes file.now }
+{
+    let reached = open_file(alloc, name, file)?;
+    match reached {
+        Reached::Opened(second) => answer_two(alloc, pair, first, &second),
+        Reached::Stopped(ending) => Ok(ending),
+    }
+}
+
+/// The ending where the document of a file is edited by a script. The file is judged before the script is looked for.
+pub(crate) fn serve_edit<S: Shelf>(
+    alloc: Global,
+    shelf: &mut S,
+    file: &str,
+    script: &str,
+    out: &str,
+    guards: &mut [Box<dyn Guard>],
+) -> Result<Ending, Memory>
+    ensures read { IsOnlyRead S.Shelf shelf.old shelf.new }
+    ensures ends { IfOk result (λ e. ReadsFile file.now (S.held shelf.old) all_rules
+        (EditsFile (map (λ b. policy b) guards.old) script.now out.now (S.held shelf.old)) e) }
+    ensures cause { IfOk result (λ e. IsCaused S.Shelf shelf.old shelf.new e.status) }
+{
+    let taken = take_whole(alloc, shelf, file)?;
+    let begun = begin_taken(alloc, file, taken)?;
+    match begun {
+        Begun::On(session) => edit_by_name(alloc, shelf, session, script, out, guards),
+        Begun::Stopped(ending) => Ok(ending),
+    }
+}
+
+/// The ending where a session is run by the script of a name.
+fn edit_by_name<S: Shelf>(
+    alloc: Global,
+    shelf: &mut S,
+    session: Session,
+    script: &str,
+    out: &str,
+    guards: &mut [Box<dyn Guard>],
+) -> Result<Ending, Memory>
+    requires { IsUnchanged session }
+    ensures read { IsOnlyRead S.Shelf shelf.old shelf.new }
+    ensures ends { IfOk result (λ e.
+        ReadsScript script.now out.now (S.held shelf.old) (start_of session (map (λ b. policy b) guards.old)) e) }
+    ensures cause { IfOk result (λ e. IsCaused S.Shelf shelf.old shelf.new e.status) }
+{
+    let taken = take_whole(alloc, shelf, script)?;
+    edit_taken(alloc, session, taken, out, guards)
+}
+
+/// The ending where a session is run by what was read as a script.
+fn edit_taken(
+    alloc: Global,
+    session: Session,
+    taken: Taken,
+    out: &str,
+    guards: &mut [Box<dyn Guard>],
+) -> Result<Ending, Memory>
+    requires { IsUnchanged session }
+    ensures { IfOk result (λ e. Follows taken IsOverlongScript
+        (λ bytes. EndsBy (Some out.now) (EditsBy (start_of session (map (λ b. policy b) guards.old)) bytes)) e) }
+{
+    match taken {
+        Taken::Whole(bytes) => edit_under(alloc, session, bytes.as_slice(), out, guards),
+        Taken::Overlong => overlong_script(alloc),
+        Taken::Stopped(ending) => Ok(ending),
+    }
+}

@@ -1,0 +1,9 @@
+pub mod ListingLemmas
+pub mod OutcomeLemmas
+pub mod JudgedLemmas
+pub mod AsciiLemmas
+pub mod SoundLemmas
+pub mod SaveLemmas
+pub mod SummaryLemmas
+pub mod ReplyLemmas
+pub mod AnswerLemmas

@@ -1,0 +1,14 @@
+use Rattle.std.specs.Prelude.{◌≡◌, option_map}
+use Rattle.std.proofs.lemmas.Result.{IfOk-weaker}
+use Rattle.doc_tasks.specs.Tasks.{pair_of, out_of_two}
+use Rattle.doc_tasks.specs.Replies.{outcome_of, EndsBy, RepliesTwo}
+use Rattle.doc_tasks.proofs.OutcomeLemmas.{ends_by}
+use Rattle.doc_tasks.proofs.answer.answer_two.Goals as goal
+
+pub returns : goal.returns
+returns c =
+    let pair = pair_of c.args.pair in
+    let such = RepliesTwo pair c.args.first.now c.args.second.now in
+    IfOk-weaker c.under.result (λ e. e ≡ outcome_of (option_map (λ name. name.now) c.out.result) c.in_ok-reply.reply)
+    (λ e. EndsBy (out_of_two pair) such e)
+    (λ e h. ends_by (out_of_two pair) _ such _ e c.in_ok-reply.ensures c.out.ensures h) c.under.ensures

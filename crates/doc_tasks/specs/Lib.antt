@@ -1,0 +1,9 @@
+pub mod Outcomes
+pub mod Lines
+pub mod Tasks
+pub mod Saves
+pub mod SummaryLines
+pub mod Summaries
+pub mod Replies
+pub mod Judged
+pub mod Answers

@@ -1,0 +1,24 @@
+// Whether two documents are equal.
+ghost use Rattle.std.specs.Prelude.{IfOk};
+ghost use Rattle.doc_tasks.specs.Replies.{Compares};
+
+use crate::lines::{different_line, equal_line};
+use crate::reply::{Refusal, Reply};
+use doc_bits::Memory;
+use plain_doc::{Document, equal};
+use std::alloc::Global;
+
+/// What comparing two documents comes to.
+pub(crate) fn compare(alloc: Global, first: &Document, second: &Document) -> Result<Reply, Memory>
+    ensures { IfOk result (Compares first.now second.now) }
+{
+    if equal(first, second) {
+        let text = equal_line(alloc)?;
+        return Ok(Reply::Done(text));
+    }
+    let text = different_line(alloc)?;
+    Ok(Reply::Refused {
+        why: Refusal::Different,
+        text,
+    })
+}

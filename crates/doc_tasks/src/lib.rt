@@ -1,0 +1,30 @@
+//! What is asked of the documents of a run, and what comes of it: tasks, replies, and the ends of a run.
+#![tactic(auto)]
+
+mod answer;
+mod ending;
+mod equality;
+mod lines;
+mod listing;
+mod look;
+mod reply;
+mod retitle;
+mod save;
+mod status;
+mod summary;
+mod summary_lines;
+mod task;
+mod title;
+
+pub use answer::{Reached, answer_file, answer_two, list_streams, open_file, refused};
+pub use ending::{Ending, FilePut};
+pub use lines::{
+    bytes_line, missing_line, needs_line, part_name, rule_line, shelf_fault_line, usage_line,
+};
+pub use reply::{Refusal, Reply};
+pub use status::{
+    STATUS_DIFFERENT, STATUS_DONE, STATUS_EDIT, STATUS_GUARD, STATUS_NO_SUMMARY, STATUS_POSITION,
+    STATUS_REFUSED, STATUS_SAVE, STATUS_SCRIPT, STATUS_WRONG_SUMMARY,
+};
+pub use task::{Pair, Task};
+pub use title::Title;

@@ -1,0 +1,59 @@
+// What a task comes to.
+ghost use Rattle.std.specs.Prelude.{◌≡◌};
+ghost use Rattle.doc_tasks.specs.Replies.{status_of};
+
+use crate::status::{
+    STATUS_DIFFERENT, STATUS_EDIT, STATUS_GUARD, STATUS_NO_SUMMARY, STATUS_POSITION, STATUS_SAVE,
+    STATUS_SCRIPT, STATUS_WRONG_SUMMARY,
+};
+use doc_bits::{Bytes, Text};
+
+/// Why a task is refused.
+#[derive(Clone, Copy, Debug, PartialEq, Eq)]
+pub enum Refusal {
+    /// Bytes are no script.
+    Script,
+    /// The main text has no such position.
+    Position,
+    /// An edit is refused.
+    Edit,
+    /// A save needs more than a file has.
+    Save,
+    /// A guard does not allow an edit.
+    Guarded,
+    /// Two documents differ.
+    Different,
+    /// A document has no summary.
+    NoSummary,
+    /// The summary of a document is no property set.
+    WrongSummary,
+}
+
+impl Refusal {
+    /// The status of a run that ends so.
+    pub fn status(self) -> u8
+        ensures { result ≡ status_of self }
+    {
+        match self {
+            Refusal::Script => STATUS_SCRIPT,
+            Refusal::Position => STATUS_POSITION,
+            Refusal::Edit => STATUS_EDIT,
+            Refusal::Save => STATUS_SAVE,
+            Refusal::Guarded => STATUS_GUARD,
+            Refusal::Different => STATUS_DIFFERENT,
+            Refusal::NoSummary => STATUS_NO_SUMMARY,
+            Refusal::WrongSummary => STATUS_WRONG_SUMMARY,
+        }
+    }
+}
+
+/// What a task comes to. It names no file to put under: that is the task's.
+#[derive(Drop)]
+pub enum Reply {
+    /// It is done: this is printed.
+    Done(Text),
+    /// Bytes were made: they are put, and then the text is printed.
+    Made { text: Text, bytes: Bytes },
+    /// It is refused: this is printed.
+    Refused { why: Refusal, text: Text },
+}

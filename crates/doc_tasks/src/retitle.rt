@@ -1,0 +1,99 @@
+// A document with another title.
+ghost use Rattle.std.specs.Prelude.{◌≡◌, ◌<◌, length, Some, option_map, IfOk};
+ghost use Rattle.plain_doc.specs.Carried.{AreCarriedStreams, with_bytes};
+ghost use Rattle.plain_doc.specs.Sound.{IsSound};
+ghost use Rattle.doc_read.specs.CarriedParts.{AreShortStreams};
+ghost use Rattle.doc_tasks.specs.Summaries.{summary_place as place_of, summary_of, HasSummaryBytes, SavesWith};
+ghost use Rattle.doc_tasks.specs.Summaries.{PutsTitle};
+
+use crate::reply::Reply;
+use crate::save::saved;
+use crate::summary::{no_summary, summary_place, wrong_summary};
+use crate::title::Title;
+use doc_bits::Memory;
+use doc_columns::ColumnDocument;
+use plain_doc::Document;
+use std::alloc::Global;
+use std::mem::forget;
+use summary_set::{SetFault, with_title};
+
+/// The full save of the document of a name with this title.
+pub(crate) fn retitle_reply(
+    alloc: Global,
+    title: &Title<'_>,
+    name: &str,
+    document: &ColumnDocument,
+) -> Result<Reply, Memory>
+    requires sound { IsSound document.now }
+    requires short { AreShortStreams document.now.carried.streams }
+    ensures { IfOk result (PutsTitle title.now name.now document.now) }
+{
+    let streams = &document.carried.streams;
+    let place = summary_place(streams);
+    let count = streams.count();
+    if place >= count {
+        return no_summary(alloc, name);
+    }
+    retitled(alloc, title, name, document, streams.bytes(place))
+}
+
+/// The same where this summary is carried.
+fn retitled(
+    alloc: Global,
+    title: &Title<'_>,
+    name: &str,
+    document: &ColumnDocument,
+    summary: &[u8],
+) -> Result<Reply, Memory>
+    requires sound { IsSound document.now }
+    requires short { AreShortStreams document.now.carried.streams }
+    requires here { option_map (λ s. s.bytes) (summary_of document.now.carried.streams) ≡ Some summary.now }
+    ensures { IfOk result (PutsTitle title.now name.now document.now) }
+{
+    match with_title(alloc, summary, title.bytes()) {
+        Ok(bytes) => saved_with(alloc, document, bytes.as_slice()),
+        Err(SetFault::Form { at }) => wrong_summary(alloc, name, at),
+        Err(SetFault::Memory) => Err(Memory),
+    }
+}
+
+/// The full save of a document with these bytes in its summary.
+fn saved_with(alloc: Global, document: &ColumnDocument, bytes: &[u8]) -> Result<Reply, Memory>
+    requires sound { IsSound document.now }
+    requires there { place_of document.now.carried.streams < length document.now.carried.streams }
+    requires room { AreCarriedStreams
+        (with_bytes document.now.carried.streams (place_of document.now.carried.streams) bytes.now) }
+    ensures { IfOk result (SavesWith document.now bytes.now) }
+{
+    let items = document.expand(alloc)?;
+    let changed = with_summary(alloc, items, bytes)?;
+    let reply = saved(alloc, "retitle", &changed);
+    // The run is about to end, so the items are not taken apart.
+    forget(changed);
+    reply
+}
+
+/// The document with these bytes in its summary.
+fn with_summary(alloc: Global, document: Document, bytes: &[u8]) -> Result<Document, Memory>
+    requires there { place_of document.carried.streams < length document.carried.streams }
+    requires room { AreCarriedStreams
+        (with_bytes document.carried.streams (place_of document.carried.streams) bytes.now) }
+    ensures { IfOk result (HasSummaryBytes document bytes.now) }
+{
+    let Document {
+        main,
+        notes,
+        heads,
+        sheet,
+        carried,
+    } = document;
+    let place = summary_place(&carried.streams);
+    let carried = carried.with_stream(alloc, place, bytes)?;
+    Ok(Document {
+        main,
+        notes,
+        heads,
+        sheet,
+        carried,
+    })
+}

@@ -1,0 +1,59 @@
+// Saves of a document.
+ghost use Rattle.std.specs.Prelude.{◌≡◌, length, IfOk, codes};
+ghost use Rattle.plain_doc.specs.Sound.{IsSound};
+ghost use Rattle.doc_tasks.specs.Saves.{Saves};
+ghost use Rattle.doc_tasks.specs.declared.reply.Reply.TheVariants.{Made, Refused};
+ghost use Rattle.doc_tasks.specs.declared.reply.Refusal.TheVariants.{Save};
+ghost use Rattle.doc_tasks.specs.Lines.{bytes_line as bytes_of, needs_line as needs_of};
+
+use crate::lines::{bytes_line, needs_line};
+use crate::reply::{Refusal, Reply};
+use doc_bits::{Bytes, Memory};
+use doc_columns::ColumnDocument;
+use full_save::{SaveFault, full};
+use plain_doc::Document;
+use std::alloc::Global;
+use std::mem::forget;
+
+/// The full save of a document.
+pub(crate) fn full_reply(alloc: Global, document: &ColumnDocument) -> Result<Reply, Memory>
+    requires { IsSound document.now }
+    ensures { IfOk result (Saves (codes "full") document.now) }
+{
+    let items = document.expand(alloc)?;
+    let reply = saved(alloc, "full", &items);
+    // The run is about to end, so the items are not taken apart.
+    forget(items);
+    reply
+}
+
+/// The full save of a document, for a command of this word.
+pub(crate) fn saved(alloc: Global, word: &str, document: &Document) -> Result<Reply, Memory>
+    requires { IsSound document.now }
+    ensures { IfOk result (Saves word.now document.now) }
+{
+    match full(alloc, document) {
+        Ok(bytes) => made(alloc, word, bytes),
+        Err(SaveFault::TooLarge { sectors }) => too_large(alloc, word, sectors),
+        Err(SaveFault::Memory) => Err(Memory),
+    }
+}
+
+/// The reply of bytes that a command made.
+pub(crate) fn made(alloc: Global, word: &str, bytes: Bytes) -> Result<Reply, Memory>
+    ensures { IfOk result (λ r. r ≡ Made (bytes_of word.now (length bytes)) bytes) }
+{
+    let text = bytes_line(alloc, word, bytes.as_slice().len())?;
+    Ok(Reply::Made { text, bytes })
+}
+
+/// The reply of a save that needs more sectors than a file has.
+fn too_large(alloc: Global, word: &str, sectors: u64) -> Result<Reply, Memory>
+    ensures { IfOk result (λ r. r ≡ Refused Save (needs_of word.now sectors)) }
+{
+    let text = needs_line(alloc, word, sectors)?;
+    Ok(Reply::Refused {
+        why: Refusal::Save,
+        text,
+    })
+}
