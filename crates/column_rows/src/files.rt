@@ -3,10 +3,10 @@ ghost use Rattle.plain_doc.specs.Sound.{IsSound};
 
 use crate::edits::EACH;
 use crate::scripted_columns::{is_same, of_script};
-use column_read::open_columns;
 use column_show::{accepted_line, main_text};
 use doc_bits::Memory;
 use doc_columns::ColumnDocument;
+use doc_read::open;
 use full_save::{SaveFault, full};
 use plain_doc::{Document, check};
 use std::alloc::Global;
@@ -25,9 +25,9 @@ fn comes_back_sound(alloc: Global, document: &Document) -> Result<bool, SaveFaul
     requires { IsSound document.now }
 {
     let file = full(alloc, document)?;
-    match open_columns(alloc, file.as_slice()) {
-        Ok(Some(opened)) => Ok(is_shown_as(alloc, opened.document(), document)?),
-        _ => Ok(false),
+    match open(alloc, file.as_slice()) {
+        Ok(opened) => Ok(is_shown_as(alloc, opened.document(), document)?),
+        Err(_) => Ok(false),
     }
 }
 
@@ -49,6 +49,6 @@ fn a_file_is_read_into_columns(rt: HostRuntime) -> Result<(), Fail> {
 
 #[test]
 fn bytes_that_are_no_file_are_refused(rt: HostRuntime) -> Result<(), Fail> {
-    assert!(rt; open_columns(rt.alloc(), b"no file").is_err());
+    assert!(rt; open(rt.alloc(), b"no file").is_err());
     Ok(())
 }

@@ -25,9 +25,23 @@ impl Measured for Stretch {
 
 /// A ledger that counts at run time too.
 #[derive(Drop)]
-struct Tally<A: Account> {
+pub(crate) struct Tally<A: Account> {
     steps: NoLedger<A>,
-    seen: u64,
+    pub(crate) seen: u64,
+}
+
+impl<A: Account> Tally<A> {
+    /// A tally that has counted nothing. The blank stands for the account of the type.
+    pub(crate) fn new(blank: Blank) -> Tally<A>
+        requires name { blank.name ≡ A.name }
+        requires parts { blank.parts ≡ A.parts }
+        requires some { 0 < A.parts }
+    {
+        Tally {
+            steps: NoLedger::new(blank),
+            seen: 0,
+        }
+    }
 }
 
 impl<A: Account> Ledger for Tally<A> {
@@ -72,11 +86,7 @@ fn spot_and_steps<A: Account>(list: &BlockList<Stretch>, cp: u32, blank: Blank) 
     requires parts { blank.parts ≡ A.parts }
     requires some { 0 < A.parts }
 {
-    let tally = Tally {
-        steps: NoLedger::<A>::new(blank),
-        seen: 0,
-    };
-    let mut steps = Steps::new(tally);
+    let mut steps = Steps::new(Tally::<A>::new(blank));
     let spot = list.locate(cp, &mut steps);
     (spot, steps.ledger().seen)
 }

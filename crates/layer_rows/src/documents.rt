@@ -47,7 +47,7 @@ fn section_of(alloc: Global, letter: u8) -> Option<PropMap> {
 }
 
 /// The item of a letter. `n` refers to a note; `F` is a field character where it is wrong, `[` one where it is right.
-fn item_of(alloc: Global, letter: u8) -> Item {
+pub(crate) fn item_of(alloc: Global, letter: u8) -> Item {
     Item {
         unit: unit_of(letter),
         chp: PropMap::new(alloc),
@@ -100,7 +100,7 @@ fn holds_maps(item: &Item) -> bool
 }
 
 /// Adds an item that may stand in a text.
-fn add_item(text: &mut Items, item: Item) -> Result<(), Memory> {
+pub(crate) fn add_item(text: &mut Items, item: Item) -> Result<(), Memory> {
     if text.len() > 1_000 || !holds_maps(&item) {
         return Err(Memory);
     }

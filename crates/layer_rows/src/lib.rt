@@ -14,9 +14,13 @@ mod maps;
 #[cfg(test)]
 mod numerals;
 #[cfg(test)]
+mod outlines;
+#[cfg(test)]
 mod outside;
 #[cfg(test)]
 mod pages;
+#[cfg(test)]
+mod piece_blocks;
 #[cfg(test)]
 mod pieces;
 #[cfg(test)]

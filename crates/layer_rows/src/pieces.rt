@@ -2,11 +2,14 @@
 ghost use Rattle.std.specs.Prelude.{◌^◌, ◌<◌, length};
 
 use crate::maps::modifier_of;
+use crate::piece_blocks::spot_and_steps;
 use doc_bits::{Bytes, Memory};
 use piece_table::{ClxFault, Piece, PieceList, read_clx};
 use prop_map::Modifier;
 use sprm_table::Code;
 use std::alloc::Global;
+use std::marker::Brand;
+use std::sync::ledger::Blank;
 use std::test::Fail;
 
 /// [MS-DOC] sprmCFBold.
@@ -105,7 +108,7 @@ fn read_list(alloc: Global, clx: &Bytes, units: u32) -> Result<PieceList, ClxFau
     if clx.as_slice().len() > 1_000_000 || units > 500_001 {
         return Err(ClxFault::Memory);
     }
-    read_clx(alloc, clx.as_slice(), 232, 100_000, units)
+    read_clx(alloc, clx.as_slice(), 232, 100_000, units, 900)
 }
 
 /// Appends the units of a piece.
@@ -228,7 +231,7 @@ fn split(list: &mut PieceList, cp: u32) -> Result<bool, Memory> {
     if cp < list.total() {
         list.split(cp);
     }
-    Ok(cp < list.total() && list.locate(cp).within == 0)
+    Ok(cp < list.total() && spot_and_steps::<Brand>(list, cp, Blank::new(1)).0.within == 0)
 }
 
 /// Whether a split leaves the units, and a piece begins there.
@@ -296,7 +299,7 @@ const ONE_PRC: [u8; 39] = [
 fn printed_again(alloc: Global, clx: &[u8]) -> Result<Bytes, ClxFault>
     requires { length clx.now < 2 ^ 16 }
 {
-    let list = read_clx(alloc, clx, 232, 100_000, 4)?;
+    let list = read_clx(alloc, clx, 232, 100_000, 4, 900)?;
     if list.len() > 16_384 {
         return Err(ClxFault::Memory);
     }
