@@ -9,6 +9,9 @@ complete -c docbin -n '__fish_is_first_arg' -a full -d 'put the full save of the
 complete -c docbin -n '__fish_is_first_arg' -a equal -d 'whether the documents of two files are equal'
 complete -c docbin -n '__fish_is_first_arg' -a edit -d 'edit the document by a script, and put its last save under a name'
 complete -c docbin -n '__fish_is_first_arg' -a gen -d 'make a large document of a number, and put its last save under a name'
-complete -c docbin -n '__fish_seen_subcommand_from text streams check show props full equal edit; and test (count (commandline -opc)) -eq 2' -F
+complete -c docbin -n '__fish_is_first_arg' -a outline -d 'the paragraphs that have a number or a level in the outline'
+complete -c docbin -n '__fish_is_first_arg' -a title -d 'title, subject and author of the summary'
+complete -c docbin -n '__fish_is_first_arg' -a retitle -d 'put the full save of the document with another title under a name'
+complete -c docbin -n '__fish_seen_subcommand_from text streams check show props full equal edit outline title retitle; and test (count (commandline -opc)) -eq 2' -F
 complete -c docbin -n '__fish_seen_subcommand_from full equal edit gen; and test (count (commandline -opc)) -eq 3' -F
-complete -c docbin -n '__fish_seen_subcommand_from edit; and test (count (commandline -opc)) -eq 4' -F
+complete -c docbin -n '__fish_seen_subcommand_from edit retitle; and test (count (commandline -opc)) -eq 4' -F
