@@ -1,4 +1,4 @@
-// What the lists of pages make, each kept by a place where it stands.
+// What the lists of pages make, each kept once.
 ghost use Rattle.std.specs.Prelude.{◌≡◌, ◌<◌, ◌≤◌, ◌+◌, ◌*◌, ℕ, List, drop, length, slice_range, IfOk, OnOk, OnErr};
 ghost use Rattle.sprm_table.specs.Sprm.{IsAcceptedList};
 ghost use Rattle.prop_map.specs.declared.modifiers.Modifier.{Modifier as TheModifier};
@@ -13,10 +13,10 @@ ghost use Rattle.direct_props.specs.Pages.{IsPageIn};
 ghost use Rattle.direct_props.specs.Kept.{AreMade, IsMadeByAnswer, IsMadeOf, MakesCharacter, MakesMark};
 
 use crate::characters::settings_of;
-use crate::lists::{bare, known_list, list_in};
+use crate::lists::{bare, list_in};
 use doc_bits::{Memory, get16};
 use fkp_pages::{PAGE_LEN, PageKind, RunAnswer};
-use prop_map::{ListPlaces, Modifier, PropMap};
+use prop_map::{MetLists, Modifier, PropMap};
 use std::alloc::Global;
 
 /// What a list and then a modifier make: the style number of a mark, or 0, and settings.
@@ -54,10 +54,10 @@ pub(crate) struct ListSource<'a> {
     pub(crate) modifier: &'a Modifier,
 }
 
-/// What lists make, by the places of the lists.
+/// What lists make, each with a place where the list stands.
 #[derive(Drop)]
 pub(crate) struct KeptLists {
-    pub(crate) places: ListPlaces,
+    pub(crate) places: MetLists,
     pub(crate) made: Vec<Made>,
 }
 
@@ -68,7 +68,7 @@ impl KeptLists {
             → AreMade kind wd modifier result.places result.made.items }
     {
         KeptLists {
-            places: ListPlaces::new(alloc),
+            places: MetLists::new(alloc),
             made: Vec::new(alloc),
         }
     }
@@ -118,7 +118,8 @@ impl KeptLists {
     {
         let begin = PAGE_LEN * number as usize;
         let (from, to) = range;
-        if let Some(known) = known_list(&self.places, source.wd, begin + from, begin + to) {
+        let there = &source.wd[begin + from..begin + to];
+        if let Some(known) = self.places.number_of(source.wd, there) {
             let copy = self.made[known].copy(alloc)?;
             return Ok(copy);
         }
@@ -128,16 +129,17 @@ impl KeptLists {
             Some(list) => {
                 let made = make(alloc, source, list)?;
                 let copy = made.copy(alloc)?;
-                self.put(begin + from, begin + to, made)?;
+                self.put(source.wd, (begin + from, begin + to), made)?;
                 Ok(copy)
             }
         }
     }
 
     /// Keeps what a list makes.
-    fn put(&mut self, from: usize, to: usize, made: Made) -> Result<(), Memory>
+    fn put(&mut self, stream: &[u8], place: (usize, usize), made: Made) -> Result<(), Memory>
+        requires { (place.0 ≤ place.1) × (place.1 ≤ length stream.now) }
         ensures ok { OnOk result ((kind : PageType) (wd : List ℕ) (modifier : TheModifier)
-            → IsMadeOf kind (slice_range wd from to) modifier made
+            → IsMadeOf kind (slice_range wd place.0 place.1) modifier made
             → AreMade kind wd modifier self.old.places self.old.made.items
             → AreMade kind wd modifier self.new.places self.new.made.items) }
         ensures err { OnErr result ((self.new.places ≡ self.old.places)
@@ -145,7 +147,7 @@ impl KeptLists {
     {
         let before = self.made.len();
         self.made.push(made)?;
-        match self.places.add(from, to) {
+        match self.places.add(stream, place.0, place.1) {
             Ok(()) => Ok(()),
             Err(memory) => {
                 self.made.truncate(before);

@@ -1,7 +1,6 @@
 // The lists of pages: that of a range, and that of a run without settings.
-ghost use Rattle.std.specs.Prelude.{◌≡◌, ◌≤◌, drop, length, slice_range, IfSome, MatchOption};
+ghost use Rattle.std.specs.Prelude.{◌≡◌, ◌≤◌, drop, length, MatchOption};
 ghost use Rattle.sprm_table.specs.Sprm.{IsAcceptedList};
-ghost use Rattle.prop_map.specs.Places.{IsListLike};
 ghost use Rattle.fkp_pages.specs.declared.kind.RunAnswer.TheVariants.{Found};
 ghost use Rattle.fkp_pages.specs.Fkp.{least_list};
 ghost use Rattle.fkp_pages.specs.Runs.{run_groups};
@@ -10,7 +9,6 @@ ghost use Rattle.direct_props.specs.Stretches.{HasRightList};
 
 use crate::rules::{groups_of, style_len};
 use fkp_pages::{PAGE_LEN, PageKind};
-use prop_map::ListPlaces;
 use sprm_table::list_fault;
 
 /// The style number 0 and no sprms.
@@ -36,17 +34,6 @@ pub(crate) fn list_in(kind: PageKind, page: &[u8], from: usize, to: usize) -> Op
         None => Some(list),
         Some(_) => None,
     }
-}
-
-/// The number of a place whose list in the stream has the bytes of this range: the place itself, or one of the last.
-pub(crate) fn known_list(places: &ListPlaces, wd: &[u8], from: usize, to: usize) -> Option<usize>
-    requires { (from ≤ to) × (to ≤ length wd.now) }
-    ensures { IfSome result (IsListLike wd.now (slice_range wd.now from to) places.now) }
-{
-    if let Some(number) = places.number_of(from, to) {
-        return Some(number);
-    }
-    places.number_like(wd, &wd[from..to])
 }
 
 /// The list of a run without settings.

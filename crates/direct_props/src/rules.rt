@@ -18,11 +18,11 @@ ghost use Rattle.direct_props.specs.Pages.{IsPageIn, IsRightStretch};
 ghost use Rattle.direct_props.specs.Kept.{HaveNoFault};
 
 use crate::Places;
-use crate::lists::{known_list, list_in};
+use crate::lists::list_in;
 use crate::pages::{PageCursor, page_around};
 use doc_bits::{Memory, lesser};
 use fkp_pages::{PAGE_LEN, PageKind, RunAnswer, bin_at, chpx_at, papx_at, run_answer_is_one};
-use prop_map::{CHARACTER_GROUPS, ListPlaces, PARAGRAPH_GROUPS};
+use prop_map::{CHARACTER_GROUPS, MetLists, PARAGRAPH_GROUPS};
 use sprm_table::{SprmFault, list_fault};
 use std::alloc::Global;
 use thiserror::Error;
@@ -96,7 +96,7 @@ fn are_right(
     requires small { length wd.now < 2 ^ 32 }
     ensures { IfOk result (λ right. IsTrue right → AreRightPlaces kind wd.now bin.now places.now) }
 {
-    let mut known = ListPlaces::new(alloc);
+    let mut known = MetLists::new(alloc);
     let mut stretch = RightStretch {
         first: 1,
         last: 0,
@@ -151,7 +151,7 @@ fn are_right_rows(
     requires small { length wd.now < 2 ^ 32 }
     ensures { IfOk result (λ right. IsTrue right → AreRightPlaces kind wd.now bin.now places.now) }
 {
-    let mut known = ListPlaces::new(alloc);
+    let mut known = MetLists::new(alloc);
     let mut stretch = RightStretch {
         first: 1,
         last: 0,
@@ -183,7 +183,7 @@ fn right_around(
     bin: &[u8],
     fc: u32,
     stretch: RightStretch,
-    known: &mut ListPlaces,
+    known: &mut MetLists,
 ) -> Result<Option<RightStretch>, Memory>
     requires table { IsBinTable bin.now }
     requires stretch { IsRightStretch kind wd.now bin.now stretch }
@@ -215,7 +215,7 @@ fn is_right(
     wd: &[u8],
     number: u32,
     answer: RunAnswer,
-    known: &mut ListPlaces,
+    known: &mut MetLists,
 ) -> Result<bool, Memory>
     requires page { IsPageIn wd.now number }
     requires known { HaveNoFault kind wd.now known.old }
@@ -237,7 +237,7 @@ fn is_right_list(
     wd: &[u8],
     number: u32,
     range: (usize, usize),
-    known: &mut ListPlaces,
+    known: &mut MetLists,
 ) -> Result<bool, Memory>
     requires page { IsPageIn wd.now number }
     requires known { HaveNoFault kind wd.now known.old }
@@ -250,13 +250,14 @@ fn is_right_list(
     if PAGE_LEN <= from || PAGE_LEN <= to || to < from + style_len(kind) {
         return Ok(false);
     }
-    if let Some(_met) = known_list(known, wd, begin + from, begin + to) {
+    let there = &wd[begin + from..begin + to];
+    if let Some(_met) = known.number_of(wd, there) {
         return Ok(true);
     }
     match list_in(kind, &wd[begin..begin + PAGE_LEN], from, to) {
         None => Ok(false),
         Some(_) => {
-            known.add(begin + from, begin + to)?;
+            known.add(wd, begin + from, begin + to)?;
             Ok(true)
         }
     }

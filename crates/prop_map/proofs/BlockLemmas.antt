@@ -7,7 +7,7 @@ use Rattle.std.specs.List.{All}
 use Rattle.std.specs.Ordering.{nat_cmp}
 use Rattle.std.specs.FinMap.{is_sorted, put, find}
 use Rattle.std.proofs.lemmas.Bool.{cases_lt, eqb-true}
-use Rattle.std.proofs.lemmas.List.{drop_at, take_at, take_rest, append-nil, nil_from_length}
+use Rattle.std.proofs.lemmas.List.{drop_at, take_at, take_rest, append-nil, nil_from_length, get_or_append_left}
 use Rattle.std.proofs.lemmas.List.Elements.{All-head, All-tail, All-push, All-cons, All-append}
 use Rattle.doc_bits.specs.Number.{number_bytes, u16_at, u32_at}
 use Rattle.doc_bits.proofs.NumberLemmas.{length-number_bytes, number_at-number_bytes, number_at-read_back}
@@ -236,35 +236,80 @@ same_blocks one other a b e = sym (entries_in-block one a) ∙ (ap entries_in e 
 
 -- ---- a code put between entries
 
--- how far the entries below the code were appended
-pub record HasPushedBelow (entries : Entries) (code : ℕ) (old new : List ℕ) (left : Entries) : Type 0 where
+-- how far the entries below the code were passed
+pub record HasPassedBelow (entries : Entries) (code : ℕ) (left : Entries) : Type 0 where
   pub below : Entries
-  pub bytes : new ≡ old ++ block_bytes below
-  pub formed : AreBlockEntries below
+  pub joined : entries ≡ below ++ left
   pub past : (value : List ℕ) → put nat_cmp code value entries ≡ below ++ put nat_cmp code value left
 
+pub none_passed : (entries left : Entries) (code : ℕ) → entries ≡ left → HasPassedBelow entries code left
+none_passed entries left code e = record { below = []; joined = e; past = λ value. ap (put nat_cmp code value) e }
+
+-- what is known of the bytes before some entries
+abbrev pub AreBytesBefore : Entries → Entries → List ℕ → Type 0
+AreBytesBefore entries rest bytes =
+    (below : Entries) → entries ≡ below ++ rest → (bytes ≡ block_bytes below) × AreBlockEntries below
+
 -- the code stands before what is left, in place of its first entry, or behind all
-pub put_before : (entries rest : Entries) (code other : ℕ) (here : List ℕ) (old new : List ℕ) → HasPushedBelow entries
-    code old new ((other, here) ∷ rest) → code < other → IsPutBetween entries code old new ((other, here) ∷ rest)
-put_before entries rest code other here old new h lt = record {
+pub put_before : (entries rest : Entries) (code other : ℕ) (here bytes : List ℕ) → HasPassedBelow entries code
+    ((other, here) ∷ rest) → AreBytesBefore entries ((other, here) ∷ rest) bytes → code < other →
+    IsPutBetween entries code [] bytes ((other, here) ∷ rest)
+put_before entries rest code other here bytes h are lt =
+    let front = are h.below h.joined in
+    record {
+      below = h.below;
+      bytes = front.0;
+      formed = front.1;
+      between = λ value. h.past value ∙ ap (λ l. h.below ++ l) (rw (cmp_less code other lt) refl);
+    }
+
+pub put_at : (entries rest : Entries) (code other : ℕ) (here bytes : List ℕ) → HasPassedBelow entries code
+    ((other, here) ∷ rest) → AreBytesBefore entries ((other, here) ∷ rest) bytes → code ≡ other →
+    IsPutBetween entries code [] bytes rest
+put_at entries rest code other here bytes h are e =
+    let front = are h.below h.joined in
+    record {
+      below = h.below;
+      bytes = front.0;
+      formed = front.1;
+      between = λ value. h.past value ∙ ap (λ l. h.below ++ l) (rw (sym e, cmp_equal code) refl);
+    }
+
+pub put_last : (entries : Entries) (code : ℕ) (bytes : List ℕ) → HasPassedBelow entries code [] → AreBytesBefore
+    entries [] bytes → IsPutBetween entries code [] bytes []
+put_last entries code bytes h are =
+    let front = are h.below h.joined in
+    record { below = h.below; bytes = front.0; formed = front.1; between = h.past }
+
+-- the bytes of these entries were appended
+pub put_behind_old : (entries rest : Entries) (code : ℕ) (old bytes new : List ℕ) → IsPutBetween entries code [] bytes
+    rest → new ≡ old ++ bytes → IsPutBetween entries code old new rest
+put_behind_old entries rest code old bytes new h e = record {
   below = h.below;
-  bytes = h.bytes;
+  bytes = e ∙ ap (λ b. old ++ b) h.bytes;
   formed = h.formed;
-  between = λ value. h.past value ∙ ap (λ l. h.below ++ l) (rw (cmp_less code other lt) refl);
+  between = h.between;
 }
 
-pub put_at : (entries rest : Entries) (code other : ℕ) (here : List ℕ) (old new : List ℕ) → HasPushedBelow entries
-    code old new ((other, here) ∷ rest) → code ≡ other → IsPutBetween entries code old new rest
-put_at entries rest code other here old new h e = record {
-  below = h.below;
-  bytes = h.bytes;
-  formed = h.formed;
-  between = λ value. h.past value ∙ ap (λ l. h.below ++ l) (rw (sym e, cmp_equal code) refl);
-}
-
-pub put_last : (entries : Entries) (code : ℕ) (old new : List ℕ) → HasPushedBelow entries code old new [] →
-    IsPutBetween entries code old new []
-put_last entries code old new h = record { below = h.below; bytes = h.bytes; formed = h.formed; between = h.past }
+-- the bytes of the first entries of a block
+pub bytes_before : (block rest : List ℕ) (n : ℕ) (below : Entries) → IsBlock block → IsBlock rest → entries_in block ≡
+    below ++ entries_in rest → n ≡ length block - length rest → (take n block ≡ block_bytes below) × AreBlockEntries
+    below
+bytes_before block rest n below is last e len =
+    let spelt : block ≡ block_bytes below ++ rest =
+    is.is ∙ (ap block_bytes e ∙ (blocks_joined below (entries_in rest) ∙ ap (λ b. block_bytes below ++ b)
+    (sym last.is))) in
+    let long = ap length spelt in
+    let both = length-append (block_bytes below) rest in
+    let width : length (block_bytes below) ≡ n = omega arith in (
+      ap (take n) spelt ∙ take_at (block_bytes below) rest n width,
+      All-front IsBlockEntry below (entries_in rest) (subst AreBlockEntries e is.entries),
+    )
+  where
+    All-front : (P : ℕ × List ℕ → Type 0) (xs ys : Entries) → All P (xs ++ ys) → All P xs
+    All-front P xs ys h k d within =
+        let long = length-append xs ys in
+        subst P (get_or_append_left xs ys d k within) (h k d (omega arith))
 
 -- ---- entries appended one after the other
 
@@ -304,16 +349,11 @@ below_from code other least same = elim (cases_lt other code) [
 ]
 
 -- an entry below the code more
-pub below_more : (entries left : Entries) (code other : ℕ) (value old now new : List ℕ) → HasPushedBelow entries code
-    old now ((other, value) ∷ left) → other < code → new ≡ now ++ entry_bytes (other, value) → IsBlockEntry (
-      other,
-      value,
-    ) → HasPushedBelow entries code old new left
-below_more entries left code other value old now new h lt e is = record {
+pub below_more : (entries left : Entries) (code other : ℕ) (value : List ℕ) → HasPassedBelow entries code
+    ((other, value) ∷ left) → other < code → HasPassedBelow entries code left
+below_more entries left code other value h lt = record {
   below = h.below ++ (other, value) ∷ [];
-  bytes = e ∙ (ap (λ l. l ++ entry_bytes (other, value)) h.bytes ∙ (append_assoc old (block_bytes h.below)
-      (entry_bytes (other, value)) ∙ ap (λ l. old ++ l) (sym (block_more h.below other value))));
-  formed = All-push IsBlockEntry h.below (other, value) h.formed is;
+  joined = h.joined ∙ sym (append_assoc h.below ((other, value) ∷ []) left);
   past = λ v. h.past v ∙ (ap (λ l. h.below ++ l) (rw (cmp_greater code other lt) refl) ∙ sym (append_assoc h.below
       ((other, value) ∷ []) (put nat_cmp code v left)));
 }

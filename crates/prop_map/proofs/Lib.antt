@@ -1,6 +1,7 @@
 pub mod EntriesLemmas
 pub mod BlockLemmas
 pub mod MergeLemmas
+pub mod ValueLemmas
 pub mod ChangeLemmas
 pub mod ActingLemmas
 pub mod ByteLemmas

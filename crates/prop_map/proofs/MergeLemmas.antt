@@ -1,7 +1,8 @@
 -- Two lists of entries in order put into one, and an entry appended behind lesser ones.
 use Rattle.std.proofs.Common.{◌≡◌, ℕ, ◌+◌, ◌<◌, ◌≤◌, Bool, true, false, cond, ◌&&◌, T, List, [], ◌∷◌, ◌++◌}
-use Rattle.std.proofs.Common.{Option, Some, None, IsTrue, refl, sym, ap, ◌∙◌, subst, arith, append_assoc}
+use Rattle.std.proofs.Common.{Option, Some, None, IsTrue, length, refl, sym, ap, ◌∙◌, subst, arith, append_assoc}
 use Rattle.std.proofs.lemmas.Bool.{eqb-true}
+use Rattle.std.proofs.lemmas.List.{nil_from_length}
 use Rattle.std.proofs.lemmas.List.Elements.{All-head, All-tail, All-push, All-append}
 use Rattle.std.specs.List.{All}
 use Rattle.std.specs.Ordering.{nat_cmp, is_lt, eq_by_cmp}
@@ -145,6 +146,28 @@ all_merged base top lower old bytes h e formed s =
     let up : IsTrue (is_sorted nat_cmp all) = subst (λ l. IsTrue (is_sorted nat_cmp l)) h.joined (sorted_over top base
     s) in
     (sorted_block bytes all every spelt up, ap entries_in spelt ∙ (entries_in-block all every ∙ sym h.joined))
+
+-- a list put over nothing is itself
+put_over-nil : (top : Entries) → T (is_sorted nat_cmp top) → put_over top [] ≡ top
+put_over-nil [] s = refl
+put_over-nil (e ∷ top) s = keeps_first top [] e (both_first _ _ s) ∙ ap (λ l. e ∷ l) (put_over-nil top (both_second _ _
+    s))
+
+-- where nothing of the lower one is left, the others of the upper one follow
+pub upper_merged : (base top lower left : Entries) (old bytes : List ℕ) → HasMerged base top lower left old →
+    length lower ≡ 0 → bytes ≡ old ++ block_bytes left → AreBlockEntries left → IsTrue (is_sorted nat_cmp base) →
+    IsSortedBlock bytes × (entries_in bytes ≡ put_over top base)
+upper_merged base top lower left old bytes h none e formed s =
+    let all : Entries = h.done ++ left in
+    let joined : put_over top base ≡ all =
+    h.joined ∙ ap (λ l. h.done ++ l) (ap (put_over left) (nil_from_length lower none) ∙ put_over-nil left (of_true _
+    h.left_sorted)) in
+    let spelt : bytes ≡ block_bytes all = e ∙ (ap (λ b. b ++ block_bytes left) h.spelt ∙ sym (blocks_joined h.done
+    left)) in
+    let every : AreBlockEntries all = All-append IsBlockEntry h.done left h.formed formed in
+    let up : IsTrue (is_sorted nat_cmp all) = subst (λ l. IsTrue (is_sorted nat_cmp l)) joined (sorted_over top base
+    s) in
+    (sorted_block bytes all every spelt up, ap entries_in spelt ∙ (entries_in-block all every ∙ sym joined))
 
 -- ---- an entry behind lesser ones
 

@@ -7,5 +7,6 @@ pub mod Steps
 pub mod Printing
 pub mod Modifiers
 pub mod Overlay
+pub mod Values
 pub mod Places
 pub mod Laws

@@ -1,15 +1,17 @@
 // Acting with a list of sprms.
-ghost use Rattle.std.specs.Prelude.{◌≡◌, [], ◌∷◌, IfOk, IfSome};
+ghost use Rattle.std.specs.Prelude.{◌≡◌, [], ◌∷◌, IfOk, IfSome, IsTrue, OnOk};
 ghost use Rattle.std.specs.Option.{option_or};
 ghost use Rattle.std.specs.FinMap.{empty};
 ghost use Rattle.sprm_table.specs.Sprm.{IsPrl, IsAcceptedList};
 ghost use Rattle.prop_map.specs.Formed.{StaysFormed};
 ghost use Rattle.prop_map.specs.Acting.{ArePropertiesAfter, IsActedBy, style_of};
 ghost use Rattle.prop_map.specs.Block.{HasCodesBelow, map_of};
+ghost use Rattle.prop_map.specs.Values.{entry_of, set_map, AreInOrder};
 
 use crate::PropMap;
 use crate::block::{Block, push_entry};
 use crate::draft::Draft;
+use crate::values::{SetValue, block_of, put_value};
 use doc_bits::{Bytes, Memory, get16};
 use sprm_table::{Class, Code, SprmIter, class, held};
 use std::alloc::Global;
@@ -43,10 +45,70 @@ fn act_on_nothing(alloc: Global, list: &[u8], groups: u8) -> Result<Acted, Memor
     match act_in_order(alloc, list, groups)? {
         Some(acted) => Ok(acted),
         None => {
+            let acted = act_on_values(alloc, list, groups)?;
+            Ok(acted)
+        }
+    }
+}
+
+/// Acts with a list on the empty map, whose values are put in order of their codes; a list that clears, or that sets
+/// too many codes, is brought into a tree.
+fn act_on_values(alloc: Global, list: &[u8], groups: u8) -> Result<Acted, Memory>
+    requires { IsAcceptedList list.now groups }
+    ensures { IfOk result (IsActedBy list.now groups empty) }
+{
+    match act_by_values(alloc, list, groups)? {
+        Some(acted) => Ok(acted),
+        None => {
             let nothing = PropMap::new(alloc);
             let acted = act_on_draft(alloc, list, groups, &nothing)?;
             Ok(acted)
         }
+    }
+}
+
+/// Acts with a list on the empty map where none of it clears, and where it sets few codes.
+fn act_by_values(alloc: Global, list: &[u8], groups: u8) -> Result<Option<Acted>, Memory>
+    requires { IsAcceptedList list.now groups }
+    ensures { IfOk result (λ acted. IfSome acted (IsActedBy list.now groups empty)) }
+{
+    let mut values = Vec::new(alloc);
+    let mut istd = None;
+    let mut prls = SprmIter::new(list);
+    while let Some((code, from, to)) = prls.next() {
+        let value = &list[from..to];
+        if !keep_value(&mut values, groups, SetValue { code, value })? {
+            return Ok(None);
+        }
+        istd = style(groups, code, value, istd);
+    }
+    let map = PropMap::from_block(alloc, block_of(alloc, &values)?)?;
+    Ok(Some(Acted { map, istd }))
+}
+
+/// Keeps what a sprm sets among the values so far. Whether these are what is set then: not where the sprm clears, or
+/// where too many codes are set.
+fn keep_value<'a>(
+    values: &mut Vec<SetValue<'a>>,
+    groups: u8,
+    set: SetValue<'a>,
+) -> Result<bool, Memory>
+    requires { AreInOrder values.old.items }
+    ensures order { OnOk result (AreInOrder values.new.items) }
+    ensures kept { IfOk result (λ kept. IsTrue kept → ArePropertiesAfter (entry_of set.entry ∷ []) groups
+        (set_map values.old.items) (set_map values.new.items)) }
+{
+    if held(groups, set.code) {
+        match class(set.code) {
+            Class::Plain | Class::Toggle => {
+                let put = put_value(values, set)?;
+                Ok(put)
+            }
+            Class::Clear => Ok(false),
+            Class::Style | Class::Refused => Ok(true),
+        }
+    } else {
+        Ok(true)
     }
 }
 

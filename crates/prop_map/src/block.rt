@@ -1,5 +1,6 @@
 // The entries of a map in one block of bytes: of each entry its code, the length of its value, and the value.
-ghost use Rattle.std.specs.Prelude.{◌≡◌, ◌↔◌, ◌<◌, ◌++◌, [], ◌∷◌, ◌==◌, ℕ, length, IsTrue, IfOk, OnOk, MatchOption};
+ghost use Rattle.std.specs.Prelude.{◌≡◌, ◌↔◌, ◌<◌, ◌++◌, [], ◌∷◌, ◌==◌, ℕ, List, length};
+ghost use Rattle.std.specs.Prelude.{IsTrue, IfOk, OnOk, MatchOption};
 ghost use Rattle.std.specs.Option.{option_or};
 ghost use Rattle.std.specs.Ordering.{nat_cmp};
 ghost use Rattle.std.specs.FinMap as map;
@@ -92,6 +93,15 @@ impl<'a> Entries<'a> {
         Some((code, value))
     }
 
+    /// The bytes of those before some that follow.
+    fn before(&self, rest: &Entries<'a>) -> &'a [u8]
+        ensures { (below : List (ℕ × List ℕ)) → self.now ≡ below ++ rest.now
+            → (result.now ≡ block_bytes below) × AreBlockEntries below }
+    {
+        let len = self.left.len().saturating_sub(rest.left.len());
+        &self.left[..len]
+    }
+
     /// Their bytes in the block.
     pub(crate) fn bytes(&self) -> &'a [u8]
         ensures bytes { result.now ≡ block_bytes self.now }
@@ -157,6 +167,11 @@ impl Block {
         while let Some((code, value)) = left.next() {
             lower = push_below(&mut bytes, lower, code)?;
             push_entry(&mut bytes, code, value)?;
+            if lower.is_empty() {
+                let others = left.bytes();
+                bytes.push_all(others)?;
+                return Ok(Block::of_bytes(bytes));
+            }
         }
         let rest = lower.bytes();
         bytes.push_all(rest)?;
@@ -202,19 +217,27 @@ fn push_below<'a>(
 ) -> Result<Entries<'a>, Memory>
     ensures { IfOk result (IsPutBetween entries.entry code.0 bytes.old bytes.new) }
 {
-    let mut left = entries;
+    let (below, rest) = split_at(&entries, code);
+    bytes.push_all(below)?;
+    Ok(rest)
+}
+
+/// The bytes of the entries with lesser codes, and the entries with greater ones.
+fn split_at<'a>(entries: &Entries<'a>, code: Code) -> (&'a [u8], Entries<'a>)
+    ensures { IsPutBetween entries.now code.0 [] result.0.now result.1 }
+{
+    let mut left = entries.same();
     let mut rest = left.same();
-    while let Some((other, value)) = left.next() {
+    while let Some((other, _)) = left.next() {
         if code.0 < other.0 {
-            return Ok(rest);
+            return (entries.before(&rest), rest);
         }
         if same_code(code, other) {
-            return Ok(left);
+            return (entries.before(&rest), left);
         }
-        push_entry(bytes, other, value)?;
         rest = left.same();
     }
-    Ok(rest)
+    (entries.before(&rest), rest)
 }
 
 /// Whether both are one code.

@@ -8,10 +8,12 @@ mod codes;
 mod draft;
 mod laws;
 mod map;
+mod met_lists;
 mod modifiers;
 mod overlay;
 mod places;
 mod printing;
+mod values;
 
 pub use acting::{Acted, act};
 pub use block::Entries;
@@ -22,5 +24,6 @@ pub use laws::{
     over_is_overlay, said_code_by_code, settings_stay_formed,
 };
 pub use map::PropMap;
+pub use met_lists::MetLists;
 pub use modifiers::Modifier;
 pub use places::ListPlaces;

@@ -1,6 +1,5 @@
 // Places of lists in a stream, each of which is found again by the part where it begins.
-ghost use Rattle.std.specs.Prelude.{◌≡◌, ◌++◌, [], ◌∷◌, slice_get, slice_range, Some, IfSome, IsTrue, OnOk, OnErr};
-ghost use Rattle.prop_map.specs.Places.{IsListLike};
+ghost use Rattle.std.specs.Prelude.{◌≡◌, ◌++◌, [], ◌∷◌, slice_get, Some, IfSome, OnOk, OnErr};
 
 use doc_bits::Memory;
 use std::alloc::Global;
@@ -12,9 +11,6 @@ const PART_LEN: usize = 512;
 
 /// So many places of a part are looked at: two that begin with each byte.
 const MOST_TURNS: usize = 2 * PART_LEN;
-
-/// So many of the last places are looked at for a list of the same bytes.
-const LAST_PLACES: usize = 8;
 
 /// Where a list begins and ends, and one more than the number of the place before it in its part, or 0.
 #[derive(Clone, Copy)]
@@ -72,23 +68,6 @@ impl ListPlaces {
         None
     }
 
-    /// The number of one of the last places, where the stream has a list of the same bytes.
-    pub fn number_like(&self, stream: &[u8], list: &[u8]) -> Option<usize>
-        ensures { IfSome result (IsListLike stream.now list.now self.now) }
-    {
-        let mut left = self.items.len();
-        for _turn in 0..LAST_PLACES {
-            if left == 0 || self.items.len() < left {
-                return None;
-            }
-            left -= 1;
-            if has_list(stream, self.items[left], list) {
-                return Some(left);
-            }
-        }
-        None
-    }
-
     /// Adds a place, which gets the next number.
     pub fn add(&mut self, from: usize, to: usize) -> Result<(), Memory>
         ensures ok { OnOk result (self.new ≡ self.old ++ (from, to) ∷ []) }
@@ -114,15 +93,4 @@ impl ListPlaces {
             Some(number) => *number,
         }
     }
-}
-
-/// Whether the list of a place has these bytes.
-fn has_list(stream: &[u8], place: ListPlace, list: &[u8]) -> bool
-    ensures { IsTrue result → slice_range stream.now place.from place.to ≡ list.now }
-{
-    if place.to < place.from || stream.len() < place.to {
-        return false;
-    }
-    let here = &stream[place.from..place.to];
-    here == list
 }

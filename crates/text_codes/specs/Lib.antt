@@ -1,3 +1,4 @@
 pub mod Compressed
+pub mod Digits
 pub mod Paragraph
 pub mod Shown

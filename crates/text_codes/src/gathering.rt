@@ -4,6 +4,7 @@ ghost use Rattle.std.specs.Prelude.{List, ℕ, length, take, slice_index, Bool, 
 ghost use Rattle.std.specs.Str.{IsUtf8};
 ghost use Rattle.text_codes.specs.Shown.{shown, IsPlain};
 
+use crate::paragraph::PART_LEN;
 use crate::showing::escapes;
 
 /// The bytes that a block has room for.
@@ -39,12 +40,41 @@ fn plain_len(units: &[u16]) -> usize
     ensures plain { (k : ℕ) → k < result → IsPlain (slice_index units.now k) }
 {
     let most = units.len().min(BLOCK_LEN);
-    for i in 0..most {
+    for i in plain_parts(units, most)..most {
         if !is_plain(units[i]) {
             return i;
         }
     }
     most
+}
+
+/// How many units stand in the parts at the front that have no other unit, at most so many.
+fn plain_parts(units: &[u16], most: usize) -> usize
+    requires { most ≤ length units.now }
+    ensures inside { result ≤ most }
+    ensures plain { (k : ℕ) → k < result → IsPlain (slice_index units.now k) }
+{
+    let mut done = 0;
+    while most - done >= PART_LEN {
+        if !are_plain(units, done) {
+            return done;
+        }
+        done += PART_LEN;
+    }
+    done
+}
+
+/// Whether each unit of the part from a place on is printable ASCII and no reverse solidus.
+#[inline(always)]
+fn are_plain(units: &[u16], at: usize) -> bool
+    requires { at + PART_LEN ≤ length units.now }
+    ensures { IsTrue result → (k : ℕ) → at ≤ k → k < at + PART_LEN → IsPlain (slice_index units.now k) }
+{
+    let mut all = true;
+    for k in at..at + PART_LEN {
+        all &= is_plain(units[k]);
+    }
+    all
 }
 
 /// Whether a unit is printable ASCII and no reverse solidus.

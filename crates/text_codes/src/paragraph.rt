@@ -11,7 +11,7 @@ pub const CELL_MARK: u16 = 0x07;
 pub const SECTION_MARK: u16 = 0x0C;
 
 /// The number of units that are looked at together.
-const PART_LEN: usize = 16;
+pub(crate) const PART_LEN: usize = 16;
 
 /// Whether a unit ends a paragraph. `section_end` says that a section ends at the unit.
 pub fn ends_paragraph(unit: u16, section_end: bool) -> bool

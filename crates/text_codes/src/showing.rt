@@ -3,9 +3,10 @@ ghost use Rattle.std.specs.Prelude.{◌≡◌, ◌<◌, ◌≤◌, ◌++◌, ◌
 ghost use Rattle.std.specs.Prelude.{nat_le, nat_lt, List, ℕ, [], ◌∷◌, length, take, Bool};
 ghost use Rattle.std.specs.Prelude.{true, false, IfOk, OnOk, OnErr, IfSome, MatchOption, IsTrue, encode_utf8};
 ghost use Rattle.std.specs.String.{string_bytes};
-ghost use Rattle.text_codes.specs.Shown.{Showing, shown, shown_alone, completed, escape, hex_digit, is_pair};
+ghost use Rattle.text_codes.specs.Shown.{Showing, shown, shown_alone, completed, escape, is_pair};
 ghost use Rattle.text_codes.specs.Shown.{pair_code, is_escaped};
 
+use crate::digits::hex_digit;
 use crate::gathering::{BLOCK_LEN, gather, narrow};
 use doc_bits::{Memory, Text};
 use std::alloc::Global;
@@ -202,24 +203,11 @@ fn push_escape(text: &mut String, unit: u16) -> Result<(), Memory>
     let digits = [
         b'\\',
         b'u',
-        digit(unit / 0x1000),
-        digit(unit / 0x100 % 16),
-        digit(unit / 0x10 % 16),
-        digit(unit % 16),
+        hex_digit((unit / 0x1000) as u8),
+        hex_digit((unit / 0x100 % 16) as u8),
+        hex_digit((unit / 0x10 % 16) as u8),
+        hex_digit((unit % 16) as u8),
     ];
     text.push_str(str::from_utf8(&digits).unwrap())?;
     Ok(())
-}
-
-/// The lower-case hexadecimal digit of a number below 16.
-fn digit(number: u16) -> u8
-    requires { number < 16 }
-    ensures value { result ≡ hex_digit number }
-    ensures ascii { result < 128 }
-{
-    if number < 10 {
-        b'0' + number as u8
-    } else {
-        b'a' + (number as u8 - 10)
-    }
 }

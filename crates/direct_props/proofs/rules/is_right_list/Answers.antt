@@ -3,10 +3,6 @@ use Rattle.direct_props.specs.Kept.{HaveNoFault}
 use Rattle.direct_props.proofs.KeptLemmas.{right_in_page, faultless_in_stream, one_faultless, like_faultless}
 use Rattle.direct_props.proofs.rules.is_right_list.Goals as goal
 
-pub known_list-requires : goal.known_list-requires
-known_list-requires c =
-    let page = c.requires.page in (omega (arith, c.style_len.ensures), omega (arith, page.within))
-
 pub returns-in-Some-clause-right : goal.returns-in-Some-clause-right
 returns-in-Some-clause-right c = λ _.
     right_in_page c.args.kind c.args.wd.now c.args.number c.args.range.0 c.args.range.1 (omega (

@@ -72,6 +72,7 @@ returns c = λ prls h.
     before.joined) in
     record {
       map = λ code. ap (λ m. get m code) (c.in_ok-map.ensures ∙ c.of_bytes.ensures) ∙ subst (λ l. get (map_of
-          c.loop-code.bytes) code ≡ value_after l c.args.groups code (get {R = nat_cmp} empty code)) all (before.map code);
+          c.loop-code.bytes) code ≡ value_after l c.args.groups code (get {R = nat_cmp} empty code)) all
+          (before.map code);
       style = subst (λ l. c.loop-code.istd ≡ style_of l c.args.groups) all before.style;
     }

@@ -7,11 +7,6 @@ use Rattle.direct_props.proofs.StretchLemmas.{in_page}
 use Rattle.direct_props.proofs.KeptLemmas.{kept_answer, made_of_like}
 use Rattle.direct_props.proofs.kept.KeptLists.made_at.Goals as goal
 
-pub known_list-requires : goal.known_list-requires
-known_list-requires c =
-    let right = c.requires.right in
-    let page = c.requires.page in (omega (arith, right.room), omega (arith, right.within, page.within))
-
 pub returns-in-Some-clause-made : goal.returns-in-Some-clause-made
 returns-in-Some-clause-made c =
     let source = c.args.source.now in

@@ -1,0 +1,72 @@
+// The values that a list sets, in order of their codes: where a code stands is found by halving.
+ghost use Rattle.std.specs.Prelude.{◌≡◌, IfOk, OnOk, IsTrue};
+ghost use Rattle.std.specs.Ordering.{nat_cmp};
+ghost use Rattle.std.specs.FinMap as map;
+ghost use Rattle.prop_map.specs.Values.{entries_of, AreInOrder, IsLesserCount};
+
+use crate::block::{Block, push_entry};
+use doc_bits::{Bytes, Memory};
+use sprm_table::Code;
+use std::alloc::Global;
+
+/// So many codes are kept so: one that is put before all others moves them.
+const MOST_VALUES: usize = 1024;
+
+/// A code and the value that a list sets there.
+#[derive(Clone, Copy)]
+pub(crate) struct SetValue<'a> {
+    pub(crate) code: Code,
+    pub(crate) value: &'a [u8],
+}
+
+/// Puts a value at its code, in place of what stood there. Not where it would be one more than the most.
+pub(crate) fn put_value<'a>(
+    values: &mut Vec<SetValue<'a>>,
+    set: SetValue<'a>,
+) -> Result<bool, Memory>
+    requires { AreInOrder values.old.items }
+    ensures order { OnOk result (AreInOrder values.new.items) }
+    ensures put { IfOk result (λ put. IsTrue put → entries_of values.new.items
+        ≡ map.put nat_cmp set.entry.code.0 set.entry.value.now (entries_of values.old.items)) }
+{
+    let at = lesser_count(values, set.code);
+    if at < values.len() && values[at].code.0 == set.code.0 {
+        values[at] = set;
+        return Ok(true);
+    }
+    if MOST_VALUES <= values.len() {
+        return Ok(false);
+    }
+    values.insert(at, set)?;
+    Ok(true)
+}
+
+/// How many of the values have lesser codes.
+fn lesser_count(values: &[SetValue<'_>], code: Code) -> usize
+    requires { AreInOrder values.now }
+    ensures { IsLesserCount values.now code.0 result }
+{
+    let mut low = 0;
+    let mut high = values.len();
+    while low < high {
+        let middle = low + (high - low) / 2;
+        if values[middle].code.0 < code.0 {
+            low = middle + 1;
+        } else {
+            high = middle;
+        }
+    }
+    low
+}
+
+/// The block of the values.
+pub(crate) fn block_of(alloc: Global, values: &[SetValue<'_>]) -> Result<Block, Memory>
+    requires { AreInOrder values.now }
+    ensures { IfOk result (λ made. made ≡ map.from_sorted (entries_of values.now)) }
+{
+    let mut bytes = Bytes::new(alloc);
+    for set in values {
+        push_entry(&mut bytes, set.code, set.value)?;
+    }
+    Ok(Block::of_bytes(bytes))
+}
