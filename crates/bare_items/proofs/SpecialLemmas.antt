@@ -33,6 +33,7 @@ use Rattle.plain_doc.proofs.RowLemmas.{open_cells_more}
 use Rattle.plain_doc.proofs.TextWalkLemmas.{last_is_mark}
 use Rattle.plain_doc.proofs.RightLemmas.{sound_is_right, right_is_sound}
 use Rattle.bare_items.specs.Specials.{is_special, special_items, IsPlainUnit, HasRightBareItems, AreSpecialsOf}
+use Rattle.bare_items.specs.Marks.{AreRightBookmarks}
 
 -- ---- units of no mark
 
@@ -474,10 +475,11 @@ text_there document kept are (Head number) text there = (
   list_right document.heads number text are.heads_right there,
 )
 
--- a document with right bare items is sound where that of its special items is
+-- a document with right bare items and right bookmarks is sound where that of its special items is
 pub sound_by_specials : (document kept : Document) → AreSpecialsOf document kept →
-    item_count document ≤ most_items → IsSound kept → IsSound document
-sound_by_specials document kept are few sound =
+    item_count document ≤ most_items → AreRightBookmarks (length document.main) document.bookmarks → IsSound kept →
+    IsSound document
+sound_by_specials document kept are few marks sound =
     let right = sound_is_right kept sound in
     let sheets : kept.sheet ≡ document.sheet = are.sheet in
     let notes = same_count (λ (x : Item). is_some x.note) no_note document.main in
@@ -499,4 +501,7 @@ sound_by_specials document kept are few sound =
       bases = subst HasSoundBases sheets right.bases;
       short = subst (λ (sheet : Sheet). (istd : ℕ) → HasShortStyle sheet istd) sheets right.short;
       writable = subst IsWritable sheets right.writable;
+      bookmarks = marks.formed;
+      few_bookmarks = marks.few;
+      names = marks.names;
     })

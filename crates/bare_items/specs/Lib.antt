@@ -1,2 +1,3 @@
 pub mod Specials
+pub mod Marks
 pub mod Laws

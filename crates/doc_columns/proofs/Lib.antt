@@ -2,3 +2,4 @@ pub mod ItemsOfLemmas
 pub mod ChangesLemmas
 pub mod CollectLemmas
 pub mod RightLemmas
+pub mod EqualityLemmas

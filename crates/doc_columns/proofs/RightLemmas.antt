@@ -1,7 +1,7 @@
 -- When the bare items of a text are right.
-use Rattle.std.proofs.Common.{◌≡◌, ◌⊎◌, inl, inr, ℕ, ◌+◌, ◌-◌, ◌<◌, ◌≤◌, false, List, [], ◌∷◌, ◌++◌, length, take}
-use Rattle.std.proofs.Common.{map, Option, Some, None, refl, sym, ◌∙◌, ap, subst}
-use Rattle.std.specs.Prelude.{slice_get, IsSomeAnd}
+use Rattle.std.proofs.Common.{◌≡◌, ◌⊎◌, inl, inr, ℕ, ◌+◌, ◌-◌, ◌<◌, ◌≤◌, Bool, true, false, not}
+use Rattle.std.proofs.Common.{List, [], ◌∷◌, ◌++◌, length, take, map, Option, Some, None, refl, sym, ◌∙◌, ap, subst}
+use Rattle.std.specs.Prelude.{slice_get, is_some, IsSomeAnd, IsTrue}
 use Rattle.std.specs.Option.{IfSome}
 use Rattle.std.specs.List.{All}
 use Rattle.std.proofs.lemmas.List.{length-map, map-append, take_more}
@@ -10,14 +10,23 @@ use Rattle.std.proofs.lemmas.Option.{slice_get-map, get_or_from_slice_get}
 use Rattle.prop_map.specs.Settings.{Settings}
 use Rattle.prop_map.specs.Formed.{IsPropertyMap, character_groups}
 use Rattle.text_codes.specs.Paragraph.{paragraph_mark}
+use Rattle.doc_bits.specs.Rules.{LeastOrNone}
+use Rattle.doc_parts.specs.declared.bookmark_order.Bookmark.{Bookmark}
+use Rattle.doc_parts.specs.Order.{in_order}
+use Rattle.doc_parts.specs.Bookmarks.{bookmark_cmp, IsFormedBookmark, AreFormedBookmarks}
+use Rattle.doc_parts.specs.Names.{HasSameName}
+use Rattle.doc_parts.proofs.OrderLemmas.{in_order_sorted}
+use Rattle.doc_parts.proofs.BookmarkLemmas.{bookmark_total}
 use Rattle.plain_doc.specs.declared.item.Item.{Item}
 use Rattle.plain_doc.specs.Document.{IsFormedItem}
 use Rattle.plain_doc.specs.RulesOfItems.{IsShortChp}
 use Rattle.plain_doc.specs.RulesOfTexts.{last_unit}
 use Rattle.plain_doc.proofs.FormedLemmas.{All-one}
 use Rattle.plain_doc.specs.declared.document.Document.{Document}
+use Rattle.plain_doc.specs.Marks.{most_bookmarks}
 use Rattle.plain_doc.specs.RulesOfSheet.{item_count, most_items}
 use Rattle.plain_doc.specs.Sound.{IsSound}
+use Rattle.bare_items.specs.Marks.{AreRightBookmarks}
 use Rattle.bare_items.specs.Specials.{is_special, special_items, IsPlainUnit, HasRightBareItems, AreSpecialsOf}
 use Rattle.bare_items.proofs.SpecialLemmas.{sound_by_specials}
 
@@ -107,8 +116,25 @@ pub specials_seen : (seen document kept : Document) → seen ≡ document → Ar
     AreSpecialsOf document kept
 specials_seen seen document kept is are = subst (λ (d : Document). AreSpecialsOf d kept) is are
 
--- a document is sound where the one of its special items is there and sound
+-- no bookmarks are formed
+pub none_formed : (len : ℕ) → AreFormedBookmarks len []
+unfolding in_order
+none_formed len = record {
+  each = All-nil (IsFormedBookmark len);
+  in_order = in_order_sorted bookmark_cmp bookmark_total [];
+}
+
+-- they are right where they are formed, few, and no name is there twice
+pub right_marks : (len : ℕ) (list : List Bookmark) (found : Option ℕ) (none : Bool) → AreFormedBookmarks len list →
+    length list ≤ most_bookmarks → LeastOrNone (HasSameName list) found → is_some found ≡ not none → IsTrue none →
+    AreRightBookmarks len list
+right_marks len list None none formed few first is all = record { formed = formed; few = few; names = first }
+right_marks len list (Some place) true formed few first is all = absurd (cc is)
+right_marks len list (Some place) false formed few first is all = absurd (cc all)
+
+-- a document is sound where its bookmarks are right, and the one of its special items is there and sound
 pub found_sound : (document : Document) (found : Option Document) → item_count document ≤ most_items →
-    IfSome found (AreSpecialsOf document) → IsSomeAnd found IsSound → IsSound document
-found_sound document None few are sound = absurd sound
-found_sound document (Some kept) few are sound = sound_by_specials document kept are few sound
+    AreRightBookmarks (length document.main) document.bookmarks → IfSome found (AreSpecialsOf document) →
+    IsSomeAnd found IsSound → IsSound document
+found_sound document None few marks are sound = absurd sound
+found_sound document (Some kept) few marks are sound = sound_by_specials document kept are few marks sound

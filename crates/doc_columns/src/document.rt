@@ -3,12 +3,13 @@ ghost use Rattle.std.specs.Prelude.{◌≡◌, IfOk};
 
 use crate::{ColumnTexts, Columns};
 use doc_bits::Memory;
+use doc_parts::Bookmarks;
 use plain_doc::Carried;
 use std::alloc::Global;
 use std::marker::Model;
 use style_sheet::StyleSheet;
 
-/// A document whose texts are kept by columns.
+/// A document whose texts are kept by columns. The bookmarks are those of its main text.
 #[derive(Drop)]
 pub struct ColumnDocument {
     pub main: Columns,
@@ -16,6 +17,7 @@ pub struct ColumnDocument {
     pub heads: ColumnTexts,
     pub sheet: StyleSheet,
     pub carried: Carried,
+    pub bookmarks: Bookmarks,
 }
 
 impl Model for ColumnDocument {
@@ -32,6 +34,7 @@ impl Model for ColumnDocument {
       heads = d.heads;
       sheet = d.sheet;
       carried = d.carried;
+      bookmarks = d.bookmarks;
     } };
 }
 
@@ -46,6 +49,7 @@ impl ColumnDocument {
             heads: self.heads.copy(alloc, 0, self.heads.len())?,
             sheet: self.sheet.copy(alloc)?,
             carried: self.carried.copy(alloc)?,
+            bookmarks: self.bookmarks.copy(alloc, 0, self.bookmarks.len())?,
         })
     }
 }

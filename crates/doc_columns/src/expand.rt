@@ -77,6 +77,7 @@ impl ColumnDocument {
             heads: self.heads.expand(alloc)?,
             sheet: self.sheet.copy(alloc)?,
             carried: self.carried.copy(alloc)?,
+            bookmarks: self.bookmarks.copy(alloc, 0, self.bookmarks.len())?,
         })
     }
 
@@ -90,6 +91,7 @@ impl ColumnDocument {
             heads: ColumnTexts::from_texts(alloc, &document.heads)?,
             sheet: document.sheet.copy(alloc)?,
             carried: document.carried.copy(alloc)?,
+            bookmarks: document.bookmarks.copy(alloc, 0, document.bookmarks.len())?,
         })
     }
 }

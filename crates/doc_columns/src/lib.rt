@@ -5,6 +5,7 @@ mod beside;
 mod change;
 mod columns;
 mod document;
+mod equality;
 mod expand;
 mod ranges;
 mod sound;

@@ -1,18 +1,24 @@
 // Whether a document by columns breaks no rule.
 ghost use Rattle.std.specs.Prelude.{◌≡◌, IsTrue, IfOk, IfSome, IsSomeAnd, length};
 ghost use Rattle.std.specs.List.{sum_by};
+ghost use Rattle.plain_doc.specs.Marks.{HasFormedBookmarks};
 ghost use Rattle.plain_doc.specs.RulesOfSheet.{item_count};
 ghost use Rattle.plain_doc.specs.Sound.{IsSound};
+ghost use Rattle.bare_items.specs.Marks.{AreRightBookmarks};
 ghost use Rattle.bare_items.specs.Specials.{AreSpecialsOf};
 
 use crate::specials::{special_items, special_texts};
 use crate::{ColumnDocument, ColumnTexts};
 use doc_bits::Memory;
+use doc_parts::Bookmarks;
 use plain_doc::{Carried, Document, blank, check};
 use std::alloc::Global;
 
 /// The most items of all texts.
 const MOST_ITEMS: u128 = 499_998;
+
+/// The most bookmarks.
+const MOST_BOOKMARKS: usize = 16_000;
 
 /// Whether a document is known to break no rule. Where it is not known, a walk over its items tells:
 /// `plain_doc::check`.
@@ -22,12 +28,27 @@ pub fn is_sound(alloc: Global, document: &ColumnDocument) -> Result<bool, Memory
     if all_items(document) > MOST_ITEMS {
         return Ok(false);
     }
+    if !are_right(&document.bookmarks, document.main.len()) {
+        return Ok(false);
+    }
     let kept = special_document(alloc, document)?;
     Ok(is_found_sound(&kept))
 }
 
+/// Whether the bookmarks of a main text of `len` units are formed, not too many, and none has the
+/// name of an earlier one.
+fn are_right(bookmarks: &Bookmarks, len: usize) -> bool
+    ensures { IsTrue result → AreRightBookmarks len bookmarks.now }
+{
+    if bookmarks.len() > MOST_BOOKMARKS || !bookmarks.are_formed(len) {
+        return false;
+    }
+    bookmarks.same_name().is_none()
+}
+
 /// Whether there is a document, which breaks no rule.
 fn is_found_sound(found: &Option<Document>) -> bool
+    requires { IfSome found.now HasFormedBookmarks }
     ensures { IsTrue result → IsSomeAnd found.now IsSound }
 {
     match found {
@@ -38,7 +59,8 @@ fn is_found_sound(found: &Option<Document>) -> bool
 
 /// The document of the special items of a document. There is none where a bare item may be wrong.
 fn special_document(alloc: Global, document: &ColumnDocument) -> Result<Option<Document>, Memory>
-    ensures { IfOk result (λ found. IfSome found (AreSpecialsOf document.now)) }
+    ensures specials { IfOk result (λ found. IfSome found (AreSpecialsOf document.now)) }
+    ensures formed { IfOk result (λ found. IfSome found HasFormedBookmarks) }
 {
     let Some(main) = special_items(alloc, &document.main)? else {
         return Ok(None);
@@ -57,6 +79,7 @@ fn special_document(alloc: Global, document: &ColumnDocument) -> Result<Option<D
         heads,
         sheet,
         carried,
+        bookmarks: Bookmarks::new(alloc),
     }))
 }
 
@@ -68,6 +91,7 @@ fn nothing_carried(alloc: Global) -> Result<Carried, Memory> {
 
 /// Whether a document breaks no rule.
 fn breaks_no_rule(document: &Document) -> bool
+    requires { HasFormedBookmarks document.now }
     ensures { IsTrue result → IsSound document.now }
 {
     match check(document) {

@@ -14,7 +14,7 @@ use std::mem;
 /// A list of texts by columns: the notes, or the header texts.
 #[derive(Drop)]
 pub struct ColumnTexts {
-    texts: Vec<Columns>,
+    pub(crate) texts: Vec<Columns>,
 }
 
 impl Model for ColumnTexts {

@@ -7,3 +7,12 @@ pub mod EntryLemmas
 pub mod LawLemmas
 pub mod ExistLemmas
 pub mod CpLemmas
+pub mod OrderLemmas
+pub mod BookmarkLemmas
+pub mod MoveLemmas
+pub mod NameLemmas
+pub mod BookmarkPartLemmas
+pub mod NumberingLemmas
+pub mod BookmarkBackLemmas
+pub mod BookmarkLawLemmas
+pub mod ApartLemmas

@@ -9,6 +9,8 @@ use Rattle.doc_parts.specs.Table.{KeepsCp}
 use Rattle.doc_parts.specs.Sections.{sed_form}
 use Rattle.doc_parts.specs.Fields.{is_field_unit, fld_form}
 use Rattle.doc_parts.specs.Stories.{ref_form, cut_form}
+use Rattle.doc_parts.specs.declared.bookmark_print.Start.{Start}
+use Rattle.doc_parts.specs.PrintedBookmarks.{start_form}
 
 pub sed-sized : 12 ≡ sed_form.size
 sed-sized = refl
@@ -34,3 +36,9 @@ cut-sized = refl
 
 pub cut-keeps_cp : KeepsCp cut_form
 cut-keeps_cp cp bytes entry h = sym (same_Some cp entry h)
+
+pub start-sized : 4 ≡ start_form.size
+start-sized = refl
+
+pub start-keeps_cp : KeepsCp start_form
+start-keeps_cp cp bytes entry h = sym (ap (λ (start : Start). start.cp) (same_Some _ entry h))

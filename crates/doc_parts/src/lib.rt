@@ -1,6 +1,10 @@
 //! The smaller parts of the table stream: sections, fields, notes and header texts, list levels.
 #![tactic(auto)]
 
+mod bookmark_list;
+mod bookmark_order;
+mod bookmark_parts;
+mod bookmark_print;
 mod cps;
 mod fault;
 mod field_part;
@@ -8,15 +12,22 @@ mod laws;
 mod level_part;
 mod lists;
 mod section_part;
+mod splices;
 mod story_parts;
 mod tables;
 
+pub use bookmark_list::Bookmarks;
+pub use bookmark_order::{Bookmark, compare};
+pub use bookmark_parts::bookmarks;
+pub use bookmark_print::{print_ends, print_names, print_starts};
 pub use fault::PartFault;
 pub use field_part::{LeadingFields, fields, leading_fields, print_fields};
 pub use laws::{
-    fields_are_read_back, refs_are_read_back, sections_are_read_back, texts_are_read_back,
+    bookmarks_are_read_back, fields_are_read_back, moves_keep_form, refs_are_read_back,
+    sections_are_read_back, texts_are_read_back,
 };
 pub use level_part::{LevelFault, levels_len, list_levels};
 pub use lists::{Cuts, Fld, Flds, NoteRef, Refs, Sed, Seds};
 pub use section_part::{NO_SEPX, fc_sepx_place, print_sections, sections, sepx};
+pub use splices::splice_list;
 pub use story_parts::{note_refs, print_refs, print_texts, texts};

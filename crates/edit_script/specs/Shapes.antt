@@ -1,11 +1,11 @@
--- The fifteen shapes: what each command has besides its word, key by key.
+-- The seventeen shapes: what each command has besides its word, key by key.
 use Rattle.std.specs.Prelude.{ℕ, ◌&&◌, ◌==◌, List, bytes_eq, codes, Option, Some, None, if◌then◌else◌}
 use Rattle.serde_json.specs.Data.{Data}
 use Rattle.serde_json.specs.Find.{as_bool, as_str}
 use Rattle.edit_script.specs.declared.commands.Command.{Command}
 use Rattle.edit_script.specs.declared.commands.Command.TheVariants.{Insert, Erase, Char, Plain, Para, Style, Field}
 use Rattle.edit_script.specs.declared.commands.Command.TheVariants.{Note, Split, Merge, Sect, Row, StyleChar}
-use Rattle.edit_script.specs.declared.commands.Command.TheVariants.{StylePara, Save}
+use Rattle.edit_script.specs.declared.commands.Command.TheVariants.{StylePara, Bookmark, Unmark, Save}
 use Rattle.edit_script.specs.Json.{◌>>=◌}
 use Rattle.edit_script.specs.Keys.{key, keys_in}
 use Rattle.edit_script.specs.Values.{position, short_number, byte_number, story_of, units_of, cells_of, settings_of}
@@ -108,6 +108,18 @@ style_para_of value = do
   set ← key (codes "set") settings_of value
   Some (StylePara istd set)
 
+abbrev pub bookmark_of : Data → Option Command
+bookmark_of value = do
+  name ← key (codes "name") units_of value
+  from ← key (codes "from") position value
+  to ← key (codes "to") position value
+  Some (Bookmark name from to)
+
+abbrev pub unmark_of : Data → Option Command
+unmark_of value = do
+  name ← key (codes "name") units_of value
+  Some (Unmark name)
+
 abbrev pub save_of : Data → Option Command
 save_of value = do
   mode ← key (codes "mode") mode_of value
@@ -130,6 +142,8 @@ command_with_name name value =
     if bytes_eq name (codes "row") && keys_in value == 5 then row_of value else
     if bytes_eq name (codes "stylechar") && keys_in value == 3 then style_char_of value else
     if bytes_eq name (codes "stylepara") && keys_in value == 3 then style_para_of value else
+    if bytes_eq name (codes "bookmark") && keys_in value == 4 then bookmark_of value else
+    if bytes_eq name (codes "unmark") && keys_in value == 2 then unmark_of value else
     if bytes_eq name (codes "save") && keys_in value == 2 then save_of value else
     None
 

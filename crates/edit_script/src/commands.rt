@@ -40,6 +40,10 @@ pub enum Command {
     StyleChar(u16, PropMap),
     /// Sets paragraph codes of a style.
     StylePara(u16, PropMap),
+    /// Puts a bookmark of this name over a range of the main text.
+    Bookmark(Units, u32, u32),
+    /// Takes the bookmark of this name away.
+    Unmark(Units),
     /// Saves the document: true is a full save, false a fast one.
     Save(bool),
 }

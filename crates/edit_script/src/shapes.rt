@@ -1,10 +1,11 @@
-// The fifteen shapes, key by key. Each reader has its definition beside it in specs/Shapes.
+// The seventeen shapes, key by key. Each reader has its definition beside it in specs/Shapes.
 ghost use Rattle.std.specs.Prelude.{Option};
 ghost use Rattle.serde_json.specs.View.{view};
 ghost use Rattle.edit_script.specs.Json.{Gives};
 ghost use Rattle.edit_script.specs.Shapes.{command_of, command_with_name, insert_of, erase_of, char_of};
 ghost use Rattle.edit_script.specs.Shapes.{plain_of, para_of, style_of, field_of, note_of, split_of, merge_of};
 ghost use Rattle.edit_script.specs.Shapes.{sect_of, row_of, style_char_of, style_para_of, save_of};
+ghost use Rattle.edit_script.specs.Shapes.{bookmark_of, unmark_of};
 
 use crate::keys::{key_count, member};
 use crate::settings::settings_in;
@@ -56,6 +57,10 @@ fn command_named(alloc: Global, name: &str, value: &Value) -> Result<Command, Mi
         style_char_in(alloc, value)
     } else if name == "stylepara" && key_count(value) == 3 {
         style_para_in(alloc, value)
+    } else if name == "bookmark" && key_count(value) == 4 {
+        bookmark_in(alloc, value)
+    } else if name == "unmark" && key_count(value) == 2 {
+        unmark_in(alloc, value)
     } else if name == "save" && key_count(value) == 2 {
         save_in(value)
     } else {
@@ -200,6 +205,24 @@ fn style_para_in(alloc: Global, value: &Value) -> Result<Command, Misfit>
     let istd = short_in(member(value, "istd")?)?;
     let set = settings_in(alloc, member(value, "set")?)?;
     Ok(Command::StylePara(istd, set))
+}
+
+/// `bookmark` puts a bookmark over a range of the main text.
+fn bookmark_in(alloc: Global, value: &Value) -> Result<Command, Misfit>
+    ensures { Gives result (bookmark_of (view value.now)) }
+{
+    let name = units_in(alloc, member(value, "name")?)?;
+    let from = position_in(member(value, "from")?)?;
+    let to = position_in(member(value, "to")?)?;
+    Ok(Command::Bookmark(name, from, to))
+}
+
+/// `unmark` takes a bookmark away.
+fn unmark_in(alloc: Global, value: &Value) -> Result<Command, Misfit>
+    ensures { Gives result (unmark_of (view value.now)) }
+{
+    let name = units_in(alloc, member(value, "name")?)?;
+    Ok(Command::Unmark(name))
 }
 
 /// `save` saves the document.

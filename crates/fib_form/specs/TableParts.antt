@@ -3,7 +3,8 @@ use Rattle.std.specs.Prelude.{ℕ}
 use Rattle.fib_form.specs.declared.table_parts.TablePart.{TablePart}
 use Rattle.fib_form.specs.declared.table_parts.TablePart.TheVariants.{Stshf, PlcffndRef, PlcffndTxt, PlcfSed, PlcfHdd}
 use Rattle.fib_form.specs.declared.table_parts.TablePart.TheVariants.{PlcfBteChpx, PlcfBtePapx, SttbfFfn, PlcfFldMom}
-use Rattle.fib_form.specs.declared.table_parts.TablePart.TheVariants.{PlcfFldHdr, PlcfFldFtn, Dop, SttbfAssoc, Clx}
+use Rattle.fib_form.specs.declared.table_parts.TablePart.TheVariants.{PlcfFldHdr, PlcfFldFtn, SttbfBkmk, PlcfBkf, PlcfBkl}
+use Rattle.fib_form.specs.declared.table_parts.TablePart.TheVariants.{Dop, SttbfAssoc, Clx}
 use Rattle.fib_form.specs.declared.table_parts.TablePart.TheVariants.{PlfLst, PlfLfo}
 
 -- the number of the pair of a part
@@ -19,6 +20,9 @@ pair_of SttbfFfn = 15
 pair_of PlcfFldMom = 16
 pair_of PlcfFldHdr = 17
 pair_of PlcfFldFtn = 18
+pair_of SttbfBkmk = 21
+pair_of PlcfBkf = 22
+pair_of PlcfBkl = 23
 pair_of Dop = 31
 pair_of SttbfAssoc = 32
 pair_of Clx = 33

@@ -69,8 +69,8 @@ number_by_counters lists list index own counts units there is =
     (counter counts index) (λ level e. part_alike counts index level (ltb-true level 9 e))
     ∙ ap (λ o. units_in o own (counter counts index)) (sym there))
 
-units_alike : (list : Option ListFormat) (own : ℕ) (f g : ℕ → ℕ) → AreAlike f g → units_in list own f ≡ units_in list own
-    g
+units_alike : (list : Option ListFormat) (own : ℕ) (f g : ℕ → ℕ) → AreAlike f g →
+    units_in list own f ≡ units_in list own g
 units_alike None own f g same = refl
 units_alike (Some list) own f g same = number_alike list.levels own f g same
 

@@ -140,8 +140,8 @@ paragraph_counted places place lists old new h c = record {
                       let v : place.level ≡ level = omega arith in
                       let is = count_here places place list level l v in (
                         ap (λ k. counter new k level) (sym l) ∙ (ap (counter new place.list) (sym v) ∙ (c.own
-                            ∙ (ap (λ n. n + 1) (ap (counter old place.list) v ∙ (ap (λ k. counter old k level) l ∙ before.0))
-                            ∙ sym is))),
+                            ∙ (ap (λ n. n + 1) (ap (counter old place.list) v ∙ (ap (λ k. counter old k level) l
+                            ∙ before.0)) ∙ sym is))),
                         omega arith,
                       )
                 ]

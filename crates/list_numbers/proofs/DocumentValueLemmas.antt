@@ -63,7 +63,8 @@ more_values document values at end mark own h ends m are =
     (paragraph_from items at end) here in
     let size : length (values ++ own ∷ []) ≡ length values + 1 = length-append values (own ∷ []) in
     record {
-      begins = subst (BeginsParagraph items (end + 1)) (sym size) (next_begins items at (length values) end h.begins ends);
+      begins =
+          subst (BeginsParagraph items (end + 1)) (sym size) (next_begins items at (length values) end h.begins ends);
       few = omega arith;
       each = λ i paragraph v there got. elim (cases_lt i (length values)) [
         | inl old ↦ h.each i paragraph v there (sym (slice_get_before values (own ∷ []) i old) ∙ got)

@@ -49,5 +49,6 @@ position_within p k i (x ∷ xs) e = elim (p x) as (λ b. cond b (Some k) (posit
       | false ↦ λ is. let rest = position_within p (k + 1) i xs is in omega arith
     ] e
 
-pub first_within : (p : ListFormat → Bool) (i : ℕ) (xs : List ListFormat) → position_from p 0 xs ≡ Some i → i < length xs
+pub first_within : (p : ListFormat → Bool) (i : ℕ) (xs : List ListFormat) → position_from p 0 xs ≡ Some i →
+    i < length xs
 first_within p i xs e = let h = position_within p 0 i xs e in omega arith

@@ -8,13 +8,14 @@ use Rattle.doc_bits.proofs.ListLemmas.{from_map}
 use Rattle.list_numbers.specs.declared.list_format.ListFormat.{ListFormat}
 use Rattle.list_numbers.specs.declared.list_place.ListPlace.{ListPlace}
 use Rattle.list_numbers.specs.declared.mark_values.MarkValues.{MarkValues}
-use Rattle.list_numbers.specs.Places.{named_level, level_in, place_at, place_in, place_in_entry, first_list, used_list, list_place}
+use Rattle.list_numbers.specs.Places.{named_level, level_in, place_at, place_in, place_in_entry}
+use Rattle.list_numbers.specs.Places.{first_list, used_list, list_place}
 use Rattle.list_numbers.specs.Numbers.{AreFit}
 
 named_low : (ilvl : Option ℕ) (level : ℕ) → named_level ilvl ≡ Some level → level < 9
 named_low None level e = let zero_is = same_Some 0 level e in omega arith
-named_low (Some named) level e = elim (nat_le named 8) as (λ b. nat_le named 8 ≡ b → cond b (Some named) None ≡ Some level
-    → level < 9) [
+named_low (Some named) level e = elim (nat_le named 8) as (λ b. nat_le named 8 ≡ b → cond b (Some named) None ≡ Some
+    level → level < 9) [
       | true ↦ λ low is.
           let le = leb-true named 8 low in
           let same = same_Some named level is in

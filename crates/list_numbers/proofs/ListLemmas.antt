@@ -1,5 +1,6 @@
 -- Lists and their levels.
-use Rattle.std.proofs.Common.{◌≡◌, inl, inr, ℕ, zero, suc, ◌+◌, ◌*◌, ◌<◌, ◌≤◌, List, ◌∷◌, [], ◌++◌, length, refl, sym, ap, ◌∙◌}
+use Rattle.std.proofs.Common.{◌≡◌, inl, inr, ℕ, zero, suc, ◌+◌, ◌*◌, ◌<◌, ◌≤◌, List, ◌∷◌, [], ◌++◌}
+use Rattle.std.proofs.Common.{length, refl, sym, ap, ◌∙◌}
 use Rattle.std.proofs.Common.{subst, arith, add-one}
 use Rattle.std.proofs.lemmas.Bool.{cases_lt}
 use Rattle.std.proofs.lemmas.List.{nil_from_length}
@@ -109,8 +110,8 @@ list_read lst levels lists at end k number count simple made h n s c m e =
     }
 
 -- a list that is counted is there
-pub list_is_there : (lst levels : List ℕ) (k : ℕ) → AreListsWithLevels lst levels → k < u16_at lst 0 → 2 + 28 * (k + 1) ≤
-    length lst
+pub list_is_there : (lst levels : List ℕ) (k : ℕ) → AreListsWithLevels lst levels → k < u16_at lst 0 →
+    2 + 28 * (k + 1) ≤ length lst
 list_is_there lst levels k are low = elim (cases_lt 0 (length lst)) [
   | inl some ↦ let counted = are.counted some in omega arith
   | inr none ↦ let e = no_count lst (omega arith) in absurd (omega arith)

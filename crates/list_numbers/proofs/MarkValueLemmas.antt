@@ -1,5 +1,6 @@
 -- The values of a mark, layer by layer.
-use Rattle.std.proofs.Common.{◌≡◌, ℕ, List, [], ◌∷◌, ◌++◌, Option, Some, None, refl, sym, ap, ◌∙◌, take, ◌+◌, ◌*◌, Bor, arith}
+use Rattle.std.proofs.Common.{◌≡◌, ℕ, List, [], ◌∷◌, ◌++◌, Option, Some, None}
+use Rattle.std.proofs.Common.{refl, sym, ap, ◌∙◌, take, ◌+◌, ◌*◌, Bor, arith}
 use Rattle.std.specs.Prelude.{slice_get, slice_index, option_map, MatchOption}
 use Rattle.std.specs.Option.{option_or}
 use Rattle.std.specs.FinMap.{get, empty}

@@ -1,5 +1,6 @@
 -- The lines of an outline, one paragraph after the other.
-use Rattle.std.proofs.Common.{◌≡◌, ℕ, ◌+◌, ◌<◌, ◌≤◌, List, [], ◌∷◌, ◌++◌, length, take, drop, Option, Some, refl, sym, ap, ◌∙◌}
+use Rattle.std.proofs.Common.{◌≡◌, ℕ, ◌+◌, ◌<◌, ◌≤◌, List, [], ◌∷◌, ◌++◌, length, take, drop}
+use Rattle.std.proofs.Common.{Option, Some, refl, sym, ap, ◌∙◌}
 use Rattle.std.proofs.Common.{subst, append_assoc}
 use Rattle.std.specs.Prelude.{slice_get}
 use Rattle.std.specs.List.{flat_map, enumerate_from}
@@ -12,10 +13,12 @@ use Rattle.list_numbers.specs.declared.mark_values.MarkValues.{MarkValues}
 use Rattle.list_numbers.specs.Places.{paragraphs}
 use Rattle.list_numbers.specs.Counters.{HaveCounted}
 use Rattle.list_numbers.specs.Numbers.{numbers_at, number_at_place}
-use Rattle.list_numbers.specs.Outline.{outline_level, outline_line, level_at_entry, number_at_entry, line_of, outline_of}
+use Rattle.list_numbers.specs.Outline.{outline_level, outline_line, level_at_entry, number_at_entry}
+use Rattle.list_numbers.specs.Outline.{line_of, outline_of}
 use Rattle.list_numbers.proofs.TabulatedLemmas.{slice_get-tabulate}
 use Rattle.list_numbers.proofs.NumberedLemmas.{place_taken, own_number, number_is_own}
-use Rattle.list_numbers.proofs.ParagraphLemmas.{BeginsParagraph, first_begins, next_begins, one_and_others, paragraph_from}
+use Rattle.list_numbers.proofs.ParagraphLemmas.{BeginsParagraph, first_begins, next_begins, one_and_others}
+use Rattle.list_numbers.proofs.ParagraphLemmas.{paragraph_from}
 
 -- the values and the places of the paragraphs of a text, and the lists that the places are in
 pub record Numbered : Type 0 where
@@ -32,7 +35,8 @@ pub record HasLines (doc : Numbered) (text counts : List ℕ) (at number : ℕ) 
   pub begins : BeginsParagraph doc.items at number
   pub counted : HaveCounted (take number doc.places) (length doc.lists) counts
   pub lines :
-      text ++ flat_map (line_of doc.values (numbers_in doc)) (enumerate_from number (drop number (paragraphs doc.items)))
+      text ++ flat_map (line_of doc.values (numbers_in doc))
+      (enumerate_from number (drop number (paragraphs doc.items)))
       ≡ outline_of (paragraphs doc.items) doc.values (numbers_in doc)
 
 pub no_lines : (doc : Numbered) (counts : List ℕ) → HaveCounted [] (length doc.lists) counts →

@@ -119,7 +119,8 @@ place_is : (case : LetterCase) (one five ten worth : ℕ) (rest : List ℕ) → 
     letter_value (in_case case one) ≡ worth → letter_value (in_case case five) ≡ 5 * worth →
     letter_value (in_case case ten) ≡ 10 * worth → first rest ≤ worth →
     ArePlace (λ step. in_case case (slice_index (one ∷ five ∷ ten ∷ []) step)) worth rest
-place_is case one five ten worth rest some a b c after = record { some = some; one = a; five = b; ten = c; after = after }
+place_is case one five ten worth rest some a b c after =
+    record { some = some; one = a; five = b; ten = c; after = after }
 
 pub roman_read : RomanNumeralsAreReadBack
 unfolding roman letter_value

@@ -1,6 +1,7 @@
--- How far a list has counted at a level: the paragraphs of the list at the level since the last one of the list at a lower
--- level. No counter is carried.
-use Rattle.std.specs.Prelude.{ℕ, ◌-◌, ◌==◌, ◌&&◌, nat_lt, not, max, Bool, false, List, reverse, Option, Some, None, ℤ, pos}
+-- How far a list has counted at a level: the paragraphs of the list at the level since the last one of the list at a
+-- lower level. No counter is carried.
+use Rattle.std.specs.Prelude.{ℕ, ◌-◌, ◌==◌, ◌&&◌, nat_lt, not, max, Bool, false, List}
+use Rattle.std.specs.Prelude.{reverse, Option, Some, None, ℤ, pos}
 use Rattle.std.specs.Prelude.{◌+ℤ◌}
 use Rattle.std.specs.List.{count_by, take_while}
 use Rattle.list_numbers.specs.declared.level.Level.{Level}

@@ -1,5 +1,5 @@
--- The values in effect of a paragraph mark that numbers and outlines go by: its list, its level in the list, its level in
--- the outline. Each is that of the last layer that has it: the styles from the root, and the mark's own settings.
+-- The values in effect of a paragraph mark that numbers and outlines go by: its list, its level in the list, its level
+-- in the outline. Each is that of the last layer that has it: the styles from the root, and the mark's own settings.
 use Rattle.std.specs.Prelude.{◌≡◌, ℕ, List, Option, Some, None, slice_get, slice_index, option_map}
 use Rattle.std.specs.Option.{option_or}
 use Rattle.std.specs.FinMap.{get}

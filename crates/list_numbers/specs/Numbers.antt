@@ -70,7 +70,8 @@ numbers_at lists places =
 -- each place is at one of nine levels of a list that is there
 abbrev pub AreFit : List ListFormat → List (Option ListPlace) → Type 0
 AreFit lists places =
-    (i : ℕ) (place : ListPlace) → slice_get places i ≡ Some (Some place) → (place.list < length lists) × (place.level < 9)
+    (i : ℕ) (place : ListPlace) → slice_get places i ≡ Some (Some place) →
+    (place.list < length lists) × (place.level < 9)
 
 -- the values in effect of each main paragraph
 pub record AreDocumentValues (document : Document) (values : List MarkValues) : Type 0 where

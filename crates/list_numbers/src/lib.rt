@@ -1,5 +1,5 @@
-//! The numbers of list paragraphs: which list and level each belongs to, how far its list has counted, and the text that
-//! its level makes of that.
+//! The numbers of list paragraphs: which list and level each belongs to, how far its list has counted, and the text
+//! that its level makes of that; and the lines of an outline.
 #![tactic(auto)]
 
 mod counters;

@@ -4,7 +4,8 @@ ghost use Rattle.std.specs.FinMap.{get};
 ghost use Rattle.doc_bits.specs.Number.{u16_at};
 ghost use Rattle.style_sheet.specs.Chain.{kind_at, HasSoundBases};
 ghost use Rattle.effective_props.specs.Layers.{paragraph_settings, settings_of_styles};
-ghost use Rattle.list_numbers.specs.MarkValues.{no_values, own_values, over, values_in, word_in, byte_in, AreStyleValues};
+ghost use Rattle.list_numbers.specs.MarkValues.{no_values, own_values, over, values_in};
+ghost use Rattle.list_numbers.specs.MarkValues.{word_in, byte_in, AreStyleValues};
 
 use doc_bits::Memory;
 use prop_map::PropMap;

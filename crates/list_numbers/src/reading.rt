@@ -1,5 +1,6 @@
 // [MS-DOC] PlfLst, LSTF, LVL and PlfLfo, read once.
-ghost use Rattle.std.specs.Prelude.{◌≡◌, ◌<◌, ◌≤◌, ℕ, ◌+◌, ◌*◌, ◌^◌, ◌%◌, ◌==◌, if◌then◌else◌, length, slice_index, IfOk, OnOk};
+ghost use Rattle.std.specs.Prelude.{◌≡◌, ◌<◌, ◌≤◌, ℕ, ◌+◌, ◌*◌, ◌^◌, ◌%◌, ◌==◌, if◌then◌else◌};
+ghost use Rattle.std.specs.Prelude.{length, slice_index, IfOk, OnOk};
 ghost use Rattle.doc_bits.specs.Number.{u16_at, u32_at};
 ghost use Rattle.doc_parts.specs.Levels.{level_end, level_start, levels_of_list};
 ghost use Rattle.plain_doc.specs.Carried.{AreListsWithLevels};

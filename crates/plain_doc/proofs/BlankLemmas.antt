@@ -17,6 +17,7 @@ use Rattle.style_sheet.specs.declared.styles.Style.{Style}
 use Rattle.style_sheet.specs.Sheet.{Sheet}
 use Rattle.cfb_streams.specs.Contents.{AreStreams}
 use Rattle.style_sheet.specs.Formed.{IsFormedStyle, IsFormedSlot, IsFormedSheet}
+use Rattle.doc_parts.specs.Bookmarks.{HasFileNumbers}
 use Rattle.plain_doc.specs.Document.{HasPropertyMaps, IsFormedItem, IsFormedText}
 use Rattle.plain_doc.specs.NothingCarried.{empty_parts_are_short, no_lists, no_flags, no_streams}
 use Rattle.plain_doc.specs.Blank.{blank_item, one_setting, normal_style, heading_style, default_font_style}
@@ -180,6 +181,7 @@ blank_document_is_formed =
                 (record { few = omega arith; each = All-nil IsFormedItem });
           };
       sheet = blank_sheet_is_formed;
+      bookmarks = All-nil HasFileNumbers;
       carried = record {
         parts = empty_parts_are_short;
         bytes = blank_bytes;

@@ -26,3 +26,4 @@ pub mod MarkedLemmas
 pub mod LawLemmas
 pub mod CollectedLemmas
 pub mod TextListLemmas
+pub mod BookmarkRuleLemmas

@@ -1,10 +1,10 @@
 -- What soundness says place by place, and back.
 use Rattle.std.specs.Prelude.{is_some}
-use Rattle.std.proofs.Common.{◌≡◌, inl, inr, ℕ, ◌+◌, ◌-◌, ◌<◌, List, [], length, take, Some, refl, ◌∙◌, ap, arith}
+use Rattle.std.proofs.Common.{◌≡◌, inl, inr, ℕ, ◌+◌, ◌-◌, ◌<◌, ◌≤◌, List, [], length, take, Some, refl, ◌∙◌, ap, arith}
 use Rattle.std.proofs.Math.Seq.{take-length}
 use Rattle.doc_bits.specs.declared.places.Where.{Where}
 use Rattle.doc_bits.specs.declared.places.Where.TheVariants.{Sheet as SheetPart, Main}
-use Rattle.doc_bits.specs.Rules.{Nowhere}
+use Rattle.doc_bits.specs.Rules.{Nowhere, Hold}
 use Rattle.text_codes.specs.Paragraph.{paragraph_mark, cell_mark, section_mark}
 use Rattle.style_sheet.specs.Sheet.{Sheet, style_at}
 use Rattle.style_sheet.specs.Chain.{kind_at, BreaksBases}
@@ -19,7 +19,8 @@ use Rattle.plain_doc.specs.RulesOfItems.{IsWrongItem, IsPlacedRight, HasMarkRigh
 use Rattle.plain_doc.specs.RulesOfItems.{IsShortPap, IsShortSect, printed_length}
 use Rattle.plain_doc.specs.RulesOfTexts.{InTexts, text_of, EndsRight, HasWrongEnd, HasParagraphStyle, last_unit}
 use Rattle.plain_doc.specs.RulesOfSheet.{HasShortKind, note_count, head_count, item_count, most_items}
-use Rattle.plain_doc.specs.Sound.{IsSound}
+use Rattle.plain_doc.specs.Marks.{most_bookmarks, HasWrongBookmarks}
+use Rattle.plain_doc.specs.Sound.{IsSound, document_rules}
 use Rattle.plain_doc.specs.RightDocument.{HoldsAtItems, IsRightText, IsRightDocument}
 use Rattle.style_sheet.proofs.BaseLemmas.{unbroken_bases}
 use Rattle.plain_doc.proofs.WalkLemmas.{after_all}
@@ -123,55 +124,68 @@ text_right : (document : Document) → IsSound document → (part : Where) (text
     text_of document part ≡ Some text → IsRightText document.sheet part text
 text_right document sound part text there = record {
   ends =
-      settled (ends_or part text) (λ wrong. in_text document HasWrongEnd sound.0.0 part text there (length text - 1)
-      (refl, wrong));
+      settled (ends_or part text)
+      (λ wrong. in_text document HasWrongEnd sound.rules.0.0 part text there (length text - 1) (refl, wrong));
   placed =
       items_right (IsPlacedRight part (length text)) text (placed_settled part (length text))
-      (in_text document (λ part text. IsWrongItem (IsPlacedRight part (length text)) text) sound.0.1.0 part text there);
+      (in_text document (λ part text. IsWrongItem (IsPlacedRight part (length text)) text)
+      sound.rules.0.1.0 part text there);
   fields =
       settled (nest_or (field_characters text))
-      (λ wrong. in_text document (λ part text. BreaksNesting text) sound.0.1.1.0 part text there (length text)
+      (λ wrong. in_text document (λ part text. BreaksNesting text) sound.rules.0.1.1.0 part text there (length text)
       (inr (refl, wrong)));
   rows =
       items_right (λ i item. FitsRow (open_cells (take i text)) item) text
       (λ i item. row_settled (open_cells (take i text)) item)
-      (λ i wrong. in_text document (λ part text. BreaksRows text) sound.0.1.1.1.0 part text there i (inl wrong));
+      (λ i wrong. in_text document (λ part text. BreaksRows text) sound.rules.0.1.1.1.0 part text there i (inl wrong));
   row_ends =
       settled (equal_or (open_cells text) 0)
-      (λ wrong. in_text document (λ part text. BreaksRows text) sound.0.1.1.1.0 part text there (length text)
+      (λ wrong. in_text document (λ part text. BreaksRows text) sound.rules.0.1.1.1.0 part text there (length text)
       (inr (refl, wrong)));
   styles =
       items_right (λ i item. HasParagraphStyle document.sheet item) text (λ i item. style_settled document.sheet item)
       (in_text document (λ part text. IsWrongItem (λ place item. HasParagraphStyle document.sheet item) text)
-      sound.0.1.1.1.1 part text there);
+      sound.rules.0.1.1.1.1 part text there);
   short =
       items_right (λ i item. HasShortSettings item) text (λ i item. short_settled item)
       (in_text document (λ part text. IsWrongItem (λ i item. HasShortSettings item) text)
-      (λ place wrong. sound.1.1.1.0 place (inr wrong)) part text there);
+      (λ place wrong. sound.rules.1.1.1.0 place (inr wrong)) part text there);
 }
+
+bookmarks_few : (document : Document) → IsSound document → length document.bookmarks ≤ most_bookmarks
+bookmarks_few document sound =
+    settled (at_most_or (length document.bookmarks) most_bookmarks)
+    (λ wrong. sound.rules.1.1.0.1.1.1 (Main, 0) (
+      refl,
+      inl (refl, let more : most_bookmarks < length document.bookmarks = omega (arith, wrong) in more),
+    ))
 
 pub sound_is_right : (document : Document) → IsSound document → IsRightDocument document
 sound_is_right document sound = record {
   texts = text_right document sound;
   notes =
       settled (equal_or (length document.notes) (note_count document.main))
-      (λ wrong. sound.1.1.0.0 (Main, length document.notes) (refl, wrong));
+      (λ wrong. sound.rules.1.1.0.0 (Main, length document.notes) (refl, wrong));
   heads =
       settled (equal_or (length document.heads) (head_count document.main))
-      (λ wrong. sound.1.1.0.1.0 (Main, length document.heads) (refl, wrong));
+      (λ wrong. sound.rules.1.1.0.1.0 (Main, length document.heads) (refl, wrong));
   few =
       settled (at_most_or (item_count document) most_items)
-      (λ wrong. sound.1.1.0.1.1 (Main, most_items) (
+      (λ wrong. sound.rules.1.1.0.1.1.0 (Main, most_items) (
         refl,
         let more : most_items < item_count document = omega (arith, wrong) in more,
       ));
-  bases = unbroken_bases document.sheet (λ istd broken. sound.1.0 (SheetPart, istd) (refl, broken));
+  bases = unbroken_bases document.sheet (λ istd broken. sound.rules.1.0 (SheetPart, istd) (refl, broken));
   short = λ istd style is.
-      settled (kind_or style.kind) (λ wrong. sound.1.1.1.0 (SheetPart, istd)
+      settled (kind_or style.kind) (λ wrong. sound.rules.1.1.1.0 (SheetPart, istd)
       (inl (refl, λ short. wrong (short style is))));
   writable = λ istd.
       settled (at_most_or (length (written_slot istd (style_at document.sheet istd))) 32767)
-      (λ wrong. sound.1.1.1.1 (SheetPart, istd) (refl, wrong));
+      (λ wrong. sound.rules.1.1.1.1 (SheetPart, istd) (refl, wrong));
+  bookmarks = sound.bookmarks;
+  few_bookmarks = bookmarks_few document sound;
+  names = λ place same.
+      sound.rules.1.1.0.1.1.1 (Main, place) (refl, inr (bookmarks_few document sound, same));
 }
 
 -- ---- to soundness
@@ -211,16 +225,25 @@ right_is_sound document right =
     (λ part text t. none_wrong (λ i item. HasParagraphStyle sheet item) text t.styles) in
     let short =
     nowhere_in_texts document (λ part text. IsWrongItem (λ i item. HasShortSettings item) text) right
-    (λ part text t. none_wrong (λ i item. HasShortSettings item) text t.short) in (
+    (λ part text t. none_wrong (λ i item. HasShortSettings item) text t.short) in
+    let marks : Nowhere (HasWrongBookmarks document) = λ place w. elim w.1 [
+      | inl many ↦ omega (arith, many.1, right.few_bookmarks)
+      | inr twice ↦ right.names place.1 twice.1
+    ] in
+    let rules : Hold (document_rules document) = (
       (ends, (placed, (fields, (rows, styles)))),
       (
         λ place w. unbroken document right place.1 w.1,
         (
-          (λ place w. w.1 right.notes, (λ place w. w.1 right.heads, λ place w. omega (arith, w.1, right.few))),
+          (
+            λ place w. w.1 right.notes,
+            (λ place w. w.1 right.heads, (λ place w. omega (arith, w.1, right.few), marks)),
+          ),
           (
             λ place w. elim w [ inl style ↦ style.1 (right.short place.1) | inr item ↦ short place item ],
             λ place w. w.1 (right.writable place.1),
           ),
         ),
       ),
-    )
+    ) in
+    record { rules = rules; bookmarks = right.bookmarks }

@@ -5,7 +5,7 @@ use Rattle.plain_doc.specs.declared.document.Document.{Document}
 use Rattle.plain_doc.specs.Sound.{document_rules, text_rules, count_rules, size_rules}
 
 pub document_rules-IsSingle : (document : Document) → IsSingle (document_rules document)
-document_rules-IsSingle document = ((tt, (tt, (tt, (tt, tt)))), (tt, ((tt, (tt, tt)), (tt, tt))))
+document_rules-IsSingle document = ((tt, (tt, (tt, (tt, tt)))), (tt, ((tt, (tt, (tt, tt))), (tt, tt))))
 
 text_rules-Ascends : (document : Document) → Ascends (text_rules document) 60 65
 text_rules-Ascends document = (
@@ -49,7 +49,7 @@ text_rules-Ascends document = (
   ),
 )
 
-count_rules-Ascends : (document : Document) → Ascends (count_rules document) 66 69
+count_rules-Ascends : (document : Document) → Ascends (count_rules document) 66 70
 count_rules-Ascends document = (
   67,
   (
@@ -59,13 +59,16 @@ count_rules-Ascends document = (
       lit≤ tt,
       (
         68,
-        ((lit≤ tt, lit< tt), (lit≤ tt, lit≤ tt, (lit≤ tt, lit< tt))),
+        (
+          (lit≤ tt, lit< tt),
+          (lit≤ tt, lit≤ tt, (69, ((lit≤ tt, lit< tt), (lit≤ tt, lit≤ tt, (lit≤ tt, lit< tt))))),
+        ),
       ),
     ),
   ),
 )
 
-size_rules-Ascends : (document : Document) → Ascends (size_rules document) 69 72
+size_rules-Ascends : (document : Document) → Ascends (size_rules document) 70 72
 size_rules-Ascends document = (71, ((lit≤ tt, lit< tt), (lit≤ tt, lit≤ tt, (lit≤ tt, lit< tt))))
 
 pub document_rules-Ascends : (document : Document) → Ascends (document_rules document) 60 72
@@ -83,7 +86,7 @@ document_rules-Ascends document = (
           (
             lit≤ tt,
             lit≤ tt,
-            (69, (count_rules-Ascends document, (lit≤ tt, lit≤ tt, size_rules-Ascends document))),
+            (70, (count_rules-Ascends document, (lit≤ tt, lit≤ tt, size_rules-Ascends document))),
           ),
         ),
       ),

@@ -96,4 +96,5 @@ blank_document = record {
   heads = replicate 12 [];
   sheet = blank_sheet;
   carried = blank_carried;
+  bookmarks = [];
 }

@@ -4,6 +4,7 @@ use Rattle.doc_bits.specs.Number.{AreBytes}
 use Rattle.fib_form.specs.FibFields.{IsKeptFlags}
 use Rattle.cfb_streams.specs.Contents.{AreStreams, AreStored}
 use Rattle.style_sheet.specs.Formed.{IsFormedSheet}
+use Rattle.doc_parts.specs.Bookmarks.{HasFileNumbers}
 use Rattle.plain_doc.specs.declared.carried.Carried.{Carried}
 use Rattle.plain_doc.specs.declared.document.Document.{Document}
 use Rattle.plain_doc.specs.Document.{IsFormedText, AreFormedTexts}
@@ -34,6 +35,7 @@ pub record IsFormed (document : Document) : Type 0 where
   pub heads : AreFormedTexts document.heads
   pub sheet : IsFormedSheet document.sheet
   pub carried : IsFormedCarried document.carried
+  pub bookmarks : All HasFileNumbers document.bookmarks
 
 abbrev pub BlankIsFormed : Type 0
 BlankIsFormed = IsFormed blank_document

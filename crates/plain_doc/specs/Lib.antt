@@ -21,3 +21,4 @@ pub mod Settings
 pub mod Entries
 pub mod Collected
 pub mod TextLists
+pub mod Marks

@@ -11,6 +11,9 @@ use Rattle.plain_doc.specs.Rows.{FitsRow, open_cells}
 use Rattle.plain_doc.specs.RulesOfItems.{IsPlacedRight, HasShortSettings}
 use Rattle.plain_doc.specs.RulesOfTexts.{text_of, EndsRight, HasParagraphStyle}
 use Rattle.plain_doc.specs.RulesOfSheet.{HasShortStyle, note_count, head_count, item_count, most_items}
+use Rattle.doc_bits.specs.Rules.{Nowhere}
+use Rattle.doc_parts.specs.Names.{HasSameName}
+use Rattle.plain_doc.specs.Marks.{HasFormedBookmarks, most_bookmarks}
 use Rattle.plain_doc.specs.Sound.{IsSound}
 
 -- each item of the text is such, at its place
@@ -28,7 +31,8 @@ pub record IsRightText (sheet : Sheet) (part : Where) (text : List Item) : Type 
   pub short : HoldsAtItems text (λ i item. HasShortSettings item)
 
 -- each text is right; there are as many notes and header texts as there should be, and not too many items; the styles
--- have bases that end, and settings that fit the pages of a file and an STD
+-- have bases that end, and settings that fit the pages of a file and an STD; the bookmarks are formed, and none has the
+-- name of an earlier one
 pub record IsRightDocument (document : Document) : Type 0 where
   pub texts :
       (part : Where) (text : List Item) → text_of document part ≡ Some text → IsRightText document.sheet part text
@@ -38,6 +42,9 @@ pub record IsRightDocument (document : Document) : Type 0 where
   pub bases : HasSoundBases document.sheet
   pub short : (istd : ℕ) → HasShortStyle document.sheet istd
   pub writable : IsWritable document.sheet
+  pub bookmarks : HasFormedBookmarks document
+  pub few_bookmarks : length document.bookmarks ≤ most_bookmarks
+  pub names : Nowhere (HasSameName document.bookmarks)
 
 -- a document breaks no rule exactly where it is right in each place
 abbrev pub SoundDocumentsAreRight : Type 0

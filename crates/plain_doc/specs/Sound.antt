@@ -6,6 +6,7 @@ use Rattle.style_sheet.specs.Chain.{BreaksBases}
 use Rattle.style_sheet.specs.Written.{IsWritable}
 use Rattle.plain_doc.specs.declared.judge.DocFault.{DocFault}
 use Rattle.plain_doc.specs.declared.document.Document.{Document}
+use Rattle.plain_doc.specs.Marks.{HasFormedBookmarks, HasWrongBookmarks}
 use Rattle.plain_doc.specs.Nesting.{BreaksNesting}
 use Rattle.plain_doc.specs.Rows.{BreaksRows}
 use Rattle.plain_doc.specs.RulesOfItems.{IsWrongItem, IsPlacedRight, HasShortSettings}
@@ -27,12 +28,14 @@ text_rules document =
 abbrev pub base_rules : Document → Rules Place
 base_rules document = rule 65 (InSheet (BreaksBases document.sheet))
 
--- as many notes as references, six heads and six a section, not too many items
+-- as many notes as references, six heads and six a section, not too many items, not too many bookmarks, and their
+-- names differ
 abbrev pub count_rules : Document → Rules Place
 count_rules document =
     rule 66 (IsOtherCount document.notes (note_count document.main)) then
     rule 67 (IsOtherCount document.heads (head_count document.main)) then
-    rule 68 (HasTooManyItems document)
+    rule 68 (HasTooManyItems document) then
+    rule 69 (HasWrongBookmarks document)
 
 -- the settings of a style or of an item are too long for the pages of a file
 abbrev pub HasLongSettings : Document → Place → Type 0
@@ -53,9 +56,10 @@ document_rules document =
     count_rules document then
     size_rules document
 
--- the document breaks none of the rules
-abbrev pub IsSound : Document → Type 0
-IsSound document = Hold (document_rules document)
+-- the document breaks none of the rules, and its bookmarks are formed, which no type of its parts alone keeps
+pub record IsSound (document : Document) : Type 0 where
+  pub rules : Hold (document_rules document)
+  pub bookmarks : HasFormedBookmarks document
 
 -- it names the first of the rules that is broken, at its least place
 abbrev pub NamesFirstRule : Rules Place → DocFault → Type 0

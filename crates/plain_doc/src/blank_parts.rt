@@ -8,6 +8,7 @@ use crate::rules_counts::{HEADS_A_SECTION, SEPARATORS};
 use crate::{Carried, Document, Item, Items, Mark, Texts};
 use cfb_streams::Streams;
 use doc_bits::{Bytes, Memory, Units};
+use doc_parts::Bookmarks;
 use prop_map::PropMap;
 use sprm_table::Code;
 use std::alloc::Global;
@@ -56,6 +57,7 @@ pub fn blank(alloc: Global) -> Result<Document, Memory>
         heads,
         sheet: sheet(alloc)?,
         carried: nothing_carried(alloc),
+        bookmarks: Bookmarks::new(alloc),
     })
 }
 

@@ -1,17 +1,19 @@
 // A document, as the reader finds it, edits change it and saves write it.
 ghost use Rattle.std.specs.Prelude.{◌≡◌, ◌↔◌, ◌+◌, ◌-◌, ◌^◌, ◌<◌};
-ghost use Rattle.std.specs.Prelude.{◌≤◌, length, slice_get, slice_set, Some, IsTrue};
+ghost use Rattle.std.specs.Prelude.{◌≤◌, length, slice_get, slice_set, Some, IsTrue, All};
 ghost use Rattle.std.specs.Prelude.{IfOk, OnOk, OnErr};
-ghost use Rattle.std.specs.List.{splice};
 ghost use Rattle.plain_doc.specs.Document.{HasPropertyMaps};
+ghost use Rattle.plain_doc.specs.Marks.{main_spliced};
 
 use crate::{Carried, Item, Items, Texts};
 use doc_bits::Memory;
+use doc_parts::Bookmarks;
 use std::alloc::Global;
 use style_sheet::StyleSheet;
 
-/// A document: its main text, its notes and header texts in their order, its styles, and what is
-/// carried along unread. The main text changes through `splice_main` and `replace_main` alone.
+/// A document: its main text, its notes and header texts in their order, its styles, what is
+/// carried along unread, and the bookmarks of its main text. The main text changes through
+/// `splice_main` and `replace_main` alone.
 #[derive(Drop)]
 pub struct Document {
     pub main: Items,
@@ -19,6 +21,7 @@ pub struct Document {
     pub heads: Texts,
     pub sheet: StyleSheet,
     pub carried: Carried,
+    pub bookmarks: Bookmarks,
 }
 
 impl Document {
@@ -32,19 +35,25 @@ impl Document {
             heads: self.heads.copy(alloc, 0, self.heads.len())?,
             sheet: self.sheet.copy(alloc)?,
             carried: self.carried.copy(alloc)?,
+            bookmarks: self.bookmarks.copy(alloc, 0, self.bookmarks.len())?,
         })
     }
 
     /// Puts `fresh` in place of the items of the main text from `from` to before `to`. Each item is
-    /// moved once.
+    /// moved once, and the ends of the bookmarks go with the text.
     pub fn splice_main(&mut self, from: usize, to: usize, fresh: Items) -> Result<(), Memory>
         requires ordered { from ≤ to }
         requires within { to ≤ length self.old.main }
         requires few { length self.old.main + length fresh < 2 ^ 32 + (to - from) }
-        ensures ok { OnOk result (self.new ≡ record self.old { main = splice self.old.main from to fresh }) }
+        requires starts { All (λ b. b.from ≤ length self.old.main) self.old.bookmarks }
+        requires ends { All (λ b. b.to ≤ length self.old.main) self.old.bookmarks }
+        ensures ok { OnOk result (self.new ≡ main_spliced from to fresh self.old) }
         ensures err { OnErr result (self.new ≡ self.old) }
     {
+        let len = self.main.len();
+        let count = fresh.len();
         self.main.splice(from, to, fresh)?;
+        self.bookmarks.follow(from, to, count, len);
         Ok(())
     }
 
@@ -69,4 +78,5 @@ pub fn equal(a: &Document, b: &Document) -> bool
         && a.heads.equal(&b.heads)
         && a.sheet.equal(&b.sheet)
         && a.carried.equal(&b.carried)
+        && a.bookmarks.equal(&b.bookmarks)
 }

@@ -13,6 +13,7 @@ pub fn documents_are_formed(document: &Document)
     let _ = document.main.len();
     let _ = document.notes.len();
     let _ = document.heads.len();
+    let _ = document.bookmarks.len();
     let _ = document.sheet.slots();
     let carried = &document.carried;
     let _ = carried.streams.count();

@@ -6,9 +6,9 @@ ghost use Rattle.std.specs.List.{splice};
 ghost use Rattle.plain_doc.specs.Document.{HasPropertyMaps, IsFormedText};
 
 use crate::Item;
-use crate::lists::splice_list;
 use crate::ranges::are_formed;
 use doc_bits::Memory;
+use doc_parts::splice_list;
 use std::alloc::Global;
 use std::marker::Model;
 use std::mem;

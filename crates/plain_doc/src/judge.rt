@@ -2,6 +2,7 @@
 ghost use Rattle.std.specs.Prelude.{◌≡◌, MatchResult};
 ghost use Rattle.doc_bits.specs.Rules.{Hold, Nowhere, rule as rule_of};
 ghost use Rattle.doc_bits.specs.Places.{LeastPlaceOrNone};
+ghost use Rattle.plain_doc.specs.Marks.{HasFormedBookmarks, HasWrongBookmarks};
 ghost use Rattle.plain_doc.specs.RulesOfTexts.{InTexts};
 ghost use Rattle.plain_doc.specs.TextRules.{BreaksText};
 ghost use Rattle.plain_doc.specs.TextWalk.{AreTextsRight, HasCounts};
@@ -34,12 +35,17 @@ const RULE_HEADS: u8 = 67;
 
 const RULE_ITEMS: u8 = 68;
 
+const RULE_BOOKMARKS: u8 = 69;
+
 const RULE_SETTINGS: u8 = 70;
 
 const RULE_STD: u8 = 71;
 
 /// The most items of all texts.
 const MOST_ITEMS: u32 = 499_998;
+
+/// The most bookmarks.
+const MOST_BOOKMARKS: usize = 16_000;
 
 /// The first broken rule, at its first place: an item of a text, a style of the sheet, or a number
 /// of texts or items.
@@ -51,8 +57,9 @@ pub struct DocFault {
     pub at: u32,
 }
 
-/// Judges a document by the rules 60 to 71. One that breaks none is sound.
+/// Judges a document by the rules 60 to 71. One whose bookmarks are formed, and that breaks none, is sound.
 pub fn check(document: &Document) -> Result<(), DocFault>
+    requires { HasFormedBookmarks document.now }
     ensures { MatchResult result (λ _. IsSound document.now) (NamesFirstRule (document_rules document.now)) }
 {
     // Only where one walk over the texts finds something wrong they are judged rule by rule.
@@ -66,6 +73,7 @@ pub fn check(document: &Document) -> Result<(), DocFault>
 fn judge_beside(document: &Document, counts: Counts) -> Result<(), DocFault>
     requires right { AreTextsRight document.now }
     requires counts { HasCounts document.now.main counts }
+    requires bookmarks { HasFormedBookmarks document.now }
     ensures { MatchResult result (λ _. IsSound document.now) (NamesFirstRule (document_rules document.now)) }
 {
     judge_bases(document)?;
@@ -76,6 +84,7 @@ fn judge_beside(document: &Document, counts: Counts) -> Result<(), DocFault>
 
 /// The same of any document, rule by rule.
 fn judge_each(document: &Document) -> Result<(), DocFault>
+    requires { HasFormedBookmarks document.now }
     ensures { MatchResult result (λ _. IsSound document.now) (NamesFirstRule (document_rules document.now)) }
 {
     judge_texts(document)?;
@@ -119,9 +128,10 @@ fn judge_bases(document: &Document) -> Result<(), DocFault>
     }
 }
 
-/// Judges the numbers of texts and items, rules 66 to 68.
+/// Judges the numbers of texts, items and bookmarks, and the names of these, rules 66 to 69.
 fn judge_counts(document: &Document, counts: Counts) -> Result<(), DocFault>
-    requires { HasCounts document.now.main counts }
+    requires counts { HasCounts document.now.main counts }
+    requires bookmarks { HasFormedBookmarks document.now }
     ensures { MatchResult result (λ _. Hold (count_rules document.now)) (NamesFirstRule (count_rules document.now)) }
 {
     let notes = document.notes.len();
@@ -135,7 +145,24 @@ fn judge_counts(document: &Document, counts: Counts) -> Result<(), DocFault>
     if all_items(document) > MOST_ITEMS as u128 {
         return Err(fault(RULE_ITEMS, Where::Main, MOST_ITEMS));
     }
+    judge_bookmarks(document)?;
     Ok(())
+}
+
+/// Judges the number of bookmarks and their names, rule 69.
+fn judge_bookmarks(document: &Document) -> Result<(), DocFault>
+    requires { HasFormedBookmarks document.now }
+    ensures { MatchResult result
+        (λ _. Nowhere (HasWrongBookmarks document.now))
+        (NamesFirstRule (rule_of 69 (HasWrongBookmarks document.now))) }
+{
+    if document.bookmarks.len() > MOST_BOOKMARKS {
+        return Err(fault(RULE_BOOKMARKS, Where::Main, 0));
+    }
+    match document.bookmarks.same_name() {
+        None => Ok(()),
+        Some(from) => Err(fault(RULE_BOOKMARKS, Where::Main, from)),
+    }
 }
 
 /// `long` is the first place where settings are too long.

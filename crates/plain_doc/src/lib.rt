@@ -10,7 +10,6 @@ mod item;
 mod items;
 mod judge;
 mod laws;
-mod lists;
 mod other_bytes;
 mod paragraphs;
 mod ranges;

@@ -1,4 +1,5 @@
-use Rattle.std.proofs.Common.{◌≡◌, ◌∙◌, ◌++◌, ap, sym, Some, None, take, drop, length, slice_index_or, arith, length-take}
+use Rattle.std.proofs.Common.{◌≡◌, ◌∙◌, ◌++◌, ap, sym, Some, None, take, drop, length}
+use Rattle.std.proofs.Common.{slice_index_or, arith, length-take}
 use Rattle.std.proofs.lemmas.List.{take_at}
 use Rattle.std.proofs.lemmas.Option.{slice_get-get_or}
 use Rattle.list_numbers.specs.Counters.{HaveCounted}

@@ -1,4 +1,5 @@
-use Rattle.std.proofs.Common.{◌≡◌, ◌<◌, ◌∙◌, ◌++◌, ap, sym, subst, Some, None, take, drop, length, slice_index_or, arith}
+use Rattle.std.proofs.Common.{◌≡◌, ◌<◌, ◌∙◌, ◌++◌, ap, sym, subst, Some, None, take, drop}
+use Rattle.std.proofs.Common.{length, slice_index_or, arith}
 use Rattle.std.proofs.Common.{length-take}
 use Rattle.std.proofs.lemmas.List.{take_at}
 use Rattle.std.proofs.lemmas.Option.{slice_get-get_or}

@@ -9,6 +9,7 @@ returns c =
       notes = c.len-2.ensures.formed;
       heads = c.len-3.ensures.formed;
       sheet = c.slots.ensures.formed;
+      bookmarks = c.len-4.ensures.numbers;
       carried = record {
         parts = c.args.document.now.carried.short;
         bytes = c.carries_bytes.ensures;

@@ -1,8 +1,7 @@
 -- Each column has so many entries more.
-use Rattle.std.proofs.Common.{◌≡◌, ◌∙◌, ℕ, List, ◌++◌, length, ap, arith}
+use Rattle.std.proofs.Common.{◌∙◌, ◌++◌, length, ap, arith}
 use Rattle.std.specs.Prelude.{replicate}
 use Rattle.doc_columns.specs.declared.beside.Beside.{Beside}
-use Rattle.doc_columns.specs.Beside.{nothing}
 use Rattle.doc_columns.proofs.ItemsOfLemmas.{text_long, appended_columns, appended_are}
 use Rattle.doc_columns.proofs.columns.Columns.add_units.Goals as goal
 

@@ -5,7 +5,7 @@ ghost use Rattle.std.specs.List.{splice};
 use doc_bits::Memory;
 
 /// Puts `fresh` in place of the entries from `from` to before `to`. Each entry is moved once.
-pub(crate) fn splice_list<T: Drop>(
+pub fn splice_list<T: Drop>(
     list: &mut Vec<T>,
     from: usize,
     to: usize,

@@ -1,0 +1,19 @@
+use Rattle.std.proofs.Common.{◌≡◌, ◌-◌, ◌≤◌}
+use Rattle.std.specs.Prelude.{slice_range}
+use Rattle.run_lists.specs.Spread.{spread}
+use Rattle.run_lists.specs.Places.{IsAt}
+use Rattle.doc_columns.proofs.equality.same_values.Given as goal
+
+-- the values before the place are the same
+abbrev pub invariant-loop-place : goal.invariant-loop-place
+invariant-loop-place g l = record {
+  first : IsAt l.one l.first;
+  first_ahead : l.first.begin ≤ l.place;
+  second : IsAt l.other l.second;
+  second_ahead : l.second.begin ≤ l.place;
+  within : l.place ≤ l.len;
+  same : slice_range (spread l.one) 0 l.place ≡ slice_range (spread l.other) 0 l.place;
+}
+
+abbrev pub decreases-loop-place : goal.decreases-loop-place
+decreases-loop-place g l = l.len - l.place

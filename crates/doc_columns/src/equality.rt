@@ -1,0 +1,92 @@
+// Whether texts and documents by columns are the same. No item is put together, and no memory is taken.
+ghost use Rattle.std.specs.Prelude.{◌≡◌, ◌↔◌, ℕ, ◌-◌, ◌^◌, ◌<◌, ◌≤◌, slice_range, replicate, IsTrue};
+ghost use Rattle.run_lists.specs.Spread.{spread, extent};
+ghost use Rattle.run_lists.specs.Places.{IsAt};
+
+use crate::{ColumnDocument, ColumnTexts, Columns};
+use run_lists::{Cursor, Run, Shared, seek};
+
+impl Columns {
+    /// Whether both have the same items. It goes over the units and over each list of runs once.
+    pub fn equal(&self, other: &Columns) -> bool
+        ensures { IsTrue result ↔ self.now ≡ other.now }
+    {
+        if self.units() != other.units() {
+            return false;
+        }
+        let len = self.len();
+        if !same_values(self.chps(), other.chps(), len) {
+            return false;
+        }
+        same_values(self.besides(), other.besides(), len)
+    }
+}
+
+impl ColumnTexts {
+    /// Whether both have the same texts.
+    pub fn equal(&self, other: &ColumnTexts) -> bool
+        ensures { IsTrue result ↔ self.now ≡ other.now }
+    {
+        if self.texts.len() != other.texts.len() {
+            return false;
+        }
+        for i in 0..self.texts.len() {
+            if !self.texts[i].equal(&other.texts[i]) {
+                return false;
+            }
+        }
+        true
+    }
+}
+
+impl ColumnDocument {
+    /// Whether both are the same in all parts. It is linear in the units and in the runs.
+    pub fn equal(&self, other: &ColumnDocument) -> bool
+        ensures { IsTrue result ↔ self.now ≡ other.now }
+    {
+        self.main.equal(&other.main)
+            && self.notes.equal(&other.notes)
+            && self.heads.equal(&other.heads)
+            && self.sheet.equal(&other.sheet)
+            && self.carried.equal(&other.carried)
+            && self.bookmarks.equal(&other.bookmarks)
+    }
+}
+
+/// Whether runs of `len` values each stand for the same ones.
+fn same_values<T: Shared>(one: &[Run<T>], other: &[Run<T>], len: usize) -> bool
+    requires one { extent one.now ≡ len }
+    requires other { extent other.now ≡ len }
+    requires few { len < 2 ^ 32 }
+    ensures { IsTrue result ↔ spread one.now ≡ spread other.now }
+{
+    let mut first = Cursor::new();
+    let mut second = Cursor::new();
+    let mut place = 0;
+    while place < len {
+        let (value, end) = value_until(one, &mut first, place);
+        let (beside, beside_end) = value_until(other, &mut second, place);
+        if !value.equal(beside) {
+            return false;
+        }
+        place = end.min(beside_end);
+    }
+    true
+}
+
+/// The value at a place, and where its run ends. The cursor is not behind the place, and goes to it.
+fn value_until<'a, T>(runs: &'a [Run<T>], cursor: &mut Cursor, place: usize) -> (&'a T, usize)
+    requires at { IsAt runs.now cursor.old }
+    requires ahead { cursor.old.begin ≤ place }
+    requires within { place < extent runs.now }
+    requires few { extent runs.now < 2 ^ 32 }
+    ensures at { IsAt runs.now cursor.new }
+    ensures ahead { cursor.new.begin ≤ place }
+    ensures goes_on { place < result.1 }
+    ensures within { result.1 ≤ extent runs.now }
+    ensures values { (next : ℕ) → place ≤ next → next ≤ result.1
+        → slice_range (spread runs.now) place next ≡ replicate (next - place) result.0.now }
+{
+    let value = seek(runs, cursor, place);
+    (value, cursor.begin + runs[cursor.run].count as usize)
+}
