@@ -5,6 +5,7 @@ use Rattle.std.specs.Prelude.{Bool, true, false, MatchOption, slice_get, replica
 use Rattle.std.specs.Option.{unwrap_or}
 use Rattle.text_codes.specs.Paragraph.{paragraph_mark, cell_mark}
 use Rattle.std.specs.List.{sum_by, flat_map}
+use Rattle.std.proofs.lemmas.List.Elements.{All-weaker}
 use Rattle.std.proofs.lemmas.List.{length-map}
 use Rattle.std.specs.FinMap.{empty, get-empty}
 use Rattle.std.specs.Ordering.{nat_cmp}
@@ -21,12 +22,14 @@ use Rattle.plain_doc.specs.declared.document.Document.{Document}
 use Rattle.plain_doc.specs.Sound.{IsSound}
 use Rattle.plain_doc.specs.RightDocument.{IsRightText, IsRightDocument}
 use Rattle.plain_doc.proofs.RightLemmas.{sound_is_right}
+use Rattle.doc_parts.specs.declared.bookmark_order.Bookmark.{Bookmark as BookmarkOf}
+use Rattle.doc_parts.specs.Bookmarks.{AreFormedBookmarks, IsFormedBookmark}
 use Rattle.edit_script.specs.declared.commands.Command.{Command}
 use Rattle.edit_script.specs.declared.commands.Command.TheVariants.{Insert, Erase, Char, Plain, Para, Style, Field}
 use Rattle.edit_script.specs.declared.commands.Command.TheVariants.{Note, Split, Merge, Sect, Row, StyleChar}
-use Rattle.edit_script.specs.declared.commands.Command.TheVariants.{StylePara, Save}
-use Rattle.edit_ops.specs.declared.changes.Change.TheVariants.{ModifyItems}
-use Rattle.edit_ops.specs.Places.{text_at, items_at, mark_place, note_number, head_number}
+use Rattle.edit_script.specs.declared.commands.Command.TheVariants.{StylePara, Bookmark, Unmark, Save}
+use Rattle.edit_changes.specs.declared.changes.Change.TheVariants.{ModifyItems}
+use Rattle.edit_changes.specs.Places.{text_at, items_at, mark_place, note_number, head_number}
 use Rattle.edit_ops.specs.Fresh.{unit_item, unit_items, inserted_items, field_items, field_mark, base_settings}
 use Rattle.edit_ops.specs.Fresh.{cell_items, cell_settings, row_items, row_settings, mark_item, mark_with, plain_end}
 use Rattle.edit_ops.specs.Edits.{changes_of, erased, section_changes, put_in, setting_characters, setting_paragraphs}
@@ -34,8 +37,9 @@ use Rattle.edit_ops.specs.Edits.{clearing, naming_style}
 use Rattle.edit_ops.specs.Ranges.{IsInRange, HasText, HasPlace, HasRange, TakesText, EndsWithMark, BeginsParagraph}
 use Rattle.edit_ops.specs.Codes.{HasRightCodes}
 use Rattle.edit_ops.specs.Causes.{CanBeTried}
-use Rattle.edit_ops.specs.Makes.{CanSplice, CanMakeAll}
-use Rattle.edit_ops.proofs.TextLemmas.{text_weaker, right_text, part_of, few_items, mark_within, section_within}
+use Rattle.edit_changes.specs.Makes.{CanSplice, CanMakeAll, CanFollow, EndWithin}
+use Rattle.edit_changes.proofs.MakingLemmas.{text_weaker}
+use Rattle.edit_ops.proofs.TextLemmas.{right_text, part_of, few_items, mark_within, section_within}
 use Rattle.edit_ops.proofs.TextLemmas.{unit_within, count_upto, count_within}
 
 -- ---- settings
@@ -105,17 +109,34 @@ length-field base type code shown =
 
 -- ---- each kind
 
+-- formed bookmarks end within their text
+end_within : (len : ℕ) (bookmarks : List BookmarkOf) → AreFormedBookmarks len bookmarks → EndWithin len bookmarks
+end_within len bookmarks formed = record {
+  starts =
+      All-weaker (IsFormedBookmark len) (λ b. b.from ≤ len)
+      (λ b fits. omega (arith, fits.ordered, fits.within)) bookmarks formed.each;
+  ends = All-weaker (IsFormedBookmark len) (λ b. b.to ≤ len) (λ b fits. fits.within) bookmarks formed.each;
+}
+
+can_follow : (document : Document) (story : Story) → IsRightDocument document → CanFollow document story
+can_follow document Main right = end_within (length document.main) document.bookmarks right.bookmarks
+can_follow document (NoteText k) right = tt
+can_follow document (HeadText k) right = tt
+
 can_put : (document : Document) (story : Story) (at : ℕ) (items : List Item) → IsRightDocument document →
     HasText document story (λ text. at ≤ length text) → length items ≤ 4000000100 → CanMakeAll (put_in story at items)
     document
 can_put document story at items right within few = (
-  text_weaker (text_at document story) _ _ within (λ text there inside.
-      let short = few_items document story text right there in
-      record { ordered = omega arith; within = inside; few = omega arith }),
+  (
+    text_weaker (text_at document story) _ _ within (λ text there inside.
+        let short = few_items document story text right there in
+        record { ordered = omega arith; within = inside; few = omega arith }),
+    can_follow document story right,
+  ),
   tt,
 )
 
-has_place : (document : Document) (story : Story) (at : ℕ) → HasText document story (HasPlace at) → HasText document
+pub has_place : (document : Document) (story : Story) (at : ℕ) → HasText document story (HasPlace at) → HasText document
     story (λ text. at ≤ length text)
 has_place document story at there = text_weaker (text_at document story) _ _ there (λ text is within. omega (
   arith,
@@ -131,11 +152,11 @@ takes (HeadText k) at text within = elim within [
       omega (arith, z)
 ]
 
-takes_text : (document : Document) (story : Story) (at : ℕ) → HasText document story (TakesText story at) →
+pub takes_text : (document : Document) (story : Story) (at : ℕ) → HasText document story (TakesText story at) →
     HasText document story (λ text. at ≤ length text)
 takes_text document story at there = text_weaker (text_at document story) _ _ there (λ text is h. takes story at text h)
 
-begins : (document : Document) (story : Story) (at : ℕ) → HasText document story (BeginsParagraph at) →
+pub begins : (document : Document) (story : Story) (at : ℕ) → HasText document story (BeginsParagraph at) →
     HasText document story (λ text. at ≤ length text)
 begins document story at there = text_weaker (text_at document story) _ _ there (λ text is h. let within = h.0 in
     omega arith)
@@ -213,24 +234,30 @@ can_erase document Main from to right range =
     let few = few_main document right in
     let ordered = range.0 in
     let within = range.1 in (
-      record { ordered = omega arith; within = within; few = omega arith },
+      (record { ordered = omega arith; within = within; few = omega arith }, can_follow document Main right),
       (
         can_splice_notes document from to [] right (omega arith) (omega arith),
         (can_splice_heads document from to [] right (omega arith) (omega arith), tt),
       ),
     )
 can_erase document (NoteText k) from to right range = (
-  text_weaker (slice_get document.notes k) _ _ range (λ text there inside.
-      let short = few_items document (NoteText k) text right there in
-      let ordered = inside.0 in
-      record { ordered = omega arith; within = inside.1; few = omega arith }),
+  (
+    text_weaker (slice_get document.notes k) _ _ range (λ text there inside.
+        let short = few_items document (NoteText k) text right there in
+        let ordered = inside.0 in
+        record { ordered = omega arith; within = inside.1; few = omega arith }),
+    tt,
+  ),
   tt,
 )
 can_erase document (HeadText k) from to right range = (
-  text_weaker (slice_get document.heads k) _ _ range (λ text there inside.
-      let short = few_items document (HeadText k) text right there in
-      let ordered = inside.0 in
-      record { ordered = omega arith; within = inside.1; few = omega arith }),
+  (
+    text_weaker (slice_get document.heads k) _ _ range (λ text there inside.
+        let short = few_items document (HeadText k) text right there in
+        let ordered = inside.0 in
+        record { ordered = omega arith; within = inside.1; few = omega arith }),
+    tt,
+  ),
   tt,
 )
 
@@ -240,7 +267,7 @@ can_section : (document : Document) (at : ℕ) (new : Bool) (set : Settings) →
 can_section document at false set right within formed = ((section_within document at right within, formed), tt)
 can_section document at true set right within formed =
     let few = few_main document right in (
-      record { ordered = omega arith; within = omega arith; few = omega arith },
+      (record { ordered = omega arith; within = omega arith; few = omega arith }, can_follow document Main right),
       (can_splice_heads document at at (replicate 6 []) right (omega arith) (omega arith), tt),
     )
 
@@ -270,7 +297,7 @@ can_make document command sound tried = by_kind command (sound_is_right document
     by_kind (Note at text) right range codes =
         let few = few_main document right in
         let within = range in (
-          record { ordered = omega arith; within = omega arith; few = omega arith },
+          (record { ordered = omega arith; within = omega arith; few = omega arith }, can_follow document Main right),
           (can_splice_notes document at at _ right (omega arith) (omega arith), tt),
         )
     by_kind (Split story at) right range codes = can_put document story at _ right (has_place document story at range)
@@ -284,4 +311,6 @@ can_make document command sound tried = by_kind command (sound_is_right document
         can_put document story at _ right (begins document story at range) (omega arith)
     by_kind (StyleChar istd set) right range codes = ((range, codes), tt)
     by_kind (StylePara istd set) right range codes = ((range, codes), tt)
+    by_kind (Bookmark name from to) right range codes = (tt, tt)
+    by_kind (Unmark name) right range codes = (tt, tt)
     by_kind (Save full) right range codes = tt

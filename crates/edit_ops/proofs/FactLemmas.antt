@@ -18,11 +18,12 @@ use Rattle.plain_doc.proofs.RightLemmas.{sound_is_right}
 use Rattle.edit_script.specs.declared.commands.Command.{Command}
 use Rattle.edit_script.specs.declared.commands.Command.TheVariants.{Insert, Erase, Char, Plain, Para, Style, Field}
 use Rattle.edit_script.specs.declared.commands.Command.TheVariants.{Note, Split, Merge, Sect, Row, StyleChar}
-use Rattle.edit_script.specs.declared.commands.Command.TheVariants.{StylePara, Save}
-use Rattle.edit_ops.specs.declared.changes.Change.{Change}
-use Rattle.edit_ops.specs.declared.changes.Change.TheVariants.{SpliceText, ModifyItems, SetSection, SpliceNotes}
-use Rattle.edit_ops.specs.declared.changes.Change.TheVariants.{SpliceHeads, SetStyleCharacters, SetStyleParagraphs}
-use Rattle.edit_ops.specs.Places.{text_at, items_at, note_number, head_number}
+use Rattle.edit_script.specs.declared.commands.Command.TheVariants.{StylePara, Bookmark, Unmark, Save}
+use Rattle.edit_changes.specs.declared.changes.Change.{Change}
+use Rattle.edit_changes.specs.declared.changes.Change.TheVariants.{SpliceText, ModifyItems, SetSection, SpliceNotes}
+use Rattle.edit_changes.specs.declared.changes.Change.TheVariants.{SpliceHeads, SetStyleCharacters, SetStyleParagraphs}
+use Rattle.edit_changes.specs.declared.changes.Change.TheVariants.{SetBookmarks}
+use Rattle.edit_changes.specs.Places.{text_at, items_at, note_number, head_number}
 use Rattle.edit_ops.specs.Fresh.{section_item, plain_end, inserted_items, field_items, base_settings, row_items}
 use Rattle.edit_ops.specs.Fresh.{note_items, note_reference, unit_items}
 use Rattle.edit_ops.specs.Edits.{changes_of, erased, section_changes, put_in}
@@ -30,7 +31,7 @@ use Rattle.edit_ops.specs.Ranges.{IsInRange, HasText, HasRange}
 use Rattle.edit_ops.specs.Codes.{HasRightCodes}
 use Rattle.edit_ops.specs.Causes.{CanBeTried}
 use Rattle.edit_ops.specs.EditFacts.{items_added, items_removed}
-use Rattle.edit_ops.specs.Makes.{CanRemove}
+use Rattle.edit_changes.specs.Makes.{CanRemove}
 use Rattle.edit_ops.proofs.TextLemmas.{few_items}
 use Rattle.edit_ops.proofs.SumLemmas.{no_range, range_sum}
 use Rattle.edit_ops.proofs.CanMakeLemmas.{length-inserted, length-field, length-row, length-units, can_splice_notes}
@@ -206,6 +207,8 @@ countable document command sound tried = by_kind command (sound_is_right documen
         (omega arith) tt
     by_kind (StylePara istd set) right range codes = one document (SetStyleParagraphs istd set) (omega arith)
         (omega arith) tt
+    by_kind (Bookmark name from to) right range codes = one document (SetBookmarks _) (omega arith) (omega arith) tt
+    by_kind (Unmark name) right range codes = one document (SetBookmarks _) (omega arith) (omega arith) tt
     by_kind (Save full) right range codes = record {
       added = omega arith;
       removed = omega arith;

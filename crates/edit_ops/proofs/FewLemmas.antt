@@ -8,7 +8,7 @@ use Rattle.plain_doc.specs.declared.item.Item.{Item}
 use Rattle.plain_doc.specs.declared.document.Document.{Document}
 use Rattle.edit_script.specs.declared.commands.Command.TheVariants.{Insert, Erase, Char, Plain, Para, Style, Field}
 use Rattle.edit_script.specs.declared.commands.Command.TheVariants.{Note, Split, Merge, Sect, Row, StyleChar}
-use Rattle.edit_script.specs.declared.commands.Command.TheVariants.{StylePara, Save}
+use Rattle.edit_script.specs.declared.commands.Command.TheVariants.{StylePara, Bookmark, Unmark, Save}
 use Rattle.edit_ops.specs.Edits.{erased, section_changes}
 use Rattle.edit_ops.specs.Laws.{ChangesAreFew, FormattingMovesNoItems}
 
@@ -37,6 +37,8 @@ few_changes document (Sect at new set) = few_of_section document.main at new set
 few_changes document (Row story at width cells) = omega arith
 few_changes document (StyleChar istd set) = omega arith
 few_changes document (StylePara istd set) = omega arith
+few_changes document (Bookmark name from to) = omega arith
+few_changes document (Unmark name) = omega arith
 few_changes document (Save full) = omega arith
 
 -- commands that move no items say so
@@ -55,4 +57,6 @@ formatting_moves document (Sect at new set) is = absurd is
 formatting_moves document (Row story at width cells) is = absurd is
 formatting_moves document (StyleChar istd set) is = record { added = refl; removed = refl }
 formatting_moves document (StylePara istd set) is = record { added = refl; removed = refl }
+formatting_moves document (Bookmark name from to) is = absurd is
+formatting_moves document (Unmark name) is = absurd is
 formatting_moves document (Save full) is = absurd is

@@ -12,7 +12,7 @@ use Rattle.plain_doc.specs.declared.item.Item.{Item}
 use Rattle.plain_doc.specs.declared.item.Mark.{Mark}
 use Rattle.plain_doc.specs.Document.{IsFormedText}
 use Rattle.plain_doc.proofs.MainLemmas.{maps_there}
-use Rattle.edit_ops.specs.Places.{mark_place, mark_at, section_place, section_at}
+use Rattle.edit_changes.specs.Places.{mark_place, mark_at, section_place, section_at}
 use Rattle.edit_ops.specs.Fresh.{special}
 
 -- ---- settings

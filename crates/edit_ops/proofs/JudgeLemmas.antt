@@ -7,7 +7,7 @@ use Rattle.edit_script.specs.declared.commands.Command.{Command}
 use Rattle.edit_ops.specs.declared.faults.EditFault.{EditFault}
 use Rattle.edit_ops.specs.declared.faults.EditFault.TheVariants.{Range, Code, Rule, Limit, Memory}
 use Rattle.edit_ops.specs.declared.applying.Edit.{Edit}
-use Rattle.edit_ops.specs.Edits.{document_after}
+use Rattle.edit_ops.specs.Edits.{changes_of, document_after}
 use Rattle.edit_ops.specs.EditFacts.{edit_facts}
 use Rattle.edit_ops.specs.Causes.{CanBeTried, IsJudged, IsEditFault, IsAcceptedEdit}
 
@@ -15,7 +15,7 @@ pub edit_fault : (document : Document) (command : Command) (made : Document) (fa
     command → made ≡ document_after document command → IsJudged made fault → IsEditFault document command fault
 edit_fault d c made Range tried is judged = absurd judged
 edit_fault d c made Code tried is judged = absurd judged
-edit_fault d c made Memory tried is judged = absurd judged
+edit_fault d c made Memory tried is judged = tt
 edit_fault d c made (Rule rule place at) tried is judged = (
   record {
     tried = tried;
@@ -47,20 +47,26 @@ given_right made verdict (Err fault) P so right = tt
 
 -- an edit that is judged
 pub outcome : (document : Document) (command : Command) (edit : Edit) (verdict : Result Unit EditFault)
-    (result : Result Edit EditFault) → CanBeTried document command →
+    (result : Result Edit EditFault) → CanBeTried document command → edit.changes ≡ changes_of document command →
     edit.document ≡ document_after document command → edit.facts ≡ edit_facts document command →
     MatchResult verdict (λ _. IsSound edit.document) (IsJudged edit.document) →
     MatchResult result (λ given. (given ≡ edit) × IsOk verdict) (λ fault. verdict ≡ Err fault) →
     MatchResult result
     (λ made. IsAcceptedEdit document command
-    × ((made.document ≡ document_after document command) × (made.facts ≡ edit_facts document command)))
+    × ((made.changes ≡ changes_of document command)
+    × ((made.document ≡ document_after document command)
+    × (made.facts ≡ edit_facts document command))))
     (IsEditFault document command)
-outcome d c edit (Ok nothing) (Ok given) tried document facts judged right = (
+outcome d c edit (Ok nothing) (Ok given) tried changes document facts judged right = (
   accepted d c edit.document tried document judged,
-  (ap (λ (e : Edit). e.document) right.0 ∙ document, ap (λ (e : Edit). e.facts) right.0 ∙ facts),
+  (
+    ap (λ (e : Edit). e.changes) right.0 ∙ changes,
+    (ap (λ (e : Edit). e.document) right.0 ∙ document, ap (λ (e : Edit). e.facts) right.0 ∙ facts),
+  ),
 )
-outcome d c edit (Err fault) (Ok given) tried document facts judged right = absurd (let none = right.1 in cc (none))
-outcome d c edit verdict (Err fault) tried document facts judged right =
+outcome d c edit (Err fault) (Ok given) tried changes document facts judged right =
+    absurd (let none = right.1 in cc (none))
+outcome d c edit verdict (Err fault) tried changes document facts judged right =
     edit_fault d c edit.document fault tried document
     (subst (λ (v : Result Unit EditFault). MatchResult v (λ _. IsSound edit.document) (IsJudged edit.document)) right
     judged)

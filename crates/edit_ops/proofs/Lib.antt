@@ -1,15 +1,14 @@
-pub mod FirstLemmas
-pub mod MarkPlaceLemmas
 pub mod OutcomeLemmas
 pub mod FewLemmas
 pub mod CellLemmas
 pub mod FreshLemmas
 pub mod TextLemmas
 pub mod CanMakeLemmas
+pub mod KeepLemmas
 pub mod WithoutLemmas
 pub mod JudgeLemmas
-pub mod MakeLemmas
 pub mod RowLemmas
 pub mod SumLemmas
 pub mod FactLemmas
 pub mod RunLemmas
+pub mod FreshTextLemmas

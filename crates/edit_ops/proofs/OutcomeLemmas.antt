@@ -84,11 +84,11 @@ no_fault d c Code cause accepted b = b.1 accepted.tried.codes
 no_fault d c (Rule r p o) cause accepted b = hold_or_first Upto (document_rules (document_after d c)) r (
   p,
   o,
-) (document_rules-IsSingle (document_after d c)) accepted.sound b.0.first
+) (document_rules-IsSingle (document_after d c)) accepted.sound.rules b.0.first
 no_fault d c (Limit r p o) cause accepted b = hold_or_first Upto (document_rules (document_after d c)) r (
   p,
   o,
-) (document_rules-IsSingle (document_after d c)) accepted.sound b.0.first
+) (document_rules-IsSingle (document_after d c)) accepted.sound.rules b.0.first
 
 pub one_outcome : EditHasOneOutcome
 one_outcome = record { one = one_fault; none = no_fault }

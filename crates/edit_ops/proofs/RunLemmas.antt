@@ -20,8 +20,8 @@ use Rattle.doc_bits.specs.declared.places.Story.{Story}
 use Rattle.doc_bits.specs.declared.places.Story.TheVariants.{Main, Note as NoteText, Head as HeadText}
 use Rattle.edit_script.specs.declared.commands.Command.TheVariants.{Insert, Erase, Char, Plain, Para, Style, Field}
 use Rattle.edit_script.specs.declared.commands.Command.TheVariants.{Note, Split, Merge, Sect, Row, StyleChar}
-use Rattle.edit_script.specs.declared.commands.Command.TheVariants.{StylePara, Save}
-use Rattle.edit_ops.specs.Places.{items_at}
+use Rattle.edit_script.specs.declared.commands.Command.TheVariants.{StylePara, Bookmark, Unmark, Save}
+use Rattle.edit_changes.specs.Places.{items_at}
 use Rattle.edit_ops.specs.Fresh.{unit_item, unit_items, mark_item, mark_with, plain_end, cell_items, cell_settings}
 use Rattle.edit_ops.specs.Fresh.{row_items, row_settings, field_items, field_mark, special, base_settings, note_items}
 use Rattle.edit_ops.specs.Edits.{erased, section_changes}
@@ -230,4 +230,6 @@ few_runs document (Row story at width cells) =
     omega (arith, few)
 few_runs document (StyleChar istd set) = omega arith
 few_runs document (StylePara istd set) = omega arith
+few_runs document (Bookmark name from to) = omega arith
+few_runs document (Unmark name) = omega arith
 few_runs document (Save full) = omega arith

@@ -1,7 +1,7 @@
 -- What a sound document says of the texts that a command may change.
 use Rattle.std.proofs.Common.{◌≡◌, ◌∙◌, refl, sym, ap, inl, inr, cond, ◌∷◌, zero, suc, ℕ, ◌+◌, ◌-◌, ◌<◌, ◌≤◌, Bool}
-use Rattle.std.proofs.Common.{true, false, List, [], length, take, drop, get_or, Option, Some, None, arith}
-use Rattle.std.specs.Prelude.{slice_get, is_some, MatchOption}
+use Rattle.std.proofs.Common.{true, false, List, [], length, take, drop, get_or, Some, arith}
+use Rattle.std.specs.Prelude.{slice_get, is_some}
 use Rattle.std.specs.List.{position_or_len, count_by, sum_by}
 use Rattle.std.specs.Option.{option_map}
 use Rattle.std.proofs.lemmas.List.{get_or-drop}
@@ -19,15 +19,10 @@ use Rattle.plain_doc.specs.declared.document.Document.{Document}
 use Rattle.plain_doc.specs.RulesOfTexts.{last_unit, EndsRight}
 use Rattle.plain_doc.specs.RightDocument.{IsRightText, IsRightDocument}
 use Rattle.plain_doc.proofs.MainLemmas.{main_ends, ends_main}
-use Rattle.edit_ops.specs.Places.{text_at, mark_place, mark_unit, section_place}
-use Rattle.edit_ops.proofs.MarkPlaceLemmas.{nothing}
+use Rattle.edit_changes.specs.Places.{text_at, mark_place, mark_unit, section_place}
+use Rattle.edit_changes.proofs.PlaceLemmas.{nothing}
 
 -- ---- texts that are there
-
-pub text_weaker : {A : Type 0} (o : Option A) (P Q : A → Type 0) → MatchOption o ⊥ P → ((x : A) → o ≡ Some x → P x →
-    Q x) → MatchOption o ⊥ Q
-text_weaker None P Q h more = h
-text_weaker (Some x) P Q h more = more x refl h
 
 abbrev pub part_of : Story → Where
 part_of Main = part.Main

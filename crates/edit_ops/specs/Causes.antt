@@ -44,4 +44,4 @@ IsJudged document Range = ⊥
 IsJudged document Code = ⊥
 IsJudged document (Rule rule place at) = IsFirstPlace (document_rules document) rule (place, at) × ¬ (IsLimit rule)
 IsJudged document (Limit rule place at) = IsFirstPlace (document_rules document) rule (place, at) × IsLimit rule
-IsJudged document Memory = ⊥
+IsJudged document Memory = ⊤

@@ -5,7 +5,7 @@ use Rattle.prop_map.specs.Formed.{IsPropertyMap, character_groups, paragraph_gro
 use Rattle.edit_script.specs.declared.commands.Command.{Command}
 use Rattle.edit_script.specs.declared.commands.Command.TheVariants.{Insert, Erase, Char, Plain, Para, Style, Field}
 use Rattle.edit_script.specs.declared.commands.Command.TheVariants.{Note, Split, Merge, Sect, Row, StyleChar}
-use Rattle.edit_script.specs.declared.commands.Command.TheVariants.{StylePara, Save}
+use Rattle.edit_script.specs.declared.commands.Command.TheVariants.{StylePara, Bookmark, Unmark, Save}
 
 -- a character that may be put: none below U+0020 but a tab and a line break
 abbrev pub IsPutUnit : ℕ → Type 0
@@ -33,6 +33,16 @@ pub record IsPutRow (width : ℕ) (cells : List (List ℕ)) : Type 0 where
   pub texts : All (All IsPutUnit) cells
   pub units : sum_by length cells ≤ most_units
 
+-- a character that is none of control
+abbrev pub IsShownUnit : ℕ → Type 0
+IsShownUnit unit = 0x20 ≤ unit
+
+-- a name of a bookmark that may be put: 1 to 40 units, none below U+0020
+pub record IsPutName (name : List ℕ) : Type 0 where
+  pub some : 0 < length name
+  pub few : length name ≤ 40
+  pub shown : All IsShownUnit name
+
 -- the command has texts that may be put, and settings that its place may hold
 abbrev pub HasRightCodes : Command → Type 0
 HasRightCodes (Insert story at text) = IsPutText text
@@ -49,4 +59,6 @@ HasRightCodes (Sect at new set) = IsPropertyMap section_groups set
 HasRightCodes (Row story at width cells) = IsPutRow width cells
 HasRightCodes (StyleChar istd set) = IsPropertyMap character_groups set
 HasRightCodes (StylePara istd set) = IsPropertyMap paragraph_groups set
+HasRightCodes (Bookmark name from to) = IsPutName name
+HasRightCodes (Unmark name) = ⊤
 HasRightCodes (Save full) = ⊤

@@ -8,11 +8,13 @@ use Rattle.plain_doc.specs.declared.document.Document.{Document}
 use Rattle.edit_script.specs.declared.commands.Command.{Command}
 use Rattle.edit_script.specs.declared.commands.Command.TheVariants.{Insert, Erase, Char, Plain, Para, Style, Field}
 use Rattle.edit_script.specs.declared.commands.Command.TheVariants.{Note, Split, Merge, Sect, Row, StyleChar}
-use Rattle.edit_script.specs.declared.commands.Command.TheVariants.{StylePara, Save}
-use Rattle.edit_ops.specs.declared.changes.Change.{Change}
-use Rattle.edit_ops.specs.declared.changes.Change.TheVariants.{SpliceText, ModifyItems, SetSection, SpliceNotes}
-use Rattle.edit_ops.specs.declared.changes.Change.TheVariants.{SpliceHeads, SetStyleCharacters, SetStyleParagraphs}
-use Rattle.edit_ops.specs.Places.{items_at, mark_at}
+use Rattle.edit_script.specs.declared.commands.Command.TheVariants.{StylePara, Bookmark, Unmark, Save}
+use Rattle.edit_changes.specs.declared.changes.Change.{Change}
+use Rattle.edit_changes.specs.declared.changes.Change.TheVariants.{SpliceText, ModifyItems, SetSection, SpliceNotes}
+use Rattle.edit_changes.specs.declared.changes.Change.TheVariants.{SpliceHeads, SetStyleCharacters, SetStyleParagraphs}
+use Rattle.edit_changes.specs.declared.changes.Change.TheVariants.{SetBookmarks}
+use Rattle.edit_changes.specs.Places.{items_at, mark_at}
+use Rattle.edit_ops.specs.Bookmarks.{begin_of, place_before}
 use Rattle.edit_ops.specs.Edits.{changes_of}
 
 -- how many items a change adds
@@ -24,6 +26,7 @@ items_added (SpliceNotes from to fresh) = sum_by length fresh
 items_added (SpliceHeads from to fresh) = sum_by length fresh
 items_added (SetStyleCharacters istd set) = 0
 items_added (SetStyleParagraphs istd set) = 0
+items_added (SetBookmarks list) = 0
 
 -- how many items of the document it removes
 abbrev pub items_removed : Document → Change → ℕ
@@ -34,6 +37,7 @@ items_removed document (SpliceNotes from to fresh) = sum_by length (slice_range 
 items_removed document (SpliceHeads from to fresh) = sum_by length (slice_range document.heads from to)
 items_removed document (SetStyleCharacters istd set) = 0
 items_removed document (SetStyleParagraphs istd set) = 0
+items_removed document (SetBookmarks list) = 0
 
 abbrev pub style_in : Option Mark → ℕ
 style_in None = 0
@@ -59,6 +63,8 @@ kind_of (Sect at new set) = 11
 kind_of (Row story at width cells) = 12
 kind_of (StyleChar istd set) = 13
 kind_of (StylePara istd set) = 14
+kind_of (Bookmark name from to) = 15
+kind_of (Unmark name) = 16
 kind_of (Save full) = 0
 
 -- the style of the paragraph that the command begins in, before it; the style that it changes
@@ -77,6 +83,9 @@ style_of document (Sect at new set) = style_before document.main at
 style_of document (Row story at width cells) = style_before (items_at document story) at
 style_of document (StyleChar istd set) = istd
 style_of document (StylePara istd set) = istd
+style_of document (Bookmark name from to) = style_before document.main (place_before document.main from)
+style_of document (Unmark name) =
+    style_before document.main (place_before document.main (begin_of name document.bookmarks))
 style_of document (Save full) = 0
 
 -- the kind of the command, the items that its changes add and remove in all texts, and that style

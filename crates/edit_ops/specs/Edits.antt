@@ -1,25 +1,27 @@
 -- What each command does: its changes, of which there are three at most, and the document after them. All numbers are
 -- of the document before the command; the changes of one command concern different parts.
-use Rattle.std.specs.Prelude.{ℕ, ◌+◌, Bool, true, false, List, [], ◌∷◌, Some, None}
+use Rattle.std.specs.Prelude.{ℕ, ◌+◌, Bool, true, false, List, [], ◌∷◌}
 use Rattle.std.specs.Prelude.{replicate}
 use Rattle.doc_bits.specs.declared.places.Story.{Story}
 use Rattle.doc_bits.specs.declared.places.Story.TheVariants.{Main, Note as NoteText, Head as HeadText}
 use Rattle.prop_map.specs.declared.modifiers.Modifier.{Modifier}
 use Rattle.prop_map.specs.Settings.{Settings}
-use Rattle.prop_map.specs.Modifiers.{no_modifier}
+pub use Rattle.edit_changes.specs.Modifiers.{setting_characters, clearing, setting_paragraphs, naming_style}
 use Rattle.plain_doc.specs.declared.item.Item.{Item}
 use Rattle.plain_doc.specs.declared.document.Document.{Document}
 use Rattle.edit_script.specs.declared.commands.Command.{Command}
 use Rattle.edit_script.specs.declared.commands.Command.TheVariants.{Insert, Erase, Char, Plain, Para, Style, Field}
 use Rattle.edit_script.specs.declared.commands.Command.TheVariants.{Note, Split, Merge, Sect, Row, StyleChar}
-use Rattle.edit_script.specs.declared.commands.Command.TheVariants.{StylePara, Save}
-use Rattle.edit_ops.specs.declared.changes.Change.{Change}
-use Rattle.edit_ops.specs.declared.changes.Change.TheVariants.{SpliceText, ModifyItems, SetSection, SpliceNotes}
-use Rattle.edit_ops.specs.declared.changes.Change.TheVariants.{SpliceHeads, SetStyleCharacters, SetStyleParagraphs}
-use Rattle.edit_ops.specs.Places.{items_at, mark_place, section_place, note_number, head_number}
+use Rattle.edit_script.specs.declared.commands.Command.TheVariants.{StylePara, Bookmark, Unmark, Save}
+use Rattle.edit_changes.specs.declared.changes.Change.{Change}
+use Rattle.edit_changes.specs.declared.changes.Change.TheVariants.{SpliceText, ModifyItems, SetSection, SpliceNotes}
+use Rattle.edit_changes.specs.declared.changes.Change.TheVariants.{SpliceHeads, SetStyleCharacters, SetStyleParagraphs}
+use Rattle.edit_changes.specs.declared.changes.Change.TheVariants.{SetBookmarks}
+use Rattle.edit_changes.specs.Places.{items_at, mark_place, section_place, note_number, head_number}
 use Rattle.edit_ops.specs.Fresh.{base_settings, inserted_items, field_items, note_reference, note_items, split_item}
 use Rattle.edit_ops.specs.Fresh.{section_item, row_items}
-use Rattle.edit_ops.specs.Changes.{all_changed}
+use Rattle.edit_changes.specs.Changes.{all_changed}
+use Rattle.edit_ops.specs.Bookmarks.{new_bookmark, with_bookmark, without_bookmark}
 
 -- items put before a place of a text
 abbrev pub put_in : Story → ℕ → List Item → List Change
@@ -40,19 +42,6 @@ abbrev pub modified_at_mark : Document → Story → ℕ → Modifier → List C
 modified_at_mark document story at modifier =
     ModifyItems story (mark_place (items_at document story) at) (mark_place (items_at document story) at + 1) modifier
     ∷ []
-
--- the modifiers that set characters, clear them, set paragraphs, and name a style
-abbrev pub setting_characters : Settings → Modifier
-setting_characters set = record { istd = None; clear = false; chp = set; pap = no_modifier.pap }
-
-abbrev pub clearing : Modifier
-clearing = record { istd = None; clear = true; chp = no_modifier.chp; pap = no_modifier.pap }
-
-abbrev pub setting_paragraphs : Settings → Modifier
-setting_paragraphs set = record { istd = None; clear = false; chp = no_modifier.chp; pap = set }
-
-abbrev pub naming_style : ℕ → Modifier
-naming_style istd = record { istd = Some istd; clear = false; chp = no_modifier.chp; pap = no_modifier.pap }
 
 -- the settings of a section changed, or a new section before the place, with six empty header texts
 abbrev pub section_changes : List Item → ℕ → Bool → Settings → List Change
@@ -82,6 +71,9 @@ changes_of document (Sect at new set) = section_changes document.main at new set
 changes_of document (Row story at width cells) = put_in story at (row_items width cells)
 changes_of document (StyleChar istd set) = SetStyleCharacters istd set ∷ []
 changes_of document (StylePara istd set) = SetStyleParagraphs istd set ∷ []
+changes_of document (Bookmark name from to) =
+    SetBookmarks (with_bookmark (new_bookmark name from to) document.bookmarks) ∷ []
+changes_of document (Unmark name) = SetBookmarks (without_bookmark name document.bookmarks) ∷ []
 changes_of document (Save full) = []
 
 -- the document after a command; a save changes nothing

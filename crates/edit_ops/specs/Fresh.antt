@@ -11,7 +11,7 @@ use Rattle.text_codes.specs.Paragraph.{paragraph_mark, cell_mark, section_mark}
 use Rattle.plain_doc.specs.declared.item.Item.{Item}
 use Rattle.plain_doc.specs.declared.item.Mark.{Mark}
 use Rattle.plain_doc.specs.declared.item.NoteKind.TheVariants.{Auto}
-use Rattle.edit_ops.specs.Places.{mark_at, section_at}
+use Rattle.edit_changes.specs.Places.{mark_at, section_at}
 
 -- [MS-DOC] sprmCFSpec, sprmCFData and sprmCPicLocation
 abbrev pub special_codes : List ℕ

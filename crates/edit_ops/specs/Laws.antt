@@ -2,16 +2,17 @@
 use Rattle.std.specs.Prelude.{◌≡◌, ◌≤◌, length, ⊤}
 use Rattle.plain_doc.specs.declared.document.Document.{Document}
 use Rattle.plain_doc.specs.Sound.{IsSound}
+use Rattle.plain_doc.specs.Marks.{HasFormedBookmarks}
 use Rattle.edit_script.specs.declared.commands.Command.{Command}
 use Rattle.edit_ops.specs.declared.faults.EditFault.{EditFault}
 use Rattle.edit_ops.specs.declared.faults.EditFault.TheVariants.{Range, Code, Rule, Limit, Memory}
 use Rattle.edit_script.specs.declared.commands.Command.TheVariants.{Insert, Erase, Char, Plain, Para, Style, Field}
 use Rattle.edit_script.specs.declared.commands.Command.TheVariants.{Note, Split, Merge, Sect, Row, StyleChar}
-use Rattle.edit_script.specs.declared.commands.Command.TheVariants.{StylePara, Save}
-use Rattle.edit_ops.specs.Edits.{changes_of}
+use Rattle.edit_script.specs.declared.commands.Command.TheVariants.{StylePara, Bookmark, Unmark, Save}
+use Rattle.edit_ops.specs.Edits.{changes_of, document_after}
 use Rattle.edit_ops.specs.EditFacts.{edit_facts}
 use Rattle.edit_ops.specs.Causes.{CanBeTried, IsEditFault, IsAcceptedEdit}
-use Rattle.edit_ops.specs.Makes.{CanMakeAll}
+use Rattle.edit_changes.specs.Makes.{CanMakeAll}
 
 -- a fault for another cause than memory
 abbrev pub IsCause : EditFault → Type 0
@@ -37,6 +38,11 @@ abbrev pub ChangesCanBeMade : Type 0
 ChangesCanBeMade = (document : Document) (command : Command) → IsSound document → CanBeTried document command →
     CanMakeAll (changes_of document command) document
 
+-- an edit that may be tried leaves bookmarks in order and within the main text
+abbrev pub EditsKeepBookmarks : Type 0
+EditsKeepBookmarks = (document : Document) (command : Command) → HasFormedBookmarks document →
+    CanBeTried document command → HasFormedBookmarks (document_after document command)
+
 -- a command that sets codes, clears them or names a style
 abbrev pub IsFormatting : Command → Type 0
 IsFormatting (Insert story at text) = ⊥
@@ -53,6 +59,8 @@ IsFormatting (Sect at new set) = ⊥
 IsFormatting (Row story at width cells) = ⊥
 IsFormatting (StyleChar istd set) = ⊤
 IsFormatting (StylePara istd set) = ⊤
+IsFormatting (Bookmark name from to) = ⊥
+IsFormatting (Unmark name) = ⊥
 IsFormatting (Save full) = ⊥
 
 -- by its facts no item comes and none goes

@@ -1,11 +1,9 @@
-pub mod Places
 pub mod Fresh
-pub mod Changes
+pub mod Bookmarks
 pub mod Edits
 pub mod Ranges
 pub mod Codes
 pub mod Causes
 pub mod EditFacts
-pub mod Makes
 pub mod Laws
 pub mod Runs

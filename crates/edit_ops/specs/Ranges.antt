@@ -1,5 +1,5 @@
 -- Which places of a document a command may name.
-use Rattle.std.specs.Prelude.{◌≡◌, ◌⊎◌, ℕ, ◌-◌, ◌<◌, ◌≤◌, List, Some, length, slice_get, IsSome, MatchOption, ⊤}
+use Rattle.std.specs.Prelude.{◌≡◌, ◌⊎◌, ℕ, ◌-◌, ◌<◌, ◌≤◌, List, Some, length, slice_get, IsSome, ⊤}
 use Rattle.std.specs.Option.{option_and_then}
 use Rattle.doc_bits.specs.declared.places.Story.{Story}
 use Rattle.doc_bits.specs.declared.places.Story.TheVariants.{Main, Note as NoteText, Head as HeadText}
@@ -10,12 +10,10 @@ use Rattle.plain_doc.specs.declared.document.Document.{Document}
 use Rattle.edit_script.specs.declared.commands.Command.{Command}
 use Rattle.edit_script.specs.declared.commands.Command.TheVariants.{Insert, Erase, Char, Plain, Para, Style, Field}
 use Rattle.edit_script.specs.declared.commands.Command.TheVariants.{Note, Split, Merge, Sect, Row, StyleChar}
-use Rattle.edit_script.specs.declared.commands.Command.TheVariants.{StylePara, Save}
-use Rattle.edit_ops.specs.Places.{text_at, mark_unit}
-
--- the text is there, and it is such
-abbrev pub HasText : Document → Story → (List Item → Type 0) → Type 0
-HasText document story such = MatchOption (text_at document story) ⊥ such
+use Rattle.edit_script.specs.declared.commands.Command.TheVariants.{StylePara, Bookmark, Unmark, Save}
+pub use Rattle.edit_changes.specs.Places.{HasText, HasRange}
+use Rattle.edit_changes.specs.Places.{mark_unit}
+use Rattle.edit_ops.specs.Bookmarks.{bookmark_named}
 
 -- the place is that of an item
 abbrev pub HasPlace : ℕ → List Item → Type 0
@@ -26,10 +24,6 @@ abbrev pub TakesText : Story → ℕ → List Item → Type 0
 TakesText Main at text = at < length text
 TakesText (NoteText number) at text = at < length text
 TakesText (HeadText number) at text = (at < length text) ⊎ ((at ≡ 0) × (length text ≡ 0))
-
--- there is an item at the range's begin, and its end is no further than the text's
-abbrev pub HasRange : ℕ → ℕ → List Item → Type 0
-HasRange from to text = (from < to) × (to ≤ length text)
 
 -- the paragraph that holds the place ends with a paragraph mark
 abbrev pub EndsWithMark : ℕ → List Item → Type 0
@@ -56,4 +50,6 @@ IsInRange document (Sect at new set) = HasPlace at document.main
 IsInRange document (Row story at width cells) = HasText document story (BeginsParagraph at)
 IsInRange document (StyleChar istd set) = 0 < kind_at document.sheet istd
 IsInRange document (StylePara istd set) = kind_at document.sheet istd ≡ 1
+IsInRange document (Bookmark name from to) = (from ≤ to) × (to ≤ length document.main)
+IsInRange document (Unmark name) = IsSome (bookmark_named name document.bookmarks)
 IsInRange document (Save full) = ⊤

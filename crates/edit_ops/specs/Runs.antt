@@ -8,10 +8,11 @@ use Rattle.plain_doc.specs.Settings.{is_alike}
 use Rattle.edit_script.specs.declared.commands.Command.{Command}
 use Rattle.edit_script.specs.declared.commands.Command.TheVariants.{Insert, Erase, Char, Plain, Para, Style, Field}
 use Rattle.edit_script.specs.declared.commands.Command.TheVariants.{Note, Split, Merge, Sect, Row, StyleChar}
-use Rattle.edit_script.specs.declared.commands.Command.TheVariants.{StylePara, Save}
-use Rattle.edit_ops.specs.declared.changes.Change.{Change}
-use Rattle.edit_ops.specs.declared.changes.Change.TheVariants.{SpliceText, ModifyItems, SetSection, SpliceNotes}
-use Rattle.edit_ops.specs.declared.changes.Change.TheVariants.{SpliceHeads, SetStyleCharacters, SetStyleParagraphs}
+use Rattle.edit_script.specs.declared.commands.Command.TheVariants.{StylePara, Bookmark, Unmark, Save}
+use Rattle.edit_changes.specs.declared.changes.Change.{Change}
+use Rattle.edit_changes.specs.declared.changes.Change.TheVariants.{SpliceText, ModifyItems, SetSection, SpliceNotes}
+use Rattle.edit_changes.specs.declared.changes.Change.TheVariants.{SpliceHeads, SetStyleCharacters, SetStyleParagraphs}
+use Rattle.edit_changes.specs.declared.changes.Change.TheVariants.{SetBookmarks}
 use Rattle.edit_ops.specs.Edits.{changes_of}
 
 -- the paragraphs that end in a text
@@ -31,6 +32,7 @@ texts_put (SpliceNotes from to fresh) = fresh
 texts_put (SpliceHeads from to fresh) = fresh
 texts_put (SetStyleCharacters istd set) = []
 texts_put (SetStyleParagraphs istd set) = []
+texts_put (SetBookmarks list) = []
 
 -- the runs of what a command puts
 abbrev pub runs_put : Document → Command → ℕ
@@ -56,6 +58,8 @@ most_runs (Sect at new set) = most_runs_of_section new
 most_runs (Row story at width cells) = length cells + 2
 most_runs (StyleChar istd set) = 0
 most_runs (StylePara istd set) = 0
+most_runs (Bookmark name from to) = 0
+most_runs (Unmark name) = 0
 most_runs (Save full) = 0
 
 -- no command puts more runs than are reckoned for it

@@ -1,26 +1,25 @@
-// Edits tried and made. A copy is changed, judged and put in place.
+// Edits tried and made. A copy is changed, run by run, and judged.
 ghost use Rattle.std.specs.Prelude.{◌≡◌, Err, IfErr, IfOk, IsOk, OnOk, MatchResult};
 ghost use Rattle.plain_doc.specs.Sound.{IsSound};
 ghost use Rattle.edit_ops.specs.Causes.{CanBeTried, IsAcceptedEdit, IsEditFault};
-ghost use Rattle.edit_ops.specs.Changes.{all_changed};
 ghost use Rattle.edit_ops.specs.EditFacts.{edit_facts};
-ghost use Rattle.edit_ops.specs.Edits.{document_after};
-ghost use Rattle.edit_ops.specs.Makes.{CanMakeAll};
+ghost use Rattle.edit_ops.specs.Edits.{changes_of as changes_by, document_after};
 
 use crate::facts::facts_of;
 use crate::judging::judged;
-use crate::making::make_all;
 use crate::planning::changes_of;
 use crate::{Changes, Command, EditFault, Facts, has_right_codes, is_in_range};
 use doc_bits::Memory;
+use doc_columns::ColumnDocument;
+use edit_changes::make_all;
 use plain_doc::Document;
 use std::alloc::Global;
-use std::mem;
 
-/// An edit that is accepted: the document after it, and what it does.
+/// An edit that is accepted: its changes, the document after them, and what they do.
 #[derive(Drop)]
 pub struct Edit {
-    pub document: Document,
+    pub changes: Changes,
+    pub document: ColumnDocument,
     pub facts: Facts,
 }
 
@@ -31,7 +30,8 @@ pub fn test(alloc: Global, document: &Document, command: &Command) -> Result<Fac
         (λ facts. IsAcceptedEdit document.now command.now × (facts ≡ edit_facts document.now command.now))
         (IsEditFault document.now command.now) }
 {
-    let edit = edit_of(alloc, document, command)?;
+    let columns = ColumnDocument::from_document(alloc, document)?;
+    let edit = edit_of(alloc, &columns, command)?;
     let facts = edit.facts;
     drop(edit);
     Ok(facts)
@@ -50,18 +50,36 @@ pub fn apply_plain(
         (λ fault. (document.new ≡ document.old) × IsEditFault document.old command.now fault) }
     ensures sound { IsSound document.new }
 {
-    let edit = edit_of(alloc, document, command)?;
-    drop(mem::replace(document, edit.document));
+    *document = edited(alloc, document, command)?;
     Ok(())
 }
 
-/// The edit of a command: the document after it and what it does, or why it is refused. The document stays as it is.
-pub fn edit_of(alloc: Global, document: &Document, command: &Command) -> Result<Edit, EditFault>
+/// The document after an edit, item by item, or why it is refused. The document stays as it is.
+fn edited(alloc: Global, document: &Document, command: &Command) -> Result<Document, EditFault>
+    requires { IsSound document.now }
+    ensures { MatchResult result
+        (λ made. IsAcceptedEdit document.now command.now × (made ≡ document_after document.now command.now))
+        (IsEditFault document.now command.now) }
+{
+    let columns = ColumnDocument::from_document(alloc, document)?;
+    let edit = edit_of(alloc, &columns, command)?;
+    let made = edit.document.expand(alloc)?;
+    Ok(made)
+}
+
+/// The edit of a command: its changes, the document after it and what it does, or why it is refused. The document stays
+/// as it is.
+pub fn edit_of(
+    alloc: Global,
+    document: &ColumnDocument,
+    command: &Command,
+) -> Result<Edit, EditFault>
     requires { IsSound document.now }
     ensures { MatchResult result
         (λ edit. IsAcceptedEdit document.now command.now
+        × ((edit.changes ≡ changes_by document.now command.now)
         × ((edit.document ≡ document_after document.now command.now)
-        × (edit.facts ≡ edit_facts document.now command.now)))
+        × (edit.facts ≡ edit_facts document.now command.now))))
         (IsEditFault document.now command.now) }
 {
     if !is_in_range(document, command) {
@@ -70,8 +88,8 @@ pub fn edit_of(alloc: Global, document: &Document, command: &Command) -> Result<
     if !has_right_codes(command) {
         return Err(EditFault::Code);
     }
-    let edit = changed(alloc, document, command)?;
-    let verdict = judged(&edit.document);
+    let edit = planned(alloc, document, command)?;
+    let verdict = judged(alloc, &edit.document);
     where_right(edit, verdict)
 }
 
@@ -88,27 +106,20 @@ fn where_right<T: Drop, E: Drop>(made: T, verdict: Result<(), E>) -> Result<T, E
 }
 
 /// The edit of a command, before the document after it is judged.
-fn changed(alloc: Global, document: &Document, command: &Command) -> Result<Edit, Memory>
+fn planned(alloc: Global, document: &ColumnDocument, command: &Command) -> Result<Edit, Memory>
     requires sound { IsSound document.now }
     requires tried { CanBeTried document.now command.now }
+    ensures changes { IfOk result (λ edit. edit.changes ≡ changes_by document.now command.now) }
     ensures document { IfOk result (λ edit. edit.document ≡ document_after document.now command.now) }
     ensures facts { IfOk result (λ edit. edit.facts ≡ edit_facts document.now command.now) }
 {
     let changes = changes_of(alloc, document, command)?;
     let facts = facts_of(document, command, &changes);
-    let made = with_changes(alloc, document, changes)?;
+    let copy = document.copy(alloc)?;
+    let made = make_all(alloc, copy, &changes)?;
     Ok(Edit {
+        changes,
         document: made,
         facts,
     })
-}
-
-/// A copy of the document, with the changes made.
-fn with_changes(alloc: Global, document: &Document, changes: Changes) -> Result<Document, Memory>
-    requires { CanMakeAll changes document.now }
-    ensures { IfOk result (λ made. made ≡ all_changed changes document.now) }
-{
-    let mut made = document.copy(alloc)?;
-    let verdict = make_all(alloc, &mut made, changes);
-    where_right(made, verdict)
 }

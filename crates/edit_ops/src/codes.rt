@@ -1,7 +1,8 @@
 // Which texts, settings and rows a command may have. No call takes memory.
 ghost use Rattle.std.specs.Prelude.{◌+◌, ◌↔◌, ◌≤◌, IsTrue, All, length};
 ghost use Rattle.std.specs.List.{sum_by};
-ghost use Rattle.edit_ops.specs.Codes.{HasRightCodes, IsPutUnit, IsPutText, IsPutField, IsPutRow, most_units};
+ghost use Rattle.edit_ops.specs.Codes.{HasRightCodes, IsPutUnit, IsPutText, IsPutField, IsPutRow, IsPutName};
+ghost use Rattle.edit_ops.specs.Codes.{most_units, IsShownUnit};
 
 use crate::{Cells, Command};
 use prop_map::{CHARACTER_GROUPS, PARAGRAPH_GROUPS, SECTION_GROUPS};
@@ -14,6 +15,12 @@ const MOST_CELLS: usize = 63;
 
 /// Where the last cell of a row ends at most, in twips.
 const MOST_TWIPS: usize = 32_767;
+
+/// The most units of the name of a bookmark.
+const MOST_NAME_UNITS: usize = 40;
+
+/// The first character that is no control character.
+const SPACE: u16 = 0x20;
 
 const TAB: u16 = 0x09;
 
@@ -33,11 +40,13 @@ pub fn has_right_codes(command: &Command) -> bool
         Command::Row(_, _, width, cells) => is_put_row(*width, cells),
         Command::StyleChar(_, set) => set.is_held(CHARACTER_GROUPS),
         Command::StylePara(_, set) => set.is_held(PARAGRAPH_GROUPS),
+        Command::Bookmark(name, _, _) => is_put_name(name.as_slice()),
         Command::Erase(_, _, _) => true,
         Command::Plain(_, _, _) => true,
         Command::Style(_, _, _) => true,
         Command::Split(_, _) => true,
         Command::Merge(_, _) => true,
+        Command::Unmark(_) => true,
         Command::Save(_) => true,
     }
 }
@@ -47,6 +56,32 @@ fn is_put_text(text: &[u16]) -> bool
     ensures { IsTrue result ↔ IsPutText text.now }
 {
     text.len() <= MOST_UNITS && are_put_units(text)
+}
+
+/// Whether a bookmark may have this name.
+fn is_put_name(name: &[u16]) -> bool
+    ensures { IsTrue result ↔ IsPutName name.now }
+{
+    name.len() > 0 && name.len() <= MOST_NAME_UNITS && are_shown_units(name)
+}
+
+/// Whether no unit is a control character.
+fn are_shown_units(units: &[u16]) -> bool
+    ensures { IsTrue result ↔ All IsShownUnit units.now }
+{
+    for unit in units {
+        if !is_shown_unit(*unit) {
+            return false;
+        }
+    }
+    true
+}
+
+/// Whether the unit is no control character.
+fn is_shown_unit(unit: u16) -> bool
+    ensures { IsTrue result ↔ IsShownUnit unit }
+{
+    unit >= SPACE
 }
 
 /// Whether the texts of a field may be put.
@@ -107,5 +142,5 @@ fn are_put_units(units: &[u16]) -> bool
 fn is_put_unit(unit: u16) -> bool
     ensures { IsTrue result ↔ IsPutUnit unit }
 {
-    unit >= 0x20 || unit == TAB || unit == LINE_BREAK
+    is_shown_unit(unit) || unit == TAB || unit == LINE_BREAK
 }

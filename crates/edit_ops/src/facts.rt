@@ -2,20 +2,23 @@
 ghost use Rattle.std.specs.Prelude.{◌≡◌, ◌^◌, ◌<◌, ◌≤◌, length, slice_range};
 ghost use Rattle.std.specs.List.{All, sum_by};
 ghost use Rattle.plain_doc.specs.Sound.{IsSound};
-ghost use Rattle.edit_ops.specs.Places.{items_at as items_there};
+ghost use Rattle.edit_changes.specs.Places.{items_at as items_there};
 ghost use Rattle.edit_ops.specs.Causes.{CanBeTried};
 ghost use Rattle.edit_ops.specs.Edits.{changes_of};
 ghost use Rattle.edit_ops.specs.EditFacts.{edit_facts, items_added, items_removed, kind_of as kind_number};
 ghost use Rattle.edit_ops.specs.EditFacts.{style_of as style_number, style_before as style_there};
-ghost use Rattle.edit_ops.specs.Makes.{CanRemove};
+ghost use Rattle.edit_ops.specs.Bookmarks.{place_before as place_there};
+ghost use Rattle.edit_changes.specs.Makes.{CanRemove};
 
-use crate::places::{items_at, mark_at};
+use crate::bookmarks::begin_of;
 use crate::{Change, Changes, Command, Facts};
 use doc_bits::Story;
-use plain_doc::{Document, Item, Texts};
+use doc_columns::{ColumnDocument, ColumnTexts, Columns};
+use edit_changes::{find_text, mark_at};
+use std::cmp::min;
 
 /// What an edit of these changes does, where it may be tried.
-pub(crate) fn facts_of(document: &Document, command: &Command, changes: &Changes) -> Facts
+pub(crate) fn facts_of(document: &ColumnDocument, command: &Command, changes: &Changes) -> Facts
     requires sound { IsSound document.now }
     requires tried { CanBeTried document.now command.now }
     requires changes { changes.now ≡ changes_of document.now command.now }
@@ -48,12 +51,14 @@ fn kind_of(command: &Command) -> u8
         Command::Row(_, _, _, _) => 12,
         Command::StyleChar(_, _) => 13,
         Command::StylePara(_, _) => 14,
+        Command::Bookmark(_, _, _) => 15,
+        Command::Unmark(_) => 16,
         Command::Save(_) => 0,
     }
 }
 
 /// The style of the paragraph that a command begins in, or the style that it changes.
-fn style_of(document: &Document, command: &Command) -> u16
+fn style_of(document: &ColumnDocument, command: &Command) -> u16
     ensures { result ≡ style_number document.now command.now }
 {
     match command {
@@ -71,19 +76,35 @@ fn style_of(document: &Document, command: &Command) -> u16
         Command::Row(story, at, _, _) => style_at(document, *story, *at),
         Command::StyleChar(istd, _) => *istd,
         Command::StylePara(istd, _) => *istd,
+        Command::Bookmark(_, from, _) => style_of_bookmark(&document.main, *from),
+        Command::Unmark(name) => {
+            let from = begin_of(&document.bookmarks, name.as_slice());
+            style_of_bookmark(&document.main, from)
+        }
         Command::Save(_) => 0,
     }
 }
 
 /// The style of the paragraph that holds the place of the text; 0 where there is none.
-fn style_at(document: &Document, story: Story, at: u32) -> u16
+fn style_at(document: &ColumnDocument, story: Story, at: u32) -> u16
     ensures { result ≡ style_there (items_there document.now story) at }
 {
-    style_before(items_at(document, story), at as usize)
+    match find_text(document, story) {
+        None => 0,
+        Some(text) => style_before(text, at as usize),
+    }
+}
+
+/// The style of the paragraph that holds a bookmark's begin: the last one, where it begins at the end.
+fn style_of_bookmark(main: &Columns, from: u32) -> u16
+    ensures { result ≡ style_there main.now (place_there main.now from) }
+{
+    let place = min(from as usize, main.len().saturating_sub(1));
+    style_before(main, place)
 }
 
 /// The style of the paragraph that holds the place; 0 where there is none.
-fn style_before(text: &[Item], at: usize) -> u16
+fn style_before(text: &Columns, at: usize) -> u16
     ensures { result ≡ style_there text.now at }
 {
     if at > text.len() {
@@ -120,11 +141,12 @@ fn added(change: &Change) -> u32
         Change::SetSection(_, _) => 0,
         Change::SetStyleCharacters(_, _) => 0,
         Change::SetStyleParagraphs(_, _) => 0,
+        Change::SetBookmarks(_) => 0,
     }
 }
 
 /// How many items of the document the changes remove.
-fn all_removed(document: &Document, changes: &Changes) -> u32
+fn all_removed(document: &ColumnDocument, changes: &Changes) -> u32
     requires few { sum_by (items_removed document.now) changes.now < 2 ^ 32 }
     requires there { All (CanRemove document.now) changes.now }
     ensures { result ≡ sum_by (items_removed document.now) changes.now }
@@ -137,7 +159,7 @@ fn all_removed(document: &Document, changes: &Changes) -> u32
 }
 
 /// How many items of the document a change removes.
-fn removed(document: &Document, change: &Change) -> u32
+fn removed(document: &ColumnDocument, change: &Change) -> u32
     requires few { items_removed document.now change.now < 2 ^ 32 }
     requires there { CanRemove document.now change.now }
     ensures { result ≡ items_removed document.now change.now }
@@ -150,11 +172,12 @@ fn removed(document: &Document, change: &Change) -> u32
         Change::SetSection(_, _) => 0,
         Change::SetStyleCharacters(_, _) => 0,
         Change::SetStyleParagraphs(_, _) => 0,
+        Change::SetBookmarks(_) => 0,
     }
 }
 
 /// How many items the texts of a range have.
-fn items_in(texts: &Texts, from: usize, to: usize) -> u32
+fn items_in(texts: &ColumnTexts, from: usize, to: usize) -> u32
     requires ordered { from ≤ to }
     requires within { to ≤ length texts.now }
     requires few { sum_by length (slice_range texts.now from to) < 2 ^ 32 }

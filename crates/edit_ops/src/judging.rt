@@ -1,11 +1,14 @@
 // A changed document judged.
 ghost use Rattle.std.specs.Prelude.{◌↔◌, IsTrue, MatchResult};
 ghost use Rattle.plain_doc.specs.declared.document.Document.{Document};
+ghost use Rattle.plain_doc.specs.Marks.{HasFormedBookmarks};
 ghost use Rattle.plain_doc.specs.Sound.{IsSound, NamesFirstRule, document_rules};
 ghost use Rattle.edit_ops.specs.Causes.{IsLimit, IsJudged};
 
 use crate::EditFault;
+use doc_columns::{ColumnDocument, is_sound};
 use plain_doc::{DocFault, Document, check};
+use std::alloc::Global;
 
 const RULE_ITEMS: u8 = 68;
 
@@ -13,8 +16,21 @@ const RULE_SETTINGS: u8 = 70;
 
 const RULE_STD: u8 = 71;
 
-/// Judges a changed document.
-pub(crate) fn judged(document: &Document) -> Result<(), EditFault>
+/// Judges a changed document. Where its columns do not tell, its items are put one by one.
+pub(crate) fn judged(alloc: Global, document: &ColumnDocument) -> Result<(), EditFault>
+    requires { HasFormedBookmarks document.now }
+    ensures { MatchResult result (λ _. IsSound document.now) (IsJudged document.now) }
+{
+    if is_sound(alloc, document)? {
+        return Ok(());
+    }
+    let items = document.expand(alloc)?;
+    judged_by_items(&items)
+}
+
+/// Judges a changed document item by item.
+fn judged_by_items(document: &Document) -> Result<(), EditFault>
+    requires { HasFormedBookmarks document.now }
     ensures { MatchResult result (λ _. IsSound document.now) (IsJudged document.now) }
 {
     match check(document) {

@@ -1,18 +1,19 @@
 // Which places of a document a command may name. No call takes memory.
-ghost use Rattle.std.specs.Prelude.{◌≡◌, ◌<◌, ◌↔◌, IsTrue, None, Some};
+ghost use Rattle.std.specs.Prelude.{◌≡◌, ◌<◌, ◌↔◌, IsTrue};
 ghost use Rattle.style_sheet.specs.Chain.{kind_at};
 ghost use Rattle.edit_ops.specs.Ranges.{IsInRange, TakesText, HasPlace, HasRange};
 ghost use Rattle.edit_ops.specs.Ranges.{EndsWithMark, BeginsParagraph, HasText};
 
 use crate::Command;
-use crate::places::{mark_place, text_of};
+use crate::bookmarks::has_bookmark;
 use doc_bits::Story;
-use plain_doc::{Document, Item};
+use doc_columns::{ColumnDocument, Columns};
+use edit_changes::{find_text, has_mark, mark_place};
 use style_sheet::{Kind, StyleSheet};
 use text_codes::PARAGRAPH_MARK;
 
 /// Whether the places that a command names are there.
-pub fn is_in_range(document: &Document, command: &Command) -> bool
+pub fn is_in_range(document: &ColumnDocument, command: &Command) -> bool
     ensures { IsTrue result ↔ IsInRange document.now command.now }
 {
     match command {
@@ -30,92 +31,94 @@ pub fn is_in_range(document: &Document, command: &Command) -> bool
         Command::Row(story, at, _, _) => begins_paragraph(document, *story, *at),
         Command::StyleChar(istd, _) => kind_of(&document.sheet, *istd) > 0,
         Command::StylePara(istd, _) => kind_of(&document.sheet, *istd) == 1,
+        Command::Bookmark(_, from, to) => from <= to && *to as usize <= document.main.len(),
+        Command::Unmark(name) => has_bookmark(&document.bookmarks, name.as_slice()),
         Command::Save(_) => true,
     }
 }
 
 /// Whether items may be put before the place of the text.
-fn takes_text(document: &Document, story: Story, at: u32) -> bool
+fn takes_text(document: &ColumnDocument, story: Story, at: u32) -> bool
     ensures { IsTrue result ↔ HasText document.now story (TakesText story at) }
 {
-    match text_of(document, story) {
+    match find_text(document, story) {
         None => false,
-        Some(text) => takes_units(story, at as usize, text.as_slice()),
+        Some(text) => takes_units(story, at as usize, text),
     }
 }
 
 /// Whether items may be put before the place.
-fn takes_units(story: Story, at: usize, text: &[Item]) -> bool
+fn takes_units(story: Story, at: usize, text: &Columns) -> bool
     ensures { IsTrue result ↔ TakesText story at text.now }
 {
     match story {
         Story::Main => at < text.len(),
         Story::Note(_) => at < text.len(),
-        Story::Head(_) => at < text.len() || (at == 0 && text.is_empty()),
+        Story::Head(_) => at < text.len() || (at == 0 && text.len() == 0),
     }
 }
 
 /// Whether the text has an item at the place.
-fn has_place(document: &Document, story: Story, at: u32) -> bool
+fn has_place(document: &ColumnDocument, story: Story, at: u32) -> bool
     ensures { IsTrue result ↔ HasText document.now story (HasPlace at) }
 {
-    match text_of(document, story) {
+    match find_text(document, story) {
         None => false,
         Some(text) => (at as usize) < text.len(),
     }
 }
 
 /// Whether the text has the range.
-fn has_range(document: &Document, story: Story, from: u32, to: u32) -> bool
+fn has_range(document: &ColumnDocument, story: Story, from: u32, to: u32) -> bool
     ensures { IsTrue result ↔ HasText document.now story (HasRange from to) }
 {
-    match text_of(document, story) {
+    match find_text(document, story) {
         None => false,
         Some(text) => from < to && to as usize <= text.len(),
     }
 }
 
 /// Whether the paragraph that holds the place ends with a paragraph mark.
-fn ends_with_mark(document: &Document, story: Story, at: u32) -> bool
+fn ends_with_mark(document: &ColumnDocument, story: Story, at: u32) -> bool
     ensures { IsTrue result ↔ HasText document.now story (EndsWithMark at) }
 {
-    match text_of(document, story) {
+    match find_text(document, story) {
         None => false,
-        Some(text) => has_mark_at(text.as_slice(), at as usize),
+        Some(text) => has_mark_at(text, at as usize),
     }
 }
 
 /// The same of a text.
-fn has_mark_at(text: &[Item], at: usize) -> bool
+fn has_mark_at(text: &Columns, at: usize) -> bool
     ensures { IsTrue result ↔ EndsWithMark at text.now }
 {
     if at >= text.len() {
         return false;
     }
-    match text.get(mark_place(text, at)) {
+    match text.units().get(mark_place(text, at)) {
         None => false,
-        Some(item) => item.unit == PARAGRAPH_MARK,
+        Some(unit) => *unit == PARAGRAPH_MARK,
     }
 }
 
 /// Whether a paragraph begins at the place of the text.
-fn begins_paragraph(document: &Document, story: Story, at: u32) -> bool
+fn begins_paragraph(document: &ColumnDocument, story: Story, at: u32) -> bool
     ensures { IsTrue result ↔ HasText document.now story (BeginsParagraph at) }
 {
-    match text_of(document, story) {
+    match find_text(document, story) {
         None => false,
-        Some(text) => begins_at(text.as_slice(), at as usize),
+        Some(text) => begins_at(text, at as usize),
     }
 }
 
 /// The same of a text.
-fn begins_at(text: &[Item], at: usize) -> bool
+fn begins_at(text: &Columns, at: usize) -> bool
     ensures { IsTrue result ↔ BeginsParagraph at text.now }
 {
     if at >= text.len() {
         return false;
     }
-    at == 0 || text[at - 1].mark.is_some()
+    at == 0 || has_mark(text, at - 1)
 }
 
 /// The number of the kind of a style: 1 of paragraphs, 2 of characters, 0 of another kind or no style.

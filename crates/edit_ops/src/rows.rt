@@ -9,9 +9,10 @@ ghost use Rattle.edit_ops.specs.Fresh.{row_definition as definition_of, row_item
 ghost use Rattle.edit_ops.specs.Fresh.{mark_item as marked_item, mark_with};
 
 use crate::Cells;
-use crate::fresh::{add_units, mark_item};
+use crate::fresh::mark_item;
 use doc_bits::{Bytes, Memory};
-use plain_doc::{Item, Items, Mark};
+use doc_columns::Columns;
+use plain_doc::{Item, Mark};
 use prop_map::PropMap;
 use sprm_table::Code;
 use std::alloc::Global;
@@ -33,7 +34,7 @@ const TC_LEN: usize = 20;
 const MOST_TC_BYTES: usize = 1260;
 
 /// The settings of a paragraph in a table.
-pub fn cell_settings(alloc: Global) -> Result<PropMap, Memory>
+fn cell_settings(alloc: Global) -> Result<PropMap, Memory>
     ensures map { IfOk result (λ made. made ≡ settings_of_cells) }
     ensures formed { IfOk result (IsPropertyMap paragraph_groups) }
 {
@@ -67,7 +68,7 @@ fn push_zeros(bytes: &mut Bytes, count: usize) -> Result<(), Memory>
 }
 
 /// The settings of the mark of a row.
-pub fn row_settings(alloc: Global, cells: u8, width: u16) -> Result<PropMap, Memory>
+fn row_settings(alloc: Global, cells: u8, width: u16) -> Result<PropMap, Memory>
     requires cells { cells ≤ 63 }
     requires within { cells * width ≤ 32767 }
     ensures map { IfOk result (λ made. made ≡ settings_of_row cells width) }
@@ -82,7 +83,7 @@ pub fn row_settings(alloc: Global, cells: u8, width: u16) -> Result<PropMap, Mem
 }
 
 /// The mark that ends a cell or a row, with these settings.
-pub fn table_mark(alloc: Global, pap: PropMap) -> Result<Item, Memory>
+fn table_mark(alloc: Global, pap: PropMap) -> Result<Item, Memory>
     requires { IsPropertyMap paragraph_groups pap }
     ensures item { IfOk result (λ made. made ≡ marked_item empty 0x07 (mark_with pap)) }
     ensures maps { IfOk result HasPropertyMaps }
@@ -92,29 +93,38 @@ pub fn table_mark(alloc: Global, pap: PropMap) -> Result<Item, Memory>
     Ok(item)
 }
 
-/// Puts the text of a cell and its mark last.
-fn add_cell(alloc: Global, items: &mut Items, units: &[u16]) -> Result<(), Memory>
-    requires { length items.old + length units.now + 1 < 2 ^ 32 }
-    ensures { OnOk result (items.new ≡ items.old ++ items_in units.now) }
+/// A text with the items of a cell more: its units, and its mark, which has these settings.
+fn add_cell(
+    alloc: Global,
+    items: Columns,
+    units: &[u16],
+    settings: &PropMap,
+) -> Result<Columns, Memory>
+    requires few { length items + length units.now + 1 < 2 ^ 32 }
+    requires settings { settings.now ≡ settings_of_cells }
+    requires formed { IsPropertyMap paragraph_groups settings.now }
+    ensures { IfOk result (λ made. made ≡ items ++ items_in units.now) }
 {
     let none = PropMap::new(alloc);
-    add_units(alloc, items, &none, units)?;
-    let mark = table_mark(alloc, cell_settings(alloc)?)?;
-    items.add(mark)?;
-    Ok(())
+    let shown = items.add_units(units, none)?;
+    let pap = settings.copy(alloc)?;
+    let mark = table_mark(alloc, pap)?;
+    let made = shown.add(mark)?;
+    Ok(made)
 }
 
 /// A row of cells with these texts.
-pub(crate) fn row_items(alloc: Global, width: u16, cells: &Cells) -> Result<Items, Memory>
+pub(crate) fn row_items(alloc: Global, width: u16, cells: &Cells) -> Result<Columns, Memory>
     requires { IsPutRow width cells.now }
     ensures { IfOk result (λ made. made ≡ items_of width cells.now) }
 {
-    let mut items = Items::new(alloc);
+    let settings = cell_settings(alloc)?;
+    let mut items = Columns::new(alloc);
     for i in 0..cells.len() {
-        add_cell(alloc, &mut items, cells.get(i).as_slice())?;
+        items = add_cell(alloc, items, cells.get(i).as_slice(), &settings)?;
     }
-    let settings = row_settings(alloc, cells.len() as u8, width)?;
-    let mark = table_mark(alloc, settings)?;
-    items.add(mark)?;
-    Ok(items)
+    let last = row_settings(alloc, cells.len() as u8, width)?;
+    let mark = table_mark(alloc, last)?;
+    let made = items.add(mark)?;
+    Ok(made)
 }

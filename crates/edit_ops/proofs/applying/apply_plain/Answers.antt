@@ -1,8 +1,8 @@
-use Rattle.std.proofs.Common.{◌∙◌, sym, subst}
+use Rattle.std.proofs.Common.{sym, subst}
 use Rattle.plain_doc.specs.Sound.{IsSound}
 use Rattle.edit_ops.proofs.applying.apply_plain.Goals as goal
 
 pub returns-clause-sound : goal.returns-clause-sound
 returns-clause-sound c =
-    let edit = c.in_ok-edit.ensures in
-    subst IsSound (sym (c.replace.ensures.after ∙ edit.1.0)) edit.0.sound
+    let edit = c.in_ok-document.ensures in
+    subst IsSound (sym edit.1) edit.0.sound

@@ -1,14 +1,22 @@
-use Rattle.std.proofs.Common.{refl}
+use Rattle.std.proofs.Common.{refl, subst, sym}
+use Rattle.plain_doc.specs.declared.document.Document.{Document}
+use Rattle.plain_doc.specs.Marks.{HasFormedBookmarks}
 use Rattle.edit_ops.specs.Causes.{CanBeTried}
 use Rattle.edit_ops.proofs.JudgeLemmas.{outcome}
+use Rattle.edit_ops.proofs.KeepLemmas.{keeps_bookmarks}
 use Rattle.edit_ops.proofs.applying.edit_of.Goals as goal
+
+pub judged-verdict-requires : goal.judged-verdict-requires
+judged-verdict-requires c =
+    let tried : CanBeTried c.args.document.now c.args.command.now =
+    record { range = c.if-not-is_in_range.ensures.0 refl; codes = c.if-not-has_right_codes.ensures.0 refl } in
+    subst (λ (d : Document). HasFormedBookmarks d) (sym c.in_ok-edit.ensures.document)
+    (keeps_bookmarks c.args.document.now c.args.command.now c.requires.bookmarks tried)
 
 pub returns : goal.returns
 returns c =
-    let tried : CanBeTried c.args.document.now c.args.command.now = record {
-      range = c.if-not-is_in_range.ensures.0
-          refl;
-      codes = c.if-not-has_right_codes.ensures.0 refl;
-    } in
+    let tried : CanBeTried c.args.document.now c.args.command.now =
+    record { range = c.if-not-is_in_range.ensures.0 refl; codes = c.if-not-has_right_codes.ensures.0 refl } in
     outcome c.args.document.now c.args.command.now c.in_ok-edit.edit c.judged-verdict.result c.where_right.result tried
-    c.in_ok-edit.ensures.document c.in_ok-edit.ensures.facts c.judged-verdict.ensures c.where_right.ensures
+    c.in_ok-edit.ensures.changes c.in_ok-edit.ensures.document c.in_ok-edit.ensures.facts c.judged-verdict.ensures
+    c.where_right.ensures

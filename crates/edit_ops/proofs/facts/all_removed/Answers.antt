@@ -1,7 +1,7 @@
 use Rattle.std.proofs.Common.{arith}
 use Rattle.doc_bits.proofs.ListLemmas.{All_at}
 use Rattle.edit_ops.specs.EditFacts.{items_removed}
-use Rattle.edit_ops.specs.Makes.{CanRemove}
+use Rattle.edit_changes.specs.Makes.{CanRemove}
 use Rattle.edit_ops.proofs.SumLemmas.{sum_more, sum_within}
 use Rattle.edit_ops.proofs.facts.all_removed.Goals as goal
 

@@ -1,21 +1,23 @@
-use Rattle.std.proofs.Common.{◌≡◌, refl, sym, subst, length, Some}
-use Rattle.std.specs.Prelude.{slice_get, IfOk}
-use Rattle.std.proofs.lemmas.Bool.{ltb-true}
-use Rattle.std.proofs.lemmas.Option.{slice_get_read}
+use Rattle.std.proofs.Common.{◌≡◌, ◌∙◌, Some, None, sym, subst}
+use Rattle.std.specs.Prelude.{IfOk}
+use Rattle.prop_map.specs.Settings.{Settings}
 use Rattle.prop_map.specs.Formed.{IsPropertyMap, character_groups}
 use Rattle.prop_map.proofs.ActingLemmas.{IsPropertyMap-empty}
-use Rattle.edit_ops.specs.Fresh.{base_of}
+use Rattle.edit_ops.proofs.FreshTextLemmas.{base_by, chp_formed}
 use Rattle.edit_ops.proofs.fresh.base_settings.Goals as goal
 
+pub returns-in-None-clause-map : goal.returns-in-None-clause-map
+returns-in-None-clause-map c = c.new.ensures ∙ sym (base_by c.args.text.now c.args.at None c.in-None.ensures)
+
 pub returns-in-None-clause-formed : goal.returns-in-None-clause-formed
-returns-in-None-clause-formed c = subst (IsPropertyMap character_groups) (sym c.new.ensures) (IsPropertyMap-empty
-    character_groups)
+returns-in-None-clause-formed c =
+    subst (IsPropertyMap character_groups) (sym c.new.ensures) (IsPropertyMap-empty character_groups)
+
+pub without_special-requires : goal.without_special-requires
+without_special-requires c =
+    chp_formed c.args.text.now c.args.at c.in-Some.chp.now c.len-len.ensures.formed c.in-Some.ensures
 
 pub returns-in-Some-clause-map : goal.returns-in-Some-clause-map
 returns-in-Some-clause-map c =
-    let text = c.args.text.now in
-    let found = c.in-Some.ensures.lookup in
-    let there : slice_get text c.args.at ≡ Some c.in-Some.item.now =
-    slice_get_read text (length text) c.args.at c.in-Some.item.now refl (ltb-true c.args.at (length text)
-    (sym found.0)) found.1 in
-    subst (λ o. IfOk c.without_special.result (λ base. base ≡ base_of o)) (sym there) c.without_special.ensures.map
+    subst (λ (s : Settings). IfOk c.without_special.result (λ base. base ≡ s))
+    (sym (base_by c.args.text.now c.args.at (Some c.in-Some.chp.now) c.in-Some.ensures)) c.without_special.ensures.map

@@ -9,6 +9,7 @@ add-requires-clause-maps c =
     record {
       chp = maps.chp;
       pap = maps.pap;
-      sect = ForSome-from_cases (Some c.in_ok-new_section.field-0) (IsPropertyMap section_groups)
+      sect =
+          ForSome-from_cases (Some c.in_ok-new_section.field-0) (IsPropertyMap section_groups)
           c.in_ok-new_section.ensures.formed;
     }

@@ -5,8 +5,8 @@ use Rattle.edit_ops.proofs.CellLemmas.{units_more, units_within}
 use Rattle.edit_ops.proofs.RowLemmas.{cells_more, length-cell}
 use Rattle.edit_ops.proofs.rows.row_items.Goals as goal
 
-pub add_cell-requires : goal.add_cell-requires
-add_cell-requires c =
+pub add_cell-requires-clause-few : goal.add_cell-requires-clause-few
+add_cell-requires-clause-few c =
     let text = c.as_slice.result.now in
     let cells = c.args.cells.now in
     let there : slice_get cells c.loop-i.i ≡ Some text = c.get.ensures ∙ ap Some (sym c.as_slice.ensures) in
@@ -26,11 +26,13 @@ loop-i-preserved c =
     let there : slice_get cells c.loop-i.i ≡ Some text = c.get.ensures ∙ ap Some (sym c.as_slice.ensures) in
     let more = units_more cells c.loop-i.i text there in
     let len = c.loop-i.invariant.few in
-    let new = ap length c.in_ok-add_cell.ensures in
+    let new = ap length c.in_ok-items.ensures in
     let both = length-append c.loop-i.items (cell_items text) in
     let one = length-cell text in
     record {
-      items = c.in_ok-add_cell.ensures ∙ (ap (λ items. items ++ cell_items text) c.loop-i.invariant.items ∙ sym
-          (cells_more cells c.loop-i.i text there));
+      items =
+          c.in_ok-items.ensures
+          ∙ (ap (λ items. items ++ cell_items text) c.loop-i.invariant.items
+          ∙ sym (cells_more cells c.loop-i.i text there));
       few = omega arith;
     }

@@ -1,8 +1,0 @@
-use Rattle.std.proofs.Common.{sym, subst}
-use Rattle.plain_doc.specs.Sound.{IsSound}
-use Rattle.column_edits.proofs.applying.apply_columns.Goals as goal
-
-pub returns-clause-sound : goal.returns-clause-sound
-returns-clause-sound c =
-    let edit = c.in_ok-document.ensures in
-    subst IsSound (sym edit.1) edit.0.sound

@@ -1,0 +1,38 @@
+use Rattle.std.proofs.Common.{◌≡◌, ◌∙◌, ◌+◌, ℕ, ap, sym, subst, List, arith}
+use Rattle.std.specs.Prelude.{IfOk}
+use Rattle.plain_doc.specs.declared.item.Item.{Item}
+use Rattle.edit_changes.specs.Places.{items_at, mark_place}
+use Rattle.edit_ops.specs.Ranges.{HasText, HasRange, EndsWithMark}
+use Rattle.edit_ops.specs.Edits.{erased}
+use Rattle.edit_ops.proofs.CanMakeLemmas.{unit_range}
+use Rattle.edit_changes.proofs.MakingLemmas.{items_are, any_text, such_text}
+use Rattle.edit_ops.proofs.planning.merge.Goals as goal
+
+pub text_of-requires : goal.text_of-requires
+text_of-requires c = any_text c.args.document.now c.args.story (EndsWithMark c.args.at) c.requires
+
+pub mark_place-mark-requires : goal.mark_place-mark-requires
+mark_place-mark-requires c =
+    let ends = such_text c.args.document.now c.args.story (EndsWithMark c.args.at) c.text_of.result.now c.requires
+    c.text_of.ensures in
+    let within = ends.0 in
+    omega (arith, within)
+
+pub erasure-requires : goal.erasure-requires
+erasure-requires c =
+    let text = items_are c.args.document.now c.args.story c.text_of.result.now c.text_of.ensures in
+    let place : c.mark_place-mark.result ≡ mark_place (items_at c.args.document.now c.args.story) c.args.at =
+    c.mark_place-mark.ensures.place ∙ ap (λ (t : List Item). mark_place t c.args.at) (sym text) in
+    subst (λ (n : ℕ). HasText c.args.document.now c.args.story (HasRange n (n + 1))) (sym place)
+    (unit_range c.args.document.now c.args.story c.args.at c.requires)
+
+pub returns : goal.returns
+returns c =
+    let text = items_are c.args.document.now c.args.story c.text_of.result.now c.text_of.ensures in
+    let place : c.mark_place-mark.result ≡ mark_place (items_at c.args.document.now c.args.story) c.args.at =
+    c.mark_place-mark.ensures.place ∙ ap (λ (t : List Item). mark_place t c.args.at) (sym text) in
+    subst (λ (n : ℕ). IfOk c.erasure.result (λ made. made
+    ≡ erased c.args.document.now c.args.story n (n + 1))) place c.erasure.ensures
+
+pub overflow_add-mark : goal.overflow_add-mark
+overflow_add-mark c = omega (arith, c.mark_place-mark.ensures.short)
