@@ -1,7 +1,7 @@
 -- What a save that can be appended has: the streams that are there, and the runs that are added.
 use Rattle.std.specs.Prelude.{slice_range}
 use Rattle.std.proofs.Common.{◌≡◌, ◌∙◌, refl, sym, ap, subst, inl, inr, ℕ, ◌+◌, ◌*◌, ◌/◌, ◌<◌, ◌≤◌, ◌^◌}
-use Rattle.std.proofs.Common.{List, [], length, All, arith}
+use Rattle.std.proofs.Common.{List, [], length, All, arith, lit<}
 use Rattle.std.proofs.lemmas.Bool.{cases_lt}
 use Rattle.std.proofs.lemmas.List.{nil_from_length}
 use Rattle.doc_bits.specs.declared.places.Where.TheVariants.{Wd}
@@ -30,7 +30,7 @@ use Rattle.plain_doc.specs.RightDocument.{IsRightDocument}
 use Rattle.plain_doc.specs.Stretches.{stretches}
 use Rattle.plain_doc.proofs.RightLemmas.{sound_is_right}
 use Rattle.doc_load.specs.Source.{part_bytes}
-use Rattle.doc_load.specs.PairRules.{BreaksPairs}
+use Rattle.doc_load.specs.PairRules.{BreaksPairs, IsReadPair}
 use Rattle.doc_load.specs.FileRules.{FileText, source_of, wd_rules, table_rules}
 use Rattle.doc_load.specs.FileRules.{table_stream_name}
 use Rattle.doc_load.proofs.NameLemmas.{named_one}
@@ -63,6 +63,9 @@ pub record Ready : Type 0 where
   pub can : CanBeAppended save
   pub formed : IsFormed save.document
   pub items : IsFormedText save.added
+
+abbrev pub ready : (save : FastSave) → CanBeAppended save → IsFormed save.document → IsFormedText save.added → Ready
+ready save can formed items = record { save = save; can = can; formed = formed; items = items }
 
 pub is_right : (r : Ready) → IsRightDocument r.save.document
 is_right r = sound_is_right r.save.document r.can.sound
@@ -147,9 +150,9 @@ pair_is r part below =
     pair-read (the_text r).wd r.save.fib (pair_of part) below r.can.fib
     ∙ ap (λ wd. fib_pair wd (pair_of part)) (sym (wd_is r))
 
-bins_within : (r : Ready) (part : TablePart) → pair_of part < 93 →
+bins_within : (r : Ready) (part : TablePart) → pair_of part < 93 → IsReadPair (pair_of part) →
     IsBinTable (part_bytes (source_of (the_text r)) part) → StaysWithin r.save.fib (old_table r.save) part
-bins_within r part below is =
+bins_within r part below read is =
     let wd = (the_text r).wd in
     let table = (the_text r).table in
     let none : Nowhere (BreaksPairs wd (length table)) = λ p b. (tables_hold r).0 (Wd, p) (refl, b) in
@@ -157,7 +160,7 @@ bins_within r part below is =
     let some : ¬ ((fib_pair wd (pair_of part)).1 ≡ 0) = λ e.
     let empty = table_part-empty wd table (pair_of part) e in
     omega (arith, empty, long) in
-    let inside = part-inside wd (length table) part none some in
+    let inside = part-inside wd (length table) part read none some in
     let pair = pair-read wd r.save.fib (pair_of part) below r.can.fib in
     let one = ap (λ (p : ℕ × ℕ). p.0) pair in
     let two = ap (λ (p : ℕ × ℕ). p.1) pair in
@@ -165,10 +168,10 @@ bins_within r part below is =
     omega (arith, inside, one, two, len)
 
 pub characters_within : (r : Ready) → StaysWithin r.save.fib (old_table r.save) PlcfBteChpx
-characters_within r = bins_within r PlcfBteChpx (omega arith) (bins_are r).0
+characters_within r = bins_within r PlcfBteChpx (omega arith) (5, (lit< tt, refl)) (bins_are r).0
 
 pub paragraphs_within : (r : Ready) → StaysWithin r.save.fib (old_table r.save) PlcfBtePapx
-paragraphs_within r = bins_within r PlcfBtePapx (omega arith) (bins_are r).1
+paragraphs_within r = bins_within r PlcfBtePapx (omega arith) (6, (lit< tt, refl)) (bins_are r).1
 
 part_named : (r : Ready) (part : TablePart) → pair_of part < 93 →
     named_part r.save.fib (old_table r.save) part ≡ table_part (old_wd r.save) (old_table r.save) (pair_of part)

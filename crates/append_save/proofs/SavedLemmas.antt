@@ -1,7 +1,7 @@
 -- What is written behind an old stream is a fast save of the document, and the file holds its streams.
 use Rattle.std.specs.Prelude.{slice_get, slice_index, take}
 use Rattle.std.proofs.Common.{◌≡◌, ◌∙◌, refl, sym, ap, subst, inl, inr, ℕ, ◌+◌, ◌<◌, ◌≤◌, ◌^◌, cond}
-use Rattle.std.proofs.Common.{List, [], ◌++◌, length, map, Some, Bool, true, false, eqb, arith}
+use Rattle.std.proofs.Common.{[], ◌++◌, length, map, Some, Bool, true, false, eqb, arith}
 use Rattle.std.proofs.lemmas.List.{length-map}
 use Rattle.std.proofs.lemmas.Option.{slice_get_within}
 use Rattle.doc_bits.proofs.ListLemmas.{All_at, All-from_slice_get, there_is}
@@ -27,7 +27,8 @@ use Rattle.doc_read.proofs.ContentsBounds.{contents-bounded}
 use Rattle.doc_load.proofs.RightPlaces.{hold_out}
 use Rattle.doc_read.proofs.PlaceLemmas.{place_at, place_in_piece}
 use Rattle.full_save.specs.TableStream.{entries_bytes, entries_pairs}
-use Rattle.full_save.proofs.EntriesFound.{AreNumbered, plain, entry_stands, no_bookmarks}
+use Rattle.full_save.proofs.EntriesFound.{AreNumbered, entry_stands}
+use Rattle.full_save.proofs.TableNumbers.{table_numbered}
 use Rattle.doc_bits.specs.Together.{AreTogether}
 use Rattle.fib_form.specs.declared.fib.KeptFib.{KeptFib}
 use Rattle.plain_doc.specs.declared.carried.Carried.{Carried}
@@ -38,7 +39,8 @@ use Rattle.save_laws.specs.FastSaves.{StandsInEither, IsGivenBy, IsFastSaved}
 use Rattle.append_save.specs.Saves.{plan_of}
 use Rattle.append_save.specs.PlannedSections.{planned_seds}
 use Rattle.append_save.specs.Appended.{table_name_of, old_wd, old_stream, pages_end, fast_seds}
-use Rattle.append_save.specs.Appended.{fast_entries, fast_table, fast_fib, fast_streams, fast_contents, fast_saved_text}
+use Rattle.append_save.specs.Appended.{fast_entries, fast_table, fast_fib, fast_streams, fast_contents}
+use Rattle.append_save.specs.Appended.{fast_text, fast_saved_text}
 use Rattle.append_save.proofs.StreamLemmas.{renewed_wd, renewed_table, renewed_carried, renewed_are_streams}
 use Rattle.append_save.proofs.StreamLemmas.{length-renewed, renewed_units, contents_clsid}
 use Rattle.append_save.proofs.PlannedLemmas.{planned_starts, planned_saved, HasPlanned, StandsInOne}
@@ -46,8 +48,7 @@ use Rattle.append_save.proofs.ReadyLemmas.{Ready, the_text, wd_is, base_is, have
 use Rattle.append_save.proofs.TableLemmas.{text_stands, has_ranges}
 use Rattle.append_save.proofs.WrittenLemmas.{Made, the_save, new_wd, parts_of, wd_parts, parts_cut, places}
 use Rattle.append_save.proofs.WrittenLemmas.{table_small, short_added, length-new_wd, fib_read, kept_of, kept_is}
-use Rattle.append_save.proofs.WrittenLemmas.{allowed, keeps_pages, written_plan, sections_fit}
-use Rattle.save_laws.proofs.FullSavedLemmas.{no_levels}
+use Rattle.append_save.proofs.WrittenLemmas.{keeps_pages, written_plan, sections_fit}
 
 -- ---- the pieces can be printed
 
@@ -123,60 +124,7 @@ printable r = record {
 -- ---- the parts of the table stream
 
 numbered : (m : Made) → AreNumbered 0 (fast_entries (the_save m) m.clx)
-numbered m =
-    let carried = (the_save m).document.carried in (
-      plain 0 1 _ (omega arith) (omega arith),
-      (
-        plain 2 2 _ (omega arith) (omega arith),
-        (
-          plain 3 3 _ (omega arith) (omega arith),
-          (
-            plain 4 6 _ (omega arith) (omega arith),
-            (
-              plain 7 11 _ (omega arith) (omega arith),
-              (
-                plain 12 12 _ (omega arith) (omega arith),
-                (
-                  plain 13 13 _ (omega arith) (omega arith),
-                  (
-                    plain 14 15 _ (omega arith) (omega arith),
-                    (
-                      plain 16 16 _ (omega arith) (omega arith),
-                      (
-                        plain 17 17 _ (omega arith) (omega arith),
-                        (
-                          plain 18 18 _ (omega arith) (omega arith),
-                          (
-                            plain 19 31 _ (omega arith) (omega arith),
-                            (
-                              plain 32 32 _ (omega arith) (omega arith),
-                              (
-                                plain 33 33 _ (omega arith) (omega arith),
-                                (
-                                  record {
-                                    low_is = omega arith;
-                                    below = omega arith;
-                                    whole = no_levels carried.lst carried.levels m.ready.formed.carried.lists;
-                                  },
-                                  (
-                                    plain 74 74 _ (omega arith) (omega arith),
-                                    tt,
-                                  ),
-                                ),
-                              ),
-                            ),
-                          ),
-                        ),
-                      ),
-                    ),
-                  ),
-                ),
-              ),
-            ),
-          ),
-        ),
-      ),
-    )
+numbered m = table_numbered (the_save m).document (fast_text (the_save m) m.clx) m.ready.formed.carried.lists
 
 part_there : (m : Made) (k : ℕ) (part : TableEntry) →
     slice_get (saved_entries (the_save m).document (fast_saved_text (the_save m) m.clx)) k ≡ Some part →
@@ -289,15 +237,6 @@ carried_are r =
     ap (λ (c : Carried). c.streams) r.can.carried
     ∙ (r.can.held.document_is.carried.streams ∙ ap (λ (c : Contents). carried_streams c.streams) (sym r.can.contents))
 
--- no bookmarks are written
-no_bookmarks_named : (m : Made) → (fib_pair (new_wd m) 21).1 ≡ 0
-unfolding fast_fib
-no_bookmarks_named m =
-    let pairs = ap (λ (fib : FibFields). fib.pairs) (fib_read m).fields in
-    sym (ap (λ (pair : ℕ × ℕ). pair.1) (pair_at-fib_pairs (new_wd m) 21 (omega arith)))
-    ∙ (ap (λ (all : List (ℕ × ℕ)). (pair_at all 21).1) pairs ∙ no_bookmarks (fast_entries (the_save m) m.clx)
-    (allowed m))
-
 pub fast_saved : (m : Made) →
     IsFastSaved (the_save m).document (old_stream (the_save m)) (plan_of (the_save m))
     (fast_saved_text (the_save m) m.clx) (fast_table (the_save m) m.clx) (fast_contents (the_save m) m.clx)
@@ -321,7 +260,6 @@ fast_saved m =
       printable = printable r;
       clx = m.printed;
       fib = read.rules;
-      bookmarks = no_bookmarks_named m;
       counts = ap (λ (fib : FibFields). fib.ccps) read.fields;
       kept = keeps_fields m;
       parts = part_there m;

@@ -29,7 +29,8 @@ use Rattle.piece_table.specs.Printing.{IsPrintedClx}
 use Rattle.plain_doc.specs.Collected.{sections_of}
 use Rattle.doc_load.proofs.RightPlaces.{hold_out}
 use Rattle.full_save.specs.WordDocument.{table_stream}
-use Rattle.full_save.proofs.EntriesFound.{AreAllowed, entries_are_pairs}
+use Rattle.full_save.proofs.EntriesFound.{entries_are_pairs}
+use Rattle.full_save.proofs.TableNumbers.{table_allowed}
 use Rattle.save_laws.specs.Saves.{IsFileOf}
 use Rattle.save_bounds.specs.SectorCounts.{TwoStreams, HasBytesAnew, AreAnew, lengths_of_two}
 use Rattle.save_bounds.specs.FastSizes.{SaveCounts, WrittenLengths, AreCounted, AreAppended}
@@ -47,8 +48,9 @@ use Rattle.append_save.specs.Appended.{fast_table, fast_fib, fast_wd, fast_strea
 use Rattle.append_save.specs.KeptBins.{kept_bins}
 use Rattle.append_save.specs.AppendedLengths.{bin_bytes_of, IsCounted}
 use Rattle.append_save.proofs.KeptBinLemmas.{kept_are_first}
-use Rattle.append_save.proofs.ReadyLemmas.{Ready, the_text, wd_is, table_is, old_table_is, base_is, characters_within}
-use Rattle.append_save.proofs.ReadyLemmas.{paragraphs_within, characters_named, paragraphs_named, form_stays}
+use Rattle.append_save.proofs.ReadyLemmas.{Ready, ready, the_text, wd_is, table_is, old_table_is, base_is}
+use Rattle.append_save.proofs.ReadyLemmas.{characters_within, paragraphs_within, characters_named, paragraphs_named}
+use Rattle.append_save.proofs.ReadyLemmas.{form_stays}
 use Rattle.append_save.proofs.BodyLemmas.{text_and_pages, body_sizes, body_is}
 use Rattle.append_save.proofs.WrittenLemmas.{sections_fit}
 use Rattle.append_save.proofs.RunLengths.{sepxes_are_counted}
@@ -74,9 +76,7 @@ length-added r =
 fib_pairs_count : (save : FastSave) (clx : List ℕ) → length (fast_fib save clx).pairs ≡ kept_pairs
 unfolding fast_fib
 fib_pairs_count save clx =
-    let allowed : AreAllowed (fast_entries save clx) =
-    record { bookmarks = refl; main_drawings = refl; header_drawings = refl; endnotes = refl } in
-    (entries_are_pairs (fast_entries save clx) allowed).count
+    (entries_are_pairs (fast_entries save clx) (table_allowed save.document (fast_text save clx))).count
 
 pub length-fast_wd : (r : Ready) (clx : List ℕ) →
     length (fast_wd r.save clx) ≡ r.save.base + length (added_bytes r.save)
@@ -153,7 +153,7 @@ table_short r clx =
 -- ---- what is written, and that it is counted
 
 abbrev pub ready_of : (counts : SaveCounts) (save : FastSave) → IsCounted counts save → Ready
-ready_of counts save is = record { save = save; can = is.can; formed = is.formed; items = is.items }
+ready_of counts save is = ready save is.can is.formed is.items
 
 abbrev pub written_of : Ready → List ℕ → WrittenLengths
 written_of r clx = record {

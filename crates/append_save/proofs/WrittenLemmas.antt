@@ -11,6 +11,7 @@ use Rattle.doc_bits.proofs.ListLemmas.{All_at, get-map, from_map}
 use Rattle.doc_bits.proofs.NumberLemmas.{number_at-after, number_at-before}
 use Rattle.doc_bits.specs.Number.{u16_at}
 use Rattle.doc_bits.specs.Rules.{Hold}
+use Rattle.cfb_streams.specs.Contents.{NamedBytes}
 use Rattle.cfb_layout.specs.Sectors.{units_for, filled, padded}
 use Rattle.cfb_layout.proofs.BytesLemmas.{length-filled, entry_at, filled_at}
 use Rattle.fib_form.specs.Fib.{kept_pairs, form_size, fib_form, fib_size}
@@ -44,6 +45,7 @@ use Rattle.full_save.specs.WordDocument.{units_bytes}
 use Rattle.full_save.specs.TableStream.{entries_bytes}
 use Rattle.full_save.proofs.StretchRuns.{IsWritableItem, character_run, paragraph_run}
 use Rattle.full_save.proofs.EntriesFound.{AreAllowed, entries_are_pairs, entries_are_wide}
+use Rattle.full_save.proofs.TableNumbers.{table_allowed}
 use Rattle.save_laws.specs.Places.{Given, given_of, fib_end}
 use Rattle.save_laws.specs.Plans.{AreRunsOf, HaveRow, IsWrittenPlan}
 use Rattle.save_laws.specs.KeptPages.{KeepsBytes, KeepsPages}
@@ -51,14 +53,17 @@ use Rattle.save_laws.specs.Slots.{story_counts}
 use Rattle.save_laws.proofs.SlotLemmas.{length-story_slots, length-loose_if}
 use Rattle.append_save.specs.Saves.{FastSave, plan_of}
 use Rattle.append_save.specs.KeptBins.{kept_bins}
+use Rattle.append_save.specs.Kept.{CanBeAppended}
+use Rattle.append_save.specs.Bodies.{AreNewStreams}
 use Rattle.append_save.specs.PlannedSections.{planned_sepxes}
 use Rattle.append_save.specs.Appended.{old_wd, old_bins, old_stream, runs_begin, bins_end, added_runs}
 use Rattle.append_save.specs.Appended.{added_pages, first_page}
-use Rattle.append_save.specs.Appended.{pages_end, added_bytes, fast_bin_table, fast_entries, fast_table}
+use Rattle.append_save.specs.Appended.{pages_end, added_bytes, fast_bin_table, fast_text, fast_entries, fast_table}
 use Rattle.append_save.specs.Appended.{fast_fib, fast_wd, fast_saved_text}
 use Rattle.append_save.proofs.PlannedLemmas.{length-planned}
 use Rattle.append_save.proofs.KeptBinLemmas.{first_are_before}
-use Rattle.append_save.proofs.ReadyLemmas.{Ready, is_right, base_is, the_text, items_writable, added_are, none_there}
+use Rattle.append_save.proofs.ReadyLemmas.{Ready, ready, is_right, base_is, the_text, items_writable, added_are}
+use Rattle.append_save.proofs.ReadyLemmas.{none_there}
 use Rattle.append_save.proofs.ReadyLemmas.{form_is, form_stays}
 use Rattle.append_save.proofs.ReadyLemmas.{marks_added, pages_are, pages_whole, have_room}
 use Rattle.append_save.proofs.BodyLemmas.{body_sizes}
@@ -70,6 +75,16 @@ pub record Made : Type 0 where
   pub clx : List ℕ
   pub printed : IsPrintedClx ready.save.pieces clx
   pub few_saves : ready.save.fib.quick_saves < 15
+
+-- that of new streams
+abbrev pub made_of : (save : FastSave) (streams : List NamedBytes) → CanBeAppended save → AreNewStreams save streams →
+    Made
+made_of save streams can is = record {
+  ready = ready save can is.formed is.items;
+  clx = is.clx;
+  printed = is.printed;
+  few_saves = is.few_saves;
+}
 
 abbrev pub the_save : Made → FastSave
 the_save m = m.ready.save
@@ -125,7 +140,7 @@ parts_cut p = (simp (append_assoc) refl, (simp (append_assoc) refl, simp (append
 -- ---- the FIB
 
 pub allowed : (m : Made) → AreAllowed (fast_entries (the_save m) m.clx)
-allowed m = record { bookmarks = refl; main_drawings = refl; header_drawings = refl; endnotes = refl }
+allowed m = table_allowed (the_save m).document (fast_text (the_save m) m.clx)
 
 pub table_small : (m : Made) → length (entries_bytes (fast_entries (the_save m) m.clx)) < 2 ^ 32
 unfolding fast_table

@@ -5,7 +5,7 @@ ghost use Rattle.fkp_pages.specs.Bin.{IsBinTable, ArePrintableBins, printed_bin}
 ghost use Rattle.fkp_pages.specs.Runs.{AreRuns};
 ghost use Rattle.fkp_pages.specs.Packed.{pages_of};
 ghost use Rattle.fkp_pages.specs.InARow.{numbered_bins};
-ghost use Rattle.cfb_layout.specs.Sectors.{units_for, padded};
+ghost use Rattle.cfb_layout.specs.Sectors.{padded};
 ghost use Rattle.full_save.specs.WordDocument.{units_bytes};
 ghost use Rattle.full_save.specs.Runs.{text_runs};
 ghost use Rattle.plain_doc.specs.Collected.{joined_texts};
@@ -23,11 +23,10 @@ use crate::old_streams::old_part;
 use crate::runs::{UNIT_LEN, character_runs, end_of, paragraph_runs};
 use crate::saving::{EditedText, SavedFile};
 use crate::sections::append_sections;
-use crate::word_document::push_zeros;
 use doc_bits::{Bytes, Memory};
 use fib_form::TablePart;
-use fkp_pages::{Bins, PAGE_LEN, write_bin};
-use full_save::{TableText, append_chpx_pages, append_papx_pages, append_units};
+use fkp_pages::{Bins, write_bin};
+use full_save::{TableText, append_chpx_pages, append_papx_pages, append_text, pages_for};
 use plain_doc::{Document, Item, Texts};
 use save_laws::Ends;
 use std::alloc::Global;
@@ -54,7 +53,7 @@ impl AddedBody {
         let items = text.added.as_slice();
         let base = text.base;
         let mut bytes = Bytes::new(alloc);
-        append_text(alloc, &mut bytes, items)?;
+        add_text(alloc, &mut bytes, items)?;
         let first = pages_for(base + UNIT_LEN * items.len() as u32);
         let table = old_part(old, TablePart::PlcfBteChpx);
         let characters = add_characters(alloc, &mut bytes, table, items, base, first)?;
@@ -151,14 +150,12 @@ fn add_paragraphs(
 }
 
 /// Appends the units of items, and zeros up to a page.
-fn append_text(alloc: Global, out: &mut Bytes, items: &[Item]) -> Result<(), Memory>
+fn add_text(alloc: Global, out: &mut Bytes, items: &[Item]) -> Result<(), Memory>
     requires { length items.now < 2 ^ 31 }
     ensures { OnOk result (out.new ≡ out.old ++ padded 512 0 (units_bytes (map (λ item. item.unit) items.now))) }
 {
     let units = units_of(alloc, items)?;
-    append_units(out, &units)?;
-    let len = UNIT_LEN as usize * units.len();
-    push_zeros(out, (len + (PAGE_LEN - 1)) / PAGE_LEN * PAGE_LEN - len)?;
+    append_text(out, &units)?;
     Ok(())
 }
 
@@ -171,14 +168,6 @@ fn units_of(alloc: Global, items: &[Item]) -> Result<Vec<u16>, Memory>
         units.push(item.unit)?;
     }
     Ok(units)
-}
-
-/// How many pages hold so many bytes.
-fn pages_for(len: u32) -> u32
-    requires { len < 2 ^ 31 }
-    ensures { result ≡ units_for 512 len }
-{
-    (len + (PAGE_LEN as u32 - 1)) / PAGE_LEN as u32
 }
 
 /// The counts of the main text, the notes and the header texts, with the marks behind stories.

@@ -3,16 +3,15 @@ ghost use Rattle.std.specs.Prelude.{◌≡◌, ◌+◌, ◌*◌, ◌^◌, ◌<�
 ghost use Rattle.fkp_pages.specs.declared.kind.PageKind.{PageKind};
 ghost use Rattle.plain_doc.specs.declared.item.Item.{Item as TextItem};
 ghost use Rattle.full_save.specs.Runs.{text_runs};
-ghost use Rattle.full_save.specs.RunsSoFar.{AreCharactersSoFar};
 ghost use Rattle.append_save.specs.MarkRuns.{reached, begun, begin_after, runs_end};
 ghost use Rattle.append_save.specs.RunsSoFar.{AreMarksSoFar};
 
 use doc_bits::Memory;
 use fkp_pages::{ChpRuns, PapRuns};
+use full_save::CharacterRuns;
 use plain_doc::Item;
 use prop_map::PropMap;
 use std::alloc::Global;
-use std::mem;
 
 /// The bytes of a unit.
 pub(crate) const UNIT_LEN: u32 = 2;
@@ -58,66 +57,6 @@ pub(crate) fn end_of(runs: &PapRuns, start: u32) -> u32
     }
     let (_, to, _, _) = runs.get(count - 1);
     to
-}
-
-/// The runs of characters so far. The last one may go on.
-#[derive(Drop)]
-struct CharacterRuns {
-    closed: ChpRuns,
-    /// Where the last run begins, and its settings. It is empty where no item came yet.
-    from: u32,
-    chp: PropMap,
-}
-
-impl CharacterRuns {
-    /// No runs of a text that begins at `base`.
-    fn new(alloc: Global, base: u32) -> CharacterRuns
-        ensures { AreCharactersSoFar base [] (record { closed = result.closed; from = result.from; chp = result.chp }) }
-    {
-        CharacterRuns {
-            closed: ChpRuns::new(alloc),
-            from: base,
-            chp: PropMap::new(alloc),
-        }
-    }
-
-    /// Goes on by an item, whose unit stands at `end`.
-    fn push(&mut self, alloc: Global, item: &Item, end: u32) -> Result<(), Memory>
-        ensures { OnOk result ((at : ℕ) (done : List TextItem) → end ≡ at + 2 * length done →
-            AreCharactersSoFar at done (record { closed = self.old.closed; from = self.old.from; chp = self.old.chp }) →
-            AreCharactersSoFar at (done ++ item.now ∷ [])
-            (record { closed = self.new.closed; from = self.new.from; chp = self.new.chp })) }
-    {
-        if self.from == end {
-            self.chp = item.chp.copy(alloc)?;
-            return Ok(());
-        }
-        if self.chp.equal(&item.chp) {
-            return Ok(());
-        }
-        let chp = mem::replace(&mut self.chp, item.chp.copy(alloc)?);
-        self.closed.add(self.from, end, chp)?;
-        self.from = end;
-        Ok(())
-    }
-
-    /// All runs of a text that ends at `end`.
-    fn finish(self, end: u32) -> Result<ChpRuns, Memory>
-        ensures { IfOk result (λ runs. (at : ℕ) (done : List TextItem) → end ≡ at + 2 * length done →
-            AreCharactersSoFar at done (record { closed = self.closed; from = self.from; chp = self.chp }) →
-            runs ≡ text_runs PageKind.Chpx at done) }
-    {
-        let CharacterRuns {
-            mut closed,
-            from,
-            chp,
-        } = self;
-        if from == end {
-            return Ok(closed);
-        }
-        closed.add(from, end, chp)?;
-        Ok(closed)
-    }
 }
 
 /// The runs of paragraphs so far, each up to its mark.

@@ -4,6 +4,7 @@ ghost use Rattle.fib_form.specs.FibFields.{AreCounts, ArePairs};
 ghost use Rattle.append_save.specs.declared.fault.AppendFault.TheVariants.{Sixteenth};
 ghost use Rattle.append_save.specs.Saves.{save_of};
 ghost use Rattle.append_save.specs.Kept.{CanBeAppended};
+ghost use Rattle.append_save.specs.Bodies.{AreNewStreams};
 ghost use Rattle.append_save.specs.Answers.{IsAppended, IsAppendFault};
 
 use crate::AppendFault;
@@ -12,7 +13,7 @@ use crate::old_streams::bytes_named;
 use crate::renewed::renewed_streams;
 use crate::word_document::appended;
 use cfb_layout::{LayoutFault, whole};
-use cfb_streams::{Container, table_name, word_document};
+use cfb_streams::{Container, Streams, table_name, word_document};
 use doc_bits::Bytes;
 use fib_form::{Fib, Pairs};
 use full_save::write_table;
@@ -60,17 +61,16 @@ fn raised(fib: &Fib, cb_mac: u32, counts: [u32; 3], pairs: &Pairs) -> Result<Fib
     }
 }
 
-/// The file of a document that is saved behind the `WordDocument` of a file: its bytes from the FIB on stay, what was
-/// added since stands behind them, and the FIB keeps its form and counts one more quick save.
-pub fn append(
+/// The streams of the file that is there, where `WordDocument` and the table stream have new bytes.
+fn new_streams(
     alloc: Global,
     old: &SavedFile<'_>,
     document: &Document,
     text: &EditedText<'_>,
-) -> Result<Bytes, AppendFault>
+) -> Result<Streams, AppendFault>
     requires { CanBeAppended (save_of old.now document.now text.now) }
     ensures { MatchResult result
-        (IsAppended (save_of old.now document.now text.now))
+        (AreNewStreams (save_of old.now document.now text.now))
         (IsAppendFault (save_of old.now document.now text.now)) }
 {
     documents_are_formed(document);
@@ -87,6 +87,23 @@ pub fn append(
         wd.as_slice(),
         table.bytes.as_slice(),
     )?;
+    Ok(streams)
+}
+
+/// The file of a document that is saved behind the `WordDocument` of a file: its bytes from the FIB on stay, what was
+/// added since stands behind them, and the FIB keeps its form and counts one more quick save.
+pub fn append(
+    alloc: Global,
+    old: &SavedFile<'_>,
+    document: &Document,
+    text: &EditedText<'_>,
+) -> Result<Bytes, AppendFault>
+    requires { CanBeAppended (save_of old.now document.now text.now) }
+    ensures { MatchResult result
+        (IsAppended (save_of old.now document.now text.now))
+        (IsAppendFault (save_of old.now document.now text.now)) }
+{
+    let streams = new_streams(alloc, old, document, text)?;
     match whole(alloc, &streams, old.container.clsid()) {
         Ok(file) => Ok(file),
         Err(LayoutFault::TooLarge { sectors }) => Err(AppendFault::TooLarge { sectors }),

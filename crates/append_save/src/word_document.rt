@@ -1,11 +1,12 @@
 // The new `WordDocument`.
-ghost use Rattle.std.specs.Prelude.{◌≡◌, ◌≤◌, ◌++◌, length, drop, replicate, OnOk, IfOk};
+ghost use Rattle.std.specs.Prelude.{◌≡◌, ◌≤◌, ◌++◌, length, drop, IfOk};
 ghost use Rattle.cfb_layout.specs.Sectors.{filled};
 ghost use Rattle.fib_form.specs.Fib.{form_size};
 ghost use Rattle.fib_form.specs.FibBytes.{written_fib};
 
 use doc_bits::{Bytes, Memory};
 use fib_form::Fib;
+use full_save::push_zeros;
 use std::alloc::Global;
 
 /// The most bytes of a FIB.
@@ -39,14 +40,4 @@ fn written(alloc: Global, fib: &Fib) -> Result<Bytes, Memory>
     fib.write(&mut front);
     let bytes = Bytes::from_slice(alloc, &front[..fib.size() as usize])?;
     Ok(bytes)
-}
-
-/// Appends zeros.
-pub(crate) fn push_zeros(out: &mut Bytes, count: usize) -> Result<(), Memory>
-    ensures { OnOk result (out.new ≡ out.old ++ replicate count 0) }
-{
-    for _turn in 0..count {
-        out.push_all(&[0])?;
-    }
-    Ok(())
 }

@@ -1,6 +1,8 @@
 pub mod ContentsLemmas
 pub mod CutLemmas
 pub mod FieldLemmas
+pub mod BookmarkLemmas
+pub mod KeptLemmas
 pub mod ListLemmas
 pub mod PartLemmas
 pub mod StoryLemmas

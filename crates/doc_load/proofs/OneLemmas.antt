@@ -4,6 +4,7 @@ use Rattle.std.specs.List.{slice_range}
 use Rattle.doc_parts.specs.declared.lists.Sed.{Sed}
 use Rattle.doc_parts.specs.declared.lists.Fld.{Fld}
 use Rattle.doc_parts.specs.declared.lists.NoteRef.{NoteRef}
+use Rattle.doc_parts.specs.declared.bookmark_order.Bookmark.{Bookmark}
 use Rattle.doc_parts.specs.Table.{plc_part}
 use Rattle.doc_parts.specs.Sections.{sed_form, sed_cps}
 use Rattle.doc_parts.specs.Fields.{fld_form, fld_cps}
@@ -22,6 +23,7 @@ use Rattle.doc_load.specs.FieldRules.{field_part, HasFields}
 use Rattle.doc_load.specs.NoteRules.{HasRefs, HasNoteCuts}
 use Rattle.doc_load.specs.HeadRules.{HasHeadCuts}
 use Rattle.doc_load.specs.ListRules.{HasLevels}
+use Rattle.doc_load.specs.BookmarkRules.{HasBookmarks}
 use Rattle.doc_load.specs.PartRules.{PartLists, HasPartLists}
 
 pub sections_one : (source : DocSource) (a b : List Sed) → HasSections source a → HasSections source b → a ≡ b
@@ -62,11 +64,14 @@ levels_one source a b ha hb =
 sheet_one : (source : DocSource) (a b : Sheet) → HasSheet source a → HasSheet source b → a ≡ b
 sheet_one source a b ha hb = sheets_agree (part_bytes source Stshf) a b ha hb
 
+bookmarks_one : (source : DocSource) (a b : List Bookmark) → HasBookmarks source a → HasBookmarks source b → a ≡ b
+bookmarks_one source a b ha hb = ha ∙ sym hb
+
 -- lists are the same where each of them is
 lists_same : (a b : PartLists) → a.sections ≡ b.sections → a.sheet ≡ b.sheet → a.main_fields ≡ b.main_fields →
     a.note_fields ≡ b.note_fields → a.head_fields ≡ b.head_fields → a.refs ≡ b.refs → a.notes ≡ b.notes →
-    a.heads ≡ b.heads → a.levels ≡ b.levels → a ≡ b
-lists_same a b e0 es e1 e2 e3 e4 e5 e6 e7 =
+    a.heads ≡ b.heads → a.levels ≡ b.levels → a.bookmarks ≡ b.bookmarks → a ≡ b
+lists_same a b e0 es e1 e2 e3 e4 e5 e6 e7 e8 =
     let f0 : List Sed → PartLists = λ x. record a { sections = x } in
     let fs : Sheet → PartLists = λ x. record a { sections = b.sections; sheet = x } in
     let f1 : List Fld → PartLists = λ x. record a { sections = b.sections; sheet = b.sheet; main_fields = x } in
@@ -82,17 +87,26 @@ lists_same a b e0 es e1 e2 e3 e4 e5 e6 e7 =
       notes = a.notes;
       heads = a.heads;
       levels = a.levels;
+      bookmarks = a.bookmarks;
     } in
     let f4 : List NoteRef → PartLists = λ x. record b {
       refs = x;
       notes = a.notes;
       heads = a.heads;
       levels = a.levels;
+      bookmarks = a.bookmarks;
     } in
-    let f5 : List ℕ → PartLists = λ x. record b { notes = x; heads = a.heads; levels = a.levels } in
-    let f6 : List ℕ → PartLists = λ x. record b { heads = x; levels = a.levels } in
-    let f7 : List ℕ → PartLists = λ x. record b { levels = x } in
-    ap f0 e0 ∙ (ap fs es ∙ (ap f1 e1 ∙ (ap f2 e2 ∙ (ap f3 e3 ∙ (ap f4 e4 ∙ (ap f5 e5 ∙ (ap f6 e6 ∙ ap f7 e7)))))))
+    let f5 : List ℕ → PartLists = λ x. record b {
+      notes = x;
+      heads = a.heads;
+      levels = a.levels;
+      bookmarks = a.bookmarks;
+    } in
+    let f6 : List ℕ → PartLists = λ x. record b { heads = x; levels = a.levels; bookmarks = a.bookmarks } in
+    let f7 : List ℕ → PartLists = λ x. record b { levels = x; bookmarks = a.bookmarks } in
+    let f8 : List Bookmark → PartLists = λ x. record b { bookmarks = x } in
+    ap f0 e0 ∙ (ap fs es ∙ (ap f1 e1 ∙ (ap f2 e2 ∙ (ap f3 e3 ∙ (ap f4 e4 ∙ (ap f5 e5 ∙ (ap f6 e6 ∙ (ap f7 e7
+    ∙ ap f8 e8))))))))
 
 pub parts_one : (source : DocSource) (a b : PartLists) → HasPartLists source a → HasPartLists source b → a ≡ b
 parts_one source a b ha hb =
@@ -106,3 +120,4 @@ parts_one source a b ha hb =
     (notes_one source a.notes b.notes ha.has_notes hb.has_notes)
     (heads_one source a.heads b.heads ha.has_heads hb.has_heads)
     (levels_one source a.levels b.levels ha.has_levels hb.has_levels)
+    (bookmarks_one source a.bookmarks b.bookmarks ha.has_bookmarks hb.has_bookmarks)

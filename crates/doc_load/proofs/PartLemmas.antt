@@ -1,6 +1,6 @@
 -- The parts of the table stream, which rule 26 puts within it.
 use Rattle.std.proofs.Common.{◌≡◌, ◌≢◌, ℕ, ◌+◌, ◌-◌, ◌<◌, ◌≤◌, min, List, [], ◌∷◌, inl, inr, refl, sym, ap, ◌∙◌, lit<}
-use Rattle.std.proofs.Common.{length, drop, take, slice_index, slice_range, arith}
+use Rattle.std.proofs.Common.{length, drop, take, slice_range, arith}
 use Rattle.std.proofs.lemmas.Bool.{cases_lt}
 use Rattle.std.proofs.lemmas.List.{length-take, length-drop, take_all, drop_all}
 use Rattle.doc_bits.specs.Rules.{Nowhere}
@@ -8,48 +8,21 @@ use Rattle.fib_form.specs.Fib.{fib_pair, pair_place, table_part}
 use Rattle.fib_form.specs.FibFields.{FibFields, fib_fields, pair_at}
 use Rattle.fib_form.proofs.PairLemmas.{pair_at-fib_pairs}
 use Rattle.fib_form.specs.declared.table_parts.TablePart.{TablePart}
-use Rattle.fib_form.specs.declared.table_parts.TablePart.TheVariants.{Stshf, PlcffndRef, PlcffndTxt, PlcfSed, PlcfHdd}
-use Rattle.fib_form.specs.declared.table_parts.TablePart.TheVariants.{PlcfBteChpx, PlcfBtePapx, SttbfFfn, PlcfFldMom}
-use Rattle.fib_form.specs.declared.table_parts.TablePart.TheVariants.{PlcfFldHdr, PlcfFldFtn, Dop, SttbfAssoc, Clx}
-use Rattle.fib_form.specs.declared.table_parts.TablePart.TheVariants.{PlfLst, PlfLfo}
-use Rattle.doc_load.specs.PairRules.{read_pairs, HasWrongPart, BreaksPairs}
+use Rattle.fib_form.specs.declared.table_parts.TablePart.TheVariants.{Clx}
+use Rattle.doc_load.specs.PairRules.{IsReadPair, HasWrongPart, BreaksPairs}
 use Rattle.fib_form.specs.TableParts.{pair_of}
 
--- each part is among the pairs that are read
-IsListed : TablePart → Type 0
-IsListed part = (k : ℕ) × ((k < 16) × (slice_index read_pairs k ≡ pair_of part))
-
-listed : (part : TablePart) → IsListed part
-unfolding IsListed
-listed Stshf = (0, (lit< tt, refl))
-listed PlcffndRef = (1, (lit< tt, refl))
-listed PlcffndTxt = (2, (lit< tt, refl))
-listed PlcfSed = (3, (lit< tt, refl))
-listed PlcfHdd = (4, (lit< tt, refl))
-listed PlcfBteChpx = (5, (lit< tt, refl))
-listed PlcfBtePapx = (6, (lit< tt, refl))
-listed SttbfFfn = (7, (lit< tt, refl))
-listed PlcfFldMom = (8, (lit< tt, refl))
-listed PlcfFldHdr = (9, (lit< tt, refl))
-listed PlcfFldFtn = (10, (lit< tt, refl))
-listed Dop = (11, (lit< tt, refl))
-listed SttbfAssoc = (12, (lit< tt, refl))
-listed Clx = (13, (lit< tt, refl))
-listed PlfLst = (14, (lit< tt, refl))
-listed PlfLfo = (15, (lit< tt, refl))
-
--- a part that is not empty is within the table stream
-pub part-inside : (wd : List ℕ) (table_len : ℕ) (part : TablePart) → Nowhere (BreaksPairs wd table_len) →
-    (fib_pair wd (pair_of part)).1 ≢ 0 → (fib_pair wd (pair_of part)).0 + (fib_pair wd (pair_of part)).1 ≤ table_len
-unfolding IsListed
-part-inside wd table_len part none some =
-    let w = listed part in
+-- a part that rule 26 judges, and that is not empty, is within the table stream
+pub part-inside : (wd : List ℕ) (table_len : ℕ) (part : TablePart) → IsReadPair (pair_of part) →
+    Nowhere (BreaksPairs wd table_len) → (fib_pair wd (pair_of part)).1 ≢ 0 →
+    (fib_pair wd (pair_of part)).0 + (fib_pair wd (pair_of part)).1 ≤ table_len
+part-inside wd table_len part read none some =
     let n = pair_of part in
     let pair = fib_pair wd n in
     elim (cases_lt table_len (pair.0 + pair.1)) [
       | inl over ↦
-          let wrong : HasWrongPart wd table_len w.0 (pair_place n) = rw w.1.1 (refl, inl (some, over)) in
-          absurd (none (pair_place n) (record { entry = w.0; below = w.1.0; broken = wrong }))
+          let wrong : HasWrongPart wd table_len read.0 (pair_place n) = rw read.1.1 (refl, inl (some, over)) in
+          absurd (none (pair_place n) (record { entry = read.0; below = read.1.0; broken = wrong }))
       | inr within ↦ within
     ]
 

@@ -7,6 +7,8 @@ use Rattle.style_sheet.specs.Sheet.{Sheet, sheet_code}
 use Rattle.doc_parts.specs.declared.lists.Sed.{Sed}
 use Rattle.doc_parts.specs.declared.lists.Fld.{Fld}
 use Rattle.doc_parts.specs.declared.lists.NoteRef.{NoteRef}
+use Rattle.doc_parts.specs.declared.bookmark_order.Bookmark.{Bookmark}
+use Rattle.doc_parts.specs.contracts.bookmark_order.Bookmark as bookmark
 use Rattle.doc_parts.specs.contracts.lists.Sed as sed
 use Rattle.doc_parts.specs.contracts.lists.Fld as fld
 use Rattle.doc_parts.specs.contracts.lists.NoteRef as ref
@@ -28,9 +30,12 @@ FieldLists = List Fld × (List Fld × List Fld)
 abbrev fields_of : PartLists → FieldLists
 fields_of parts = (parts.main_fields, (parts.note_fields, parts.head_fields))
 
--- the references, the cuts of the notes and of the header texts, and the levels
+-- the references, the cuts of the notes and of the header texts, the levels, and the bookmarks
 abbrev OtherLists : Type 0
-OtherLists = List NoteRef × (List ℕ × (List ℕ × List ℕ))
+OtherLists = List NoteRef × (List ℕ × (List ℕ × (List ℕ × List Bookmark)))
+
+abbrev others_of : PartLists → OtherLists
+others_of parts = (parts.refs, (parts.notes, (parts.heads, (parts.levels, parts.bookmarks))))
 
 abbrev numbers_code : Coded (List ℕ)
 numbers_code = coded_list coded_ℕ
@@ -38,14 +43,18 @@ numbers_code = coded_list coded_ℕ
 abbrev fields_code : Coded (List Fld)
 fields_code = coded_list fld.the_row.coded
 
+abbrev others_code : Coded OtherLists
+others_code =
+    coded× (coded_list ref.the_row.coded)
+    (coded× numbers_code (coded× numbers_code (coded× numbers_code (coded_list bookmark.the_row.coded))))
+
 abbrev pub parts_code : Coded PartLists
 parts_code =
     code_by (List Sed × (Sheet × (FieldLists × OtherLists)))
     (coded× (coded_list sed.the_row.coded)
     (coded× sheet_code
-    (coded× (coded× fields_code (coded× fields_code fields_code))
-    (coded× (coded_list ref.the_row.coded) (coded× numbers_code (coded× numbers_code numbers_code))))))
-    (λ p. (p.sections, (p.sheet, (fields_of p, (p.refs, (p.notes, (p.heads, p.levels)))))))
+    (coded× (coded× fields_code (coded× fields_code fields_code)) others_code)))
+    (λ p. (p.sections, (p.sheet, (fields_of p, others_of p))))
     (λ q. record {
       sections = q.0;
       sheet = q.1.0;
@@ -55,6 +64,7 @@ parts_code =
       refs = q.1.1.1.0;
       notes = q.1.1.1.1.0;
       heads = q.1.1.1.1.1.0;
-      levels = q.1.1.1.1.1.1;
+      levels = q.1.1.1.1.1.1.0;
+      bookmarks = q.1.1.1.1.1.1.1;
     })
     (λ _. refl)

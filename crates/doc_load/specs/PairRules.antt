@@ -3,10 +3,14 @@ use Rattle.std.specs.Prelude.{◌≡◌, ◌≢◌, ◌⊎◌, ℕ, ◌+◌, ◌
 use Rattle.doc_bits.specs.Rules.{Among}
 use Rattle.fib_form.specs.Fib.{fib_pair, pair_place}
 
--- the numbers of the pairs that are read: Stshf, PlcffndRef, PlcffndTxt, PlcfSed, PlcfHdd, PlcfBteChpx, PlcfBtePapx,
--- SttbfFfn, PlcfFldMom, PlcfFldHdr, PlcfFldFtn, Dop, SttbfAssoc, Clx, PlfLst, PlfLfo
+-- the numbers of the pairs that this rule judges: Stshf, PlcffndRef, PlcffndTxt, PlcfSed, PlcfHdd, PlcfBteChpx,
+-- PlcfBtePapx, SttbfFfn, PlcfFldMom, PlcfFldHdr, PlcfFldFtn, Dop, SttbfAssoc, Clx, PlfLst, PlfLfo
 abbrev pub read_pairs : List ℕ
 read_pairs = 1 ∷ 2 ∷ 3 ∷ 6 ∷ 11 ∷ 12 ∷ 13 ∷ 15 ∷ 16 ∷ 17 ∷ 18 ∷ 31 ∷ 32 ∷ 33 ∷ 73 ∷ 74 ∷ []
+
+-- the number is one of these. Those of the parts of bookmarks (21 to 23) are not
+abbrev pub IsReadPair : ℕ → Type 0
+IsReadPair n = (k : ℕ) × ((k < 16) × (slice_index read_pairs k ≡ n))
 
 -- of these, those that no document goes without: Stshf, PlcfSed, PlcfBteChpx, PlcfBtePapx, Clx
 abbrev pub IsNeeded : ℕ → Type 0

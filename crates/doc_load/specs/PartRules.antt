@@ -6,6 +6,7 @@ use Rattle.style_sheet.specs.Sheet.{Sheet}
 use Rattle.doc_parts.specs.declared.lists.Sed.{Sed}
 use Rattle.doc_parts.specs.declared.lists.Fld.{Fld}
 use Rattle.doc_parts.specs.declared.lists.NoteRef.{NoteRef}
+use Rattle.doc_parts.specs.declared.bookmark_order.Bookmark.{Bookmark}
 use Rattle.fib_form.specs.declared.stories.StoryKind.TheVariants.{Main, Notes, Heads}
 use Rattle.doc_load.specs.Source.{DocSource}
 use Rattle.doc_load.specs.SectionRules.{rules_of_sections, HasSections}
@@ -17,7 +18,7 @@ use Rattle.doc_load.specs.NoteRules.{rules_of_notes, HasRefs, HasNoteCuts}
 use Rattle.doc_load.specs.HeadRules.{rules_of_heads, HasHeadCuts}
 use Rattle.doc_load.specs.EndRules.{rules_of_ends}
 use Rattle.doc_load.specs.ListRules.{rules_of_lists, HasLevels}
-use Rattle.doc_load.specs.BookmarkRules.{rules_of_bookmarks}
+use Rattle.doc_load.specs.BookmarkRules.{rules_of_bookmarks, HasBookmarks}
 
 -- the rules 33 to 38
 abbrev pub layout_rules : DocSource → Rules Place
@@ -33,7 +34,7 @@ abbrev pub part_rules : DocSource → Rules Place
 part_rules source = layout_rules source then rules_of_formats source then rules_of_sheet source then story_rules source
 
 -- what the parts hold: the sections, the styles, the field characters of each story, the references to the notes, the
--- CPs that cut the notes and the header texts, and the bytes of the levels
+-- CPs that cut the notes and the header texts, the bytes of the levels, and the bookmarks
 pub record PartLists : Type 0 where
   pub sections : List Sed
   pub sheet : Sheet
@@ -44,6 +45,7 @@ pub record PartLists : Type 0 where
   pub notes : List ℕ
   pub heads : List ℕ
   pub levels : List ℕ
+  pub bookmarks : List Bookmark
 
 -- the document has these
 pub record HasPartLists (source : DocSource) (parts : PartLists) : Type 0 where
@@ -56,6 +58,7 @@ pub record HasPartLists (source : DocSource) (parts : PartLists) : Type 0 where
   pub has_notes : HasNoteCuts source parts.notes
   pub has_heads : HasHeadCuts source parts.heads
   pub has_levels : HasLevels source parts.levels
+  pub has_bookmarks : HasBookmarks source parts.bookmarks
 
 -- it has one of each
 abbrev pub PartsAreOne : Type 0

@@ -24,7 +24,7 @@ mod text_cuts;
 mod units;
 
 pub use bins::judge_bins;
-pub use bookmarks::judge_bookmarks;
+pub use bookmarks::read_bookmarks;
 pub use fault::{ReadFault, refused_container};
 pub use formats::judge_formats;
 pub use heads::read_heads;

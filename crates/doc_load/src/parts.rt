@@ -7,10 +7,10 @@ ghost use Rattle.doc_load.specs.SheetRules.{HasSheet};
 ghost use Rattle.doc_load.specs.PartRules.{layout_rules, story_rules, part_rules, HasPartLists};
 
 use crate::{
-    Notes, ReadFault, Source, StoryFields, judge_bins, judge_bookmarks, judge_ends, judge_formats,
+    Notes, ReadFault, Source, StoryFields, judge_bins, judge_ends, judge_formats, read_bookmarks,
     read_fields, read_heads, read_levels, read_notes, read_sections, read_sheet,
 };
-use doc_parts::{Cuts, Seds};
+use doc_parts::{Bookmarks, Cuts, Seds};
 use std::alloc::Global;
 use std::marker::Model;
 use style_sheet::StyleSheet;
@@ -26,6 +26,7 @@ pub struct DocParts<'a> {
     pub heads: Cuts,
     /// The bytes of the levels of all lists.
     pub levels: &'a [u8],
+    pub bookmarks: Bookmarks,
 }
 
 impl<'a> Model for DocParts<'a> {
@@ -46,6 +47,7 @@ impl<'a> Model for DocParts<'a> {
       notes = p.notes.cuts;
       heads = p.heads;
       levels = p.levels.now;
+      bookmarks = p.bookmarks;
     } };
 }
 
@@ -72,7 +74,7 @@ fn read_layout(alloc: Global, source: &Source<'_>) -> Result<Seds, ReadFault>
     Ok(sections)
 }
 
-/// Reads what belongs to the stories, and the levels of lists.
+/// Reads what belongs to the stories, the levels of lists, and the bookmarks.
 fn read_stories<'a>(
     alloc: Global,
     source: &Source<'a>,
@@ -90,7 +92,7 @@ fn read_stories<'a>(
     let heads = read_heads(alloc, source, &sections)?;
     judge_ends(source, &notes.cuts, &heads)?;
     let levels = read_levels(source)?;
-    judge_bookmarks(source)?;
+    let bookmarks = read_bookmarks(alloc, source)?;
     Ok(DocParts {
         sections,
         sheet,
@@ -98,5 +100,6 @@ fn read_stories<'a>(
         notes,
         heads,
         levels,
+        bookmarks,
     })
 }

@@ -1,6 +1,6 @@
 // What the rules on the parts of a document read.
 ghost use Rattle.std.specs.Prelude.{◌≡◌, ◌+◌, ◌<◌, ◌≤◌, ◌^◌, length, slice_range};
-ghost use Rattle.fib_form.specs.Fib.{kept_pairs, fib_pair};
+ghost use Rattle.fib_form.specs.Fib.{fib_pair};
 ghost use Rattle.fib_form.specs.TableParts.{pair_of};
 ghost use Rattle.doc_load.specs.Source.{part_place, part_bytes, story_length, story_begin, story_units, story_places};
 ghost use Rattle.doc_load.specs.FormatRules.{judged_places, judged_units, text_count};
@@ -81,19 +81,11 @@ impl<'a> Source<'a> {
     }
 
     /// Where a part begins in the table stream, and its length in bytes.
-    fn pair(&self, part: TablePart) -> (u32, u32)
+    pub(crate) fn pair(&self, part: TablePart) -> (u32, u32)
         ensures pair { result ≡ fib_pair self.now.wd (pair_of part) }
         ensures small { length self.now.table < 2 ^ 32 }
     {
         self.fib.pair(part.pair())
-    }
-
-    /// The number of bytes that the FIB gives to the part of a pair.
-    pub(crate) fn lcb(&self, pair: usize) -> u32
-        requires { pair < kept_pairs }
-        ensures { result ≡ (fib_pair self.now.wd pair).1 }
-    {
-        self.fib.pair(pair).1
     }
 
     /// The number of units of a story.

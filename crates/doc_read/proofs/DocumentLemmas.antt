@@ -40,8 +40,8 @@ pub document-from : (contents : Contents) (text : FileText) (lists : PartLists) 
     AreCutFrom items (story_begin (source_of text) Notes) lists.notes (length lists.notes - 1) document.notes →
     AreCutFrom items (story_begin (source_of text) Heads) lists.heads (head_texts lists) document.heads →
     document.sheet ≡ lists.sheet → HoldsCarried contents (source_of text) lists.levels document.carried →
-    IsDocumentFrom contents text lists document
-document-from contents text lists sections items document has maps holds main notes heads sheet carried =
+    document.bookmarks ≡ lists.bookmarks → IsDocumentFrom contents text lists document
+document-from contents text lists sections items document has maps holds main notes heads sheet carried bookmarks =
     let source = source_of text in
     let parts : TextParts = record { source = source; pieces = text.pieces; lists = lists; sections = sections } in
     let len : length items ≡ text_count source = omega (arith, holds.len) in
@@ -62,5 +62,6 @@ document-from contents text lists sections items document has maps holds main no
             (heads_within source lists (length items) has len) heads;
         sheet = sheet;
         carried = carried;
+        bookmarks = bookmarks;
       };
     }

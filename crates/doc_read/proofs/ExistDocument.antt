@@ -1,6 +1,7 @@
 -- A file that breaks none of the rules 1 to 57 holds a document, which is well formed.
 use Rattle.std.proofs.Common.{◌≡◌, refl, subst, ℕ, ◌-◌, ◌<◌, ◌≤◌, ◌^◌, List, length, take, arith, length-take}
 use Rattle.std.proofs.lemmas.List.{length-map}
+use Rattle.std.specs.List.{All}
 use Rattle.std.proofs.lemmas.List.Elements.{All-take}
 use Rattle.doc_bits.specs.declared.places.Where.TheVariants.{File, Wd}
 use Rattle.doc_bits.specs.Rules.{Hold}
@@ -11,6 +12,7 @@ use Rattle.cfb_streams.specs.Container.{container_rules, HasContents}
 use Rattle.fkp_pages.specs.declared.kind.PageKind.TheVariants.{Chpx, Papx}
 use Rattle.direct_props.specs.PageRules.{page_rules}
 use Rattle.piece_table.specs.Piece.{flat_pieces}
+use Rattle.doc_parts.specs.Bookmarks.{HasFileNumbers}
 use Rattle.plain_doc.specs.declared.document.Document.{Document}
 use Rattle.plain_doc.specs.Document.{IsFormedItem}
 use Rattle.plain_doc.specs.Formed.{IsFormed}
@@ -55,8 +57,9 @@ record HasFormedDocument (contents : Contents) (text : FileText) (lists : PartLi
 document_of : (contents : Contents) (text : FileText) (lists : PartLists) (maps : List Settings) →
     HasPartLists (source_of text) lists → AreSectionMaps text.wd lists.sections maps → IsFormedSheet lists.sheet →
     length text.table ≤ 7143936 → text_count (source_of text) < 2 ^ 32 → HasItems text lists maps →
-    HasFormedCarried contents (source_of text) lists.levels → HasFormedDocument contents text lists
-document_of contents text lists maps has made sheet short few items carried =
+    HasFormedCarried contents (source_of text) lists.levels → All HasFileNumbers lists.bookmarks →
+    HasFormedDocument contents text lists
+document_of contents text lists maps has made sheet short few items carried numbers =
     let source = source_of text in
     let main_len = story_length source Main in
     let all = items.formed in
@@ -74,11 +77,12 @@ document_of contents text lists maps has made sheet short few items carried =
       heads = heads.texts;
       sheet = lists.sheet;
       carried = carried.carried;
+      bookmarks = lists.bookmarks;
     } in
     record {
       document = document;
       from = document-from contents text lists maps items.items document has made items.holds refl notes.cut heads.cut
-          refl carried.holds;
+          refl carried.holds refl;
       formed = record {
         main = record {
           few = omega (arith, length-take main_len items.items);
@@ -89,6 +93,7 @@ document_of contents text lists maps has made sheet short few items carried =
         heads = heads.formed;
         sheet = sheet;
         carried = carried.formed;
+        bookmarks = numbers;
       };
     }
 
@@ -153,7 +158,7 @@ document_there file contents text bytes container has texts has_text hold =
       (
         parts.has,
         document_of contents text lists maps.0 parts.has maps.1 parts.sheet short (omega arith)
-            (items_there text lists maps.0 is_ready) carried,
+            (items_there text lists maps.0 is_ready) carried parts.numbers,
       ),
     )
 

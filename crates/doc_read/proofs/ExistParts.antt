@@ -11,9 +11,12 @@ use Rattle.doc_parts.specs.declared.lists.Fld.{Fld}
 use Rattle.doc_parts.specs.Table.{plc_part, IsRightEntry}
 use Rattle.doc_parts.specs.Fields.{fld_form, fld_cps}
 use Rattle.doc_parts.specs.Levels.{level_start, level_count, list_part}
+use Rattle.doc_parts.specs.Bookmarks.{HasFileNumbers}
+use Rattle.doc_parts.specs.BookmarkParts.{bookmarks_of}
 use Rattle.doc_parts.proofs.LevelLemmas.{level_start-zero, level_start-up}
 use Rattle.fib_form.specs.declared.table_parts.TablePart.{TablePart}
 use Rattle.fib_form.specs.declared.table_parts.TablePart.TheVariants.{Stshf, PlcffndRef, PlfLst}
+use Rattle.fib_form.specs.declared.table_parts.TablePart.TheVariants.{SttbfBkmk, PlcfBkf, PlcfBkl}
 use Rattle.fib_form.specs.declared.stories.StoryKind.{StoryKind}
 use Rattle.fib_form.specs.declared.stories.StoryKind.TheVariants.{Main, Notes, Heads}
 use Rattle.doc_load.specs.Source.{DocSource, part_bytes, part_place, story_begin, story_length, story_units}
@@ -22,8 +25,10 @@ use Rattle.fib_form.specs.Fib.{fib_pair}
 use Rattle.fib_form.specs.TableParts.{pair_of}
 use Rattle.doc_load.specs.FieldRules.{BreaksAllFields, BreaksStoryFields, field_part, HasFields}
 use Rattle.doc_load.specs.ListRules.{HasLevels}
+use Rattle.doc_load.specs.BookmarkRules.{bookmark_parts}
 use Rattle.doc_load.specs.PartRules.{PartLists, HasPartLists, part_rules}
 use Rattle.doc_load.proofs.RightPlaces.{hold_out}
+use Rattle.doc_read.proofs.BookmarkLemmas.{bookmarks-numbers}
 use Rattle.doc_read.proofs.ExistTables.{refs_there, fields_there}
 use Rattle.style_sheet.proofs.ExistSheet.{sheet_there}
 use Rattle.doc_read.proofs.EntryValues.{AreByteFields, fields_are_bytes}
@@ -105,6 +110,7 @@ pub record HasFormedLists (source : DocSource) : Type 0 where
   pub has : HasPartLists source lists
   pub sheet : IsFormedSheet lists.sheet
   pub fields : AreByteFields lists
+  pub numbers : All HasFileNumbers lists.bookmarks
 
 pub part_lists_there : (source : DocSource) → AreBytes source.table → text_count source ≤ length source.text.units →
     Hold (part_rules source) → HasFormedLists source
@@ -133,6 +139,7 @@ part_lists_there source are long hold =
         notes = ends.0;
         heads = ends.1.1.0;
         levels = levels.0;
+        bookmarks = bookmarks_of (bookmark_parts source) (story_length source Main);
       };
       has = record {
         has_sections = sections.1.0;
@@ -144,7 +151,10 @@ part_lists_there source are long hold =
         has_notes = ends.1.0;
         has_heads = ends.1.1.1.0;
         has_levels = levels.1;
+        has_bookmarks = refl;
       };
       sheet = sheet.formed;
       fields = record { main = main.bytes; notes = notes.bytes; heads = heads.bytes };
+      numbers = bookmarks-numbers (bookmark_parts source) (story_length source Main)
+          (part_bytes_are source SttbfBkmk are) (part_bytes_are source PlcfBkf are) (part_bytes_are source PlcfBkl are);
     }

@@ -21,7 +21,9 @@ pub mod DocumentLemmas
 pub mod OpeningLemmas
 pub mod PartsOfOneFile
 pub mod OneItem
+pub mod BookmarkLemmas
 pub mod OneDocument
+pub mod FormedBookmarks
 pub mod ExistTables
 pub mod ExistSections
 pub mod ExistText

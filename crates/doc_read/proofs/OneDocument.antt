@@ -123,8 +123,15 @@ carried_one contents source levels a b ha hb =
 
 -- a document is the same where each part of it is
 same_document : (a b : Document) → a.main ≡ b.main → a.notes ≡ b.notes → a.heads ≡ b.heads → a.sheet ≡ b.sheet →
-    a.carried ≡ b.carried → a ≡ b
-same_document a b e0 e1 e2 e3 e4 = λ i. record { main = e0 i; notes = e1 i; heads = e2 i; sheet = e3 i; carried = e4 i }
+    a.carried ≡ b.carried → a.bookmarks ≡ b.bookmarks → a ≡ b
+same_document a b e0 e1 e2 e3 e4 e5 = λ i. record {
+  main = e0 i;
+  notes = e1 i;
+  heads = e2 i;
+  sheet = e3 i;
+  carried = e4 i;
+  bookmarks = e5 i;
+}
 
 -- the parts of a file make one document
 parts_make_one : (parts : FileParts) → HaveBins (source_of parts.text) → (a b : Document) → IsDocumentOf parts a →
@@ -140,19 +147,24 @@ parts_make_one parts bins a b ha hb =
     hb.heads)
     (ha.sheet ∙ sym hb.sheet)
     (carried_one parts.contents source parts.lists.levels a.carried b.carried ha.carried hb.carried)
+    (ha.bookmarks ∙ sym hb.bookmarks)
 
--- the bin tables of a file that breaks no rule
-pub file_bins : (file : List ℕ) (parts : FileParts) → Hold (file_rules file) → HasFileParts file parts →
-    HaveBins (source_of parts.text)
-file_bins file parts h has =
+-- the rules on the parts hold of those of a file that breaks no rule
+pub held_parts : (file : List ℕ) (parts : FileParts) → Hold (file_rules file) → HasFileParts file parts →
+    Hold (part_rules (source_of parts.text))
+held_parts file parts h has =
     let contents : h.1.0 ≡ parts.contents = contents_unique file h.1.0 parts.contents h.1.1.0 has.has_contents in
     let rest = h.1.1.1 in
     let text : HasText parts.contents rest.1.0 = subst (λ c. HasText c rest.1.0) contents rest.1.1.0 in
     let same : rest.1.0 ≡ parts.text =
     text_one file parts.contents rest.1.0 parts.text has.has_contents text has.has_text in
-    let held : Hold (part_rules (source_of parts.text)) =
-    subst (λ t. Hold (part_rules (source_of t))) same rest.1.1.1 in
-    let bins = bin_tables (source_of parts.text) held.0.1 in
+    subst (λ t. Hold (part_rules (source_of t))) same rest.1.1.1
+
+-- the bin tables of such a file
+pub file_bins : (file : List ℕ) (parts : FileParts) → Hold (file_rules file) → HasFileParts file parts →
+    HaveBins (source_of parts.text)
+file_bins file parts h has =
+    let bins = bin_tables (source_of parts.text) (held_parts file parts h has).0.1 in
     record { characters = bins.0; paragraphs = bins.1 }
 
 pub document_one : DocumentIsOne

@@ -66,7 +66,7 @@ unfolding holds-found
 opened-found file opened container has rules found sound =
     let holds = holds-found file opened.contents opened.document opened.fib opened.pieces container has rules found in
     record {
-      accepted = (holds.rules, (opened.document, (holds, sound)));
+      accepted = (holds.rules, (opened.document, (holds, sound.rules)));
       holds = holds;
       sound = sound;
       contents = refl;

@@ -73,10 +73,11 @@ made_from contents text lists parts document has are made =
       heads = texts.heads;
       sheet = parts.sheet;
       carried = parts.carried;
+      bookmarks = parts.bookmarks;
     })
     has are.has_sections are.columns_are.holds (cut.main_is ∙ ap (λ (n : ℕ). take n items) (story_count source Main))
     (subst (λ (cp : ℕ). AreCutFrom items cp lists.notes (length lists.notes - 1) texts.notes)
     (story_front source Notes) cut.notes_are)
     (subst (λ (cp : ℕ). AreCutFrom items cp lists.heads (head_texts lists) texts.heads)
     (story_front source Heads) cut.heads_are)
-    are.sheet_is are.carried_is)
+    are.sheet_is are.carried_is are.bookmarks_are)

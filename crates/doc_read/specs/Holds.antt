@@ -41,7 +41,7 @@ text_parts parts = record {
 abbrev pub head_texts : PartLists → ℕ
 head_texts lists = heads_of_sections (length lists.sections)
 
--- the document has the texts by CP, the styles, and what is carried
+-- the document has the texts by CP, the styles, what is carried, and the bookmarks
 pub record IsDocumentOf (parts : FileParts) (document : Document) : Type 0 where
   pub main : HoldsItems (text_parts parts) 0 (story_length (source_of parts.text) Main) document.main
   pub notes :
@@ -52,6 +52,7 @@ pub record IsDocumentOf (parts : FileParts) (document : Document) : Type 0 where
       (head_texts parts.lists) document.heads
   pub sheet : document.sheet ≡ parts.lists.sheet
   pub carried : HoldsCarried parts.contents (source_of parts.text) parts.lists.levels document.carried
+  pub bookmarks : document.bookmarks ≡ parts.lists.bookmarks
 
 -- the document of these streams, this text and these lists, with the settings of the sections
 pub record IsDocumentFrom (contents : Contents) (text : FileText) (lists : PartLists) (document : Document) :

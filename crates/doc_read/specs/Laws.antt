@@ -4,6 +4,7 @@ use Rattle.doc_bits.specs.Rules.{Hold, Breaks, IsLeastOfAll}
 use Rattle.doc_bits.specs.Places.{Place, Upto, IsFirstPlace}
 use Rattle.plain_doc.specs.declared.document.Document.{Document}
 use Rattle.plain_doc.specs.Formed.{IsFormed}
+use Rattle.plain_doc.specs.Marks.{HasFormedBookmarks}
 use Rattle.doc_load.specs.FileRules.{file_rules}
 use Rattle.doc_read.specs.CarriedParts.{AreShortStreams}
 use Rattle.doc_read.specs.Holds.{HoldsDocument, all_rules}
@@ -26,6 +27,11 @@ abbrev pub FirstFaultIsLeast : Type 0
 FirstFaultIsLeast =
     (file : List ℕ) (number : ℕ) (place : Place) → IsFirstPlace (all_rules file) number place →
     IsLeastOfAll Upto (Breaks (all_rules file)) number place
+
+-- a document that a file holds has bookmarks that are in order and within its main text, each with a name
+abbrev pub HeldBookmarksAreFormed : Type 0
+HeldBookmarksAreFormed =
+    (file : List ℕ) (document : Document) → HoldsDocument file document → HasFormedBookmarks document
 
 -- a document that a file holds carries streams that are no longer than the longest file
 abbrev pub CarriedStreamsAreShort : Type 0

@@ -43,3 +43,4 @@ pub record AreDocumentParts (contents : Contents) (text : FileText) (lists : Par
   pub cuts_are : parts.cuts ≡ cuts_of lists
   pub sheet_is : parts.sheet ≡ lists.sheet
   pub carried_is : HoldsCarried contents (source_of text) lists.levels parts.carried
+  pub bookmarks_are : parts.bookmarks ≡ lists.bookmarks

@@ -39,4 +39,5 @@ pub record IsDocumentWith (fib : FibFields) (units : List ℕ) (parts : Document
         heads = texts.heads;
         sheet = parts.sheet;
         carried = parts.carried;
+        bookmarks = parts.bookmarks;
       })

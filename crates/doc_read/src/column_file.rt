@@ -4,6 +4,7 @@ ghost use Rattle.doc_bits.specs.declared.places.Where.TheVariants.{File};
 ghost use Rattle.doc_bits.specs.Rules.{Hold};
 ghost use Rattle.doc_bits.specs.Places.{rules_in};
 ghost use Rattle.cfb_streams.specs.Container.{container_rules, HasContents};
+ghost use Rattle.plain_doc.specs.Marks.{HasFormedBookmarks};
 ghost use Rattle.plain_doc.specs.Sound.{IsSound, document_rules};
 ghost use Rattle.doc_load.specs.Faults.{IsReadFault};
 ghost use Rattle.doc_load.specs.FileRules.{contents_rules};
@@ -147,6 +148,7 @@ fn read_contents(alloc: Global, container: &Container) -> Result<Found, ReadFaul
 
 /// Judges a document by the rules on documents. Where its columns do not tell, its items are put one by one.
 fn judge(alloc: Global, document: &ColumnDocument) -> Result<(), ReadFault>
+    requires { HasFormedBookmarks document.now }
     ensures { MatchResult result
         (λ _. IsSound document.now)
         (IsReadFault (document_rules document.now)) }
@@ -160,6 +162,7 @@ fn judge(alloc: Global, document: &ColumnDocument) -> Result<(), ReadFault>
 
 /// Judges a document, item by item, by the rules on documents.
 fn judge_items(document: &Document) -> Result<(), ReadFault>
+    requires { HasFormedBookmarks document.now }
     ensures { MatchResult result
         (λ _. IsSound document.now)
         (IsReadFault (document_rules document.now)) }

@@ -26,6 +26,7 @@ use piece_table::PieceList;
 use prop_map::PropMap;
 use run_lists::Runs;
 use std::alloc::Global;
+use std::collections::BTreeMap;
 
 /// The settings of the units that were read, and what stands beside them.
 #[derive(Drop)]
@@ -98,12 +99,14 @@ fn columns_of_pieces(
         section: 0,
     };
     let mut readers = Vec::new(alloc);
+    let mut numbers = BTreeMap::new(alloc);
     let mut rest = text.places.skip(0);
     let mut cp = 0;
     for i in 0..pieces.len() {
         // A piece may have one unit more than the stories.
         let end = cp + (pieces.piece(i).len as usize).min(count - cp);
-        let number = reader_for(alloc, text, pieces.modifier(i), &mut readers)?;
+        let modifier = pieces.modifier(i);
+        let number = reader_for(alloc, text, modifier, &mut readers, &mut numbers)?;
         let part = TextPart::new(&*text, cp, rest.skip(0));
         push_piece(
             alloc,

@@ -15,7 +15,7 @@ use cfb_streams::Container;
 use doc_bits::Memory;
 use doc_columns::{ColumnDocument, ColumnTexts, Columns};
 use doc_load::{DocParts, LoadedText};
-use doc_parts::Cuts;
+use doc_parts::{Bookmarks, Cuts};
 use fib_form::{Fib, StoryKind};
 use plain_doc::{Carried, HEADS_A_SECTION, SEPARATORS};
 use std::alloc::Global;
@@ -36,6 +36,7 @@ pub(crate) struct DocumentParts {
     cuts: StoryCuts,
     sheet: StyleSheet,
     carried: Carried,
+    bookmarks: Bookmarks,
 }
 
 /// The texts of a document.
@@ -73,6 +74,7 @@ pub(crate) fn read_document_parts(
         },
         sheet: parts.sheet,
         carried,
+        bookmarks: parts.bookmarks,
     })
 }
 
@@ -92,10 +94,11 @@ pub(crate) fn document_with(
         cuts,
         sheet,
         carried,
+        bookmarks,
     } = parts;
     let all = Columns::from_parts(units, columns.chps, columns.besides);
     let texts = read_texts(alloc, fib, all, &cuts)?;
-    Ok(document_of(texts, sheet, carried))
+    Ok(document_of(texts, sheet, carried, bookmarks))
 }
 
 /// Cuts the text into the texts of the document.
@@ -132,13 +135,19 @@ fn front(alloc: Global, text: Columns, len: usize) -> Result<Columns, Memory>
 }
 
 /// The document of its parts. It takes no memory.
-fn document_of(texts: ReadTexts, sheet: StyleSheet, carried: Carried) -> ColumnDocument
+fn document_of(
+    texts: ReadTexts,
+    sheet: StyleSheet,
+    carried: Carried,
+    bookmarks: Bookmarks,
+) -> ColumnDocument
     ensures { result ≡ record {
       main = texts.main;
       notes = texts.notes;
       heads = texts.heads;
       sheet = sheet;
       carried = carried;
+      bookmarks = bookmarks;
     } }
 {
     let ReadTexts { main, notes, heads } = texts;
@@ -148,5 +157,6 @@ fn document_of(texts: ReadTexts, sheet: StyleSheet, carried: Carried) -> ColumnD
         heads,
         sheet,
         carried,
+        bookmarks,
     }
 }

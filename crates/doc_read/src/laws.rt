@@ -1,6 +1,6 @@
 // Laws over the definitions alone.
 ghost use Rattle.doc_read.specs.Laws.{DocumentIsOne, FirstFaultIsLeast, FilesHoldDocuments};
-ghost use Rattle.doc_read.specs.Laws.{CarriedStreamsAreShort};
+ghost use Rattle.doc_read.specs.Laws.{HeldBookmarksAreFormed, CarriedStreamsAreShort};
 
 /// A file holds at most one document.
 pub fn document_is_one()
@@ -15,6 +15,11 @@ pub fn first_fault_is_least()
 /// A file of bytes that breaks none of the rules 1 to 57 holds a document, which is well formed.
 pub fn files_hold_documents()
     ensures { FilesHoldDocuments }
+{}
+
+/// The bookmarks of a document that a file holds are in order and within its main text.
+pub fn held_bookmarks_are_formed()
+    ensures { HeldBookmarksAreFormed }
 {}
 
 /// A document that a file holds carries streams that are no longer than the longest file.

@@ -19,5 +19,6 @@ pub use column_file::{ColumnFile, open};
 pub use doc_load::ReadFault;
 pub use laws::{
     carried_streams_are_short, document_is_one, files_hold_documents, first_fault_is_least,
+    held_bookmarks_are_formed,
 };
 pub use opened::{Opened, read};

@@ -14,6 +14,8 @@ use Rattle.prop_map.specs.Overlay.{modified_characters}
 use Rattle.prop_map.proofs.MapLemmas.{empty-overlay}
 use Rattle.fkp_pages.specs.declared.kind.PageKind.{PageKind}
 use Rattle.fkp_pages.specs.declared.kind.PageKind.TheVariants.{Chpx, Papx}
+use Rattle.doc_parts.specs.declared.bookmark_order.Bookmark.{Bookmark}
+use Rattle.doc_parts.specs.Bookmarks.{moved_bookmarks}
 use Rattle.plain_doc.specs.declared.item.Item.{Item}
 use Rattle.plain_doc.specs.declared.item.Mark.{Mark}
 use Rattle.plain_doc.specs.declared.document.Document.{Document}
@@ -26,8 +28,8 @@ use Rattle.full_save.proofs.StreamLengths.{length-runs_from}
 use Rattle.plain_doc.specs.Stretches.{stretches}
 use Rattle.edit_ops.specs.Fresh.{base_of, base_settings, plain_end, unit_item, unit_items}
 use Rattle.edit_ops.specs.Fresh.{inserted_items, split_item}
-use Rattle.edit_ops.specs.Places.{mark_place}
-use Rattle.edit_ops.specs.Changes.{map_range, modified_item, modified_mark}
+use Rattle.edit_changes.specs.Places.{mark_place}
+use Rattle.edit_changes.specs.Changes.{map_range, modified_item, modified_mark}
 use Rattle.edit_ops.specs.Edits.{setting_characters, naming_style}
 use Rattle.edit_generator.specs.FewRuns.{runs_of, IsPlainAt, EditsAddFewRuns}
 use Rattle.edit_generator.proofs.RunCountLemmas.{count, StandsFor, one_more_put, none_put, several_put, count_changed}
@@ -38,11 +40,15 @@ use Rattle.edit_generator.proofs.RunCountLemmas.{count_keys}
 abbrev behind : Document → List Item
 behind document = with_mark (note_story document ++ head_story document)
 
-runs_with : (kind : PageKind) (document : Document) (main : List Item) → runs_of kind (record document
-    { main = main }) ≡ count (joins_run kind) (main ++ behind document)
+-- bookmarks play no part
+abbrev with_main : Document → List Item → List Bookmark → Document
+with_main document main bookmarks = record document { main = main; bookmarks = bookmarks }
+
+runs_with : (kind : PageKind) (document : Document) (main : List Item) (bookmarks : List Bookmark) →
+    runs_of kind (with_main document main bookmarks) ≡ count (joins_run kind) (main ++ behind document)
 unfolding text_items note_story head_story
-runs_with kind document main =
-    length-runs_from kind text_at (stretches (joins_run kind) (text_items (record document { main = main })))
+runs_with kind document main bookmarks =
+    length-runs_from kind text_at (stretches (joins_run kind) (text_items (with_main document main bookmarks)))
 
 runs_now : (kind : PageKind) (document : Document) → runs_of kind document ≡ count (joins_run kind) (document.main ++
     behind document)
@@ -216,30 +222,40 @@ style_named Papx main at istd rest = paragraphs_stay (naming_style istd) main (m
 
 -- ---- documents
 
+-- the bookmarks after items were put
+abbrev marks_after : Document → ℕ → List Item → List Bookmark
+marks_after document at fresh = moved_bookmarks at at (length fresh) document.bookmarks
+
 pub few_added : EditsAddFewRuns
 few_added = record {
   insertion = λ kind document at text there.
-      runs_with kind document (splice document.main at at (inserted_items document.main at text))
+      let fresh = inserted_items document.main at text in
+      runs_with kind document (splice document.main at at fresh) (marks_after document at fresh)
       ∙ (insertion kind document.main at text there (behind document) ∙ sym (runs_now kind document));
   split_characters = λ document at there.
-      runs_with Chpx document (splice document.main at at (split_item document.main at ∷ []))
+      let fresh : List Item = split_item document.main at ∷ [] in
+      runs_with Chpx document (splice document.main at at fresh) (marks_after document at fresh)
       ∙ (split_characters document.main at there (behind document) ∙ sym (runs_now Chpx document));
   split_paragraphs = λ document at there.
-      let after = runs_with Papx document (splice document.main at at (split_item document.main at ∷ [])) in
+      let fresh : List Item = split_item document.main at ∷ [] in
+      let after = runs_with Papx document (splice document.main at at fresh) (marks_after document at fresh) in
       let now = runs_now Papx document in
       let one = split_paragraphs document.main at there (behind document) in
       omega (arith, after, now, one);
   characters = λ document from to set ordered.
-      let after = runs_with Chpx document (map_range (modified_item (setting_characters set)) document.main from to) in
+      let set_main = map_range (modified_item (setting_characters set)) document.main from to in
+      let after = runs_with Chpx document set_main document.bookmarks in
       let now = runs_now Chpx document in
       let two = characters_set (setting_characters set) document.main from to (behind document) ordered in
       omega (arith, after, now, two);
   paragraphs = λ document from to set ordered.
-      runs_with Papx document (map_range (modified_item (setting_characters set)) document.main from to)
+      let set_main = map_range (modified_item (setting_characters set)) document.main from to in
+      runs_with Papx document set_main document.bookmarks
       ∙ (paragraphs_stay (setting_characters set) document.main from to (behind document) ordered ∙ sym (runs_now Papx
       document));
   style = λ kind document at istd.
       let place = mark_place document.main at in
-      runs_with kind document (map_range (modified_item (naming_style istd)) document.main place (place + 1))
+      let named = map_range (modified_item (naming_style istd)) document.main place (place + 1) in
+      runs_with kind document named document.bookmarks
       ∙ (style_named kind document.main at istd (behind document) ∙ sym (runs_now kind document));
 }

@@ -14,10 +14,14 @@ use Rattle.doc_bits.specs.declared.places.Story.TheVariants.{Main}
 use Rattle.doc_bits.proofs.ListLemmas.{All_at, there_is}
 use Rattle.fkp_pages.specs.declared.kind.PageKind.{PageKind}
 use Rattle.fkp_pages.specs.declared.kind.PageKind.TheVariants.{Chpx, Papx}
+use Rattle.doc_parts.specs.declared.bookmark_order.Bookmark.{Bookmark}
+use Rattle.doc_parts.specs.Order.{in_order}
+use Rattle.doc_parts.specs.Bookmarks.{moved_bookmarks}
 use Rattle.plain_doc.specs.declared.item.Item.{Item}
 use Rattle.plain_doc.specs.declared.document.Document.{Document}
 use Rattle.plain_doc.specs.Blank.{blank_item, blank_document}
 use Rattle.plain_doc.specs.Formed.{IsFormed}
+use Rattle.plain_doc.specs.Marks.{main_spliced}
 use Rattle.plain_doc.specs.Sound.{IsSound}
 use Rattle.plain_doc.specs.Stretches.{stretches}
 use Rattle.plain_doc.proofs.BlankLemmas.{bold as bold_formed}
@@ -28,8 +32,8 @@ use Rattle.full_save.specs.WordDocument.{text_at, full_text, table_stream}
 use Rattle.full_save.proofs.StreamLengths.{length-runs_from}
 use Rattle.edit_script.specs.declared.commands.Command.TheVariants.{Insert, Char, Style, Split}
 use Rattle.edit_ops.specs.Fresh.{base_of, base_settings, unit_item, unit_items, inserted_items, split_item}
-use Rattle.edit_ops.specs.Places.{mark_place}
-use Rattle.edit_ops.specs.Changes.{map_range, modified_item}
+use Rattle.edit_changes.specs.Places.{mark_place}
+use Rattle.edit_changes.specs.Changes.{map_range, modified_item}
 use Rattle.edit_ops.specs.Edits.{setting_characters, naming_style, document_after}
 use Rattle.edit_ops.specs.Ranges.{IsInRange}
 use Rattle.edit_ops.specs.Codes.{IsPutUnit, HasRightCodes}
@@ -43,7 +47,8 @@ use Rattle.edit_generator.proofs.BoldLemmas.{plain}
 use Rattle.edit_generator.proofs.RunCountLemmas.{count_one}
 use Rattle.edit_generator.proofs.EditRunLemmas.{inserted_are, few_added}
 use Rattle.edit_generator.proofs.GeneratedTextLemmas.{line_printed, letters, split_generated, put_generated}
-use Rattle.edit_generator.proofs.GeneratedTextLemmas.{range_generated, length-map_range, bold_generated, style_generated}
+use Rattle.edit_generator.proofs.GeneratedTextLemmas.{range_generated, length-map_range, bold_generated}
+use Rattle.edit_generator.proofs.GeneratedTextLemmas.{style_generated}
 use Rattle.edit_generator.proofs.GeneratedRightLemmas.{generated_sound, generated_formed, size}
 use Rattle.edit_generator.proofs.GeneratedTableLemmas.{length-sepxes, length-text_items, short_table}
 
@@ -76,11 +81,27 @@ settings_there main at there text = (All_at IsGeneratedItem main at there.item t
 
 -- ---- the document after it
 
+none_moved : (from to count : ℕ) → moved_bookmarks from to count [] ≡ []
+unfolding in_order
+none_moved from to count = refl
+
 module _ (edits at : ℕ) (document : Document) (within : at < length document.main)
     (is : IsGeneratedDocument edits document) where
   -- all else is as in the blank document
   rest_after : (main : List Item) → record document { main = main } ≡ record blank_document { main = main }
   rest_after main = ap (λ (d : Document). record d { main = main }) is.rest
+
+  -- there are no bookmarks to be moved
+  rest_spliced : (fresh : List Item) →
+      main_spliced at at fresh document ≡ record blank_document { main = splice document.main at at fresh }
+  rest_spliced fresh =
+      let main = splice document.main at at fresh in
+      ap (λ (d : Document). record d {
+        main = main;
+        bookmarks = moved_bookmarks at at (length fresh) d.bookmarks;
+      }) is.rest
+      ∙ ap (λ (list : List Bookmark). record blank_document { main = main; bookmarks = list })
+      (none_moved at at (length fresh))
 
   module _ (some : 0 < edits + 1) (few : edits < 4000) where
     insertion : 1 ≤ (edits + 1) % 5 → (edits + 1) % 5 ≤ 2 →
@@ -105,7 +126,7 @@ module _ (edits at : ℕ) (document : Document) (within : at < length document.m
         let had_characters = is.characters in
         let had_paragraphs = is.paragraphs in
         record {
-          rest = rest_after (splice main at at (inserted_items main at text));
+          rest = rest_spliced (inserted_items main at text);
           text = subst (λ fresh. IsGeneratedText (splice main at at fresh)) (sym fresh) put;
           items = omega (arith, long, added, line, was, low, high, within);
           characters = omega (arith, characters, had_characters);
@@ -129,7 +150,7 @@ module _ (edits at : ℕ) (document : Document) (within : at < length document.m
         let had_characters = is.characters in
         let had_paragraphs = is.paragraphs in
         record {
-          rest = rest_after (splice main at at fresh);
+          rest = rest_spliced fresh;
           text = put;
           items = omega (arith, long, was, third, within);
           characters = omega (arith, characters, had_characters);

@@ -23,6 +23,12 @@ use Rattle.prop_map.specs.Printing.{printed_list}
 use Rattle.prop_map.specs.Formed.{IsPropertyMap, character_groups, paragraph_groups, section_groups}
 use Rattle.prop_map.proofs.ActingLemmas.{IsPropertyMap-empty}
 use Rattle.style_sheet.specs.Chain.{kind_at}
+use Rattle.doc_parts.specs.Order.{in_order}
+use Rattle.doc_parts.specs.Bookmarks.{bookmark_cmp, AreFormedBookmarks, IsFormedBookmark}
+use Rattle.doc_parts.specs.Names.{AreApart}
+use Rattle.doc_parts.proofs.OrderLemmas.{in_order_sorted}
+use Rattle.doc_parts.proofs.BookmarkLemmas.{bookmark_total}
+use Rattle.doc_parts.proofs.NameLemmas.{apart_nowhere}
 use Rattle.plain_doc.specs.declared.item.Item.{Item}
 use Rattle.plain_doc.specs.declared.document.Document.{Document}
 use Rattle.plain_doc.specs.Blank.{blank_sheet, blank_document}
@@ -326,6 +332,18 @@ one_section main text =
     let front = sum_by-replicate f text.front None in
     omega (arith, keys, is, both, front)
 
+-- ---- no bookmarks
+
+no_bookmarks_formed : (len : ℕ) → AreFormedBookmarks len []
+unfolding in_order
+no_bookmarks_formed len = record {
+  each = All-nil (IsFormedBookmark len);
+  in_order = in_order_sorted bookmark_cmp bookmark_total [];
+}
+
+none_apart : AreApart []
+none_apart name = omega arith
+
 -- ---- documents
 
 pub generated_right : (main : List Item) → IsGeneratedText main → length main ≤ 400000 →
@@ -343,6 +361,9 @@ generated_right main text few =
       bases = blank_bases;
       short = blank_short;
       writable = blank_writable;
+      bookmarks = no_bookmarks_formed (length main);
+      few_bookmarks = omega arith;
+      names = apart_nowhere [] none_apart;
     }
 
 pub generated_sound : (main : List Item) → IsGeneratedText main → length main ≤ 400000 → IsSound (generated_with main)
@@ -357,4 +378,5 @@ generated_formed main text few =
       heads = blank.heads;
       sheet = blank.sheet;
       carried = blank.carried;
+      bookmarks = blank.bookmarks;
     }

@@ -14,8 +14,9 @@ use Rattle.fib_form.specs.TableEntries.{TableEntry, entry}
 use Rattle.fib_form.specs.TableParts.{pair_of}
 use Rattle.fib_form.specs.declared.table_parts.TablePart.TheVariants.{Stshf, PlcffndRef, PlcffndTxt, PlcfSed, PlcfHdd}
 use Rattle.fib_form.specs.declared.table_parts.TablePart.TheVariants.{PlcfBteChpx, PlcfBtePapx, SttbfFfn, PlcfFldMom}
-use Rattle.fib_form.specs.declared.table_parts.TablePart.TheVariants.{PlcfFldHdr, PlcfFldFtn, Dop, SttbfAssoc, Clx}
-use Rattle.fib_form.specs.declared.table_parts.TablePart.TheVariants.{PlfLst, PlfLfo}
+use Rattle.fib_form.specs.declared.table_parts.TablePart.TheVariants.{PlcfFldHdr, PlcfFldFtn, SttbfBkmk}
+use Rattle.fib_form.specs.declared.table_parts.TablePart.TheVariants.{PlcfBkf, PlcfBkl, Dop, SttbfAssoc, Clx, PlfLst}
+use Rattle.fib_form.specs.declared.table_parts.TablePart.TheVariants.{PlfLfo}
 use Rattle.style_sheet.specs.Written.{written_sheet}
 use Rattle.doc_parts.specs.declared.lists.Fld.{Fld}
 use Rattle.doc_parts.specs.declared.lists.NoteRef.{NoteRef}
@@ -39,6 +40,7 @@ use Rattle.edit_generator.specs.GeneratedDocuments.{IsGeneratedItem, IsGenerated
 use Rattle.plain_doc.proofs.BlankSheetLemmas.{length-blank_sheet}
 use Rattle.edit_generator.proofs.GeneratedRightLemmas.{generated_with, sect_empty, one_section}
 use Rattle.full_save.proofs.StreamLengths.{clx_short}
+use Rattle.full_save.proofs.MarkLengths.{no_starts, no_ends}
 
 -- ---- what is not there
 
@@ -103,8 +105,8 @@ length-seds start place (section ∷ sections) =
     ap suc (length-seds (section.0 + 1) (place + length (sepx_bytes section.1)) sections)
 
 -- the parts of a document without notes and header texts, by what they list of the main text
-abbrev parts_behind : List NoteRef → List Fld → TableText → List TableEntry
-parts_behind refs fields text =
+abbrev parts_behind : List NoteRef → List Fld → (starts ends : List ℕ) → TableText → List TableEntry
+parts_behind refs fields starts ends text =
     let main_count = slice_index text.counts 0 in
     let note_count = slice_index text.counts 1 in
     let head_count = slice_index text.counts 2 in
@@ -118,6 +120,9 @@ parts_behind refs fields text =
     ∷ entry (pair_of PlcfFldMom) (printed_fields fields main_count)
     ∷ entry (pair_of PlcfFldHdr) (printed_fields [] head_count)
     ∷ entry (pair_of PlcfFldFtn) (printed_fields [] note_count)
+    ∷ entry (pair_of SttbfBkmk) []
+    ∷ entry (pair_of PlcfBkf) starts
+    ∷ entry (pair_of PlcfBkl) ends
     ∷ entry (pair_of Dop) []
     ∷ entry (pair_of SttbfAssoc) []
     ∷ entry (pair_of Clx) text.clx
@@ -125,16 +130,19 @@ parts_behind refs fields text =
     ∷ entry (pair_of PlfLfo) []
     ∷ []
 
-abbrev parts_of : List NoteRef → List Fld → TableText → List TableEntry
-parts_of refs fields text = entry (pair_of Stshf) (written_sheet blank_sheet) ∷ parts_behind refs fields text
+abbrev parts_of : List NoteRef → List Fld → (starts ends : List ℕ) → TableText → List TableEntry
+parts_of refs fields starts ends text =
+    entry (pair_of Stshf) (written_sheet blank_sheet) ∷ parts_behind refs fields starts ends text
 
 parts_are : (main : List Item) (text : TableText) → IsGeneratedText main →
-    table_entries (generated_with main) text ≡ parts_of [] [] text
+    table_entries (generated_with main) text ≡ parts_of [] [] [] [] text
 unfolding collected
 parts_are main text is =
     let refs = no_refs main is.each in
     let fields = no_fields main is.each in
-    λ i. parts_of (refs i) (fields i) text
+    let starts = no_starts (slice_index text.counts 0) in
+    let ends = no_ends (slice_index text.counts 0) in
+    λ i. parts_of (refs i) (fields i) (starts i) (ends i) text
 
 -- what the save may choose left out
 abbrev bare_text : TableText
@@ -146,11 +154,11 @@ bare_text = record {
   clx = [];
 }
 
-bare_length : length (entries_bytes (parts_of [] [] bare_text)) ≡ 208
+bare_length : length (entries_bytes (parts_of [] [] [] [] bare_text)) ≡ 208
 unfolding number_bytes
 bare_length =
     let sheet = written_sheet blank_sheet in
-    let rest = entries_bytes (parts_behind [] [] bare_text) in
+    let rest = entries_bytes (parts_behind [] [] [] [] bare_text) in
     let a = length-append (sheet ++ []) rest in
     let b = length-append sheet [] in
     let c = length-blank_sheet in
@@ -174,7 +182,7 @@ short_table main is =
 
 -- ---- the bin tables
 
-numbered : (text : TableText) → AreNumbered 0 (parts_of [] [] text)
+numbered : (text : TableText) → AreNumbered 0 (parts_of [] [] [] [] text)
 numbered text = (
   plain_part 0 1 _ (omega arith) (omega arith),
   (
@@ -198,16 +206,25 @@ numbered text = (
                     (
                       plain_part 18 18 _ (omega arith) (omega arith),
                       (
-                        plain_part 19 31 _ (omega arith) (omega arith),
+                        plain_part 19 21 _ (omega arith) (omega arith),
                         (
-                          plain_part 32 32 _ (omega arith) (omega arith),
+                          plain_part 22 22 _ (omega arith) (omega arith),
                           (
-                            plain_part 33 33 _ (omega arith) (omega arith),
+                            plain_part 23 23 _ (omega arith) (omega arith),
                             (
-                              plain_part 34 73 _ (omega arith) (omega arith),
+                              plain_part 24 31 _ (omega arith) (omega arith),
                               (
-                                plain_part 74 74 _ (omega arith) (omega arith),
-                                tt,
+                                plain_part 32 32 _ (omega arith) (omega arith),
+                                (
+                                  plain_part 33 33 _ (omega arith) (omega arith),
+                                  (
+                                    plain_part 34 73 _ (omega arith) (omega arith),
+                                    (
+                                      plain_part 74 74 _ (omega arith) (omega arith),
+                                      tt,
+                                    ),
+                                  ),
+                                ),
                               ),
                             ),
                           ),
@@ -235,7 +252,7 @@ pub length-bins : (main : List Item) → IsGeneratedText main →
 unfolding full_fib
 length-bins main is =
     let text = full_text (generated_with main) in
-    let parts = parts_of [] [] text in
+    let parts = parts_of [] [] [] [] text in
     let characters = (entry_stands parts 5 (entry 12 text.characters) (numbered text) refl).there.len in
     let paragraphs = (entry_stands parts 6 (entry 13 text.paragraphs) (numbered text) refl).there.len in
     ap bin_lengths (parts_are main text is) ∙ omega (arith, characters, paragraphs)

@@ -29,11 +29,12 @@ use Rattle.prop_map.proofs.MapLemmas.{empty-overlay}
 use Rattle.plain_doc.specs.declared.item.Item.{Item}
 use Rattle.plain_doc.specs.declared.item.Mark.{Mark}
 use Rattle.edit_ops.specs.Fresh.{unit_item, unit_items, is_table_code, split_mark, mark_item}
-use Rattle.edit_ops.specs.Places.{mark_place, mark_at}
-use Rattle.edit_ops.specs.Changes.{map_range, modified_item, modified_mark}
+use Rattle.edit_changes.specs.Places.{mark_place, mark_at}
+use Rattle.edit_changes.specs.Changes.{map_range, modified_item, modified_mark}
 use Rattle.edit_ops.specs.Edits.{setting_characters, naming_style}
 use Rattle.edit_generator.specs.Generated.{line_text}
-use Rattle.edit_generator.specs.GeneratedDocuments.{bold, IsBoldOrNone, IsPrinted, IsLetter, IsPlainMark, IsGeneratedItem}
+use Rattle.edit_generator.specs.GeneratedDocuments.{bold, IsBoldOrNone, IsPrinted, IsLetter, IsPlainMark}
+use Rattle.edit_generator.specs.GeneratedDocuments.{IsGeneratedItem}
 use Rattle.edit_generator.specs.GeneratedDocuments.{IsGeneratedText}
 use Rattle.edit_generator.proofs.BoldLemmas.{kept_by, none_kept, set_bold}
 

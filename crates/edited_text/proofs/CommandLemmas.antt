@@ -1,7 +1,7 @@
 -- The changes of an accepted edit are steps of a text.
 use Rattle.std.specs.Prelude.{slice_get, slice_set, slice_range, List, ℕ, IsSome, is_some}
 use Rattle.std.specs.List.{splice, All, sum_by, position_or_len}
-use Rattle.std.specs.Option.{unwrap_or}
+use Rattle.std.specs.Option.{unwrap_or, option_map}
 use Rattle.std.proofs.Common.{◌≡◌, ◌∙◌, ◌⊎◌, ◌++◌, ◌∷◌, ◌+◌, ◌-◌, ◌<◌, ◌≤◌, [], refl, sym, ap, subst, zero, suc, inl}
 use Rattle.std.proofs.Common.{inr, Bool, true, false}
 use Rattle.std.proofs.Common.{Some, length, map, take, drop, replicate, arith}
@@ -26,17 +26,19 @@ use Rattle.plain_doc.proofs.RightLemmas.{sound_is_right}
 use Rattle.edit_script.specs.declared.commands.Command.{Command}
 use Rattle.edit_script.specs.declared.commands.Command.TheVariants.{Insert, Erase, Char, Plain, Para, Style, Field}
 use Rattle.edit_script.specs.declared.commands.Command.TheVariants.{Note, Split, Merge, Sect, Row, StyleChar}
-use Rattle.edit_script.specs.declared.commands.Command.TheVariants.{StylePara, Save}
-use Rattle.edit_ops.specs.declared.changes.Change.{Change}
-use Rattle.edit_ops.specs.declared.changes.Change.TheVariants.{SpliceText, ModifyItems, SetSection, SpliceNotes}
-use Rattle.edit_ops.specs.declared.changes.Change.TheVariants.{SpliceHeads, SetStyleCharacters, SetStyleParagraphs}
-use Rattle.edit_ops.specs.Changes.{changed, all_changed, modified_item, map_range}
+use Rattle.edit_script.specs.declared.commands.Command.TheVariants.{StylePara, Bookmark, Unmark, Save}
+use Rattle.edit_changes.specs.declared.changes.Change.{Change}
+use Rattle.edit_changes.specs.declared.changes.Change.TheVariants.{SpliceText, ModifyItems, SetSection, SpliceNotes}
+use Rattle.edit_changes.specs.declared.changes.Change.TheVariants.{SpliceHeads, SetStyleCharacters, SetStyleParagraphs}
+use Rattle.edit_changes.specs.declared.changes.Change.TheVariants.{SetBookmarks}
+use Rattle.edit_changes.specs.Changes.{changed, all_changed, modified_item, map_range}
+use Rattle.edit_ops.specs.Bookmarks.{new_bookmark, with_bookmark, without_bookmark}
 use Rattle.edit_ops.specs.Edits.{changes_of, erased, section_changes, setting_characters, setting_paragraphs}
 use Rattle.edit_ops.specs.Edits.{clearing, naming_style}
 use Rattle.edit_ops.specs.Fresh.{inserted_items, field_items, base_settings, note_reference, note_items, split_item}
 use Rattle.edit_ops.specs.Fresh.{section_item, row_items}
-use Rattle.edit_ops.specs.Makes.{CanSplice, CanMakeAll}
-use Rattle.edit_ops.specs.Places.{text_at, items_at, mark_place, section_place, note_number, head_number}
+use Rattle.edit_changes.specs.Makes.{CanSplice, CanMakeAll}
+use Rattle.edit_changes.specs.Places.{text_at, items_at, mark_place, section_place, note_number, head_number}
 use Rattle.edit_ops.specs.Ranges.{HasText, HasRange}
 use Rattle.edit_ops.proofs.CanMakeLemmas.{can_make}
 use Rattle.edit_ops.proofs.TextLemmas.{right_text}
@@ -77,18 +79,29 @@ all_middle P xs ys from to all =
     All_at P (splice xs from to ys) (length front + k) y all
     (in_back front (ys ++ drop to xs) k (length front + k) y (in_front ys (drop to xs) k y here) refl))
 
+-- the text after a splice
+spliced_there : (document : Document) (story : Story) (from to : ℕ) (fresh text : List Item) →
+    text_at document story ≡ Some text →
+    text_at (changed (SpliceText story from to fresh) document) story ≡ Some (splice text from to fresh)
+spliced_there document Main from to fresh text there = ap (option_map (λ t. splice t from to fresh)) there
+spliced_there document (NoteText number) from to fresh text there =
+    let story = NoteText number in
+    ap (λ d. text_at d story) (put_text (λ t. splice t from to fresh) document story text there)
+    ∙ put_there document story text (splice text from to fresh) there
+spliced_there document (HeadText number) from to fresh text there =
+    let story = HeadText number in
+    ap (λ d. text_at d story) (put_text (λ t. splice t from to fresh) document story text there)
+    ∙ put_there document story text (splice text from to fresh) there
+
 spliced_short : (document : Document) (story : Story) (from to : ℕ) (fresh : List Item) →
     HasText document story (CanSplice from to fresh) →
     IsRightDocument (changed (SpliceText story from to fresh) document) → All HasShortSettings fresh
 spliced_short document story from to fresh has right =
     let found = is_there (text_at document story) (CanSplice from to fresh) has in
     let text = found.value in
-    let new : List Item = splice text from to fresh in
-    let after : Document = text_put document story new in
     all_middle HasShortSettings text fresh from to
-    (short_text after story new
-    (subst IsRightDocument (put_text (λ t. splice t from to fresh) document story text found.there) right)
-    (put_there document story text new found.there))
+    (short_text (changed (SpliceText story from to fresh) document) story (splice text from to fresh) right
+    (spliced_there document story from to fresh text found.there))
 
 -- ---- puts
 
@@ -109,7 +122,7 @@ one_put document story from to fresh can right = (
     few = right.few;
     short =
         subst (All HasShortSettings) (sym (joined_one fresh))
-        (spliced_short document story from to fresh can.0 right);
+        (spliced_short document story from to fresh can.0.0 right);
   },
   tt,
 )
@@ -148,12 +161,12 @@ erased_steps : (document : Document) (story : Story) (from to : ℕ) →
 erased_steps document Main from to can right after =
     let few : length document.main + (sum_by length document.notes + sum_by length document.heads) ≤ 499998 =
     right.few in
-    let main = can.0 in
+    let main = can.0.0 in
     let notes = can.1.0 in
     let less = length-splice document.main [] from to main.ordered main.within in
     let fewer = splice_less document.notes _ _ notes.ordered notes.within in (
       record {
-        can = main;
+        can = can.0;
         named = refl;
         few = omega (arith, few, less, main.ordered, main.within);
         short = All-nil HasShortSettings;
@@ -188,7 +201,8 @@ note_steps : (document : Document) (at number : ℕ) (reference : Item) (note : 
 note_steps document at number reference note can after =
     let main : List Item = splice document.main at at (reference ∷ []) in
     let notes : List (List Item) = splice document.notes number number (note ∷ []) in
-    let final : Document = record document { main = main; notes = notes } in
+    let changes = SpliceText Main at at (reference ∷ []) ∷ SpliceNotes number number (note ∷ []) ∷ [] in
+    let final : Document = all_changed changes document in
     let few : length main + (sum_by length notes + sum_by length document.heads) ≤ 499998 = after.few in
     let more = splice_more document.notes (note ∷ []) number can.1.0.within in (
       record {
@@ -225,7 +239,8 @@ section_steps : (document : Document) (at number : ℕ) (item : Item) →
 section_steps document at number item can after =
     let main : List Item = splice document.main at at (item ∷ []) in
     let heads : List (List Item) = splice document.heads number number (replicate 6 []) in
-    let final : Document = record document { main = main; heads = heads } in
+    let changes = SpliceText Main at at (item ∷ []) ∷ SpliceHeads number number (replicate 6 []) ∷ [] in
+    let final : Document = all_changed changes document in
     let few : length main + (sum_by length document.notes + sum_by length heads) ≤ 499998 = after.few in
     let more = splice_more document.heads (replicate 6 []) number can.1.0.within in (
       record {
@@ -373,6 +388,10 @@ commands_are_steps document command sound accepted =
         inr (record { can = can.0; named = tt; few = after.few; short = All-nil HasShortSettings }, tt)
     by_kind (StylePara istd set) can right after =
         inr (record { can = can.0; named = tt; few = after.few; short = All-nil HasShortSettings }, tt)
+    by_kind (Bookmark name from to) can right after =
+        inr (record { can = can.0; named = tt; few = after.few; short = All-nil HasShortSettings }, tt)
+    by_kind (Unmark name) can right after =
+        inr (record { can = can.0; named = tt; few = after.few; short = All-nil HasShortSettings }, tt)
     by_kind (Save full) can right after = inr tt
 
 -- ---- how many pieces
@@ -453,4 +472,8 @@ pieces_are_few document (Row story at width cells) =
     one_change (SpliceText story at at (row_items width cells)) (omega arith)
 pieces_are_few document (StyleChar istd set) = one_change (SetStyleCharacters istd set) (omega arith)
 pieces_are_few document (StylePara istd set) = one_change (SetStyleParagraphs istd set) (omega arith)
+pieces_are_few document (Bookmark name from to) =
+    one_change (SetBookmarks (with_bookmark (new_bookmark name from to) document.bookmarks)) (omega arith)
+pieces_are_few document (Unmark name) =
+    one_change (SetBookmarks (without_bookmark name document.bookmarks)) (omega arith)
 pieces_are_few document (Save full) = omega arith

@@ -22,10 +22,11 @@ use Rattle.plain_doc.specs.declared.item.Item.{Item}
 use Rattle.plain_doc.specs.declared.document.Document.{Document}
 use Rattle.plain_doc.specs.Collected.{joined_texts}
 use Rattle.plain_doc.specs.RulesOfItems.{HasShortSettings}
-use Rattle.edit_ops.specs.declared.changes.Change.{Change}
-use Rattle.edit_ops.specs.declared.changes.Change.TheVariants.{SpliceText, ModifyItems, SetSection, SpliceNotes}
-use Rattle.edit_ops.specs.declared.changes.Change.TheVariants.{SpliceHeads, SetStyleCharacters, SetStyleParagraphs}
-use Rattle.edit_ops.specs.Changes.{changed, all_changed, modified_item}
+use Rattle.edit_changes.specs.declared.changes.Change.{Change}
+use Rattle.edit_changes.specs.declared.changes.Change.TheVariants.{SpliceText, ModifyItems, SetSection, SpliceNotes}
+use Rattle.edit_changes.specs.declared.changes.Change.TheVariants.{SpliceHeads, SetStyleCharacters, SetStyleParagraphs}
+use Rattle.edit_changes.specs.declared.changes.Change.TheVariants.{SetBookmarks}
+use Rattle.edit_changes.specs.Changes.{changed, all_changed, modified_item}
 use Rattle.save_laws.specs.Places.{PagedStream, Given, given_of}
 use Rattle.save_laws.specs.Plans.{Plan}
 use Rattle.save_laws.specs.Slots.{Slot, shown, whole_text, IsPlaced}
@@ -347,6 +348,7 @@ not_lone document (SpliceNotes from to fresh ∷ []) none (inl lone) = absurd lo
 not_lone document (SpliceHeads from to fresh ∷ []) none (inl lone) = absurd lone
 not_lone document (SetStyleCharacters istd set ∷ []) none (inl lone) = absurd lone
 not_lone document (SetStyleParagraphs istd set ∷ []) none (inl lone) = absurd lone
+not_lone document (SetBookmarks list ∷ []) none (inl lone) = absurd lone
 not_lone document (change ∷ other ∷ more) none (inl lone) = absurd lone
 
 -- and one modifier acts

@@ -25,7 +25,7 @@ use Rattle.piece_table.specs.ClxRules.{FitsPages}
 use Rattle.plain_doc.specs.declared.item.Item.{Item}
 use Rattle.plain_doc.specs.declared.item.Mark.{Mark}
 use Rattle.plain_doc.specs.RulesOfItems.{IsShortPap}
-use Rattle.edit_ops.specs.Changes.{modified_item, modified_mark}
+use Rattle.edit_changes.specs.Changes.{modified_item, modified_mark}
 use Rattle.save_laws.specs.Places.{Given, IsMarkedAfter}
 use Rattle.save_laws.specs.Slots.{Slot, shown, IsPlaced}
 use Rattle.edited_text.specs.EditSteps.{IsShortAfter}

@@ -27,11 +27,12 @@ use Rattle.plain_doc.proofs.FormedLemmas.{length-splice}
 use Rattle.plain_doc.specs.Sound.{IsSound}
 use Rattle.plain_doc.proofs.RightLemmas.{sound_is_right}
 use Rattle.plain_doc.proofs.StreamLemmas.{take_next}
-use Rattle.edit_ops.specs.declared.changes.Change.{Change}
-use Rattle.edit_ops.specs.declared.changes.Change.TheVariants.{SpliceText, ModifyItems, SetSection, SpliceNotes}
-use Rattle.edit_ops.specs.declared.changes.Change.TheVariants.{SpliceHeads, SetStyleCharacters, SetStyleParagraphs}
-use Rattle.edit_ops.specs.Changes.{changed, all_changed}
-use Rattle.edit_ops.specs.Makes.{CanSplice}
+use Rattle.edit_changes.specs.declared.changes.Change.{Change}
+use Rattle.edit_changes.specs.declared.changes.Change.TheVariants.{SpliceText, ModifyItems, SetSection, SpliceNotes}
+use Rattle.edit_changes.specs.declared.changes.Change.TheVariants.{SpliceHeads, SetStyleCharacters, SetStyleParagraphs}
+use Rattle.edit_changes.specs.declared.changes.Change.TheVariants.{SetBookmarks}
+use Rattle.edit_changes.specs.Changes.{changed, all_changed}
+use Rattle.edit_changes.specs.Makes.{CanSplice}
 use Rattle.full_save.specs.Text.{extra_mark}
 use Rattle.save_laws.specs.Slots.{Slot, shown, StoryEnds, loose_if, note_slots, head_slots, last_slots, whole_text}
 use Rattle.save_laws.specs.Ends.{ends_of}
@@ -80,14 +81,14 @@ sound_few document sound =
 pub put_few : (document now : Document) (change : Change) → IsPutStep document now change →
     length (items_put change) ≤ item_count (changed change now)
 put_few document now (SpliceText Main from to fresh) put =
-    let can = put.can in
+    let can = put.can.0 in
     omega (
       arith,
       ap length (joined_one fresh),
       length-splice now.main fresh from to can.ordered can.within,
     )
 put_few document now (SpliceText (Note number) from to fresh) put =
-    let found = is_there (slice_get now.notes number) (CanSplice from to fresh) put.can in
+    let found = is_there (slice_get now.notes number) (CanSplice from to fresh) put.can.0 in
     let spliced =
     one_text_splices now.notes number found.value fresh from to found.there found.is.ordered found.is.within in
     let new = put_text (λ t. splice t from to fresh) now (Note number) found.value found.there in
@@ -102,7 +103,7 @@ put_few document now (SpliceText (Note number) from to fresh) put =
       length-joined texts.notes,
     )
 put_few document now (SpliceText (Head number) from to fresh) put =
-    let found = is_there (slice_get now.heads number) (CanSplice from to fresh) put.can in
+    let found = is_there (slice_get now.heads number) (CanSplice from to fresh) put.can.0 in
     let spliced =
     one_text_splices now.heads number found.value fresh from to found.there found.is.ordered found.is.within in
     let new = put_text (λ t. splice t from to fresh) now (Head number) found.value found.there in
@@ -140,6 +141,7 @@ put_few document now (SpliceHeads from to fresh) put =
     )
 put_few document now (SetStyleCharacters istd set) put = omega arith
 put_few document now (SetStyleParagraphs istd set) put = omega arith
+put_few document now (SetBookmarks list) put = omega arith
 
 -- ---- how long the whole text is
 
@@ -323,6 +325,8 @@ names_empty document now (SetStyleCharacters istd set) named (inl notes) = absur
 names_empty document now (SetStyleCharacters istd set) named (inr heads) = absurd (gone now.heads heads.0 heads.1)
 names_empty document now (SetStyleParagraphs istd set) named (inl notes) = absurd (gone now.notes notes.0 notes.1)
 names_empty document now (SetStyleParagraphs istd set) named (inr heads) = absurd (gone now.heads heads.0 heads.1)
+names_empty document now (SetBookmarks list) named (inl notes) = absurd (gone now.notes notes.0 notes.1)
+names_empty document now (SetBookmarks list) named (inr heads) = absurd (gone now.heads heads.0 heads.1)
 
 step_put : (added : Added) (document now : Document) (stories : Stories) (change : Change) (step : TextStep)
     (block : Option Piece) → IsPutStep document now change →

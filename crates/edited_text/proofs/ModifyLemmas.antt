@@ -16,10 +16,10 @@ use Rattle.plain_doc.specs.declared.item.Item.{Item}
 use Rattle.plain_doc.specs.declared.item.Mark.{Mark}
 use Rattle.plain_doc.specs.declared.document.Document.{Document}
 use Rattle.plain_doc.specs.Collected.{joined_texts}
-use Rattle.edit_ops.specs.Places.{text_at}
-use Rattle.edit_ops.specs.Changes.{with_text, put_changed, map_range, modified_item, modified_mark}
-use Rattle.edit_ops.specs.Changes.{changed}
-use Rattle.edit_ops.specs.declared.changes.Change.TheVariants.{ModifyItems}
+use Rattle.edit_changes.specs.Places.{text_at}
+use Rattle.edit_changes.specs.Changes.{with_text, put_changed, map_range, modified_item, modified_mark}
+use Rattle.edit_changes.specs.Changes.{changed}
+use Rattle.edit_changes.specs.declared.changes.Change.TheVariants.{ModifyItems}
 use Rattle.save_laws.specs.Places.{IsMarkedAfter}
 use Rattle.save_laws.specs.Slots.{Slot, shown, StoryEnds, note_slots, head_slots, whole_text}
 use Rattle.save_laws.specs.Sessions.{IsSlotAfter, AreSlotsAfter}

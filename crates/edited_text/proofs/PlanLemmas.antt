@@ -23,11 +23,12 @@ use Rattle.prop_map.specs.Overlay.{overlay}
 use Rattle.plain_doc.specs.declared.item.Item.{Item}
 use Rattle.plain_doc.specs.declared.document.Document.{Document}
 use Rattle.plain_doc.specs.RulesOfSheet.{section_count}
-use Rattle.edit_ops.specs.declared.changes.Change.{Change}
-use Rattle.edit_ops.specs.declared.changes.Change.TheVariants.{SpliceText, ModifyItems, SetSection, SpliceNotes}
-use Rattle.edit_ops.specs.declared.changes.Change.TheVariants.{SpliceHeads, SetStyleCharacters, SetStyleParagraphs}
-use Rattle.edit_ops.specs.Changes.{changed, all_changed, changed_at, put_changed, with_section, modified_item}
-use Rattle.edit_ops.specs.Changes.{map_range}
+use Rattle.edit_changes.specs.declared.changes.Change.{Change}
+use Rattle.edit_changes.specs.declared.changes.Change.TheVariants.{SpliceText, ModifyItems, SetSection, SpliceNotes}
+use Rattle.edit_changes.specs.declared.changes.Change.TheVariants.{SpliceHeads, SetStyleCharacters, SetStyleParagraphs}
+use Rattle.edit_changes.specs.declared.changes.Change.TheVariants.{SetBookmarks}
+use Rattle.edit_changes.specs.Changes.{changed, all_changed, changed_at, put_changed, with_section, modified_item}
+use Rattle.edit_changes.specs.Changes.{map_range}
 use Rattle.edit_ops.proofs.SumLemmas.{sum_more}
 use Rattle.edit_ops.proofs.TextLemmas.{count_upto}
 use Rattle.edited_text.specs.SessionText.{IsSectionPlan, section_settings, unwritten_count}
@@ -92,10 +93,10 @@ left_alone now places change same count = record {
   unwritten = omega arith;
 }
 
-main_spliced : (document now : Document) (places : List (Option ℕ)) (from to : ℕ) (fresh : List Item) →
+main_planned : (document now : Document) (places : List (Option ℕ)) (from to : ℕ) (fresh : List Item) →
     now.main ≡ document.main → from ≤ to → length places ≡ length (section_settings now.main) →
     IsPlanStep now places (spliced_plan document.main places from to fresh) (SpliceText Main from to fresh)
-main_spliced document now places from to fresh named order count =
+main_planned document now places from to fresh named order count =
     let main : List Item = now.main in
     let p : ℕ = section_count (take from document.main) in
     let q : ℕ = section_count (take to document.main) in
@@ -289,7 +290,7 @@ put_planned : (document now : Document) (places : List (Option ℕ)) (change : C
     length places ≡ length (section_settings now.main) →
     IsPlanStep now places (plan_after document.main places change) change
 put_planned document now places (SpliceText Main from to fresh) put count =
-    main_spliced document now places from to fresh put.named put.can.ordered count
+    main_planned document now places from to fresh put.named put.can.0.ordered count
 put_planned document now places (SpliceText (Note number) from to fresh) put count =
     left_alone now places (SpliceText (Note number) from to fresh) refl count
 put_planned document now places (SpliceText (Head number) from to fresh) put count =
@@ -315,6 +316,8 @@ put_planned document now places (SetStyleCharacters istd settings) put count =
     left_alone now places (SetStyleCharacters istd settings) refl count
 put_planned document now places (SetStyleParagraphs istd settings) put count =
     left_alone now places (SetStyleParagraphs istd settings) refl count
+put_planned document now places (SetBookmarks list) put count =
+    left_alone now places (SetBookmarks list) refl count
 
 act_planned : (document now : Document) (places : List (Option ℕ)) (change : Change) → ActsRight document change →
     length places ≡ length (section_settings now.main) →
@@ -329,6 +332,7 @@ act_planned document now places (SpliceNotes from to fresh) act count = absurd a
 act_planned document now places (SpliceHeads from to fresh) act count = absurd act
 act_planned document now places (SetStyleCharacters istd settings) act count = absurd act
 act_planned document now places (SetStyleParagraphs istd settings) act count = absurd act
+act_planned document now places (SetBookmarks list) act count = absurd act
 
 step_planned : (document now : Document) (places : List (Option ℕ)) (change : Change) →
     IsChangeStep document now change → length places ≡ length (section_settings now.main) →
@@ -342,9 +346,9 @@ put_fits : (document now : Document) (places : List (Option ℕ)) (change : Chan
     length places ≡ length (section_settings now.main) → FitsPlan document.main places change
 put_fits document now places (SpliceText Main from to fresh) put count =
     let named = put.named in
-    let within = put.can.within in
+    let within = put.can.0.within in
     let number = settings_counted now.main in (
-      record { order = put.can.ordered; within = omega (arith, within, ap length named) },
+      record { order = put.can.0.ordered; within = omega (arith, within, ap length named) },
       count ∙ (number ∙ ap section_count named),
     )
 put_fits document now places (SpliceText (Note number) from to fresh) put count = tt
@@ -359,6 +363,7 @@ put_fits document now places (SpliceNotes from to fresh) put count = tt
 put_fits document now places (SpliceHeads from to fresh) put count = tt
 put_fits document now places (SetStyleCharacters istd settings) put count = tt
 put_fits document now places (SetStyleParagraphs istd settings) put count = tt
+put_fits document now places (SetBookmarks list) put count = tt
 
 act_fits : (document : Document) (places : List (Option ℕ)) (change : Change) → ActsRight document change →
     FitsPlan document.main places change
@@ -369,6 +374,7 @@ act_fits document places (SpliceNotes from to fresh) act = tt
 act_fits document places (SpliceHeads from to fresh) act = tt
 act_fits document places (SetStyleCharacters istd settings) act = tt
 act_fits document places (SetStyleParagraphs istd settings) act = tt
+act_fits document places (SetBookmarks list) act = tt
 
 step_fits : (document now : Document) (places : List (Option ℕ)) (change : Change) →
     IsChangeStep document now change → length places ≡ length (section_settings now.main) →

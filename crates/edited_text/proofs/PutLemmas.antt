@@ -21,9 +21,9 @@ use Rattle.plain_doc.specs.declared.item.Item.{Item}
 use Rattle.plain_doc.specs.declared.document.Document.{Document}
 use Rattle.plain_doc.specs.Collected.{joined_texts}
 use Rattle.plain_doc.proofs.FormedLemmas.{length-splice}
-use Rattle.edit_ops.specs.declared.changes.Change.{Change}
-use Rattle.edit_ops.specs.declared.changes.Change.TheVariants as change
-use Rattle.edit_ops.specs.Changes.{changed, all_changed}
+use Rattle.edit_changes.specs.declared.changes.Change.{Change}
+use Rattle.edit_changes.specs.declared.changes.Change.TheVariants as change
+use Rattle.edit_changes.specs.Changes.{changed, all_changed}
 use Rattle.edit_ops.proofs.SumLemmas.{sum_more}
 use Rattle.full_save.specs.Text.{extra_mark}
 use Rattle.save_laws.specs.Places.{PagedStream}
@@ -213,6 +213,7 @@ cuts_some (change.SpliceNotes from to fresh) = omega arith
 cuts_some (change.SpliceHeads from to fresh) = omega arith
 cuts_some (change.SetStyleCharacters istd set) = omega arith
 cuts_some (change.SetStyleParagraphs istd set) = omega arith
+cuts_some (change.SetBookmarks list) = omega arith
 
 put_counted : (document : Document) (base : ℕ) (before : List Item) (now : Document) (ends : Ends) (put : Put) →
     IsPut document base before now ends put → pieces_cut put.splice ≤ pieces_added put.change

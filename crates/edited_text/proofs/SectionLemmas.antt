@@ -1,23 +1,23 @@
 -- The sections of a session while the main text is spliced and while their settings are set.
 use Rattle.std.specs.Prelude.{slice_get, slice_set, List, ℕ}
 use Rattle.std.specs.List.{splice}
-use Rattle.std.specs.Option.{option_map}
+use Rattle.std.specs.Option.{option_map, option_and_then}
 use Rattle.std.proofs.Common.{◌≡◌, ◌∙◌, ◌++◌, ◌∷◌, ◌+◌, ◌-◌, [], refl, sym, ap, subst, zero, suc, inl, inr}
-use Rattle.std.proofs.Common.{Some, None, Option, Bool, ◌<◌, length, map, take, drop, arith}
+use Rattle.std.proofs.Common.{Some, None, Option, Bool, true, ◌<◌, length, map, take, drop, arith}
 use Rattle.std.proofs.lemmas.Bool.{cases_lt}
 use Rattle.std.proofs.lemmas.List.{length-map, length-append, take-append-drop}
 use Rattle.std.proofs.lemmas.List.Elements.{filter_map-append, All-replicate}
 use Rattle.std.proofs.lemmas.List.{length-replicate}
 use Rattle.std.proofs.Common.{replicate}
-use Rattle.std.specs.Prelude.{is_some}
+use Rattle.std.specs.Prelude.{is_some, IsSome}
 use Rattle.std.proofs.Common.{cond}
-use Rattle.std.proofs.lemmas.List.Sums.{sum_by-cons}
+use Rattle.std.proofs.lemmas.List.Sums.{sum_by-cons, count_by_more_yes}
 use Rattle.doc_bits.proofs.ListLemmas.{All_at}
 use Rattle.plain_doc.specs.RulesOfSheet.{section_count}
 use Rattle.edited_text.specs.SessionText.{IsSectionPlan}
 use Rattle.doc_bits.proofs.TogetherLemmas.{together_joined, together_take, together_drop}
 use Rattle.std.proofs.lemmas.Option.{slice_get_within, same_Some, none-some}
-use Rattle.std.proofs.Math.Seq.{take-append_seam, drop-append_seam, split_at}
+use Rattle.std.proofs.Math.Seq.{take-append_seam, drop-append_seam, split_at, take-length}
 use Rattle.std.proofs.lemmas.List.{set_split}
 use Rattle.std.proofs.lemmas.Option.{get_or_from_slice_get}
 use Rattle.std.proofs.Common.{get_or}
@@ -28,13 +28,14 @@ use Rattle.prop_map.specs.Settings.{Settings}
 use Rattle.prop_map.specs.Overlay.{overlay}
 use Rattle.piece_table.specs.Piece.{UnitPlace, flat_pieces}
 use Rattle.plain_doc.specs.declared.item.Item.{Item}
-use Rattle.edit_ops.specs.Changes.{changed_at, put_changed, with_section}
+use Rattle.edit_changes.specs.Changes.{changed_at, put_changed, with_section}
 use Rattle.save_laws.specs.Places.{Given, given_of}
 use Rattle.save_laws.specs.Slots.{Slot, shown, note_slots, head_slots, last_slots, whole_text, IsPlaced}
 use Rattle.save_laws.specs.Slots.{ReadsAfter}
 use Rattle.save_laws.specs.FastSaves.{StandsInEither, IsGivenBy}
+use Rattle.edit_ops.proofs.TextLemmas.{count_upto}
 use Rattle.edited_text.specs.SessionText.{section_settings}
-use Rattle.edited_text.specs.SessionChanges.{sections_before, SectionsSplice, SectionsStay, StylesStay}
+use Rattle.edited_text.specs.SessionChanges.{sections_before, SectionsSplice, SectionsStay, StylesStay, BookmarksStay}
 use Rattle.edited_text.specs.SessionChanges.{OneSectionIsSet}
 
 -- ---- their list
@@ -190,12 +191,35 @@ sections_stay old plan pieces document ends at set stands =
     (changed_at document.main at (with_section set)) (notes ++ (heads ++ last_slots (notes ++ heads)))
     (put_given document.main at set (slice_get document.main at) refl) stands
 
+-- a section that ends at an item is one of all
+pub section_below : (main : List Item) (at : ℕ) →
+    IsSome (option_and_then (λ (item : Item). item.sect) (slice_get main at)) →
+    section_count (take at main) < section_count main
+section_below main at some = here (slice_get main at) refl some
+  where
+    here : (found : Option Item) → slice_get main at ≡ found →
+        IsSome (option_and_then (λ (item : Item). item.sect) found) → section_count (take at main) < section_count main
+    here None there some = absurd (cc some)
+    here (Some item) there some =
+        let low = slice_get_within main at item there in
+        let read : get_or main at item ≡ item = get_or_from_slice_get main at item item there in
+        let yes : is_some (get_or main at item).sect ≡ true =
+        ap (λ (i : Item). is_some i.sect) read ∙ some in
+        let more = count_by_more_yes (λ (i : Item). is_some i.sect) main at item low yes in
+        let upto = count_upto (λ (i : Item). is_some i.sect) main (at + 1) (length main) (omega (arith, low)) in
+        let whole = ap section_count (take-length main) in
+        omega (arith, more, upto, whole)
+
 pub styles_stay : StylesStay
 unfolding whole_text
 styles_stay = record {
   characters = λ document ends istd set. refl;
   paragraphs = λ document ends istd set. refl;
 }
+
+pub bookmarks_stay : BookmarksStay
+unfolding whole_text
+bookmarks_stay document ends list = refl
 
 -- ---- where settings stand
 

@@ -1,6 +1,5 @@
 -- The steps of a text: splices of the main text and of stories.
 use Rattle.std.specs.Prelude.{slice_range, List, ℕ, nat_lt}
-use Rattle.std.specs.List.{splice}
 use Rattle.std.proofs.Common.{◌≡◌, ◌∙◌, ◌++◌, ◌∷◌, ◌+◌, ◌-◌, ◌<◌, ◌≤◌, [], refl, sym, ap, subst, inl, inr}
 use Rattle.std.proofs.Common.{Bool, true, false}
 use Rattle.std.proofs.Common.{length, map, take, arith}
@@ -11,6 +10,7 @@ use Rattle.doc_bits.specs.Together.{AreTogether}
 use Rattle.plain_doc.specs.declared.item.Item.{Item}
 use Rattle.plain_doc.specs.declared.document.Document.{Document}
 use Rattle.plain_doc.specs.Collected.{joined_texts}
+use Rattle.plain_doc.specs.Marks.{main_spliced}
 use Rattle.plain_doc.proofs.FormedLemmas.{length-splice}
 use Rattle.save_laws.specs.Slots.{Slot, shown, StoryEnds, loose_if, note_slots, head_slots, last_slots, whole_text}
 use Rattle.save_laws.specs.Ends.{ends_of}
@@ -104,7 +104,7 @@ text_step document changed ends step made from to marks fresh slots spliced adde
       stories = stories;
     }
 
-pub main_spliced : (document : Document) (stories : Stories) (step : TextStep) (from to count : ℕ)
+pub main_text_step : (document : Document) (stories : Stories) (step : TextStep) (from to count : ℕ)
     (fresh : List Item) → AreStories document stories → from ≤ to → to ≤ stories.main → count ≡ length fresh →
     step ≡ record {
       from = from;
@@ -117,16 +117,16 @@ pub main_spliced : (document : Document) (stories : Stories) (step : TextStep) (
         heads = stories.heads;
         ends = stories.ends;
       };
-    } → IsTextStep document (record document { main = splice document.main from to fresh }) stories.ends step
+    } → IsTextStep document (main_spliced from to fresh document) stories.ends step
 unfolding whole_text
-main_spliced document stories step from to count fresh are order within many is =
+main_text_step document stories step from to count fresh are order within many is =
     let ends = ends_of stories.ends in
     let notes = note_slots document ends in
     let heads = head_slots document ends in
     let rest : List Slot = notes ++ (heads ++ last_slots (notes ++ heads)) in
     let len = length-append (map shown document.main) rest in
     let inside : to ≤ length document.main = omega (arith, within, are.main) in
-    let changed : Document = record document { main = splice document.main from to fresh } in
+    let changed : Document = main_spliced from to fresh document in
     let spliced : IsSplicedWhole document ends changed ends from to (map shown fresh) =
     record {
       order = order;

@@ -5,15 +5,17 @@ use Rattle.std.proofs.Common.{◌≡◌, ◌∙◌, ◌+◌, ◌<◌, ◌≤◌,
 use Rattle.std.proofs.Common.{arith}
 use Rattle.std.proofs.lemmas.Option.{slice_get_within}
 use Rattle.doc_bits.specs.declared.places.Story.TheVariants.{Main, Note, Head}
+use Rattle.doc_parts.specs.declared.bookmark_order.Bookmark.{Bookmark}
 use Rattle.prop_map.specs.Settings.{Settings}
 use Rattle.plain_doc.specs.declared.item.Item.{Item}
 use Rattle.plain_doc.specs.declared.document.Document.{Document}
 use Rattle.plain_doc.specs.Collected.{joined_texts}
-use Rattle.edit_ops.specs.declared.changes.Change.{Change}
-use Rattle.edit_ops.specs.declared.changes.Change.TheVariants.{SpliceText, ModifyItems, SetSection, SpliceNotes}
-use Rattle.edit_ops.specs.declared.changes.Change.TheVariants.{SpliceHeads, SetStyleCharacters, SetStyleParagraphs}
-use Rattle.edit_ops.specs.Changes.{changed, changed_at, with_section}
-use Rattle.edit_ops.specs.Makes.{CanSplice}
+use Rattle.edit_changes.specs.declared.changes.Change.{Change}
+use Rattle.edit_changes.specs.declared.changes.Change.TheVariants.{SpliceText, ModifyItems, SetSection, SpliceNotes}
+use Rattle.edit_changes.specs.declared.changes.Change.TheVariants.{SpliceHeads, SetStyleCharacters, SetStyleParagraphs}
+use Rattle.edit_changes.specs.declared.changes.Change.TheVariants.{SetBookmarks}
+use Rattle.edit_changes.specs.Changes.{changed, changed_at, with_section}
+use Rattle.edit_changes.specs.Makes.{CanSplice}
 use Rattle.save_laws.specs.Places.{Given, given_of}
 use Rattle.save_laws.specs.ByRuns.{slot_end}
 use Rattle.save_laws.specs.Slots.{Slot, StoryEnds, shown, note_slots, head_slots, last_slots, whole_text}
@@ -173,6 +175,15 @@ paragraphs_step now stories step istd set are is =
     (record { len = refl; marks = refl; stand = λ old plan places stands. stands })
     (record { main = are.main; notes = are.notes; heads = are.heads }) is
 
+pub bookmarks_step : (now : Document) (stories : Stories) (step : TextStep) (list : List Bookmark) →
+    AreStories now stories → step ≡ record { from = 0; to = 0; items = []; marks = 0; after = stories } →
+    IsTextStep now (changed (SetBookmarks list) now) stories.ends step
+unfolding whole_text
+bookmarks_step now stories step list are is =
+    nothing_put now (changed (SetBookmarks list) now) stories step
+    (record { len = refl; marks = refl; stand = λ old plan places stands. stands })
+    (record { main = are.main; notes = are.notes; heads = are.heads }) is
+
 -- ---- when a change has a step
 
 -- a text that has a range, with items that can be put there
@@ -206,12 +217,12 @@ pub can_step : (document now : Document) (stories : Stories) (change : Change) �
     IsPutStep document now change → CanStep document stories change
 can_step document now stories (SpliceText Main from to fresh) are put =
     let named = put.named in
-    let within = put.can.within in
-    (are.main ∙ ap length named, record { order = put.can.ordered; within = omega (arith, within, ap length named) })
+    let within = put.can.0.within in
+    (are.main ∙ ap length named, record { order = put.can.0.ordered; within = omega (arith, within, ap length named) })
 can_step document now stories (SpliceText (Note number) from to fresh) are put =
-    counted_text stories.notes document.notes now.notes number from to fresh are.notes put.named put.can
+    counted_text stories.notes document.notes now.notes number from to fresh are.notes put.named put.can.0
 can_step document now stories (SpliceText (Head number) from to fresh) are put =
-    counted_text stories.heads document.heads now.heads number from to fresh are.heads put.named put.can
+    counted_text stories.heads document.heads now.heads number from to fresh are.heads put.named put.can.0
 can_step document now stories (ModifyItems story from to by) are put = put.named
 can_step document now stories (SetSection at set) are put = tt
 can_step document now stories (SpliceNotes from to fresh) are put =
@@ -220,6 +231,7 @@ can_step document now stories (SpliceHeads from to fresh) are put =
     counted_texts stories.heads document.heads now.heads fresh from to are.heads put.named put.can
 can_step document now stories (SetStyleCharacters istd set) are put = tt
 can_step document now stories (SetStyleParagraphs istd set) are put = tt
+can_step document now stories (SetBookmarks list) are put = tt
 
 -- a range of a text ends before the items of all do
 pub range_within : (texts : List (List Item)) (number from to : ℕ) →
@@ -286,3 +298,11 @@ pub paragraphs_change : (now : Document) (stories : Stories) (change : Change) (
 paragraphs_change now stories change step istd set is are none =
     subst (λ c. IsTextStep now (changed c now) stories.ends step) (sym is)
     (paragraphs_step now stories step istd set are none)
+
+pub bookmarks_change : (now : Document) (stories : Stories) (change : Change) (step : TextStep)
+    (list : List Bookmark) → change ≡ SetBookmarks list → AreStories now stories →
+    step ≡ record { from = 0; to = 0; items = []; marks = 0; after = stories } →
+    IsTextStep now (changed change now) stories.ends step
+bookmarks_change now stories change step list is are none =
+    subst (λ c. IsTextStep now (changed c now) stories.ends step) (sym is)
+    (bookmarks_step now stories step list are none)

@@ -15,13 +15,14 @@ use Rattle.plain_doc.specs.RulesOfItems.{HasShortSettings}
 use Rattle.plain_doc.specs.RulesOfSheet.{item_count, most_items}
 use Rattle.plain_doc.specs.Sound.{IsSound}
 use Rattle.edit_script.specs.declared.commands.Command.{Command}
-use Rattle.edit_ops.specs.declared.changes.Change.{Change}
-use Rattle.edit_ops.specs.declared.changes.Change.TheVariants.{SpliceText, ModifyItems, SetSection, SpliceNotes}
-use Rattle.edit_ops.specs.declared.changes.Change.TheVariants.{SpliceHeads, SetStyleCharacters, SetStyleParagraphs}
-use Rattle.edit_ops.specs.Places.{text_at}
+use Rattle.edit_changes.specs.declared.changes.Change.{Change}
+use Rattle.edit_changes.specs.declared.changes.Change.TheVariants.{SpliceText, ModifyItems, SetSection, SpliceNotes}
+use Rattle.edit_changes.specs.declared.changes.Change.TheVariants.{SpliceHeads, SetStyleCharacters, SetStyleParagraphs}
+use Rattle.edit_changes.specs.declared.changes.Change.TheVariants.{SetBookmarks}
+use Rattle.edit_changes.specs.Places.{text_at}
 use Rattle.edit_ops.specs.Ranges.{HasRange}
-use Rattle.edit_ops.specs.Changes.{changed, modified_item}
-use Rattle.edit_ops.specs.Makes.{CanMake}
+use Rattle.edit_changes.specs.Changes.{changed, modified_item}
+use Rattle.edit_changes.specs.Makes.{CanMake}
 use Rattle.edit_ops.specs.Runs.{texts_put}
 use Rattle.edit_ops.specs.Causes.{IsAcceptedEdit}
 use Rattle.edit_ops.specs.Edits.{changes_of}
@@ -39,6 +40,7 @@ ActsOnNone (SpliceNotes from to fresh) = ⊤
 ActsOnNone (SpliceHeads from to fresh) = ⊤
 ActsOnNone (SetStyleCharacters istd set) = ⊤
 ActsOnNone (SetStyleParagraphs istd set) = ⊤
+ActsOnNone (SetBookmarks list) = ⊤
 
 -- the texts that a change names are those that they were before the command
 abbrev pub KeepsNamed : Document → Document → Change → Type 0
@@ -51,6 +53,7 @@ KeepsNamed document now (SpliceNotes from to fresh) = now.notes ≡ document.not
 KeepsNamed document now (SpliceHeads from to fresh) = now.heads ≡ document.heads
 KeepsNamed document now (SetStyleCharacters istd set) = ⊤
 KeepsNamed document now (SetStyleParagraphs istd set) = ⊤
+KeepsNamed document now (SetBookmarks list) = ⊤
 
 -- the items that a change puts
 abbrev pub items_put : Change → List Item
@@ -93,6 +96,7 @@ ActsRight document (SpliceNotes from to fresh) = ⊥
 ActsRight document (SpliceHeads from to fresh) = ⊥
 ActsRight document (SetStyleCharacters istd set) = ⊥
 ActsRight document (SetStyleParagraphs istd set) = ⊥
+ActsRight document (SetBookmarks list) = ⊥
 
 -- one modifier, and nothing else
 abbrev pub IsLoneModifier : Document → List Change → Type 0
@@ -124,6 +128,7 @@ NamesEmptyStory document (SpliceNotes from to fresh) = joined_texts document.not
 NamesEmptyStory document (SpliceHeads from to fresh) = joined_texts document.heads ≡ []
 NamesEmptyStory document (SetStyleCharacters istd set) = ⊥
 NamesEmptyStory document (SetStyleParagraphs istd set) = ⊥
+NamesEmptyStory document (SetBookmarks list) = ⊥
 
 -- the block of added text that a change is: the items that it puts, and behind them the marks that come with the first
 -- items of a story
@@ -153,6 +158,7 @@ cuts_of (SpliceNotes from to fresh) = 1
 cuts_of (SpliceHeads from to fresh) = 1
 cuts_of (SetStyleCharacters istd set) = 1
 cuts_of (SetStyleParagraphs istd set) = 1
+cuts_of (SetBookmarks list) = 1
 
 abbrev pub pieces_added : Change → ℕ
 pieces_added change = cuts_of change + block_pieces (items_put change)
@@ -166,6 +172,7 @@ growth_of (SpliceNotes from to fresh) = 0
 growth_of (SpliceHeads from to fresh) = 0
 growth_of (SetStyleCharacters istd set) = 0
 growth_of (SetStyleParagraphs istd set) = 0
+growth_of (SetBookmarks list) = 0
 
 -- the sections whose settings are still to be written then
 abbrev pub sections_put : Change → ℕ
@@ -176,6 +183,7 @@ sections_put (SpliceNotes from to fresh) = 0
 sections_put (SpliceHeads from to fresh) = 0
 sections_put (SetStyleCharacters istd set) = 0
 sections_put (SetStyleParagraphs istd set) = 0
+sections_put (SetBookmarks list) = 0
 
 -- a command adds four pieces at most
 abbrev pub PiecesAreFew : Type 0

@@ -10,8 +10,8 @@ use Rattle.plain_doc.specs.declared.item.Item.{Item}
 use Rattle.plain_doc.specs.declared.document.Document.{Document}
 use Rattle.plain_doc.specs.Collected.{joined_texts}
 use Rattle.plain_doc.specs.RulesOfItems.{HasShortSettings}
-use Rattle.edit_ops.specs.declared.changes.Change.{Change}
-use Rattle.edit_ops.specs.Changes.{changed}
+use Rattle.edit_changes.specs.declared.changes.Change.{Change}
+use Rattle.edit_changes.specs.Changes.{changed}
 use Rattle.save_laws.specs.Slots.{Slot, whole_text}
 use Rattle.save_laws.specs.Ends.{ends_of}
 use Rattle.save_laws.specs.declared.ends.Ends.{Ends}

@@ -6,9 +6,10 @@ use Rattle.doc_bits.specs.declared.places.Story.TheVariants.{Main, Note, Head}
 use Rattle.prop_map.specs.Settings.{Settings}
 use Rattle.plain_doc.specs.declared.item.Item.{Item}
 use Rattle.plain_doc.specs.RulesOfSheet.{section_count}
-use Rattle.edit_ops.specs.declared.changes.Change.{Change}
-use Rattle.edit_ops.specs.declared.changes.Change.TheVariants.{SpliceText, ModifyItems, SetSection, SpliceNotes}
-use Rattle.edit_ops.specs.declared.changes.Change.TheVariants.{SpliceHeads, SetStyleCharacters, SetStyleParagraphs}
+use Rattle.edit_changes.specs.declared.changes.Change.{Change}
+use Rattle.edit_changes.specs.declared.changes.Change.TheVariants.{SpliceText, ModifyItems, SetSection, SpliceNotes}
+use Rattle.edit_changes.specs.declared.changes.Change.TheVariants.{SpliceHeads, SetStyleCharacters, SetStyleParagraphs}
+use Rattle.edit_changes.specs.declared.changes.Change.TheVariants.{SetBookmarks}
 use Rattle.edited_text.specs.TextSteps.{IsRangeOf}
 
 -- the settings of the sections that come are still to be written
@@ -33,6 +34,7 @@ plan_after main places (SpliceNotes from to fresh) = places
 plan_after main places (SpliceHeads from to fresh) = places
 plan_after main places (SetStyleCharacters istd set) = places
 plan_after main places (SetStyleParagraphs istd set) = places
+plan_after main places (SetBookmarks list) = places
 
 -- a change of the main text names places of it, and the sections are as many as the places of settings
 abbrev pub FitsPlan : List Item → List (Option ℕ) → Change → Type 0
@@ -45,3 +47,4 @@ FitsPlan main places (SpliceNotes from to fresh) = ⊤
 FitsPlan main places (SpliceHeads from to fresh) = ⊤
 FitsPlan main places (SetStyleCharacters istd set) = ⊤
 FitsPlan main places (SetStyleParagraphs istd set) = ⊤
+FitsPlan main places (SetBookmarks list) = ⊤

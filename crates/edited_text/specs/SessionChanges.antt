@@ -3,16 +3,17 @@ use Rattle.std.specs.Prelude.{◌≡◌, ℕ, ◌+◌, ◌<◌, ◌≤◌, List,
 use Rattle.std.specs.List.{splice}
 use Rattle.doc_bits.specs.declared.places.Story.{Story}
 use Rattle.doc_bits.specs.declared.places.Story.TheVariants.{Main, Note, Head}
+use Rattle.doc_parts.specs.declared.bookmark_order.Bookmark.{Bookmark}
 use Rattle.prop_map.specs.declared.modifiers.Modifier.{Modifier}
 use Rattle.prop_map.specs.Settings.{Settings}
 use Rattle.prop_map.specs.Overlay.{overlay}
 use Rattle.piece_table.specs.Piece.{TextPiece}
 use Rattle.plain_doc.specs.declared.item.Item.{Item}
 use Rattle.plain_doc.specs.declared.document.Document.{Document}
-use Rattle.edit_ops.specs.declared.changes.Change.TheVariants.{ModifyItems, SetSection, SetStyleCharacters}
-use Rattle.edit_ops.specs.declared.changes.Change.TheVariants.{SetStyleParagraphs}
-use Rattle.edit_ops.specs.Places.{text_at}
-use Rattle.edit_ops.specs.Changes.{changed, changed_at, with_section}
+use Rattle.edit_changes.specs.declared.changes.Change.TheVariants.{ModifyItems, SetSection, SetStyleCharacters}
+use Rattle.edit_changes.specs.declared.changes.Change.TheVariants.{SetStyleParagraphs, SetBookmarks}
+use Rattle.edit_changes.specs.Places.{text_at}
+use Rattle.edit_changes.specs.Changes.{changed, changed_at, with_section}
 use Rattle.save_laws.specs.Places.{PagedStream}
 use Rattle.save_laws.specs.Plans.{Plan}
 use Rattle.save_laws.specs.Slots.{StoryEnds, note_slots, whole_text}
@@ -63,7 +64,13 @@ pub record StylesStay : Type 0 where
       (document : Document) (ends : StoryEnds) (istd : ℕ) (set : Settings) →
       whole_text (changed (SetStyleParagraphs istd set) document) ends ≡ whole_text document ends
 
--- and no other section is set but the one that ends at the item
+-- and where bookmarks are set
+abbrev pub BookmarksStay : Type 0
+BookmarksStay =
+    (document : Document) (ends : StoryEnds) (list : List Bookmark) →
+    whole_text (changed (SetBookmarks list) document) ends ≡ whole_text document ends
+
+-- no other section is set but the one that ends at the item
 abbrev pub OneSectionIsSet : Type 0
 OneSectionIsSet =
     (main : List Item) (at : ℕ) (item : Item) (set before : Settings) → slice_get main at ≡ Some item →

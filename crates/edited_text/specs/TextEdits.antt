@@ -3,8 +3,8 @@
 use Rattle.std.specs.Prelude.{◌≡◌, ℕ, ◌+◌, ◌≤◌, List, length, All, Option}
 use Rattle.std.specs.List.{sum_by}
 use Rattle.plain_doc.specs.declared.document.Document.{Document}
-use Rattle.edit_ops.specs.declared.changes.Change.{Change}
-use Rattle.edit_ops.specs.Changes.{all_changed}
+use Rattle.edit_changes.specs.declared.changes.Change.{Change}
+use Rattle.edit_changes.specs.Changes.{all_changed}
 use Rattle.save_laws.specs.Places.{PagedStream}
 use Rattle.edited_text.specs.SessionText.{IsSessionText, HaveFitModifiers, HaveNoModifiers, HaveModifiersWithin}
 use Rattle.edited_text.specs.SessionText.{ArePlannedSections, unwritten_count}

@@ -8,9 +8,10 @@ use Rattle.doc_bits.specs.Together.{AreTogether}
 use Rattle.plain_doc.specs.declared.item.Item.{Item}
 use Rattle.plain_doc.specs.declared.document.Document.{Document}
 use Rattle.plain_doc.specs.Collected.{joined_texts}
-use Rattle.edit_ops.specs.declared.changes.Change.{Change}
-use Rattle.edit_ops.specs.declared.changes.Change.TheVariants.{SpliceText, ModifyItems, SetSection, SpliceNotes}
-use Rattle.edit_ops.specs.declared.changes.Change.TheVariants.{SpliceHeads, SetStyleCharacters, SetStyleParagraphs}
+use Rattle.edit_changes.specs.declared.changes.Change.{Change}
+use Rattle.edit_changes.specs.declared.changes.Change.TheVariants.{SpliceText, ModifyItems, SetSection, SpliceNotes}
+use Rattle.edit_changes.specs.declared.changes.Change.TheVariants.{SpliceHeads, SetStyleCharacters, SetStyleParagraphs}
+use Rattle.edit_changes.specs.declared.changes.Change.TheVariants.{SetBookmarks}
 use Rattle.edit_ops.specs.Ranges.{HasText}
 use Rattle.piece_table.specs.Piece.{UnitPlace}
 use Rattle.save_laws.specs.Places.{PagedStream}
@@ -110,6 +111,7 @@ CanStep document stories (SpliceNotes from to fresh) = AreCounted stories.notes 
 CanStep document stories (SpliceHeads from to fresh) = AreCounted stories.heads document.heads from to
 CanStep document stories (SetStyleCharacters istd set) = ⊤
 CanStep document stories (SetStyleParagraphs istd set) = ⊤
+CanStep document stories (SetBookmarks list) = ⊤
 
 -- ---- the step
 

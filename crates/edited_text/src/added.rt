@@ -6,6 +6,7 @@ ghost use Rattle.full_save.specs.Text.{extra_mark as mark_behind};
 ghost use Rattle.edited_text.specs.AddedText.{marked_block, added_piece};
 
 use doc_bits::Memory;
+use doc_columns::ColumnTexts;
 use piece_table::Piece;
 use plain_doc::{Item, Items, Mark, Texts};
 use prop_map::PropMap;
@@ -106,6 +107,16 @@ pub(crate) fn joined(alloc: Global, texts: &Texts) -> Result<Items, Memory>
     for number in 0..texts.len() {
         put_all(alloc, &mut items, texts.get(number).as_slice())?;
     }
+    Ok(items)
+}
+
+/// The same of texts by columns.
+pub(crate) fn joined_columns(alloc: Global, texts: &ColumnTexts) -> Result<Items, Memory>
+    requires { length (joined_texts texts.now) < 2 ^ 32 }
+    ensures { IfOk result (λ items. items ≡ joined_texts texts.now) }
+{
+    let plain = texts.expand(alloc)?;
+    let items = joined(alloc, &plain)?;
     Ok(items)
 }
 

@@ -9,8 +9,8 @@ use crate::session_text::TextSplice;
 use crate::stories::Stories;
 use crate::text_changes::step_of;
 use doc_bits::Memory;
-use edit_ops::Changes;
-use plain_doc::Document;
+use doc_columns::ColumnDocument;
+use edit_changes::Changes;
 use save_laws::Ends;
 use std::alloc::Global;
 
@@ -18,7 +18,7 @@ use std::alloc::Global;
 pub(crate) fn put_blocks(
     alloc: Global,
     added: &mut Added,
-    document: &Document,
+    document: &ColumnDocument,
     ends: Ends,
     changes: &Changes,
 ) -> Result<Vec<TextSplice>, Memory>

@@ -14,7 +14,7 @@ mod writing;
 
 pub use added::Added;
 pub use session_laws::{
-    blocks_stand, commands_are_steps, heads_splice, modifiers_act, notes_splice,
+    blocks_stand, bookmarks_stay, commands_are_steps, heads_splice, modifiers_act, notes_splice,
     one_section_is_set, one_text_splices, pieces_are_few, saved_sections_stand, saved_texts_stand,
     sections_splice, sections_stay, settings_are_listed, styles_stay, text_counted, texts_splice,
 };

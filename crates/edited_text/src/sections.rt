@@ -9,15 +9,15 @@ ghost use Rattle.edited_text.specs.EditSteps.{AreEditSteps};
 ghost use Rattle.edited_text.specs.TextEdits.{IsSectionsEdit};
 
 use doc_bits::{Memory, Story};
-use edit_ops::{Change, Changes};
-use plain_doc::{Document, Item, sections_in};
+use doc_columns::{ColumnDocument, Columns};
+use edit_changes::{Change, Changes, has_section, section_number};
 use std::alloc::Global;
 
 /// The places after the changes of a command.
 pub(crate) fn sections_after(
     alloc: Global,
     places: &[Option<u32>],
-    document: &Document,
+    document: &ColumnDocument,
     changes: &Changes,
 ) -> Result<Vec<Option<u32>>, Memory>
     requires steps { AreEditSteps document.now changes.now }
@@ -26,9 +26,8 @@ pub(crate) fn sections_after(
 {
     let mut new = Vec::new(alloc);
     new.extend_from_slice(places)?;
-    let main = document.main.as_slice();
     for k in 0..changes.len() {
-        new = section_step(alloc, new, main, changes.get(k))?;
+        new = section_step(alloc, new, &document.main, changes.get(k))?;
     }
     Ok(new)
 }
@@ -37,7 +36,7 @@ pub(crate) fn sections_after(
 fn section_step(
     alloc: Global,
     places: Vec<Option<u32>>,
-    main: &[Item],
+    main: &Columns,
     change: &Change,
 ) -> Result<Vec<Option<u32>>, Memory>
     requires { FitsPlan main.now places.items change.now }
@@ -45,7 +44,7 @@ fn section_step(
 {
     match change {
         Change::SpliceText(Story::Main, from, to, fresh) => {
-            spliced(alloc, &places, main, (*from, *to), fresh.as_slice())
+            spliced(alloc, &places, main, (*from, *to), fresh)
         }
         Change::SpliceText(Story::Note(_), _, _, _) => Ok(places),
         Change::SpliceText(Story::Head(_), _, _, _) => Ok(places),
@@ -55,6 +54,7 @@ fn section_step(
         Change::SpliceHeads(_, _, _) => Ok(places),
         Change::SetStyleCharacters(_, _) => Ok(places),
         Change::SetStyleParagraphs(_, _) => Ok(places),
+        Change::SetBookmarks(_) => Ok(places),
     }
 }
 
@@ -62,32 +62,32 @@ fn section_step(
 fn spliced(
     alloc: Global,
     places: &[Option<u32>],
-    main: &[Item],
+    main: &Columns,
     range: (usize, usize),
-    fresh: &[Item],
+    fresh: &Columns,
 ) -> Result<Vec<Option<u32>>, Memory>
     requires range { IsRangeOf range.0 range.1 main.now }
     requires count { length places.now ≡ section_count main.now }
     ensures { IfOk result (λ new. new.items ≡ spliced_plan main.now places.now range.0 range.1 fresh.now) }
 {
-    let from = sections_in(&main[..range.0]);
-    let to = sections_in(&main[..range.1]);
+    let from = section_number(main, range.0);
+    let to = section_number(main, range.1);
     let mut new = Vec::new(alloc);
     new.extend_from_slice(&places[..from])?;
-    put_unwritten(&mut new, sections_in(fresh))?;
+    put_unwritten(&mut new, section_number(fresh, fresh.len()))?;
     new.extend_from_slice(&places[to..])?;
     Ok(new)
 }
 
 /// The places where the settings of the section that ends at an item are set.
-fn unwritten_at(mut places: Vec<Option<u32>>, main: &[Item], at: usize) -> Vec<Option<u32>>
+fn unwritten_at(mut places: Vec<Option<u32>>, main: &Columns, at: usize) -> Vec<Option<u32>>
     requires within { at < length main.now }
     requires count { length places.items ≡ section_count main.now }
     ensures { result.items ≡ set_plan places.items (section_count (take at main.now))
         (option_and_then (λ item. item.sect) (slice_get main.now at)) }
 {
-    if main[at].sect.is_some() {
-        let number = sections_in(&main[..at]);
+    if has_section(main, at) {
+        let number = section_number(main, at);
         places[number] = None;
     }
     places

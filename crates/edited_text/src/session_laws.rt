@@ -1,7 +1,7 @@
 // Laws on what edits do to the whole text of a session.
 ghost use Rattle.edited_text.specs.StoryMarks.{NotesSplice, HeadsSplice, TextsSplice, OneTextSplices};
 ghost use Rattle.edited_text.specs.SessionChanges.{ModifiersAct, SectionsSplice, SectionsStay, StylesStay};
-ghost use Rattle.edited_text.specs.SessionChanges.{OneSectionIsSet};
+ghost use Rattle.edited_text.specs.SessionChanges.{BookmarksStay, OneSectionIsSet};
 ghost use Rattle.edited_text.specs.Blocks.{BlocksStand};
 ghost use Rattle.edited_text.specs.EditSteps.{CommandsAreSteps, PiecesAreFew};
 ghost use Rattle.edited_text.specs.SessionText.{TextCounted};
@@ -50,6 +50,11 @@ pub fn one_section_is_set()
 /// The whole text stays where a style changes.
 pub fn styles_stay()
     ensures { StylesStay }
+{}
+
+/// The whole text stays where bookmarks are set.
+pub fn bookmarks_stay()
+    ensures { BookmarksStay }
 {}
 
 /// A block of added text stands for the slots that its items were added for.

@@ -5,7 +5,7 @@ ghost use Rattle.doc_bits.specs.declared.places.Story.{Story as StoryName};
 ghost use Rattle.prop_map.specs.declared.modifiers.Modifier.{Modifier as ModifierValue};
 ghost use Rattle.piece_table.specs.Piece.{flat_pieces, total_length};
 ghost use Rattle.plain_doc.specs.Sound.{IsSound};
-ghost use Rattle.edit_ops.specs.declared.changes.Change.TheVariants.{ModifyItems};
+ghost use Rattle.edit_changes.specs.declared.changes.Change.TheVariants.{ModifyItems};
 ghost use Rattle.save_laws.specs.Slots.{whole_text};
 ghost use Rattle.save_laws.specs.Ends.{ends_of};
 ghost use Rattle.edited_text.specs.SessionText.{IsSameText, section_settings};
@@ -20,9 +20,10 @@ use crate::sections::sections_after;
 use crate::stories::Stories;
 use crate::text_changes::range_in_whole;
 use doc_bits::{Memory, Story};
-use edit_ops::{Change, Changes};
+use doc_columns::ColumnDocument;
+use edit_changes::{Change, Changes};
 use piece_table::{Piece, PieceList};
-use plain_doc::{Document, Items};
+use plain_doc::Items;
 use prop_map::Modifier;
 use save_laws::Ends;
 use std::alloc::Global;
@@ -76,7 +77,7 @@ impl SessionText {
     pub fn edit(
         &mut self,
         alloc: Global,
-        document: &Document,
+        document: &ColumnDocument,
         changes: &Changes,
     ) -> Result<(), Memory>
         requires sound { IsSound document.now }
@@ -101,7 +102,7 @@ impl SessionText {
     fn make_changes(
         &mut self,
         alloc: Global,
-        document: &Document,
+        document: &ColumnDocument,
         changes: &Changes,
     ) -> Result<(), Memory>
         requires sound { IsSound document.now }
@@ -124,7 +125,7 @@ impl SessionText {
     fn put_changes(
         &mut self,
         alloc: Global,
-        document: &Document,
+        document: &ColumnDocument,
         changes: &Changes,
     ) -> Result<(), Memory>
         requires sound { IsSound document.now }
@@ -187,7 +188,7 @@ impl SessionText {
     /// Acts with a modifier on the items of a range of a text of the document.
     fn act(
         &mut self,
-        document: &Document,
+        document: &ColumnDocument,
         story: Story,
         range: (usize, usize),
         by: &Modifier,
@@ -226,5 +227,6 @@ fn lone_modifier(changes: &Changes) -> Option<(Story, usize, usize, &Modifier)>
         Change::SpliceHeads(_, _, _) => None,
         Change::SetStyleCharacters(_, _) => None,
         Change::SetStyleParagraphs(_, _) => None,
+        Change::SetBookmarks(_) => None,
     }
 }

@@ -1,8 +1,8 @@
 // What a change of the document is for its whole text: a block of items in place of a range of CPs.
 ghost use Rattle.std.specs.Prelude.{◌≡◌, ◌+◌, ◌^◌, ◌<◌, ◌≤◌, List, [], length};
-ghost use Rattle.std.specs.List.{splice};
 ghost use Rattle.plain_doc.specs.declared.item.Item.{Item as TextItem};
 ghost use Rattle.plain_doc.specs.declared.document.Document.{Document as TheDocument};
+ghost use Rattle.plain_doc.specs.Marks.{main_spliced};
 ghost use Rattle.edited_text.specs.StoryMarks.{AreSplicedTexts};
 ghost use Rattle.edited_text.specs.TextSteps.{AreStories, IsTextStep};
 
@@ -40,7 +40,7 @@ pub(crate) fn main_step(stories: Stories, from: usize, to: usize, fresh: Items) 
     requires within { to ≤ stories.main }
     requires few { stories.main + length fresh < 2 ^ 32 }
     ensures step { (document : TheDocument) → AreStories document stories →
-        IsTextStep document (record document { main = splice document.main from to fresh }) stories.ends result }
+        IsTextStep document (main_spliced from to fresh document) stories.ends result }
     ensures items { result.items ≡ fresh }
 {
     let count = fresh.len();

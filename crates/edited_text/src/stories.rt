@@ -7,7 +7,7 @@ ghost use Rattle.save_laws.specs.Slots.{Slot, loose_if};
 ghost use Rattle.edited_text.specs.StoryMarks.{begin_of};
 ghost use Rattle.edited_text.specs.TextSteps.{AreStories, IsStoryPlace, IsStoryCut, coming, going, ending};
 
-use plain_doc::{Document, Texts};
+use doc_columns::{ColumnDocument, ColumnTexts};
 use save_laws::Ends;
 
 /// The numbers of items of the main text, of the notes and of the header texts, and the marks behind the latter two.
@@ -21,7 +21,7 @@ pub(crate) struct Stories {
 
 impl Stories {
     /// Those of a document.
-    pub(crate) fn of(document: &Document, ends: Ends) -> Stories
+    pub(crate) fn of(document: &ColumnDocument, ends: Ends) -> Stories
         requires main { length document.now.main < 2 ^ 32 }
         requires notes { length (joined_texts document.now.notes) < 2 ^ 32 }
         requires heads { length (joined_texts document.now.heads) < 2 ^ 32 }
@@ -113,7 +113,7 @@ fn end_behind(before: bool, after: bool, end: bool) -> bool
 }
 
 /// The number of items of the first texts.
-pub(crate) fn begin_of_text(texts: &Texts, number: usize) -> usize
+pub(crate) fn begin_of_text(texts: &ColumnTexts, number: usize) -> usize
     requires within { number ≤ length texts.now }
     requires few { length (joined_texts texts.now) < 2 ^ 32 }
     ensures begin { result ≡ begin_of texts.now number }
@@ -127,7 +127,7 @@ pub(crate) fn begin_of_text(texts: &Texts, number: usize) -> usize
 }
 
 /// The number of items of texts.
-fn items_of(texts: &Texts) -> usize
+fn items_of(texts: &ColumnTexts) -> usize
     requires { length (joined_texts texts.now) < 2 ^ 32 }
     ensures { result ≡ length (joined_texts texts.now) }
 {

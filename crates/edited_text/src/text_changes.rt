@@ -2,27 +2,28 @@
 ghost use Rattle.std.specs.Prelude.{◌≡◌, ◌+◌, ◌^◌, ◌<◌, ◌≤◌, length, slice_get, MatchOption, IfOk};
 ghost use Rattle.plain_doc.specs.declared.document.Document.{Document as TheDocument};
 ghost use Rattle.plain_doc.specs.Collected.{joined_texts};
-ghost use Rattle.edit_ops.specs.declared.changes.Change.TheVariants.{SpliceText};
-ghost use Rattle.edit_ops.specs.Changes.{changed};
+ghost use Rattle.edit_changes.specs.declared.changes.Change.TheVariants.{SpliceText};
+ghost use Rattle.edit_changes.specs.Changes.{changed};
 ghost use Rattle.save_laws.specs.Ends.{ends_of};
 ghost use Rattle.edited_text.specs.StoryMarks.{begin_of};
 ghost use Rattle.edited_text.specs.SessionChanges.{text_begin as begin_in_whole};
 ghost use Rattle.edited_text.specs.EditSteps.{KeepsNamed, items_put};
 ghost use Rattle.edited_text.specs.TextSteps.{AreStories, IsTextStep, IsRangeOf, HasRangeOf, CanStep};
 
-use crate::added::joined;
+use crate::added::joined_columns;
 use crate::steps::{TextStep, head_step, main_step, no_step, note_step};
 use crate::stories::{Stories, begin_of_text, slots_of};
 use doc_bits::{Memory, Story};
-use edit_ops::Change;
-use plain_doc::{Document, Items, Texts};
+use doc_columns::{ColumnDocument, ColumnTexts};
+use edit_changes::Change;
+use plain_doc::Items;
 use std::alloc::Global;
 
 /// The step of a change that is no modifier. The texts that it names are those of the document; the stories are those
 /// that the changes before it left.
 pub(crate) fn step_of(
     alloc: Global,
-    document: &Document,
+    document: &ColumnDocument,
     stories: Stories,
     change: &Change,
 ) -> Result<TextStep, Memory>
@@ -34,16 +35,16 @@ pub(crate) fn step_of(
 {
     match change {
         Change::SpliceText(story, from, to, fresh) => {
-            let items = fresh.copy(alloc, 0, fresh.len())?;
+            let items = fresh.expand(alloc)?;
             Ok(splice_text(document, stories, *story, (*from, *to), items))
         }
         Change::SpliceNotes(from, to, fresh) => {
-            let items = joined(alloc, fresh)?;
+            let items = joined_columns(alloc, fresh)?;
             let range = range_of_texts(&document.notes, *from, *to);
             Ok(note_step(stories, range.0, range.1, items))
         }
         Change::SpliceHeads(from, to, fresh) => {
-            let items = joined(alloc, fresh)?;
+            let items = joined_columns(alloc, fresh)?;
             let range = range_of_texts(&document.heads, *from, *to);
             Ok(head_step(stories, range.0, range.1, items))
         }
@@ -51,12 +52,13 @@ pub(crate) fn step_of(
         Change::SetSection(_, _) => Ok(no_step(alloc, stories)),
         Change::SetStyleCharacters(_, _) => Ok(no_step(alloc, stories)),
         Change::SetStyleParagraphs(_, _) => Ok(no_step(alloc, stories)),
+        Change::SetBookmarks(_) => Ok(no_step(alloc, stories)),
     }
 }
 
 /// The step of a splice of a text.
 fn splice_text(
-    document: &Document,
+    document: &ColumnDocument,
     stories: Stories,
     story: Story,
     range: (usize, usize),
@@ -83,7 +85,7 @@ fn splice_text(
 }
 
 /// The range of all items that is this one of the items of a text.
-fn range_of(texts: &Texts, number: usize, range: (usize, usize)) -> (usize, usize)
+fn range_of(texts: &ColumnTexts, number: usize, range: (usize, usize)) -> (usize, usize)
     requires text { MatchOption (slice_get texts.now number) ⊥ (IsRangeOf range.0 range.1) }
     requires few { length (joined_texts texts.now) < 2 ^ 32 }
     ensures from { result.0 ≡ begin_of texts.now number + range.0 }
@@ -95,7 +97,7 @@ fn range_of(texts: &Texts, number: usize, range: (usize, usize)) -> (usize, usiz
 }
 
 /// The range of all items that is that of some of the texts.
-fn range_of_texts(texts: &Texts, from: usize, to: usize) -> (usize, usize)
+fn range_of_texts(texts: &ColumnTexts, from: usize, to: usize) -> (usize, usize)
     requires order { from ≤ to }
     requires within { to ≤ length texts.now }
     requires few { length (joined_texts texts.now) < 2 ^ 32 }
@@ -109,7 +111,7 @@ fn range_of_texts(texts: &Texts, from: usize, to: usize) -> (usize, usize)
 
 /// The range of CPs that is this one of the items of a text.
 pub(crate) fn range_in_whole(
-    document: &Document,
+    document: &ColumnDocument,
     stories: Stories,
     story: Story,
     range: (usize, usize),

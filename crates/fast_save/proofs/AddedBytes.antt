@@ -28,15 +28,17 @@ use Rattle.full_save.specs.Text.{extra_mark}
 use Rattle.edit_script.specs.declared.commands.Command.{Command}
 use Rattle.edit_script.specs.declared.commands.Command.TheVariants.{Insert, Erase, Char, Plain, Para, Style, Field}
 use Rattle.edit_script.specs.declared.commands.Command.TheVariants.{Note, Split, Merge, Sect, Row, StyleChar}
-use Rattle.edit_script.specs.declared.commands.Command.TheVariants.{StylePara, Save}
-use Rattle.edit_ops.specs.declared.changes.Change.{Change}
-use Rattle.edit_ops.specs.declared.changes.Change.TheVariants.{SpliceText, ModifyItems, SetSection, SpliceNotes}
-use Rattle.edit_ops.specs.declared.changes.Change.TheVariants.{SpliceHeads, SetStyleCharacters, SetStyleParagraphs}
-use Rattle.edit_ops.specs.Places.{items_at, mark_place, section_place, note_number, head_number}
+use Rattle.edit_script.specs.declared.commands.Command.TheVariants.{StylePara, Bookmark, Unmark, Save}
+use Rattle.edit_changes.specs.declared.changes.Change.{Change}
+use Rattle.edit_changes.specs.declared.changes.Change.TheVariants.{SpliceText, ModifyItems, SetSection, SpliceNotes}
+use Rattle.edit_changes.specs.declared.changes.Change.TheVariants.{SpliceHeads, SetStyleCharacters, SetStyleParagraphs}
+use Rattle.edit_changes.specs.declared.changes.Change.TheVariants.{SetBookmarks}
+use Rattle.edit_changes.specs.Places.{items_at, mark_place, section_place, note_number, head_number}
 use Rattle.edit_ops.specs.Ranges.{IsInRange, HasText, HasPlace, BeginsParagraph}
 use Rattle.edit_ops.specs.Fresh.{unit_item, unit_items, plain_end, special, mark_with, note_reference, note_items}
 use Rattle.edit_ops.specs.Fresh.{inserted_items, base_settings, field_items, split_item, section_item, row_items}
 use Rattle.edit_ops.specs.EditFacts.{edit_facts, items_added}
+use Rattle.edit_ops.specs.Bookmarks.{new_bookmark, with_bookmark, without_bookmark}
 use Rattle.edit_ops.specs.Edits.{erased, section_changes, changes_of, setting_characters, setting_paragraphs, clearing}
 use Rattle.edit_ops.specs.Edits.{naming_style}
 use Rattle.edit_ops.specs.Runs.{run_count, texts_put, most_runs}
@@ -76,6 +78,7 @@ put_length (SpliceNotes from to fresh) = joined_sum fresh
 put_length (SpliceHeads from to fresh) = joined_sum fresh
 put_length (SetStyleCharacters istd set) = refl
 put_length (SetStyleParagraphs istd set) = refl
+put_length (SetBookmarks list) = refl
 
 abbrev change_runs : Change → ℕ
 change_runs change = sum_by run_count (texts_put change)
@@ -433,6 +436,14 @@ added_within document (StyleChar istd set) range blocks together =
 added_within document (StylePara istd set) range blocks together =
     let change = SetStyleParagraphs istd set in
     by_unmarked document (StylePara istd set) blocks together
+    (one_unmarked document change (nothing_unmarked document change refl))
+added_within document (Bookmark name from to) range blocks together =
+    let change = SetBookmarks (with_bookmark (new_bookmark name from to) document.bookmarks) in
+    by_unmarked document (Bookmark name from to) blocks together
+    (one_unmarked document change (nothing_unmarked document change refl))
+added_within document (Unmark name) range blocks together =
+    let change = SetBookmarks (without_bookmark name document.bookmarks) in
+    by_unmarked document (Unmark name) blocks together
     (one_unmarked document change (nothing_unmarked document change refl))
 added_within document (Save full) range blocks together =
     by_unmarked document (Save full) blocks together (All-nil (IsUnmarked document))

@@ -19,14 +19,16 @@ use Rattle.plain_doc.specs.declared.document.Document.{Document}
 use Rattle.edit_script.specs.declared.commands.Command.{Command}
 use Rattle.edit_script.specs.declared.commands.Command.TheVariants.{Insert, Erase, Char, Plain, Para, Style, Field}
 use Rattle.edit_script.specs.declared.commands.Command.TheVariants.{Note, Split, Merge, Sect, Row, StyleChar}
-use Rattle.edit_script.specs.declared.commands.Command.TheVariants.{StylePara, Save}
-use Rattle.edit_ops.specs.declared.changes.Change.{Change}
-use Rattle.edit_ops.specs.declared.changes.Change.TheVariants.{SpliceText, SetSection, SpliceNotes, SpliceHeads}
-use Rattle.edit_ops.specs.declared.changes.Change.TheVariants.{SetStyleCharacters, SetStyleParagraphs}
-use Rattle.edit_ops.specs.Places.{items_at, mark_place, section_place, note_number, head_number}
+use Rattle.edit_script.specs.declared.commands.Command.TheVariants.{StylePara, Bookmark, Unmark, Save}
+use Rattle.edit_changes.specs.declared.changes.Change.{Change}
+use Rattle.edit_changes.specs.declared.changes.Change.TheVariants.{SpliceText, SetSection, SpliceNotes, SpliceHeads}
+use Rattle.edit_changes.specs.declared.changes.Change.TheVariants.{SetStyleCharacters, SetStyleParagraphs}
+use Rattle.edit_changes.specs.declared.changes.Change.TheVariants.{SetBookmarks}
+use Rattle.edit_changes.specs.Places.{items_at, mark_place, section_place, note_number, head_number}
 use Rattle.edit_ops.specs.Fresh.{unit_items, mark_item, mark_with, plain_end, cell_items, row_items, row_settings}
 use Rattle.edit_ops.specs.Fresh.{cell_settings, field_items, field_mark, base_settings, note_items, note_reference}
 use Rattle.edit_ops.specs.Fresh.{split_item, section_item, inserted_items}
+use Rattle.edit_ops.specs.Bookmarks.{new_bookmark, with_bookmark, without_bookmark}
 use Rattle.edit_ops.specs.Edits.{erased, section_changes, changes_of, setting_characters, setting_paragraphs}
 use Rattle.edit_ops.specs.Edits.{clearing, naming_style}
 use Rattle.edit_ops.specs.Codes.{HasRightCodes}
@@ -114,6 +116,8 @@ sections_few document (Row story at width cells) =
     omega (arith, none)
 sections_few document (StyleChar istd set) = omega arith
 sections_few document (StylePara istd set) = omega arith
+sections_few document (Bookmark name from to) = omega arith
+sections_few document (Unmark name) = omega arith
 sections_few document (Save full) = omega arith
 
 -- ---- printed modifiers
@@ -164,6 +168,8 @@ growth_few document (Sect at new set) = section_growth document.main at new set
 growth_few document (Row story at width cells) = omega arith
 growth_few document (StyleChar istd set) = omega arith
 growth_few document (StylePara istd set) = omega arith
+growth_few document (Bookmark name from to) = omega arith
+growth_few document (Unmark name) = omega arith
 growth_few document (Save full) = omega arith
 
 -- ---- which commands compose no modifiers
@@ -219,6 +225,10 @@ others_act_on_none document (Sect at new set) other = section_acts document.main
 others_act_on_none document (Row story at width cells) other = put_acts story at (row_items width cells)
 others_act_on_none document (StyleChar istd set) other = one_acts (SetStyleCharacters istd set) tt
 others_act_on_none document (StylePara istd set) other = one_acts (SetStyleParagraphs istd set) tt
+others_act_on_none document (Bookmark name from to) other =
+    one_acts (SetBookmarks (with_bookmark (new_bookmark name from to) document.bookmarks)) tt
+others_act_on_none document (Unmark name) other =
+    one_acts (SetBookmarks (without_bookmark name document.bookmarks)) tt
 others_act_on_none document (Save full) other = All-nil ActsOnNone
 
 -- ---- runs that are reckoned
@@ -242,6 +252,8 @@ few_reckoned (Sect at new set) right = section_runs new
 few_reckoned (Row story at width cells) right = let few = right.few in omega (arith, few)
 few_reckoned (StyleChar istd set) right = omega arith
 few_reckoned (StylePara istd set) right = omega arith
+few_reckoned (Bookmark name from to) right = omega arith
+few_reckoned (Unmark name) right = omega arith
 few_reckoned (Save full) right = omega arith
 
 pub few_sections : (command : Command) → sections_set command ≤ 1
@@ -259,4 +271,6 @@ few_sections (Sect at new set) = omega arith
 few_sections (Row story at width cells) = omega arith
 few_sections (StyleChar istd set) = omega arith
 few_sections (StylePara istd set) = omega arith
+few_sections (Bookmark name from to) = omega arith
+few_sections (Unmark name) = omega arith
 few_sections (Save full) = omega arith

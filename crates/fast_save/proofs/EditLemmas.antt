@@ -1,6 +1,5 @@
 -- A session after an edit, and after one that memory was refused.
 use Rattle.std.specs.Prelude.{ℕ, List, Option}
-use Rattle.std.specs.List.{splice}
 use Rattle.std.proofs.Common.{◌≡◌, ◌∙◌, ◌∷◌, ◌+◌, ◌*◌, ◌^◌, ◌<◌, ◌≤◌, [], refl, sym, ap, subst, length, arith}
 use Rattle.doc_bits.specs.declared.places.Story.{Story}
 use Rattle.doc_bits.specs.declared.places.Story.TheVariants.{Main, Note, Head}
@@ -8,10 +7,11 @@ use Rattle.piece_table.specs.Piece.{TextPiece, flat_pieces}
 use Rattle.plain_doc.specs.declared.item.Item.{Item}
 use Rattle.plain_doc.specs.declared.document.Document.{Document}
 use Rattle.edit_script.specs.declared.commands.Command.{Command}
-use Rattle.edit_ops.specs.declared.changes.Change.{Change}
-use Rattle.edit_ops.specs.declared.changes.Change.TheVariants.{SpliceText, ModifyItems, SetSection, SpliceNotes}
-use Rattle.edit_ops.specs.declared.changes.Change.TheVariants.{SpliceHeads, SetStyleCharacters, SetStyleParagraphs}
-use Rattle.edit_ops.specs.Changes.{changed, all_changed, with_text, map_range, modified_item}
+use Rattle.edit_changes.specs.declared.changes.Change.{Change}
+use Rattle.edit_changes.specs.declared.changes.Change.TheVariants.{SpliceText, ModifyItems, SetSection, SpliceNotes}
+use Rattle.edit_changes.specs.declared.changes.Change.TheVariants.{SpliceHeads, SetStyleCharacters, SetStyleParagraphs}
+use Rattle.edit_changes.specs.declared.changes.Change.TheVariants.{SetBookmarks}
+use Rattle.edit_changes.specs.Changes.{changed, all_changed, with_text, map_range, modified_item}
 use Rattle.edit_ops.specs.Causes.{IsAcceptedEdit}
 use Rattle.edit_ops.specs.Edits.{changes_of, document_after}
 use Rattle.std.specs.Prelude.{All}
@@ -47,8 +47,9 @@ text_carried change (Note number) document = refl
 text_carried change (Head number) document = refl
 
 change_carried : (change : Change) (document : Document) → (changed change document).carried ≡ document.carried
-change_carried (SpliceText story from to fresh) document =
-    text_carried (λ (text : List Item). splice text from to fresh) story document
+change_carried (SpliceText Main from to fresh) document = refl
+change_carried (SpliceText (Note number) from to fresh) document = refl
+change_carried (SpliceText (Head number) from to fresh) document = refl
 change_carried (ModifyItems story from to by) document =
     text_carried (λ (text : List Item). map_range (modified_item by) text from to) story document
 change_carried (SetSection at set) document = refl
@@ -56,6 +57,7 @@ change_carried (SpliceNotes from to fresh) document = refl
 change_carried (SpliceHeads from to fresh) document = refl
 change_carried (SetStyleCharacters istd set) document = refl
 change_carried (SetStyleParagraphs istd set) document = refl
+change_carried (SetBookmarks list) document = refl
 
 carried_stays : (changes : List Change) (document : Document) → (all_changed changes document).carried ≡
     document.carried

@@ -22,6 +22,7 @@ use Rattle.plain_doc.specs.Sound.{IsSound}
 use Rattle.full_save.specs.WordDocument.{wd_stream, table_stream}
 use Rattle.full_save.specs.Streams.{put_stream}
 use Rattle.full_save.specs.Layout.{layout_streams, full_save_image}
+use Rattle.doc_read.proofs.FormedBookmarks.{held_formed}
 use Rattle.doc_read.specs.CarriedParts.{is_carried}
 use Rattle.doc_read.specs.Holds.{HoldsDocument}
 use Rattle.doc_read.proofs.NameLemmas.{wd-not_carried, table-not_carried}
@@ -247,7 +248,9 @@ savable_file file document is =
     let sound = is.accepted.1 in
     record {
       formed = subst IsFormed (document_one file formed.document document formed.holds is.holds) formed.formed;
-      sound = subst IsSound (document_one file sound.0 document sound.1.0 is.holds) sound.1.1;
+      sound =
+          subst IsSound (document_one file sound.0 document sound.1.0 is.holds)
+          (record { rules = sound.1.1; bookmarks = held_formed file sound.0 sound.1.0 });
       fits = is.fits;
     }
 

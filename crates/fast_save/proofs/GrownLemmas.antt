@@ -18,11 +18,11 @@ use Rattle.prop_map.specs.Settings.{Settings}
 use Rattle.edit_script.specs.declared.commands.Command.{Command}
 use Rattle.edit_script.specs.declared.commands.Command.TheVariants.{Insert, Erase, Char, Plain, Para, Style, Field}
 use Rattle.edit_script.specs.declared.commands.Command.TheVariants.{Note, Split, Merge, Sect, Row, StyleChar}
-use Rattle.edit_script.specs.declared.commands.Command.TheVariants.{StylePara, Save}
-use Rattle.edit_ops.specs.declared.changes.Change.{Change}
-use Rattle.edit_ops.specs.declared.changes.Change.TheVariants.{SpliceText, SpliceNotes}
+use Rattle.edit_script.specs.declared.commands.Command.TheVariants.{StylePara, Bookmark, Unmark, Save}
+use Rattle.edit_changes.specs.declared.changes.Change.{Change}
+use Rattle.edit_changes.specs.declared.changes.Change.TheVariants.{SpliceText, SpliceNotes}
 use Rattle.edit_ops.specs.EditFacts.{edit_facts, items_added}
-use Rattle.edit_ops.specs.Places.{items_at, mark_place, note_number}
+use Rattle.edit_changes.specs.Places.{items_at, mark_place, note_number}
 use Rattle.edit_ops.specs.Fresh.{inserted_items, field_items, base_settings, note_reference, note_items, split_item}
 use Rattle.edit_ops.specs.Fresh.{row_items}
 use Rattle.edit_ops.specs.Edits.{erased, section_changes, changes_of}
@@ -147,6 +147,8 @@ few_blocks document (Row story at width cells) =
     let put = put_block story at at (row_items width cells) in omega (arith, put)
 few_blocks document (StyleChar istd set) = omega arith
 few_blocks document (StylePara istd set) = omega arith
+few_blocks document (Bookmark name from to) = omega arith
+few_blocks document (Unmark name) = omega arith
 few_blocks document (Save full) = omega arith
 
 pub grown_within : (document : Document) (command : Command) (old new : List Item) →

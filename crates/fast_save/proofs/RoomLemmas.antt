@@ -17,10 +17,11 @@ use Rattle.plain_doc.proofs.RightLemmas.{sound_is_right}
 use Rattle.edit_script.specs.declared.commands.Command.{Command}
 use Rattle.edit_script.specs.declared.commands.Command.TheVariants.{Insert, Erase, Char, Plain, Para, Style, Field}
 use Rattle.edit_script.specs.declared.commands.Command.TheVariants.{Note, Split, Merge, Sect, Row, StyleChar}
-use Rattle.edit_script.specs.declared.commands.Command.TheVariants.{StylePara, Save}
-use Rattle.edit_ops.specs.Places.{items_at, mark_place, note_number}
+use Rattle.edit_script.specs.declared.commands.Command.TheVariants.{StylePara, Bookmark, Unmark, Save}
+use Rattle.edit_changes.specs.Places.{items_at, mark_place, note_number}
 use Rattle.edit_ops.specs.Ranges.{HasText, IsInRange}
-use Rattle.edit_ops.specs.Changes.{with_text, put_changed}
+use Rattle.edit_changes.specs.declared.changes.Change.TheVariants.{SpliceText}
+use Rattle.edit_changes.specs.Changes.{changed, put_changed}
 use Rattle.edit_ops.specs.Causes.{IsAcceptedEdit}
 use Rattle.edit_ops.specs.Fresh.{inserted_items, field_items, base_settings, note_items, split_item}
 use Rattle.edit_ops.specs.Fresh.{row_items}
@@ -72,7 +73,7 @@ put_in_sum texts k from to fresh such (Some text) there has =
 -- items that are put into a text are among those of the document
 put_in_text : (document : Document) (story : Story) (from to : ℕ) (fresh : List Item) (such : List Item → Type 0) →
     HasText document story such →
-    length fresh ≤ item_count (with_text (λ text. splice text from to fresh) story document)
+    length fresh ≤ item_count (changed (SpliceText story from to fresh) document)
 put_in_text document Main from to fresh such has = omega (arith, length_put document.main from to fresh)
 put_in_text document (NoteText k) from to fresh such has =
     let put = put_in_sum document.notes k from to fresh such (slice_get document.notes k) refl has in omega (arith, put)
@@ -123,6 +124,8 @@ units_within document (Row story at width cells) range =
     let put = put_in_text document story at at (row_items width cells) _ range in omega (arith, put)
 units_within document (StyleChar istd set) range = omega arith
 units_within document (StylePara istd set) range = omega arith
+units_within document (Bookmark name from to) range = omega arith
+units_within document (Unmark name) range = omega arith
 units_within document (Save full) range = omega arith
 
 pub few_units : (document : Document) (command : Command) → IsAcceptedEdit document command →

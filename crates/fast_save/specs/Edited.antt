@@ -3,18 +3,20 @@ use Rattle.std.specs.Prelude.{◌≡◌, ℕ, ◌+◌, ◌*◌, ◌≤◌}
 use Rattle.plain_doc.specs.declared.document.Document.{Document}
 use Rattle.edit_script.specs.declared.commands.Command.{Command}
 use Rattle.edit_ops.specs.Causes.{IsAcceptedEdit}
-use Rattle.edit_ops.specs.Edits.{document_after}
+use Rattle.edit_ops.specs.Edits.{changes_of, document_after}
 use Rattle.edit_ops.specs.EditFacts.{edit_facts}
 use Rattle.edit_ops.specs.declared.applying.Edit.{Edit}
 use Rattle.fast_save.specs.declared.ledgers.Counts.{Counts}
 use Rattle.fast_save.specs.Ledgers.{after_edit}
 use Rattle.fast_save.specs.Session.{SessionView}
 
--- an edit that is accepted: the document after it, and what it does
+-- an edit that is accepted: its changes, the document after them, and what it does
 abbrev pub IsPlanned : Document → Command → Edit → Type 0
 IsPlanned document command edit =
     IsAcceptedEdit document command
-    × ((edit.document ≡ document_after document command) × (edit.facts ≡ edit_facts document command))
+    × ((edit.changes ≡ changes_of document command)
+    × ((edit.document ≡ document_after document command)
+    × (edit.facts ≡ edit_facts document command)))
 
 abbrev pub session_after : Command → SessionView → SessionView
 session_after command session = record session {

@@ -8,7 +8,7 @@ use Rattle.piece_table.specs.Piece.{TextPiece}
 use Rattle.edit_script.specs.declared.commands.Command.{Command}
 use Rattle.edit_script.specs.declared.commands.Command.TheVariants.{Insert, Erase, Char, Plain, Para, Style, Field}
 use Rattle.edit_script.specs.declared.commands.Command.TheVariants.{Note, Split, Merge, Sect, Row, StyleChar}
-use Rattle.edit_script.specs.declared.commands.Command.TheVariants.{StylePara, Save}
+use Rattle.edit_script.specs.declared.commands.Command.TheVariants.{StylePara, Bookmark, Unmark, Save}
 use Rattle.edit_ops.specs.Runs.{most_runs}
 use Rattle.fast_save.specs.declared.ledgers.Counts.{Counts}
 use Rattle.fast_save.specs.declared.ledgers.Ledgers.{Ledgers}
@@ -33,6 +33,8 @@ is_formatting (Sect at new set) = false
 is_formatting (Row story at width cells) = false
 is_formatting (StyleChar istd set) = false
 is_formatting (StylePara istd set) = false
+is_formatting (Bookmark name from to) = false
+is_formatting (Unmark name) = false
 is_formatting (Save full) = false
 
 -- the bytes by which a modifier grows that the command composes: its settings, sprmCPlain, or sprmPIstd
@@ -51,6 +53,8 @@ modifier_growth (Sect at new set) = 0
 modifier_growth (Row story at width cells) = 0
 modifier_growth (StyleChar istd set) = 0
 modifier_growth (StylePara istd set) = 0
+modifier_growth (Bookmark name from to) = 0
+modifier_growth (Unmark name) = 0
 modifier_growth (Save full) = 0
 
 -- the Sepxes that the command may have written
@@ -69,6 +73,8 @@ sections_set (Sect at new set) = 1
 sections_set (Row story at width cells) = 0
 sections_set (StyleChar istd set) = 0
 sections_set (StylePara istd set) = 0
+sections_set (Bookmark name from to) = 0
+sections_set (Unmark name) = 0
 sections_set (Save full) = 0
 
 -- Profile: the most pieces that one command adds

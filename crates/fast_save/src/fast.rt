@@ -15,9 +15,10 @@ use crate::ledgers::Counts;
 use crate::parts::SessionParts;
 use append_save::{AppendFault, EditedText, SavedFile, append};
 use doc_bits::{Bytes, Memory};
+use doc_columns::ColumnDocument;
 use edited_text::SessionText;
 use fib_form::Fib;
-use full_save::table_len;
+use full_save::table_len_by_columns;
 use plain_doc::{Document, documents_are_formed};
 use std::alloc::Global;
 use thiserror::Error;
@@ -64,7 +65,7 @@ impl From<Memory> for FastFault {
 /// The sectors that are reckoned for a fast save of a document, unless it is refused.
 pub(crate) fn judged(
     alloc: Global,
-    document: &Document,
+    document: &ColumnDocument,
     fib: &Fib,
     counts: &Counts,
 ) -> Result<u64, FastFault>
@@ -77,8 +78,8 @@ pub(crate) fn judged(
 {
     few_saves(fib)?;
     few_pieces(counts)?;
-    let table_bytes = table_len(alloc, document)?;
-    few_sectors(counts, table_bytes)
+    let len = table_len_by_columns(alloc, document)?;
+    few_sectors(counts, len)
 }
 
 /// Refuses the sixteenth fast save in a row.

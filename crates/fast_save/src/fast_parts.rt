@@ -7,8 +7,8 @@ use crate::parts::{named, section_places, text_base};
 use crate::stories::ends_behind;
 use cfb_streams::{Container, word_document};
 use doc_bits::Memory;
+use doc_columns::ColumnDocument;
 use fib_form::Fib;
-use plain_doc::Document;
 use save_laws::Ends;
 use std::alloc::Global;
 
@@ -27,7 +27,7 @@ impl FastParts {
     /// Those of a file that holds the document.
     pub(crate) fn of_file(
         alloc: Global,
-        document: &Document,
+        document: &ColumnDocument,
         file: &[u8],
     ) -> Result<FastParts, Memory>
         requires { IsHeldFile file.now document.now }

@@ -15,9 +15,9 @@ ghost use Rattle.fast_save.specs.Session.{IsSession};
 use crate::parts::{SessionParts, named};
 use cfb_streams::{CfbFault, Container, word_document};
 use doc_bits::Memory;
+use doc_columns::ColumnDocument;
 use fib_form::Fib;
 use piece_table::PieceList;
-use plain_doc::Document;
 use std::alloc::Global;
 
 /// Where the text of a full save begins in `WordDocument`.
@@ -26,7 +26,7 @@ const TEXT_AT: u32 = 1024;
 /// The parts of the full save of a document: one piece, and no section whose settings are still to be written.
 pub(crate) fn parts_in_full(
     alloc: Global,
-    document: &Document,
+    document: &ColumnDocument,
     file: &[u8],
 ) -> Result<SessionParts, Memory>
     requires savable { IsSavable document.now }

@@ -2,6 +2,7 @@
 //! that is edited beside the pieces of its text.
 #![tactic(auto)]
 
+mod by_items;
 mod fast;
 mod fast_parts;
 mod full_parts;

@@ -11,11 +11,11 @@ ghost use Rattle.fast_save.specs.Started.{IsOpenFile, IsReadFile, written_places
 use crate::stories::ends_behind;
 use cfb_streams::{Container, table_name, word_document};
 use doc_bits::Memory;
+use doc_columns::ColumnDocument;
 use doc_parts::{PartFault, Seds, sections};
 use edited_text::SessionText;
 use fib_form::{Fib, TablePart};
 use piece_table::PieceList;
-use plain_doc::Document;
 use std::alloc::Global;
 
 /// The text beside the document, and the FIB and the streams of the file that was given or last saved.
@@ -30,7 +30,7 @@ impl SessionParts {
     /// The parts of a file that holds the document, to which nothing is added.
     pub(crate) fn of_file(
         alloc: Global,
-        document: &Document,
+        document: &ColumnDocument,
         fib: Fib,
         container: Container,
         pieces: PieceList,

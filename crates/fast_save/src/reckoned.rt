@@ -26,6 +26,8 @@ pub(crate) fn is_formatting(command: &Command) -> bool
         Command::Row(_, _, _, _) => false,
         Command::StyleChar(_, _) => false,
         Command::StylePara(_, _) => false,
+        Command::Bookmark(_, _, _) => false,
+        Command::Unmark(_) => false,
         Command::Save(_) => false,
     }
 }
@@ -50,6 +52,8 @@ pub(crate) fn modifier_growth(command: &Command) -> u64
         Command::Row(_, _, _, _) => 0,
         Command::StyleChar(_, _) => 0,
         Command::StylePara(_, _) => 0,
+        Command::Bookmark(_, _, _) => 0,
+        Command::Unmark(_) => 0,
         Command::Save(_) => 0,
     }
 }
@@ -73,6 +77,8 @@ pub(crate) fn sections_set(command: &Command) -> u64
         Command::Row(_, _, _, _) => 0,
         Command::StyleChar(_, _) => 0,
         Command::StylePara(_, _) => 0,
+        Command::Bookmark(_, _, _) => 0,
+        Command::Unmark(_) => 0,
         Command::Save(_) => 0,
     }
 }
@@ -97,6 +103,8 @@ pub(crate) fn most_runs(command: &Command) -> u64
         Command::Merge(_, _) => 0,
         Command::StyleChar(_, _) => 0,
         Command::StylePara(_, _) => 0,
+        Command::Bookmark(_, _, _) => 0,
+        Command::Unmark(_) => 0,
         Command::Save(_) => 0,
     }
 }

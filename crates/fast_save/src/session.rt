@@ -15,6 +15,7 @@ ghost use Rattle.fast_save.specs.Edited.{HasRoom, IsPlanned, session_after};
 ghost use Rattle.fast_save.specs.Started.{IsStarted, session_after_full};
 ghost use Rattle.fast_save.specs.Fast.{IsFastFault, IsSavedFast};
 
+use crate::by_items::{file_in_full, items_of};
 use crate::fast::{FastFault, judged};
 use crate::fast_parts::FastParts;
 use crate::full_parts::parts_in_full;
@@ -22,11 +23,12 @@ use crate::ledgers::{Counts, Ledgers};
 use crate::parts::{SessionParts, bin_bytes, pieces_are_few};
 use crate::written::{put_pieces, written_file};
 use doc_bits::{Bytes, Memory};
-use doc_read::{ReadFault, read};
-use edit_ops::{Command, Edit, EditFault, Facts, changes_of, edit_of};
+use doc_columns::ColumnDocument;
+use doc_read::{ReadFault, open};
+use edit_ops::{Command, Edit, EditFault, Facts, edit_of};
 use edited_text::Added;
-use full_save::{SaveFault, full, table_len};
-use plain_doc::{Document, Items, documents_are_formed};
+use full_save::{SaveFault, table_len_by_columns};
+use plain_doc::{Document, Items};
 use std::alloc::Global;
 use std::marker::Model;
 
@@ -34,7 +36,7 @@ use std::marker::Model;
 #[derive(Drop)]
 pub struct Session {
     alloc: Global,
-    document: Document,
+    document: ColumnDocument,
     parts: SessionParts,
     file: Bytes,
     counts: Counts,
@@ -63,16 +65,16 @@ impl Session {
     pub fn start(alloc: Global, file: &[u8]) -> Result<Session, ReadFault>
         ensures { MatchResult result (IsStarted file.now) (IsReadFault (all_rules file.now)) }
     {
-        let opened = read(alloc, file)?;
+        let opened = open(alloc, file)?;
+        let bytes = Bytes::from_slice(alloc, file)?;
         let (document, fib, container, pieces) = opened.into_parts();
         let parts = SessionParts::of_file(alloc, &document, fib, container, pieces)?;
         let counts = counts_of(&parts, file);
-        let file = Bytes::from_slice(alloc, file)?;
         Ok(Session {
             alloc,
             document,
             parts,
-            file,
+            file: bytes,
             counts,
         })
     }
@@ -103,8 +105,9 @@ impl Session {
         ensures ok { OnOk result (self.new ≡ session_after command.now self.old) }
         ensures err { OnErr result (self.new ≡ self.old) }
     {
-        let changes = changes_of(self.alloc, &self.document, command)?;
-        self.parts.text.edit(self.alloc, &self.document, &changes)?;
+        self.parts
+            .text
+            .edit(self.alloc, &self.document, &edit.changes)?;
         pieces_are_few(&self.parts.text.pieces);
         self.counts = self.counts.after_edit(command, edit.facts.units_in);
         self.document = edit.document;
@@ -131,8 +134,7 @@ impl Session {
             × (IsHeldInFull self.old.document × (self.new ≡ session_after_full self.old))) }
         ensures err { IfErr result (λ fault. (self.new ≡ self.old) × IsTooLarge self.old.document fault) }
     {
-        documents_are_formed(&self.document);
-        let file = full(self.alloc, &self.document)?;
+        let file = file_in_full(self.alloc, &self.document)?;
         let parts = parts_in_full(self.alloc, &self.document, file.as_slice())?;
         self.counts = counts_of(&parts, file.as_slice());
         self.parts = parts;
@@ -167,7 +169,7 @@ impl Session {
     pub fn document(&self) -> Result<Document, Memory>
         ensures { IfOk result (λ document. (document ≡ self.now.document) × IsSound document) }
     {
-        self.document.copy(self.alloc)
+        items_of(self.alloc, &self.document)
     }
 
     /// The file that was given or last saved.
@@ -198,8 +200,8 @@ impl Session {
         ensures { IfOk result (λ ledgers. ledgers ≡
             ledgers_of self.now.counts (length (table_stream self.now.document))) }
     {
-        let table_bytes = table_len(self.alloc, &self.document)?;
-        Ok(self.counts.ledgers(table_bytes))
+        let len = table_len_by_columns(self.alloc, &self.document)?;
+        Ok(self.counts.ledgers(len))
     }
 }
 

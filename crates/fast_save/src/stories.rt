@@ -5,12 +5,12 @@ ghost use Rattle.plain_doc.specs.Collected.{joined_texts};
 ghost use Rattle.save_laws.specs.Slots.{StoryEnds, story_slots, story_counts};
 ghost use Rattle.save_laws.specs.Ends.{ends_of};
 
+use doc_columns::{ColumnDocument, ColumnTexts};
 use fib_form::Fib;
-use plain_doc::{Document, Texts};
 use save_laws::Ends;
 
 /// The marks behind the stories of a document: those have more CPs, by the FIB, than their texts have items.
-pub(crate) fn ends_behind(document: &Document, fib: &Fib) -> Ends
+pub(crate) fn ends_behind(document: &ColumnDocument, fib: &Fib) -> Ends
     requires { IsSound document.now }
     ensures { (ends : StoryEnds) → fib.now.ccps ≡ story_counts document.now ends → ends_of result ≡ ends }
 {
@@ -21,7 +21,7 @@ pub(crate) fn ends_behind(document: &Document, fib: &Fib) -> Ends
 }
 
 /// Whether a mark stands behind the texts of a story of so many CPs.
-fn has_end(texts: &Texts, count: u32) -> bool
+fn has_end(texts: &ColumnTexts, count: u32) -> bool
     requires { length (joined_texts texts.now) < 2 ^ 32 }
     ensures { (end : Bool) → count ≡ length (story_slots texts.now end) → result ≡ end }
 {
@@ -29,7 +29,7 @@ fn has_end(texts: &Texts, count: u32) -> bool
 }
 
 /// The number of items of all texts.
-fn items_of(texts: &Texts) -> usize
+fn items_of(texts: &ColumnTexts) -> usize
     requires { length (joined_texts texts.now) < 2 ^ 32 }
     ensures { result ≡ length (joined_texts texts.now) }
 {

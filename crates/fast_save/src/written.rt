@@ -11,6 +11,7 @@ use crate::ledgers::Counts;
 use crate::parts::SessionParts;
 use append_save::{EditedText, SavedFile, added_pages};
 use doc_bits::{Bytes, Memory};
+use doc_columns::ColumnDocument;
 use edited_text::SessionText;
 use piece_table::PieceList;
 use plain_doc::Document;
@@ -28,6 +29,20 @@ pub(crate) struct WrittenFile {
 
 /// The file of a document, with its text written again where that takes no more than is reckoned.
 pub(crate) fn written_file(
+    alloc: Global,
+    document: &ColumnDocument,
+    parts: &SessionParts,
+    counts: &Counts,
+) -> Result<WrittenFile, FastFault>
+    requires { CanWrite document.now parts.now counts.now }
+    ensures { MatchResult result (IsWrittenFile document.now parts.now counts.now) (λ fault. fault ≡ NoMemory) }
+{
+    let items = document.expand(alloc)?;
+    written_by_items(alloc, &items, parts, counts)
+}
+
+/// The same of a document item by item.
+fn written_by_items(
     alloc: Global,
     document: &Document,
     parts: &SessionParts,

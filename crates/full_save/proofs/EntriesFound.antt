@@ -230,7 +230,6 @@ other_kept n at pairs (part ∷ parts) others =
 
 -- parts that a FIB may have
 pub record AreAllowed (parts : List TableEntry) : Type 0 where
-  pub bookmarks : are_others 21 parts ≡ true
   pub main_drawings : are_others 40 parts ≡ true
   pub header_drawings : are_others 41 parts ≡ true
   pub endnotes : are_others 46 parts ≡ true
@@ -275,11 +274,6 @@ no_pair n = elim (cases_lt n 93) [
   | inl low ↦ get_or-replicate {A = ℕ × ℕ} 93 n (0, 0) (0, 0) low
   | inr high ↦ get_or_past (replicate 93 (0, 0)) n (0, 0) (omega (arith, high, length-replicate {A = ℕ × ℕ} 93 (0, 0)))
 ]
-
--- parts that a FIB may have name no bookmarks
-pub no_bookmarks : (parts : List TableEntry) → AreAllowed parts → (pair_at (pairs_from 0 empty_pairs parts) 21).1 ≡ 0
-no_bookmarks parts allowed =
-    ap (λ (pair : ℕ × ℕ). pair.1) (other_kept 21 0 empty_pairs parts allowed.bookmarks ∙ no_pair 21)
 
 empty_wide : All IsWidePair empty_pairs
 unfolding empty_pairs

@@ -33,6 +33,7 @@ use Rattle.fkp_pages.specs.declared.lists.Run.{Run}
 use Rattle.fkp_pages.specs.Rows.{IsRow, row_table}
 use Rattle.full_save.proofs.StretchRuns.{IsWritableItem}
 use Rattle.full_save.proofs.EntriesFound.{AreAllowed, entries_are_pairs, entries_are_wide}
+use Rattle.full_save.proofs.TableNumbers.{table_allowed}
 pub use Rattle.full_save.proofs.TextLaidOut.{items_writable, few_items, counts_are, runs_are, pages_are, length-pages}
 use Rattle.full_save.proofs.TextLaidOut.{length-text}
 use Rattle.full_save.proofs.StreamLengths.{short_body}
@@ -86,7 +87,7 @@ body_cut b = (simp (append_assoc) refl, (simp (append_assoc) refl, simp (append_
 -- ---- the FIB
 
 pub allowed : (document : Document) → AreAllowed (full_entries document)
-allowed document = record { bookmarks = refl; main_drawings = refl; header_drawings = refl; endnotes = refl }
+allowed document = table_allowed document (full_text document)
 
 fib_pairs_count : (document : Document) → length (full_fib document).pairs ≡ kept_pairs
 unfolding full_fib

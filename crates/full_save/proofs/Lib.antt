@@ -1,8 +1,13 @@
 pub mod RunLemmas
 pub mod SoFarLemmas
+pub mod SeenLemmas
+pub mod AlikeLemmas
+pub mod ColumnRuns
 pub mod TextLemmas
 pub mod ListLemmas
 pub mod SectionLemmas
+pub mod ColumnLists
+pub mod ColumnSections
 pub mod TableLemmas
 pub mod MadeLemmas
 pub mod ClxLemmas
@@ -10,7 +15,10 @@ pub mod FrontLemmas
 pub mod StreamLemmas
 pub mod StretchRuns
 pub mod EntriesFound
+pub mod TableNumbers
 pub mod TextLaidOut
+pub mod EntryLengths
+pub mod MarkLengths
 pub mod StreamLengths
 pub mod BodyLemmas
 pub mod LaidOut

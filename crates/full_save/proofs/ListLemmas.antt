@@ -8,17 +8,12 @@ use Rattle.plain_doc.specs.declared.item.Item.{Item}
 use Rattle.plain_doc.specs.Collected.{collected, entry_before, field_of, joined_texts, cuts_from}
 use Rattle.plain_doc.specs.TextLists.{cuts_of}
 use Rattle.plain_doc.proofs.CollectedLemmas.{collected-append}
-use Rattle.full_save.specs.Lists.{fields_from}
+use Rattle.full_save.specs.Lists.{fields_from, IsListedUpTo}
 
 -- what is left of a list begins with what stands there
 pub drop_here : {A : Type 0} (xs : List A) (i : ℕ) (d : A) → i < length xs → drop i xs ≡ get_or xs i d ∷ drop (i + 1) xs
 drop_here xs i d h = let e : suc i ≡ i + 1 = omega arith in drop-cons xs i d h ∙ ap (λ (n : ℕ). get_or xs i d ∷ drop n
     xs) e
-
--- a list has what the items before a place have, which stand from a CP on, behind what it had
-pub record IsListedUpTo {A B : Type 0} (what : Item → Option A) (entry : ℕ × A → B) (from : ℕ) (items : List Item)
-    (i : ℕ) (old new : List B) : Type 0 where
-  pub rest : new ++ map entry (collected what (from + i) (drop i items)) ≡ old ++ map entry (collected what from items)
 
 -- what is left is that of the item, and that of the rest
 left_here :

@@ -1,32 +1,17 @@
 -- Sepxes and Seds that are made as the items of a main text are gone through.
-use Rattle.std.proofs.Common.{◌≡◌, ◌<◌, ◌≤◌, ◌+◌, ◌*◌, ◌∙◌, ap, sym, ℕ, List, [], ◌∷◌, ◌++◌, length, drop}
+use Rattle.std.proofs.Common.{◌≡◌, ◌<◌, ◌≤◌, ◌+◌, ◌∙◌, ap, sym, ℕ, List, [], ◌∷◌, ◌++◌, length, drop}
 use Rattle.std.proofs.Common.{get_or, Option, Some, None, arith}
 use Rattle.std.proofs.lemmas.List.{append_assoc, length-append, append-nil, drop_all}
 use Rattle.prop_map.specs.Settings.{Settings}
 use Rattle.doc_parts.specs.declared.lists.Sed.{Sed}
 use Rattle.plain_doc.specs.declared.item.Item.{Item}
 use Rattle.plain_doc.specs.Collected.{collected, entry_before, sections_of}
-use Rattle.full_save.specs.Sections.{sepx_bytes, sepxes, fc_sepx, seds_from}
+pub use Rattle.full_save.specs.Sections.{SectionsSoFar}
+use Rattle.full_save.specs.Sections.{sepx_bytes, sepxes, fc_sepx, seds_from, SectionsSoFar, left_from, AreSepxesUpTo}
 use Rattle.full_save.proofs.ListLemmas.{drop_here}
 
--- where the next section begins, the bytes with its Sepxes, and the Seds
-pub record SectionsSoFar : Type 0 where
-  pub start : ℕ
-  pub out : List ℕ
-  pub seds : List Sed
-
-abbrev left : List Item → ℕ → List (ℕ × Settings)
-left main cp = collected (λ item. item.sect) cp (drop cp main)
-
--- the sections that end before a CP are done, and those that are left go on from here
-pub record AreSepxesUpTo (main : List Item) (base : ℕ) (old : List ℕ) (cp : ℕ) (so : SectionsSoFar) : Type 0 where
-  pub bytes : so.out ++ sepxes (left main cp) ≡ old ++ sepxes (sections_of main)
-  pub places : so.seds ++ seds_from so.start (base + length so.out) (left main cp) ≡ seds_from 0 (base + length old)
-      (sections_of main)
-  pub few : length so.out ≤ length old + 504 * cp
-
 left_here : (main : List Item) (cp : ℕ) (d : Item) → cp < length main →
-    left main cp ≡ entry_before (get_or main cp d).sect cp (left main (cp + 1))
+    left_from main cp ≡ entry_before (get_or main cp d).sect cp (left_from main (cp + 1))
 unfolding collected
 left_here main cp d h = ap (λ (rest : List Item). collected (λ item. item.sect) cp rest) (drop_here main cp d h)
 
@@ -34,7 +19,8 @@ pub sepxes_skip :
     (main : List Item) (base : ℕ) (old : List ℕ) (cp : ℕ) (d : Item) (so : SectionsSoFar) → cp < length main →
     (get_or main cp d).sect ≡ None → AreSepxesUpTo main base old cp so → AreSepxesUpTo main base old (cp + 1) so
 sepxes_skip main base old cp d so h none are =
-    let same = sym (left_here main cp d h ∙ ap (λ (o : Option Settings). entry_before o cp (left main (cp + 1))) none)
+    let rest = left_from main (cp + 1) in
+    let same = sym (left_here main cp d h ∙ ap (λ (o : Option Settings). entry_before o cp rest) none)
     in
     let few = are.few in
     record {
@@ -52,7 +38,7 @@ pub sepxes_more :
     new.start ≡ cp + 1 → AreSepxesUpTo main base old cp so → AreSepxesUpTo main base old (cp + 1) new
 unfolding seds_from
 sepxes_more main base old cp d settings so new h has short out seds start are =
-    let rest = left main (cp + 1) in
+    let rest = left_from main (cp + 1) in
     let same = sym (left_here main cp d h ∙ ap (λ (o : Option Settings). entry_before o cp rest) has) in
     let sed : Sed = record { start = so.start; sepx = fc_sepx (base + length so.out) settings } in
     let few = are.few in

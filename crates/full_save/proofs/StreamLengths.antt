@@ -11,7 +11,6 @@ use Rattle.std.proofs.lemmas.Bool.{and_parts, cond_both}
 use Rattle.std.proofs.lemmas.List.{length-map, length-replicate}
 use Rattle.std.proofs.lemmas.List.Elements.{All-head, All-tail}
 use Rattle.doc_bits.specs.Number.{number_bytes, numbers}
-use Rattle.doc_bits.specs.Plc.{printed_plc}
 use Rattle.doc_bits.proofs.NumberLemmas.{length-number_bytes, length-numbers}
 use Rattle.prop_map.specs.Settings.{Settings}
 use Rattle.prop_map.specs.Printing.{printed_list}
@@ -31,13 +30,13 @@ use Rattle.style_sheet.specs.Sheet.{Sheet}
 use Rattle.style_sheet.specs.Counted.{written_counted}
 use Rattle.style_sheet.specs.Formed.{IsFormedSheet}
 use Rattle.style_sheet.specs.Written.{word, written_slot, written_slots, written_front, written_sheet, IsWritable}
-use Rattle.doc_parts.specs.Table.{EntryForm, printed_entries}
 use Rattle.doc_parts.specs.declared.lists.Sed.{Sed}
 use Rattle.doc_parts.specs.declared.lists.Fld.{Fld}
 use Rattle.doc_parts.specs.declared.lists.NoteRef.{NoteRef}
 use Rattle.doc_parts.specs.Sections.{sed_form, printed_sections}
 use Rattle.doc_parts.specs.Fields.{fld_form, printed_fields}
 use Rattle.doc_parts.specs.Stories.{ref_form, cut_form, printed_refs, printed_texts}
+use Rattle.doc_parts.specs.PrintedBookmarks.{printed_names, printed_starts, printed_ends}
 use Rattle.plain_doc.specs.declared.item.Item.{Item}
 use Rattle.plain_doc.specs.declared.item.NoteKind.{NoteKind}
 use Rattle.plain_doc.specs.declared.carried.Carried.{Carried}
@@ -61,6 +60,8 @@ use Rattle.full_save.specs.WordDocument.{text_at, text_bytes, document_runs, doc
 use Rattle.full_save.specs.WordDocument.{bin_table}
 use Rattle.full_save.specs.WordDocument.{one_piece_clx, full_text, full_entries, table_stream}
 use Rattle.full_save.specs.WordDocument.{first_character_page, first_paragraph_page}
+use Rattle.full_save.proofs.EntryLengths.{length-printed}
+use Rattle.full_save.proofs.MarkLengths.{fit_parts, short_names, short_starts, short_ends}
 use Rattle.full_save.proofs.TextLaidOut.{few_items, whole_pages, length-pages, length-text}
 
 -- ---- runs and pages
@@ -198,33 +199,6 @@ short_entries (part ∷ parts) short =
 
 short_entry : (number : ℕ) (bytes : List ℕ) → length bytes ≤ 2 ^ 41 → IsShortEntry (entry number bytes)
 short_entry number bytes short = record { short = omega (arith, short, length-append bytes []) }
-
--- entries of so many bytes at most
-length-entries : {E : Type 0} (bytes_of : E → List ℕ) (size : ℕ) (list : List E) →
-    ((e : E) → length (bytes_of e) ≤ size) → size ≤ 12 →
-    length (flat_map (λ bytes. bytes) (map bytes_of list)) ≤ 12 * length list
-length-entries bytes_of size [] each small = omega arith
-length-entries bytes_of size (e ∷ list) each small =
-    let first = each e in
-    let rest = length-entries bytes_of size list each small in
-    omega (arith, first, rest, small, length-append (bytes_of e) (flat_map (λ bytes. bytes) (map bytes_of list)))
-
-length-plc : (cps : List ℕ) (end : ℕ) (entries : List (List ℕ)) →
-    length (printed_plc cps end entries) ≤ 4 * length cps + 4 + length (flat_map (λ bytes. bytes) entries)
-length-plc [] end entries = omega arith
-length-plc (cp ∷ cps) end entries =
-    let rest = number_bytes 4 end ++ flat_map (λ bytes. bytes) entries in
-    let a = length-append (numbers (cp ∷ cps)) rest in
-    let b = length-append (number_bytes 4 end) (flat_map (λ bytes. bytes) entries) in
-    omega (arith, a, b, length-numbers (cp ∷ cps), length-number_bytes 4 end)
-
-length-printed : {E : Type 0} (form : EntryForm E) (size : ℕ) (list : List E) (end : ℕ) →
-    ((e : E) → length (form.bytes_of e) ≤ size) → size ≤ 12 →
-    length (printed_entries form list end) ≤ 16 * length list + 4
-length-printed form size list end each small =
-    let count = length-map list form.cp_of in
-    let plc = length-plc (map form.cp_of list) end (map form.bytes_of list) in
-    omega (arith, count, plc, length-entries form.bytes_of size list each small)
 
 fields_short : (items : List Item) (len : ℕ) →
     length (printed_fields (fields_of items) len) ≤ 16 * length items + 4
@@ -406,18 +380,44 @@ carried_short carried short =
 
 -- ---- the table stream
 
+-- the parts behind those of bookmarks
+abbrev last_entries : Document → List TableEntry
+last_entries d =
+    entry 31 d.carried.dop
+    ∷ entry 32 d.carried.assoc
+    ∷ entry 33 (full_text d).clx
+    ∷ record { number = 73; bytes = d.carried.lst; behind = d.carried.levels }
+    ∷ entry 74 d.carried.lfo
+    ∷ []
+
 pub short_table : (document : Document) → IsFormed document → IsRightDocument document →
     length (table_stream document) < 2 ^ 46
 unfolding table_stream
 short_table d formed right =
     let few = few_items d right in
     let part = carried_short d.carried formed.carried.parts in
+    let fit = fit_parts d right in
     let notes = joined_texts d.notes in
     let heads = joined_texts d.heads in
     let main_few : length d.main ≤ 500000 = omega (arith, few.stories) in
     let main_len = slice_index (text_counts d) 0 in
     let note_len = slice_index (text_counts d) 1 in
     let head_len = slice_index (text_counts d) 2 in
+    let back : AreShortEntries (last_entries d) = (
+      short_entry 31 d.carried.dop (omega (arith, part.dop)),
+      (
+        short_entry 32 d.carried.assoc (omega (arith, part.assoc)),
+        (
+          short_entry 33 (full_text d).clx (omega (arith, clx_short (length (text_items d)))),
+          (
+            record {
+              short = omega (arith, part.lst, part.levels, length-append d.carried.lst d.carried.levels);
+            },
+            (short_entry 74 d.carried.lfo (omega (arith, part.lfo)), tt),
+          ),
+        ),
+      ),
+    ) in
     let parts : AreShortEntries (full_entries d) = (
       short_entry 1 (written_sheet d.sheet) (omega (arith, sheet_short d.sheet formed.sheet right.writable)),
       (
@@ -449,18 +449,14 @@ short_table d formed right =
                           short_entry 18 (printed_fields (fields_of notes) note_len)
                               (omega (arith, few.notes, fields_short notes note_len)),
                           (
-                            short_entry 31 d.carried.dop (omega (arith, part.dop)),
+                            short_entry 21 (printed_names d.bookmarks) (omega (arith, short_names d.bookmarks fit)),
                             (
-                              short_entry 32 d.carried.assoc (omega (arith, part.assoc)),
+                              short_entry 22 (printed_starts d.bookmarks main_len)
+                                  (omega (arith, short_starts d.bookmarks main_len fit)),
                               (
-                                short_entry 33 (full_text d).clx (omega (arith, clx_short (length (text_items d)))),
-                                (
-                                  record {
-                                    short = omega
-                                        (arith, part.lst, part.levels, length-append d.carried.lst d.carried.levels);
-                                  },
-                                  (short_entry 74 d.carried.lfo (omega (arith, part.lfo)), tt),
-                                ),
+                                short_entry 23 (printed_ends d.bookmarks main_len)
+                                    (omega (arith, short_ends d.bookmarks main_len fit)),
+                                back,
                               ),
                             ),
                           ),

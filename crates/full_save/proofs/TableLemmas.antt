@@ -1,13 +1,16 @@
 -- A table stream that grows part by part.
-use Rattle.std.proofs.Common.{◌≡◌, ◌+◌, ◌∙◌, ap, refl, sym, ℕ, List, [], ◌∷◌, ◌++◌, length, arith, map, take, get_or, ◌<◌, ◌≤◌, subst}
-use Rattle.std.proofs.lemmas.List.{append_assoc, length-append, append-nil, map_more, take_all, take-map, length-map, get_or-map}
+use Rattle.std.proofs.Common.{◌≡◌, ◌+◌, ◌∙◌, ap, refl, sym, ℕ, List, [], ◌∷◌, ◌++◌, length, arith, map, take, get_or}
+use Rattle.std.proofs.Common.{◌<◌, ◌≤◌, subst}
+use Rattle.std.proofs.lemmas.List.{append_assoc, length-append, append-nil, map_more, take_all, take-map, length-map}
+use Rattle.std.proofs.lemmas.List.{get_or-map}
 use Rattle.std.proofs.lemmas.List.Folds.{length-flat_map-take}
 use Rattle.std.specs.Borrow.{Bor}
 use Rattle.fib_form.specs.declared.table_parts.TablePart.{TablePart}
 use Rattle.fib_form.specs.FibFields.{empty_pairs}
 use Rattle.fib_form.specs.TableEntries.{TableEntry}
 use Rattle.full_save.specs.declared.table_parts.TableParts.{TableParts}
-use Rattle.full_save.specs.TableStream.{entry_bytes, entries_bytes, named_entry, WritesPart, WritesParts, put_pair, pairs_from, AreWritten}
+use Rattle.full_save.specs.TableStream.{entry_bytes, entries_bytes, named_entry, WritesPart, WritesParts, put_pair}
+use Rattle.full_save.specs.TableStream.{pairs_from, AreWritten}
 
 -- the pairs with one part more
 pairs_more :

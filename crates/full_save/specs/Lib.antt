@@ -2,6 +2,7 @@ pub mod TableText
 pub mod TableStream
 pub mod Text
 pub mod Runs
+pub mod Alike
 pub mod Lists
 pub mod Sections
 pub mod WordDocument

@@ -1,10 +1,42 @@
--- The field characters of items that stand somewhere in a story.
-use Rattle.std.specs.Prelude.{ℕ, List, map}
+-- The field characters of items that stand somewhere in a story, and lists that grow run by run.
+use Rattle.std.specs.Prelude.{◌≡◌, ℕ, ◌+◌, Option, List, [], ◌++◌, map, drop}
+use Rattle.run_lists.specs.declared.runs.Run.{Run}
 use Rattle.doc_parts.specs.declared.lists.Fld.{Fld}
+use Rattle.doc_parts.specs.declared.lists.NoteRef.{NoteRef}
 use Rattle.plain_doc.specs.declared.item.Item.{Item}
-use Rattle.plain_doc.specs.Collected.{collected, field_of}
+use Rattle.plain_doc.specs.declared.item.NoteKind.{NoteKind}
+use Rattle.plain_doc.specs.Collected.{collected, field_of, is_auto}
+use Rattle.doc_columns.specs.declared.beside.Beside.{Beside}
+use Rattle.doc_columns.specs.Beside.{beside_of}
+use Rattle.full_save.specs.Alike.{HaveAlike}
+
+-- the entry of a field character, and of a reference
+abbrev pub field_entry : ℕ × (ℕ × ℕ) → Fld
+field_entry entry = record { cp = entry.0; unit = entry.1.0; byte = entry.1.1 }
+
+abbrev pub ref_entry : ℕ × NoteKind → NoteRef
+ref_entry entry = record { cp = entry.0; auto = is_auto entry.1 }
 
 -- those of items that stand from a CP on
 abbrev pub fields_from : ℕ → List Item → List Fld
 fields_from cp items = map (λ entry. record { cp = entry.0; unit = entry.1.0; byte = entry.1.1 }) (collected field_of
     cp items)
+
+-- a list has what the items before a place have, which stand from a CP on, behind what it had
+pub record IsListedUpTo {A B : Type 0} (what : Item → Option A) (entry : ℕ × A → B) (from : ℕ) (items : List Item)
+    (i : ℕ) (old new : List B) : Type 0 where
+  pub rest : new ++ map entry (collected what (from + i) (drop i items)) ≡ old ++ map entry (collected what from items)
+
+-- the list of field characters goes on by a run, which begins at a place of a text that stands from a CP on
+abbrev pub FieldsGoOn : List ℕ → ℕ → Run Beside → ℕ → List Fld → List Fld → Type 0
+FieldsGoOn units cp run place old new =
+    (text : List Item) (start : List Fld) → units ≡ map (λ item. item.unit) text →
+    HaveAlike beside_of run.value text place run.count → IsListedUpTo field_of field_entry cp text place start old →
+    IsListedUpTo field_of field_entry cp text (place + run.count) start new
+
+-- so does the list of references
+abbrev pub RefsGoOn : Run Beside → ℕ → List NoteRef → List NoteRef → Type 0
+RefsGoOn run place old new =
+    (text : List Item) → HaveAlike beside_of run.value text place run.count →
+    IsListedUpTo (λ item. item.note) ref_entry 0 text place [] old →
+    IsListedUpTo (λ item. item.note) ref_entry 0 text (place + run.count) [] new

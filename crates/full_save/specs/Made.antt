@@ -1,17 +1,33 @@
 -- What is made of a document on the way to its file.
-use Rattle.std.specs.Prelude.{◌≡◌, ℕ, ◌+◌, length, slice_index}
+use Rattle.std.specs.Prelude.{◌≡◌, ℕ, ◌+◌, List, [], ◌∷◌, length, slice_index}
 use Rattle.style_sheet.specs.Written.{written_sheet}
 use Rattle.doc_parts.specs.Sections.{printed_sections}
 use Rattle.doc_parts.specs.Fields.{printed_fields}
 use Rattle.doc_parts.specs.Stories.{printed_refs, printed_texts}
+use Rattle.doc_parts.specs.declared.bookmark_order.Bookmark.{Bookmark}
+use Rattle.doc_parts.specs.PrintedBookmarks.{printed_names, printed_starts, printed_ends}
+use Rattle.fib_form.specs.TableParts.{pair_of}
+use Rattle.fib_form.specs.declared.table_parts.TablePart.TheVariants.{Stshf, PlcffndRef, PlcffndTxt, PlcfSed}
+use Rattle.fib_form.specs.declared.table_parts.TablePart.TheVariants.{PlcfHdd, PlcfBteChpx, PlcfBtePapx, SttbfFfn}
+use Rattle.fib_form.specs.declared.table_parts.TablePart.TheVariants.{PlcfFldMom, PlcfFldHdr, PlcfFldFtn, SttbfBkmk}
+use Rattle.fib_form.specs.declared.table_parts.TablePart.TheVariants.{PlcfBkf, PlcfBkl, Dop, SttbfAssoc, Clx, PlfLst}
+use Rattle.fib_form.specs.declared.table_parts.TablePart.TheVariants.{PlfLfo}
+use Rattle.fib_form.specs.TableEntries.{TableEntry, entry}
 use Rattle.plain_doc.specs.declared.carried.Carried.{Carried}
 use Rattle.plain_doc.specs.declared.document.Document.{Document}
 use Rattle.plain_doc.specs.Collected.{joined_texts, fields_of, refs_of}
 use Rattle.plain_doc.specs.TextLists.{cuts_of}
 use Rattle.full_save.specs.declared.table_text.TableText.{TableText}
 use Rattle.full_save.specs.declared.made_parts.MadeParts.{MadeParts}
+use Rattle.full_save.specs.declared.mark_parts.MarkParts.{MarkParts}
 use Rattle.full_save.specs.declared.word_document.WordBody.{WordBody}
 use Rattle.full_save.specs.WordDocument.{wd_body, full_text}
+
+-- the three parts of bookmarks, where the main text ends
+pub record AreMarkParts (bookmarks : List Bookmark) (end : ℕ) (parts : MarkParts) : Type 0 where
+  pub names : parts.names ≡ printed_names bookmarks
+  pub starts : parts.starts ≡ printed_starts bookmarks end
+  pub ends : parts.ends ≡ printed_ends bookmarks end
 
 -- the parts of the table stream that are made of a document, with what is said of its text
 pub record AreMadeOf (document : Document) (text : TableText) (made : MadeParts) : Type 0 where
@@ -27,8 +43,37 @@ pub record AreMadeOf (document : Document) (text : TableText) (made : MadeParts)
       text.counts 2)
   pub note_fields : made.note_fields ≡ printed_fields (fields_of (joined_texts document.notes)) (slice_index
       text.counts 1)
+  pub marks : AreMarkParts document.bookmarks (slice_index text.counts 0) made.marks
 
--- the number of their bytes
+-- the parts in the order of their pairs
+abbrev pub made_entries : Carried → TableText → MadeParts → List TableEntry
+made_entries carried text made =
+    entry (pair_of Stshf) made.sheet
+    ∷ entry (pair_of PlcffndRef) made.refs
+    ∷ entry (pair_of PlcffndTxt) made.note_cuts
+    ∷ entry (pair_of PlcfSed) made.sections
+    ∷ entry (pair_of PlcfHdd) made.head_cuts
+    ∷ entry (pair_of PlcfBteChpx) text.characters
+    ∷ entry (pair_of PlcfBtePapx) text.paragraphs
+    ∷ entry (pair_of SttbfFfn) carried.fonts
+    ∷ entry (pair_of PlcfFldMom) made.main_fields
+    ∷ entry (pair_of PlcfFldHdr) made.head_fields
+    ∷ entry (pair_of PlcfFldFtn) made.note_fields
+    ∷ entry (pair_of SttbfBkmk) made.marks.names
+    ∷ entry (pair_of PlcfBkf) made.marks.starts
+    ∷ entry (pair_of PlcfBkl) made.marks.ends
+    ∷ entry (pair_of Dop) carried.dop
+    ∷ entry (pair_of SttbfAssoc) carried.assoc
+    ∷ entry (pair_of Clx) text.clx
+    ∷ record { number = pair_of PlfLst; bytes = carried.lst; behind = carried.levels }
+    ∷ entry (pair_of PlfLfo) carried.lfo
+    ∷ []
+
+-- the number of bytes of these three
+abbrev pub marks_length : MarkParts → ℕ
+marks_length marks = length marks.names + length marks.starts + length marks.ends
+
+-- the number of bytes of all
 abbrev pub made_length : MadeParts → ℕ
 made_length made =
     length made.sheet
@@ -39,6 +84,7 @@ made_length made =
     + length made.main_fields
     + length made.head_fields
     + length made.note_fields
+    + marks_length made.marks
 
 -- the number of bytes of the parts that are carried along
 abbrev pub carried_length : Carried → ℕ

@@ -1,16 +1,24 @@
 -- A text that is gone through once: which runs of it are closed, and from where on the last one goes on.
-use Rattle.std.specs.Prelude.{◌≡◌, ◌+◌, ◌-◌, ◌*◌, ℕ, List, ◌++◌, length, map, Some, None, slice_get}
+use Rattle.std.specs.Prelude.{◌≡◌, ◌+◌, ◌-◌, ◌*◌, ℕ, List, [], ◌∷◌, ◌++◌, length, map, take, Option, Some}
+use Rattle.std.specs.Prelude.{None, slice_get}
+use Rattle.prop_map.specs.Settings.{Settings}
 use Rattle.fkp_pages.specs.declared.kind.PageKind.{PageKind}
 use Rattle.fkp_pages.specs.declared.kind.PageKind.TheVariants.{Chpx, Papx}
 use Rattle.fkp_pages.specs.declared.lists.Run.{Run}
+use Rattle.run_lists.specs.declared.runs.Run.{Run as ValueRun}
+use Rattle.run_lists.specs.Spread.{spread}
+use Rattle.plain_doc.specs.declared.item.Mark.{Mark}
 use Rattle.plain_doc.specs.declared.item.Item.{Item}
 use Rattle.plain_doc.specs.declared.document.Document.{Document}
 use Rattle.plain_doc.specs.Stretches.{stretches, IsJoined}
+use Rattle.doc_columns.specs.declared.beside.Beside.{Beside}
+use Rattle.doc_columns.specs.Beside.{beside_of}
 use Rattle.full_save.specs.declared.runs.CharacterRuns.{CharacterRuns}
 use Rattle.full_save.specs.declared.runs.ParagraphRuns.{ParagraphRuns}
 use Rattle.full_save.specs.declared.text.TextSoFar.{TextSoFar}
 use Rattle.full_save.specs.declared.text.SavedText.{SavedText}
 use Rattle.full_save.specs.Runs.{joins_run, runs_from, text_runs}
+use Rattle.full_save.specs.Alike.{HaveAlike}
 use Rattle.full_save.specs.Text.{text_items, text_counts}
 use Rattle.full_save.specs.WordDocument.{text_at}
 
@@ -45,6 +53,39 @@ pub record AreParagraphsSoFar (at : ℕ) (done : List Item) (runs : ParagraphRun
   pub part : List Item
   pub are : AreRunsSoFar Papx at done (record { closed = runs.closed; from = runs.from; part = part })
   pub last : EndsWith (λ item. item.mark ≡ None) part
+
+-- the runs go on by so many items with these settings, wherever in a text they stand; the first one has its unit at
+-- `end`
+abbrev pub CharactersGoOn : Settings → ℕ → ℕ → CharacterRuns → CharacterRuns → Type 0
+CharactersGoOn chp count end old new =
+    (at : ℕ) (done text : List Item) (place : ℕ) → end ≡ at + 2 * (length done + place) →
+    HaveAlike (λ item. item.chp) chp text place count →
+    AreCharactersSoFar at (done ++ take place text) old → AreCharactersSoFar at (done ++ take (place + count) text) new
+
+-- the runs go on by a text with these runs of settings
+abbrev pub CharactersGoOnBy : List (ValueRun Settings) → ℕ → CharacterRuns → CharacterRuns → Type 0
+CharactersGoOnBy runs start old new =
+    (at : ℕ) (done text : List Item) → start ≡ at + 2 * length done → spread runs ≡ map (λ item. item.chp) text →
+    AreCharactersSoFar at done old → AreCharactersSoFar at (done ++ text) new
+
+-- the runs go on by an item that has this mark, whose unit stands before `end`
+abbrev pub ParagraphEnds : Mark → ℕ → ParagraphRuns → ParagraphRuns → Type 0
+ParagraphEnds mark end old new =
+    (at : ℕ) (done : List Item) (item : Item) → end ≡ at + 2 * length (done ++ item ∷ []) → item.mark ≡ Some mark →
+    AreParagraphsSoFar at done old → AreParagraphsSoFar at (done ++ item ∷ []) new
+
+-- the runs go on by so many items with this mark, or without one; the first one has its unit at `start`
+abbrev pub ParagraphsGoOn : Option Mark → ℕ → ℕ → ParagraphRuns → ParagraphRuns → Type 0
+ParagraphsGoOn mark count start old new =
+    (at : ℕ) (done text : List Item) (place : ℕ) → start ≡ at + 2 * (length done + place) →
+    HaveAlike (λ item. item.mark) mark text place count →
+    AreParagraphsSoFar at (done ++ take place text) old → AreParagraphsSoFar at (done ++ take (place + count) text) new
+
+-- the runs go on by a text with these runs of what stands beside its units
+abbrev pub ParagraphsGoOnBy : List (ValueRun Beside) → ℕ → ParagraphRuns → ParagraphRuns → Type 0
+ParagraphsGoOnBy runs start old new =
+    (at : ℕ) (done text : List Item) → start ≡ at + 2 * length done → spread runs ≡ map beside_of text →
+    AreParagraphsSoFar at done old → AreParagraphsSoFar at (done ++ text) new
 
 -- the units and the runs of a text that begins where the text of a document does
 pub record IsTextSoFar (done : List Item) (text : TextSoFar) : Type 0 where

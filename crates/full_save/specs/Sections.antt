@@ -1,5 +1,5 @@
 -- [MS-DOC] Sepx and Sed of the sections of a text.
-use Rattle.std.specs.Prelude.{ℕ, ◌≤◌, ◌+◌, ◌==◌, Bool, List, [], ◌∷◌, length, if◌then◌else◌}
+use Rattle.std.specs.Prelude.{◌≡◌, ℕ, ◌≤◌, ◌+◌, ◌*◌, ◌==◌, Bool, List, [], ◌∷◌, ◌++◌, length, drop, if◌then◌else◌}
 use Rattle.std.specs.List.{flat_map}
 use Rattle.std.specs.FinMap.{entries}
 use Rattle.std.specs.Option.{ForSome}
@@ -8,7 +8,12 @@ use Rattle.prop_map.specs.Formed.{IsFormedMap}
 use Rattle.prop_map.specs.Printing.{printed_list}
 use Rattle.style_sheet.specs.Counted.{written_counted}
 use Rattle.doc_parts.specs.declared.lists.Sed.{Sed}
+use Rattle.run_lists.specs.declared.runs.Run.{Run}
 use Rattle.plain_doc.specs.declared.item.Item.{Item}
+use Rattle.plain_doc.specs.Collected.{collected, sections_of}
+use Rattle.doc_columns.specs.declared.beside.Beside.{Beside}
+use Rattle.doc_columns.specs.Beside.{beside_of}
+use Rattle.full_save.specs.Alike.{HaveAlike}
 
 -- a section without settings
 abbrev pub is_plain_section : Settings → Bool
@@ -45,3 +50,27 @@ pub record IsSavableSection (settings : Settings) : Type 0 where
 -- the item ends such a section, if it ends one
 abbrev pub HasSavableSection : Item → Type 0
 HasSavableSection item = ForSome item.sect IsSavableSection
+
+-- where the next section begins, the bytes with its Sepxes, and the Seds
+pub record SectionsSoFar : Type 0 where
+  pub start : ℕ
+  pub out : List ℕ
+  pub seds : List Sed
+
+-- the sections that end from a CP on
+abbrev pub left_from : List Item → ℕ → List (ℕ × Settings)
+left_from main cp = collected (λ item. item.sect) cp (drop cp main)
+
+-- the sections that end before a CP are done, and those that are left go on from here
+pub record AreSepxesUpTo (main : List Item) (base : ℕ) (old : List ℕ) (cp : ℕ) (so : SectionsSoFar) : Type 0 where
+  pub bytes : so.out ++ sepxes (left_from main cp) ≡ old ++ sepxes (sections_of main)
+  pub places :
+      so.seds ++ seds_from so.start (base + length so.out) (left_from main cp)
+      ≡ seds_from 0 (base + length old) (sections_of main)
+  pub few : length so.out ≤ length old + 504 * cp
+
+-- the sections go on by those that end in a run, which begins at a place
+abbrev pub SepxesGoOn : Run Beside → ℕ → ℕ → SectionsSoFar → SectionsSoFar → Type 0
+SepxesGoOn run place base old new =
+    (main : List Item) (bytes : List ℕ) → HaveAlike beside_of run.value main place run.count →
+    AreSepxesUpTo main base bytes place old → AreSepxesUpTo main base bytes (place + run.count) new

@@ -1,22 +1,31 @@
 -- The parts of the table stream of a document.
-use Rattle.std.specs.Prelude.{List, [], ◌∷◌, slice_index}
+use Rattle.std.specs.Prelude.{◌≤◌, List, [], ◌∷◌, length, slice_index, All}
 use Rattle.fib_form.specs.TableParts.{pair_of}
-use Rattle.fib_form.specs.declared.table_parts.TablePart.TheVariants.{Stshf, PlcffndRef, PlcffndTxt, PlcfSed, PlcfHdd}
-use Rattle.fib_form.specs.declared.table_parts.TablePart.TheVariants.{PlcfBteChpx, PlcfBtePapx, SttbfFfn, PlcfFldMom}
-use Rattle.fib_form.specs.declared.table_parts.TablePart.TheVariants.{PlcfFldHdr, PlcfFldFtn, Dop, SttbfAssoc, Clx}
-use Rattle.fib_form.specs.declared.table_parts.TablePart.TheVariants.{PlfLst, PlfLfo}
+use Rattle.fib_form.specs.declared.table_parts.TablePart.TheVariants.{Stshf, PlcffndRef, PlcffndTxt, PlcfSed}
+use Rattle.fib_form.specs.declared.table_parts.TablePart.TheVariants.{PlcfHdd, PlcfBteChpx, PlcfBtePapx, SttbfFfn}
+use Rattle.fib_form.specs.declared.table_parts.TablePart.TheVariants.{PlcfFldMom, PlcfFldHdr, PlcfFldFtn, SttbfBkmk}
+use Rattle.fib_form.specs.declared.table_parts.TablePart.TheVariants.{PlcfBkf, PlcfBkl, Dop, SttbfAssoc, Clx, PlfLst}
+use Rattle.fib_form.specs.declared.table_parts.TablePart.TheVariants.{PlfLfo}
+use Rattle.doc_parts.specs.declared.bookmark_order.Bookmark.{Bookmark}
 use Rattle.doc_parts.specs.Sections.{printed_sections}
 use Rattle.doc_parts.specs.Fields.{printed_fields}
 use Rattle.doc_parts.specs.Stories.{printed_refs, printed_texts}
+use Rattle.doc_parts.specs.PrintedBookmarks.{printed_names, printed_starts, printed_ends}
 use Rattle.style_sheet.specs.Written.{written_sheet}
 use Rattle.plain_doc.specs.declared.document.Document.{Document}
 use Rattle.plain_doc.specs.Collected.{joined_texts, fields_of, refs_of}
+use Rattle.plain_doc.specs.Marks.{most_bookmarks}
 use Rattle.full_save.specs.declared.table_text.TableText.{TableText}
 use Rattle.plain_doc.specs.TextLists.{cuts_of}
 use Rattle.fib_form.specs.TableEntries.{TableEntry, entry}
 
--- the parts in the order of their pairs; each table of CPs ends with the count of its story, and the levels stand right
--- behind their lists
+-- bookmarks that the three parts can hold
+pub record FitParts (bookmarks : List Bookmark) : Type 0 where
+  pub few : length bookmarks ≤ most_bookmarks
+  pub short : All (λ bookmark. length bookmark.name ≤ 255) bookmarks
+
+-- the parts in the order of their pairs; each table of CPs ends with the count of its story, those of bookmarks with
+-- that of the main text, and the levels stand right behind their lists
 abbrev pub table_entries : Document → TableText → List TableEntry
 table_entries document text =
     let main = document.main in
@@ -36,6 +45,9 @@ table_entries document text =
     ∷ entry (pair_of PlcfFldMom) (printed_fields (fields_of main) main_count)
     ∷ entry (pair_of PlcfFldHdr) (printed_fields (fields_of heads) head_count)
     ∷ entry (pair_of PlcfFldFtn) (printed_fields (fields_of notes) note_count)
+    ∷ entry (pair_of SttbfBkmk) (printed_names document.bookmarks)
+    ∷ entry (pair_of PlcfBkf) (printed_starts document.bookmarks main_count)
+    ∷ entry (pair_of PlcfBkl) (printed_ends document.bookmarks main_count)
     ∷ entry (pair_of Dop) document.carried.dop
     ∷ entry (pair_of SttbfAssoc) document.carried.assoc
     ∷ entry (pair_of Clx) text.clx

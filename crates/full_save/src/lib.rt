@@ -1,9 +1,12 @@
 //! Full saves: a document laid out as the streams of a file, and the file itself.
 #![tactic(auto)]
 
+mod column_lists;
 mod fault;
+mod formed;
 mod lists;
 mod made_parts;
+mod mark_parts;
 mod pages;
 mod runs;
 mod saving;
@@ -15,8 +18,13 @@ mod text;
 mod word_document;
 
 pub use fault::SaveFault;
+pub use formed::columns_are_formed;
 pub use made_parts::{table_stream_len, write_table};
 pub use pages::{append_chpx_pages, append_papx_pages, append_units};
-pub use saving::{full, sectors, table_len};
+pub use runs::CharacterRuns;
+pub use saving::{
+    full, full_by_columns, sectors, sectors_by_columns, table_len, table_len_by_columns,
+};
 pub use table_parts::TableParts;
 pub use table_text::TableText;
+pub use word_document::{append_text, pages_for, push_zeros};

@@ -24,7 +24,7 @@ pub(crate) fn refs_of(alloc: Global, main: &[Item]) -> Result<Refs, Memory>
 }
 
 /// Whether notes of this kind are numbered by themselves.
-fn is_auto(kind: NoteKind) -> bool
+pub(crate) fn is_auto(kind: NoteKind) -> bool
     ensures { result ≡ is_auto kind }
 {
     match kind {

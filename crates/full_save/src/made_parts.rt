@@ -6,14 +6,19 @@ ghost use Rattle.doc_parts.specs.Stories.{printed_refs, printed_texts};
 ghost use Rattle.style_sheet.specs.Written.{IsWritable};
 ghost use Rattle.plain_doc.specs.Collected.{joined_texts, fields_of, refs_of};
 ghost use Rattle.plain_doc.specs.TextLists.{cuts_of};
-ghost use Rattle.full_save.specs.TableText.{table_entries};
+ghost use Rattle.full_save.specs.TableText.{FitParts, table_entries};
 ghost use Rattle.full_save.specs.TableStream.{entries_bytes, AreWritten};
-ghost use Rattle.full_save.specs.Made.{AreMadeOf, made_length, carried_length};
+ghost use Rattle.full_save.specs.Made.{AreMadeOf, made_entries, made_length, carried_length};
 
+use crate::column_lists::{
+    cuts_of_columns, fields_of_column_texts, fields_of_columns, refs_of_columns,
+};
 use crate::lists::{cuts_of, fields_of, fields_of_texts, refs_of};
+use crate::mark_parts::MarkParts;
 use crate::table_parts::TableParts;
 use crate::table_text::TableText;
 use doc_bits::{Bytes, Memory};
+use doc_columns::{ColumnDocument, ColumnTexts, Columns};
 use doc_parts::{print_fields, print_refs, print_sections, print_texts};
 use fib_form::TablePart;
 use plain_doc::{Carried, Document, Item, Texts};
@@ -30,6 +35,7 @@ struct MadeParts {
     main_fields: Bytes,
     head_fields: Bytes,
     note_fields: Bytes,
+    marks: MarkParts,
 }
 
 impl MadeParts {
@@ -38,6 +44,7 @@ impl MadeParts {
         requires sheet { IsWritable document.now.sheet }
         requires notes { length (joined_texts document.now.notes) < 2 ^ 32 }
         requires heads { length (joined_texts document.now.heads) < 2 ^ 32 }
+        requires marks { FitParts document.now.bookmarks }
         ensures { IfOk result (AreMadeOf document.now text.now) }
     {
         let [main, notes, heads] = text.counts;
@@ -51,6 +58,34 @@ impl MadeParts {
             main_fields: fields_part(alloc, items, main)?,
             head_fields: fields_of_texts_part(alloc, &document.heads, heads)?,
             note_fields: fields_of_texts_part(alloc, &document.notes, notes)?,
+            marks: MarkParts::of(alloc, &document.bookmarks, main)?,
+        })
+    }
+
+    /// The parts of a document by columns.
+    fn of_columns(
+        alloc: Global,
+        document: &ColumnDocument,
+        text: &TableText,
+    ) -> Result<MadeParts, Memory>
+        requires sheet { IsWritable document.now.sheet }
+        requires notes { length (joined_texts document.now.notes) < 2 ^ 32 }
+        requires heads { length (joined_texts document.now.heads) < 2 ^ 32 }
+        requires marks { FitParts document.now.bookmarks }
+        ensures { IfOk result (AreMadeOf document.now text.now) }
+    {
+        let [main, notes, heads] = text.counts;
+        let items = &document.main;
+        Ok(MadeParts {
+            sheet: document.sheet.print(alloc)?,
+            refs: column_refs_part(alloc, items, main)?,
+            note_cuts: column_cuts_part(alloc, &document.notes, notes)?,
+            sections: print_sections(alloc, &text.seds, main)?,
+            head_cuts: column_cuts_part(alloc, &document.heads, heads)?,
+            main_fields: column_fields_part(alloc, items, main)?,
+            head_fields: column_texts_fields_part(alloc, &document.heads, heads)?,
+            note_fields: column_texts_fields_part(alloc, &document.notes, notes)?,
+            marks: MarkParts::of(alloc, &document.bookmarks, main)?,
         })
     }
 
@@ -67,6 +102,7 @@ impl MadeParts {
             + len_of(&self.main_fields)
             + len_of(&self.head_fields)
             + len_of(&self.note_fields)
+            + self.marks.len()
     }
 }
 
@@ -110,6 +146,44 @@ fn fields_of_texts_part(alloc: Global, texts: &Texts, end: u32) -> Result<Bytes,
     Ok(bytes)
 }
 
+/// PlcffndRef of columns, up to a last CP.
+fn column_refs_part(alloc: Global, main: &Columns, end: u32) -> Result<Bytes, Memory>
+    ensures { IfOk result (λ bytes. bytes ≡ printed_refs (refs_of main.now) end) }
+{
+    let refs = refs_of_columns(alloc, main)?;
+    let bytes = print_refs(alloc, &refs, end)?;
+    Ok(bytes)
+}
+
+/// PlcffndTxt or PlcfHdd of columns, up to a last CP.
+fn column_cuts_part(alloc: Global, texts: &ColumnTexts, end: u32) -> Result<Bytes, Memory>
+    requires { length (joined_texts texts.now) < 2 ^ 32 }
+    ensures { IfOk result (λ bytes. bytes ≡ printed_texts (cuts_of (joined_texts texts.now) texts.now) end) }
+{
+    let cuts = cuts_of_columns(alloc, texts)?;
+    let bytes = print_texts(alloc, &cuts, end)?;
+    Ok(bytes)
+}
+
+/// PlcfFldMom of columns, up to a last CP.
+fn column_fields_part(alloc: Global, main: &Columns, end: u32) -> Result<Bytes, Memory>
+    ensures { IfOk result (λ bytes. bytes ≡ printed_fields (fields_of main.now) end) }
+{
+    let fields = fields_of_columns(alloc, main)?;
+    let bytes = print_fields(alloc, &fields, end)?;
+    Ok(bytes)
+}
+
+/// PlcfFldHdr or PlcfFldFtn of columns, up to a last CP.
+fn column_texts_fields_part(alloc: Global, texts: &ColumnTexts, end: u32) -> Result<Bytes, Memory>
+    requires { length (joined_texts texts.now) < 2 ^ 32 }
+    ensures { IfOk result (λ bytes. bytes ≡ printed_fields (fields_of (joined_texts texts.now)) end) }
+{
+    let fields = fields_of_column_texts(alloc, texts)?;
+    let bytes = print_fields(alloc, &fields, end)?;
+    Ok(bytes)
+}
+
 /// The table stream of a document with this text, and the pairs of its parts.
 pub fn write_table(
     alloc: Global,
@@ -119,27 +193,46 @@ pub fn write_table(
     requires sheet { IsWritable document.now.sheet }
     requires notes { length (joined_texts document.now.notes) < 2 ^ 32 }
     requires heads { length (joined_texts document.now.heads) < 2 ^ 32 }
+    requires marks { FitParts document.now.bookmarks }
     requires small { length (entries_bytes (table_entries document.now text.now)) < 2 ^ 32 }
     ensures { IfOk result (AreWritten (table_entries document.now text.now)) }
 {
     let made = MadeParts::of(alloc, document, text)?;
-    let table = table_of(alloc, document, text, &made);
+    let table = table_of(alloc, &document.carried, text, &made);
     drop(made);
     table
 }
 
-/// The table stream of a document of which these parts are made.
-fn table_of(
+/// The table stream of a document by columns with this text, and the pairs of its parts.
+pub(crate) fn write_column_table(
     alloc: Global,
-    document: &Document,
+    document: &ColumnDocument,
     text: &TableText,
-    made: &MadeParts,
 ) -> Result<TableParts, Memory>
-    requires made { AreMadeOf document.now text.now made.now }
+    requires sheet { IsWritable document.now.sheet }
+    requires notes { length (joined_texts document.now.notes) < 2 ^ 32 }
+    requires heads { length (joined_texts document.now.heads) < 2 ^ 32 }
+    requires marks { FitParts document.now.bookmarks }
     requires small { length (entries_bytes (table_entries document.now text.now)) < 2 ^ 32 }
     ensures { IfOk result (AreWritten (table_entries document.now text.now)) }
 {
-    let carried = &document.carried;
+    let made = MadeParts::of_columns(alloc, document, text)?;
+    let table = table_of(alloc, &document.carried, text, &made);
+    drop(made);
+    table
+}
+
+/// The table stream of these parts, and those that are carried along.
+fn table_of(
+    alloc: Global,
+    carried: &Carried,
+    text: &TableText,
+    made: &MadeParts,
+) -> Result<TableParts, Memory>
+    requires { length (entries_bytes (made_entries carried.now text.now made.now)) < 2 ^ 32 }
+    ensures { IfOk result (AreWritten (made_entries carried.now text.now made.now)) }
+{
+    let marks = &made.marks;
     let mut table = TableParts::new(alloc);
     table.put_all(&[
         (TablePart::Stshf, made.sheet.as_slice()),
@@ -153,6 +246,9 @@ fn table_of(
         (TablePart::PlcfFldMom, made.main_fields.as_slice()),
         (TablePart::PlcfFldHdr, made.head_fields.as_slice()),
         (TablePart::PlcfFldFtn, made.note_fields.as_slice()),
+        (TablePart::SttbfBkmk, marks.names.as_slice()),
+        (TablePart::PlcfBkf, marks.starts.as_slice()),
+        (TablePart::PlcfBkl, marks.ends.as_slice()),
         (TablePart::Dop, carried.dop.as_slice()),
         (TablePart::SttbfAssoc, carried.assoc.as_slice()),
         (TablePart::Clx, text.clx.as_slice()),
@@ -167,12 +263,42 @@ pub fn table_stream_len(alloc: Global, document: &Document, text: &TableText) ->
     requires sheet { IsWritable document.now.sheet }
     requires notes { length (joined_texts document.now.notes) < 2 ^ 32 }
     requires heads { length (joined_texts document.now.heads) < 2 ^ 32 }
+    requires marks { FitParts document.now.bookmarks }
     requires small { length (entries_bytes (table_entries document.now text.now)) < 2 ^ 63 }
     ensures { IfOk result (λ len. len ≡ length (entries_bytes (table_entries document.now text.now))) }
 {
     let made = MadeParts::of(alloc, document, text)?;
+    let len = made_table_len(&document.carried, text, &made);
+    drop(made);
+    Ok(len)
+}
+
+/// The same of a document by columns.
+pub(crate) fn column_table_len(
+    alloc: Global,
+    document: &ColumnDocument,
+    text: &TableText,
+) -> Result<u64, Memory>
+    requires sheet { IsWritable document.now.sheet }
+    requires notes { length (joined_texts document.now.notes) < 2 ^ 32 }
+    requires heads { length (joined_texts document.now.heads) < 2 ^ 32 }
+    requires marks { FitParts document.now.bookmarks }
+    requires small { length (entries_bytes (table_entries document.now text.now)) < 2 ^ 63 }
+    ensures { IfOk result (λ len. len ≡ length (entries_bytes (table_entries document.now text.now))) }
+{
+    let made = MadeParts::of_columns(alloc, document, text)?;
+    let len = made_table_len(&document.carried, text, &made);
+    drop(made);
+    Ok(len)
+}
+
+/// The number of bytes of the table stream of these parts, and those that are carried along.
+fn made_table_len(carried: &Carried, text: &TableText, made: &MadeParts) -> u64
+    requires { length (entries_bytes (made_entries carried.now text.now made.now)) < 2 ^ 63 }
+    ensures { result ≡ length (entries_bytes (made_entries carried.now text.now made.now)) }
+{
     let of_text = len_of(&text.characters) + len_of(&text.paragraphs) + len_of(&text.clx);
-    Ok(made.len() + of_text + carried_len(&document.carried))
+    made.len() + of_text + carried_len(carried)
 }
 
 /// The number of bytes of the carried parts.

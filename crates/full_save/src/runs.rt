@@ -1,14 +1,18 @@
-// The runs of a text that is gone through once, item by item.
-ghost use Rattle.std.specs.Prelude.{◌≡◌, ◌+◌, ◌*◌, ◌<◌, ℕ, List, [], ◌∷◌, ◌++◌, length, OnOk, IfOk};
+// The runs of a text that is gone through once, run by run of its columns.
+ghost use Rattle.std.specs.Prelude.{◌≡◌, ◌+◌, ◌*◌, ◌^◌, ◌<◌, ℕ, List, [], ◌∷◌, ◌++◌, length, Some, OnOk, IfOk};
 ghost use Rattle.fkp_pages.specs.declared.kind.PageKind.{PageKind};
 ghost use Rattle.plain_doc.specs.declared.item.Item.{Item as TextItem};
 ghost use Rattle.full_save.specs.Runs.{text_runs};
-ghost use Rattle.full_save.specs.RunsSoFar.{AreCharactersSoFar, AreParagraphsSoFar};
+ghost use Rattle.full_save.specs.RunsSoFar.{AreCharactersSoFar, AreParagraphsSoFar, CharactersGoOn, CharactersGoOnBy};
+ghost use Rattle.full_save.specs.RunsSoFar.{ParagraphEnds, ParagraphsGoOn, ParagraphsGoOnBy};
+ghost use Rattle.run_lists.specs.Spread.{extent};
 
 use doc_bits::Memory;
+use doc_columns::Beside;
 use fkp_pages::{ChpRuns, PapRuns};
-use plain_doc::Item;
+use plain_doc::{Item, Mark};
 use prop_map::PropMap;
+use run_lists::Run;
 use std::alloc::Global;
 use std::mem;
 
@@ -17,7 +21,7 @@ pub(crate) const UNIT_LEN: u32 = 2;
 
 /// The runs of characters of a text so far. The last one may go on.
 #[derive(Drop)]
-pub(crate) struct CharacterRuns {
+pub struct CharacterRuns {
     closed: ChpRuns,
     /// Where the last run begins, and its settings. It is empty where no item came yet.
     from: u32,
@@ -26,7 +30,7 @@ pub(crate) struct CharacterRuns {
 
 impl CharacterRuns {
     /// No runs of a text that begins at `base`.
-    pub(crate) fn new(alloc: Global, base: u32) -> CharacterRuns
+    pub fn new(alloc: Global, base: u32) -> CharacterRuns
         ensures { AreCharactersSoFar base [] result }
     {
         CharacterRuns {
@@ -37,25 +41,60 @@ impl CharacterRuns {
     }
 
     /// Goes on by an item, whose unit stands at `end`.
-    pub(crate) fn push(&mut self, alloc: Global, item: &Item, end: u32) -> Result<(), Memory>
+    pub fn push(&mut self, alloc: Global, item: &Item, end: u32) -> Result<(), Memory>
         ensures { OnOk result ((at : ℕ) (done : List TextItem) → end ≡ at + 2 * length done →
             AreCharactersSoFar at done self.old → AreCharactersSoFar at (done ++ item.now ∷ []) self.new) }
     {
+        self.push_run(alloc, &item.chp, 1, end)?;
+        Ok(())
+    }
+
+    /// Goes on by `count` items with these settings, the first of which has its unit at `end`.
+    pub(crate) fn push_run(
+        &mut self,
+        alloc: Global,
+        chp: &PropMap,
+        count: u32,
+        end: u32,
+    ) -> Result<(), Memory>
+        ensures { OnOk result (CharactersGoOn chp.now count end self.old self.new) }
+    {
+        if count == 0 {
+            return Ok(());
+        }
         if self.from == end {
-            self.chp = item.chp.copy(alloc)?;
+            self.chp = chp.copy(alloc)?;
             return Ok(());
         }
-        if self.chp.equal(&item.chp) {
+        if self.chp.equal(chp) {
             return Ok(());
         }
-        let chp = mem::replace(&mut self.chp, item.chp.copy(alloc)?);
-        self.closed.add(self.from, end, chp)?;
+        let last = mem::replace(&mut self.chp, chp.copy(alloc)?);
+        self.closed.add(self.from, end, last)?;
         self.from = end;
         Ok(())
     }
 
+    /// Goes on by the items of these runs of settings, the first of which has its unit at `start`.
+    pub(crate) fn push_runs(
+        &mut self,
+        alloc: Global,
+        runs: &[Run<PropMap>],
+        start: u32,
+    ) -> Result<(), Memory>
+        requires { start + 2 * extent runs.now < 2 ^ 32 }
+        ensures { OnOk result (CharactersGoOnBy runs.now start self.old self.new) }
+    {
+        let mut at = start;
+        for run in runs {
+            self.push_run(alloc, &run.value, run.count, at)?;
+            at += UNIT_LEN * run.count;
+        }
+        Ok(())
+    }
+
     /// All runs of a text that ends at `end`.
-    pub(crate) fn finish(self, end: u32) -> Result<ChpRuns, Memory>
+    pub fn finish(self, end: u32) -> Result<ChpRuns, Memory>
         ensures { IfOk result (λ runs. (at : ℕ) (done : List TextItem) → end ≡ at + 2 * length done →
             AreCharactersSoFar at done self → runs ≡ text_runs PageKind.Chpx at done) }
     {
@@ -91,20 +130,69 @@ impl ParagraphRuns {
         }
     }
 
-    /// Goes on by an item, whose unit stands before `end`.
-    pub(crate) fn push(&mut self, alloc: Global, item: &Item, end: u32) -> Result<(), Memory>
-        ensures { OnOk result ((at : ℕ) (done : List TextItem) → end ≡ at + 2 * length (done ++ item.now ∷ []) →
-            AreParagraphsSoFar at done self.old → AreParagraphsSoFar at (done ++ item.now ∷ []) self.new) }
+    /// Goes on by an item that has a mark, and whose unit stands before `end`.
+    pub(crate) fn close(&mut self, alloc: Global, mark: &Mark, end: u32) -> Result<(), Memory>
+        ensures { OnOk result (ParagraphEnds mark.now end self.old self.new) }
     {
-        match &item.mark {
+        let pap = mark.pap.copy(alloc)?;
+        self.closed.add(self.from, end, mark.istd, pap)?;
+        self.from = end;
+        Ok(())
+    }
+
+    /// Goes on by `count` items with this mark each, the first of which has its unit at `start`.
+    fn push_marks(
+        &mut self,
+        alloc: Global,
+        mark: &Mark,
+        count: u32,
+        start: u32,
+    ) -> Result<(), Memory>
+        requires { start + 2 * count < 2 ^ 32 }
+        ensures { OnOk result (ParagraphsGoOn (Some mark.now) count start self.old self.new) }
+    {
+        for i in 0..count {
+            self.close(alloc, mark, start + UNIT_LEN * (i + 1))?;
+        }
+        Ok(())
+    }
+
+    /// Goes on by `count` items with this mark each, or without one.
+    fn push_run(
+        &mut self,
+        alloc: Global,
+        mark: &Option<Mark>,
+        count: u32,
+        start: u32,
+    ) -> Result<(), Memory>
+        requires { start + 2 * count < 2 ^ 32 }
+        ensures { OnOk result (ParagraphsGoOn mark.now count start self.old self.new) }
+    {
+        match mark {
             None => Ok(()),
             Some(mark) => {
-                let pap = mark.pap.copy(alloc)?;
-                self.closed.add(self.from, end, mark.istd, pap)?;
-                self.from = end;
+                self.push_marks(alloc, mark, count, start)?;
                 Ok(())
             }
         }
+    }
+
+    /// Goes on by the items of these runs of what stands beside them, the first of which has its unit at `start`.
+    pub(crate) fn push_runs(
+        &mut self,
+        alloc: Global,
+        runs: &[Run<Beside>],
+        start: u32,
+    ) -> Result<(), Memory>
+        requires { start + 2 * extent runs.now < 2 ^ 32 }
+        ensures { OnOk result (ParagraphsGoOnBy runs.now start self.old self.new) }
+    {
+        let mut at = start;
+        for run in runs {
+            self.push_run(alloc, &run.value.mark, run.count, at)?;
+            at += UNIT_LEN * run.count;
+        }
+        Ok(())
     }
 
     /// All runs of a text that ends at `end`. What no mark ends is a run of style 0.

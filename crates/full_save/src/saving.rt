@@ -9,13 +9,15 @@ ghost use Rattle.full_save.specs.WordDocument.{full_fib};
 ghost use Rattle.full_save.specs.Made.{IsBodyOf};
 
 use crate::SaveFault;
-use crate::made_parts::{table_stream_len, write_table};
+use crate::formed::columns_are_formed;
+use crate::made_parts::{column_table_len, write_column_table};
 use crate::streams::{lengths_with, streams_with};
 use crate::word_document::WordBody;
 use cfb_layout::{LayoutFault, sectors_needed, whole};
 use doc_bits::{Bytes, Memory};
+use doc_columns::ColumnDocument;
 use fib_form::{Fib, Form, KeptFib, Pairs};
-use plain_doc::{Document, documents_are_formed};
+use plain_doc::Document;
 use std::alloc::Global;
 
 /// The sectors that a compound file has at most.
@@ -28,7 +30,20 @@ pub fn full(alloc: Global, document: &Document) -> Result<Bytes, SaveFault>
         (λ file. (file ≡ full_save_image document.now) × FitsCompoundFile document.now)
         (IsTooLarge document.now) }
 {
-    documents_are_formed(document);
+    let columns = ColumnDocument::from_document(alloc, document)?;
+    let file = full_by_columns(alloc, &columns);
+    drop(columns);
+    file
+}
+
+/// The file of a document by columns.
+pub fn full_by_columns(alloc: Global, document: &ColumnDocument) -> Result<Bytes, SaveFault>
+    requires { IsSound document.now }
+    ensures { MatchResult result
+        (λ file. (file ≡ full_save_image document.now) × FitsCompoundFile document.now)
+        (IsTooLarge document.now) }
+{
+    columns_are_formed(document);
     let body = WordBody::of(alloc, document)?;
     let sectors = sectors_with(alloc, document, &body)?;
     if MAX_SECTORS < sectors {
@@ -43,20 +58,31 @@ pub fn sectors(alloc: Global, document: &Document) -> Result<u64, Memory>
     requires { IsSound document.now }
     ensures { IfOk result (λ sectors. sectors ≡ sectors_of document.now) }
 {
-    documents_are_formed(document);
+    let columns = ColumnDocument::from_document(alloc, document)?;
+    let sectors = sectors_by_columns(alloc, &columns);
+    drop(columns);
+    sectors
+}
+
+/// The same of a document by columns.
+pub fn sectors_by_columns(alloc: Global, document: &ColumnDocument) -> Result<u64, Memory>
+    requires { IsSound document.now }
+    ensures { IfOk result (λ sectors. sectors ≡ sectors_of document.now) }
+{
+    columns_are_formed(document);
     let body = WordBody::of(alloc, document)?;
     let sectors = sectors_with(alloc, document, &body)?;
     Ok(sectors)
 }
 
 /// The number of sectors of the full save around this WordDocument.
-fn sectors_with(alloc: Global, document: &Document, body: &WordBody) -> Result<u64, Memory>
+fn sectors_with(alloc: Global, document: &ColumnDocument, body: &WordBody) -> Result<u64, Memory>
     requires formed { IsFormed document.now }
     requires right { IsRightDocument document.now }
     requires body { IsBodyOf document.now body.now }
     ensures { IfOk result (λ sectors. sectors ≡ sectors_of document.now) }
 {
-    let table_len = table_stream_len(alloc, document, &body.text)?;
+    let table_len = column_table_len(alloc, document, &body.text)?;
     let carried = &document.carried;
     let lengths = lengths_with(alloc, &carried.streams, table_len, body.stream_len())?;
     let sectors = sectors_needed(&lengths);
@@ -64,7 +90,7 @@ fn sectors_with(alloc: Global, document: &Document, body: &WordBody) -> Result<u
 }
 
 /// The file of a document that fits.
-fn file_of(alloc: Global, document: &Document, body: &WordBody) -> Result<Bytes, SaveFault>
+fn file_of(alloc: Global, document: &ColumnDocument, body: &WordBody) -> Result<Bytes, SaveFault>
     requires formed { IsFormed document.now }
     requires right { IsRightDocument document.now }
     requires body { IsBodyOf document.now body.now }
@@ -72,7 +98,7 @@ fn file_of(alloc: Global, document: &Document, body: &WordBody) -> Result<Bytes,
     ensures { MatchResult result (λ file. file ≡ full_save_image document.now) (IsTooLarge document.now) }
 {
     let carried = &document.carried;
-    let table = write_table(alloc, document, &body.text)?;
+    let table = write_column_table(alloc, document, &body.text)?;
     let fib = fib_of(document, body, &table.pairs);
     let wd = body.stream(alloc, &fib)?;
     let streams = streams_with(
@@ -93,14 +119,25 @@ pub fn table_len(alloc: Global, document: &Document) -> Result<u64, Memory>
     requires { IsSound document.now }
     ensures { IfOk result (λ len. len ≡ length (table_stream document.now)) }
 {
-    documents_are_formed(document);
+    let columns = ColumnDocument::from_document(alloc, document)?;
+    let len = table_len_by_columns(alloc, &columns);
+    drop(columns);
+    len
+}
+
+/// The same of a document by columns.
+pub fn table_len_by_columns(alloc: Global, document: &ColumnDocument) -> Result<u64, Memory>
+    requires { IsSound document.now }
+    ensures { IfOk result (λ len. len ≡ length (table_stream document.now)) }
+{
+    columns_are_formed(document);
     let body = WordBody::of(alloc, document)?;
-    let len = table_stream_len(alloc, document, &body.text)?;
+    let len = column_table_len(alloc, document, &body.text)?;
     Ok(len)
 }
 
 /// The FIB of the full save, of the early form.
-fn fib_of(document: &Document, body: &WordBody, pairs: &Pairs) -> Fib
+fn fib_of(document: &ColumnDocument, body: &WordBody, pairs: &Pairs) -> Fib
     requires formed { IsFormed document.now }
     requires right { IsRightDocument document.now }
     requires body { IsBodyOf document.now body.now }

@@ -1,20 +1,30 @@
 // [MS-DOC] Sepx and Sed of the sections of a main text.
-ghost use Rattle.std.specs.Prelude.{◌≡◌, ◌+◌, ◌^◌, ◌<◌, ◌++◌, length, All, OnOk, IfOk};
+ghost use Rattle.std.specs.Prelude.{◌≡◌, ◌+◌, ◌*◌, ◌^◌, ◌<◌, ◌++◌, length, All, OnOk, IfOk};
+ghost use Rattle.std.specs.Option.{ForSome};
 ghost use Rattle.style_sheet.specs.Counted.{written_counted};
 ghost use Rattle.plain_doc.specs.Collected.{sections_of};
 ghost use Rattle.full_save.specs.Sections.{sepx_bytes, sepxes, fc_sepx, seds_from, HasSavableSection, IsSavableSection};
+ghost use Rattle.full_save.specs.Sections.{SepxesGoOn};
 
 use doc_bits::{Bytes, Memory};
+use doc_columns::{Beside, Columns};
 use doc_parts::{NO_SEPX, Seds};
-use plain_doc::Item;
 use prop_map::PropMap;
+use run_lists::Run;
 use std::alloc::Global;
+
+/// The sections of a main text so far: where the next one begins, and the Seds.
+#[derive(Drop)]
+struct SedsSoFar {
+    start: u32,
+    seds: Seds,
+}
 
 /// Appends the Sepxes of the sections to a stream that has `base` bytes before those of `out`. Answers the Seds.
 pub(crate) fn append_sepxes(
     alloc: Global,
     out: &mut Bytes,
-    main: &[Item],
+    main: &Columns,
     base: u32,
 ) -> Result<Seds, Memory>
     requires sections { All HasSavableSection main.now }
@@ -23,16 +33,46 @@ pub(crate) fn append_sepxes(
     ensures bytes { OnOk result (out.new ≡ out.old ++ sepxes (sections_of main.now)) }
     ensures seds { IfOk result (λ seds. seds ≡ seds_from 0 (base + length out.old) (sections_of main.now)) }
 {
-    let mut seds = Seds::new(alloc);
-    let mut start = 0;
-    for (cp, item) in main.iter().enumerate() {
-        if let Some(settings) = &item.sect {
-            let place = append_sepx(alloc, out, settings, base)?;
-            seds.add(start, place)?;
-            start = cp as u32 + 1;
-        }
+    let mut sections = SedsSoFar {
+        start: 0,
+        seds: Seds::new(alloc),
+    };
+    let mut place = 0;
+    for run in main.besides() {
+        sections.add_run(alloc, out, place, run, base)?;
+        place += run.count;
     }
+    let SedsSoFar { seds, .. } = sections;
     Ok(seds)
+}
+
+impl SedsSoFar {
+    /// Goes on by the sections that end in a run, which begins at a place.
+    fn add_run(
+        &mut self,
+        alloc: Global,
+        out: &mut Bytes,
+        place: u32,
+        run: &Run<Beside>,
+        base: u32,
+    ) -> Result<(), Memory>
+        requires sections { 0 < run.now.count → ForSome run.now.value.sect IsSavableSection }
+        requires few { place + run.now.count < 2 ^ 20 }
+        requires room { base + length out.old + 504 * run.now.count < 2 ^ 32 }
+        ensures { OnOk result
+            (SepxesGoOn run.now place base (record { start = self.old.start; out = out.old; seds = self.old.seds })
+            (record { start = self.new.start; out = out.new; seds = self.new.seds })) }
+    {
+        let Some(settings) = &run.value.sect else {
+            return Ok(());
+        };
+        for cp in place..place + run.count {
+            let fc = append_sepx(alloc, out, settings, base)?;
+            self.seds.add(self.start, fc)?;
+            self.start = cp + 1;
+        }
+        Ok(())
+    }
 }
 
 /// Appends the Sepx of a section that has settings. Answers its fcSepx.

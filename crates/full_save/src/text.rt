@@ -8,8 +8,9 @@ ghost use Rattle.plain_doc.specs.declared.item.Item.{Item as TextItem};
 
 use crate::runs::{CharacterRuns, ParagraphRuns, UNIT_LEN};
 use doc_bits::Memory;
+use doc_columns::{ColumnDocument, ColumnTexts, Columns};
 use fkp_pages::{ChpRuns, PapRuns};
-use plain_doc::{Document, Item, Mark, Texts};
+use plain_doc::Mark;
 use prop_map::PropMap;
 use std::alloc::Global;
 
@@ -28,12 +29,12 @@ pub(crate) struct SavedText {
 }
 
 /// The text of a document.
-pub(crate) fn text_of(alloc: Global, document: &Document) -> Result<SavedText, Memory>
+pub(crate) fn text_of(alloc: Global, document: &ColumnDocument) -> Result<SavedText, Memory>
     requires { length (text_items document.now) ≤ 500001 }
     ensures { IfOk result (IsTextOf document.now) }
 {
     let mut text = TextSoFar::new(alloc);
-    text.push_items(document.main.as_slice())?;
+    text.push_text(&document.main)?;
     let main = text.len();
     text.push_story(&document.notes)?;
     let notes = text.len() - main;
@@ -74,48 +75,35 @@ impl TextSoFar {
         self.units.len() as u32
     }
 
-    /// Goes on by an item.
-    fn push(&mut self, item: &Item) -> Result<(), Memory>
-        requires { length self.old.units.items + 1 < 2 ^ 30 }
-        ensures text { OnOk result (GoesOnBy (item.now ∷ []) self.old self.new) }
-        ensures count { OnOk result (length self.new.units.items ≡ length self.old.units.items + 1) }
+    /// Goes on by a text.
+    fn push_text(&mut self, text: &Columns) -> Result<(), Memory>
+        requires { length self.old.units.items + length text.now < 2 ^ 30 }
+        ensures text { OnOk result (GoesOnBy text.now self.old self.new) }
+        ensures count { OnOk result
+            (length self.new.units.items ≡ length self.old.units.items + length text.now) }
     {
         let at = TEXT_AT + UNIT_LEN * self.len();
-        self.units.push(item.unit)?;
-        self.characters.push(self.alloc, item, at)?;
-        self.paragraphs.push(self.alloc, item, at + UNIT_LEN)?;
-        Ok(())
-    }
-
-    /// Goes on by items.
-    fn push_items(&mut self, items: &[Item]) -> Result<(), Memory>
-        requires { length self.old.units.items + length items.now < 2 ^ 30 }
-        ensures text { OnOk result (GoesOnBy items.now self.old self.new) }
-        ensures count { OnOk result
-            (length self.new.units.items ≡ length self.old.units.items + length items.now) }
-    {
-        for item in items {
-            self.push(item)?;
-        }
+        self.characters.push_runs(self.alloc, text.chps(), at)?;
+        self.paragraphs.push_runs(self.alloc, text.besides(), at)?;
+        self.units.extend_from_slice(text.units())?;
         Ok(())
     }
 
     /// Goes on by texts.
-    fn push_texts(&mut self, texts: &Texts) -> Result<(), Memory>
+    fn push_texts(&mut self, texts: &ColumnTexts) -> Result<(), Memory>
         requires { length self.old.units.items + length (joined_texts texts.now) < 2 ^ 30 }
         ensures text { OnOk result (GoesOnBy (joined_texts texts.now) self.old self.new) }
         ensures count { OnOk result
             (length self.new.units.items ≡ length self.old.units.items + length (joined_texts texts.now)) }
     {
         for k in 0..texts.len() {
-            let text = texts.get(k);
-            self.push_items(text.as_slice())?;
+            self.push_text(texts.get(k))?;
         }
         Ok(())
     }
 
     /// Goes on by the texts of a story, and a mark behind them where they have items.
-    fn push_story(&mut self, texts: &Texts) -> Result<(), Memory>
+    fn push_story(&mut self, texts: &ColumnTexts) -> Result<(), Memory>
         requires { length self.old.units.items + length (joined_texts texts.now) + 1 < 2 ^ 30 }
         ensures text { OnOk result (GoesOnBy (with_mark (joined_texts texts.now)) self.old self.new) }
         ensures count { OnOk result
@@ -149,19 +137,12 @@ impl TextSoFar {
         ensures text { OnOk result (GoesOnBy (extra_mark ∷ []) self.old self.new) }
         ensures count { OnOk result (length self.new.units.items ≡ length self.old.units.items + 1) }
     {
-        let mark = Mark {
-            istd: 0,
-            pap: PropMap::new(self.alloc),
-        };
-        let item = Item {
-            unit: PARAGRAPH_MARK,
-            fld: None,
-            note: None,
-            chp: PropMap::new(self.alloc),
-            mark: Some(mark),
-            sect: None,
-        };
-        self.push(&item)?;
+        let at = TEXT_AT + UNIT_LEN * self.len();
+        let none = PropMap::new(self.alloc);
+        self.characters.push_run(self.alloc, &none, 1, at)?;
+        let mark = Mark { istd: 0, pap: none };
+        self.paragraphs.close(self.alloc, &mark, at + UNIT_LEN)?;
+        self.units.push(PARAGRAPH_MARK)?;
         Ok(())
     }
 

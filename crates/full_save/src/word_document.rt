@@ -14,10 +14,10 @@ use crate::sections::append_sepxes;
 use crate::table_text::TableText;
 use crate::text::{SavedText, TEXT_AT, text_of};
 use doc_bits::{Bytes, Memory};
+use doc_columns::ColumnDocument;
 use fib_form::Fib;
 use fkp_pages::{Bins, PAGE_LEN, write_bin};
 use piece_table::PieceList;
-use plain_doc::Document;
 use std::alloc::Global;
 
 /// The least length of the stream.
@@ -32,7 +32,7 @@ pub(crate) struct WordBody {
 
 impl WordBody {
     /// That of a document.
-    pub(crate) fn of(alloc: Global, document: &Document) -> Result<WordBody, Memory>
+    pub(crate) fn of(alloc: Global, document: &ColumnDocument) -> Result<WordBody, Memory>
         requires formed { IsFormed document.now }
         requires right { IsRightDocument document.now }
         ensures { IfOk result (IsBodyOf document.now) }
@@ -44,7 +44,11 @@ impl WordBody {
     }
 
     /// That of a document with this text.
-    fn of_text(alloc: Global, document: &Document, text: &SavedText) -> Result<WordBody, Memory>
+    fn of_text(
+        alloc: Global,
+        document: &ColumnDocument,
+        text: &SavedText,
+    ) -> Result<WordBody, Memory>
         requires formed { IsFormed document.now }
         requires right { IsRightDocument document.now }
         requires text { IsTextOf document.now text.now }
@@ -65,7 +69,7 @@ impl WordBody {
         )?;
         let mut paragraphs = Bins::new(alloc);
         append_papx_pages(alloc, &mut bytes, &mut paragraphs, &text.paragraphs, second)?;
-        let seds = append_sepxes(alloc, &mut bytes, document.main.as_slice(), TEXT_AT)?;
+        let seds = append_sepxes(alloc, &mut bytes, &document.main, TEXT_AT)?;
         let text = TableText {
             counts: text.counts,
             seds,
@@ -120,7 +124,7 @@ fn front_of(alloc: Global, fib: &Fib) -> Result<Bytes, Memory>
 }
 
 /// Appends the text, and zeros up to a page.
-fn append_text(out: &mut Bytes, units: &[u16]) -> Result<(), Memory>
+pub fn append_text(out: &mut Bytes, units: &[u16]) -> Result<(), Memory>
     requires { length units.now < 2 ^ 31 }
     ensures { OnOk result (out.new ≡ out.old ++ padded 512 0 (units_bytes units.now)) }
 {
@@ -131,7 +135,7 @@ fn append_text(out: &mut Bytes, units: &[u16]) -> Result<(), Memory>
 }
 
 /// How many pages hold so many bytes.
-fn pages_for(len: u32) -> u32
+pub fn pages_for(len: u32) -> u32
     requires { len < 2 ^ 31 }
     ensures { result ≡ units_for 512 len }
 {
@@ -139,7 +143,7 @@ fn pages_for(len: u32) -> u32
 }
 
 /// Appends zeros.
-fn push_zeros(out: &mut Bytes, count: usize) -> Result<(), Memory>
+pub fn push_zeros(out: &mut Bytes, count: usize) -> Result<(), Memory>
     ensures { OnOk result (out.new ≡ out.old ++ replicate count 0) }
 {
     for _turn in 0..count {

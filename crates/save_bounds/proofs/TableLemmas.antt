@@ -13,12 +13,13 @@ use Rattle.fib_form.specs.TableParts.{pair_of}
 use Rattle.fib_form.specs.declared.table_parts.TablePart.TheVariants.{PlcffndRef, PlcffndTxt, PlcfSed, PlcfHdd}
 use Rattle.fib_form.specs.declared.table_parts.TablePart.TheVariants.{PlcfBteChpx}
 use Rattle.fib_form.specs.declared.table_parts.TablePart.TheVariants.{PlcfBtePapx, PlcfFldMom, PlcfFldHdr, PlcfFldFtn}
-use Rattle.fib_form.specs.declared.table_parts.TablePart.TheVariants.{Clx}
+use Rattle.fib_form.specs.declared.table_parts.TablePart.TheVariants.{PlcfBkf, PlcfBkl, Clx}
 use Rattle.doc_parts.specs.declared.lists.Sed.{Sed}
 use Rattle.doc_parts.specs.Table.{EntryForm, printed_entries}
 use Rattle.doc_parts.specs.Sections.{sed_form, printed_sections}
 use Rattle.doc_parts.specs.Fields.{fld_form, printed_fields}
 use Rattle.doc_parts.specs.Stories.{ref_form, cut_form, printed_refs, printed_texts}
+use Rattle.doc_parts.specs.PrintedBookmarks.{ends_of, starts_of, start_form, printed_starts, printed_ends}
 use Rattle.plain_doc.specs.declared.document.Document.{Document}
 use Rattle.plain_doc.specs.Collected.{joined_texts, sections_of, fields_of, refs_of}
 use Rattle.plain_doc.specs.TextLists.{cuts_of}
@@ -160,6 +161,7 @@ parts_differ document one other same =
     let refs = refs_of main in
     let note_cuts = cuts_of notes document.notes in
     let head_cuts = cuts_of heads document.heads in
+    let marks = document.bookmarks in
     let c0 = slice_index one.counts 0 in
     let c1 = slice_index one.counts 1 in
     let c2 = slice_index one.counts 2 in
@@ -185,10 +187,15 @@ parts_differ document one other same =
     (shared (pair_of PlcfFldFtn) (printed_fields (fields_of notes) c1) (printed_fields (fields_of notes) d1)
     (entries_end fld_form (fields_of notes) c1 d1)
     (alike _ _ refl
+    (shared (pair_of PlcfBkf) (printed_starts marks c0) (printed_starts marks d0)
+    (entries_end start_form (starts_of marks [] marks) c0 d0)
+    (shared (pair_of PlcfBkl) (printed_ends marks c0) (printed_ends marks d0)
+    (entries_end cut_form (ends_of marks) c0 d0)
+    (alike _ _ refl
     (alike _ _ refl
     (own (pair_of Clx) one.clx other.clx
     (alike _ _ refl
-    (alike _ _ refl none)))))))))))))))
+    (alike _ _ refl none))))))))))))))))))
 
 pub tables_differ_by_own_parts : TablesDifferByOwnParts
 tables_differ_by_own_parts document one other same =

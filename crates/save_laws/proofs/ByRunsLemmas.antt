@@ -8,7 +8,8 @@ use Rattle.std.proofs.lemmas.List.Sums.{sum_by-cons, sum_by-append}
 use Rattle.std.proofs.lemmas.Option.{same_Some, slice_get_within, slice_get-get_or}
 use Rattle.doc_bits.proofs.ListLemmas.{there_is, All_at}
 use Rattle.doc_bits.proofs.TogetherLemmas.{in_front, in_back}
-use Rattle.piece_table.specs.Piece.{TextPiece, UnitPlace, unit_bytes, unit_places, flat_pieces, total_length, ArePieces}
+use Rattle.piece_table.specs.Piece.{TextPiece, UnitPlace, unit_bytes, unit_places, flat_pieces, total_length}
+use Rattle.piece_table.specs.Piece.{ArePieces}
 use Rattle.piece_table.specs.Piece.{IsTextPiece}
 use Rattle.piece_table.proofs.FlatLemmas.{flat_pieces-append, flat_pieces-cons}
 use Rattle.piece_table.proofs.PieceLemmas.{length-unit_places, length-flat_pieces, get_or-unit_places}

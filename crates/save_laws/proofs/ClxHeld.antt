@@ -81,7 +81,7 @@ clx_read s at =
     (some_pieces s) (pieces_stay s) s.is.clx
 
 clx_part : (s : Save) → clx_of s.saved.stream.wd s.table ≡ s.saved.clx
-clx_part s = part_is s 13 Clx s.saved.clx refl
+clx_part s = part_is s 16 Clx s.saved.clx refl
 
 pub pieces_are : (s : Save) → IsClx (clx_of s.saved.stream.wd s.table) s.saved.pieces
 pieces_are s = subst (λ clx. IsClx clx s.saved.pieces) (sym (clx_part s)) (clx_read s 0).is

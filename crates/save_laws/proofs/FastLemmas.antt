@@ -84,7 +84,6 @@ fast_saves_are_saves document old plan saved table contents is = record {
   counts = is.counts;
   kept = is.kept;
   parts = is.parts;
-  bookmarks = is.bookmarks;
   wd_small = is.wd_small;
   has_wd = is.has_wd;
   has_table = is.has_table;

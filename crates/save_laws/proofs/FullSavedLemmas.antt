@@ -4,11 +4,10 @@ use Rattle.std.specs.Option.{option_or}
 use Rattle.std.specs.FinMap.{get, get-empty}
 use Rattle.std.proofs.Common.{◌≡◌, inl, ℕ, zero, suc, ◌+◌, ◌*◌, ◌<◌, true}
 use Rattle.std.proofs.Common.{List, [], ◌∷◌, ◌++◌, length, map, Some, None, Option, refl, sym, ap, ◌∙◌, subst, arith}
-use Rattle.std.proofs.Common.{append_assoc, lit<}
-use Rattle.std.proofs.lemmas.List.{length-map, map-append, append-nil, nil_from_length}
+use Rattle.std.proofs.Common.{append_assoc}
+use Rattle.std.proofs.lemmas.List.{length-map, map-append, append-nil}
 use Rattle.std.proofs.lemmas.List.Elements.{All-nil}
 use Rattle.std.proofs.lemmas.Option.{slice_get_within, same_Some, none-some, get_or_from_slice_get}
-use Rattle.doc_bits.specs.Number.{number_at}
 use Rattle.doc_bits.specs.declared.places.Where.TheVariants.{Main}
 use Rattle.doc_bits.proofs.ListLemmas.{get-map, from_map, All_at}
 use Rattle.prop_map.specs.Settings.{Settings}
@@ -26,11 +25,9 @@ use Rattle.piece_table.specs.Piece.{TextPiece, UnitPlace, unit_places, flat_piec
 use Rattle.piece_table.specs.Printing.{IsPrintedPrc, IsPrintedPcd, IsPrintedClx, pcd_bytes}
 use Rattle.piece_table.proofs.PieceLemmas.{one_sound, length-flat_pieces, length-unit_places, get_or-unit_places}
 use Rattle.piece_table.proofs.FitLemmas.{one_printable}
-use Rattle.doc_parts.specs.Levels.{levels_before, level_start, AreLevelsFrom, level_count}
 use Rattle.plain_doc.specs.declared.item.Mark.{Mark}
 use Rattle.plain_doc.specs.declared.item.Item.{Item}
 use Rattle.plain_doc.specs.declared.document.Document.{Document}
-use Rattle.plain_doc.specs.Carried.{AreListsWithLevels}
 use Rattle.plain_doc.specs.Collected.{joined_texts, sections_of}
 use Rattle.plain_doc.specs.Document.{IsFormedItem}
 use Rattle.plain_doc.proofs.RightLemmas.{sound_is_right}
@@ -45,7 +42,6 @@ use Rattle.save_laws.specs.Places.{PagedStream, Given, given_of, StandsInside, G
 use Rattle.save_laws.specs.Slots.{Slot, shown, loose, last, StoryEnds, loose_if, note_slots, head_slots}
 use Rattle.save_laws.specs.Slots.{last_slots, whole_text, story_counts, IsPlaced}
 use Rattle.save_laws.specs.Saves.{saved_entries, HasRanges, AreSavedSections, StandsForText, IsSavedAs}
-use Rattle.doc_load.specs.BookmarkRules.{bookmark_pair}
 use Rattle.doc_load.specs.FileRules.{table_stream_name}
 use Rattle.fkp_pages.specs.Bin.{IsBinPage}
 use Rattle.fkp_pages.specs.Rows.{IsRow, NamesRow}
@@ -55,8 +51,9 @@ use Rattle.plain_doc.proofs.TextListLemmas.{collected_from}
 use Rattle.fkp_pages.proofs.RowTableLemmas.{table_of_row}
 use Rattle.save_laws.proofs.PlanLemmas.{plans_give}
 use Rattle.full_save.proofs.StretchRuns.{character_run, paragraph_run}
-use Rattle.full_save.proofs.EntriesFound.{AreNumbered, plain, entry_stands, no_bookmarks}
-use Rattle.full_save.proofs.LaidOut.{LaidOut, allowed, few_items, short_wd, fib_read, unit_there, text_within}
+use Rattle.full_save.proofs.EntriesFound.{entry_stands}
+use Rattle.full_save.proofs.TableNumbers.{table_numbered}
+use Rattle.full_save.proofs.LaidOut.{LaidOut, few_items, short_wd, fib_read, unit_there, text_within}
 use Rattle.full_save.proofs.LaidOut.{HasRowTable, character_table, paragraph_table, stand_sepxes}
 use Rattle.save_laws.proofs.FullSections.{FitsSepx, sections_saved}
 
@@ -286,90 +283,16 @@ full_sections s =
     subst (λ n. AreSavedSections (sections_of d.main) (wd_stream d) (seds_from 0 n (sections_of d.main))) stand.place
     saved
 
--- a document without lists has no levels
-pub no_levels : (lst levels : List ℕ) → AreListsWithLevels lst levels → length lst ≡ 0 → length levels ≡ 0
-unfolding levels_before level_start number_at
-no_levels lst levels are none =
-    let whole : AreLevelsFrom levels 0 (level_count []) (length levels) =
-    subst (λ l. AreLevelsFrom levels 0 (level_count l) (length levels)) (nil_from_length lst none) are.whole in
-    whole.ends
-
-numbered : (document : Document) → AreListsWithLevels document.carried.lst document.carried.levels →
-    AreNumbered 0 (full_entries document)
-numbered document lists = (
-  plain 0 1 _ (omega arith) (omega arith),
-  (
-    plain 2 2 _ (omega arith) (omega arith),
-    (
-      plain 3 3 _ (omega arith) (omega arith),
-      (
-        plain 4 6 _ (omega arith) (omega arith),
-        (
-          plain 7 11 _ (omega arith) (omega arith),
-          (
-            plain 12 12 _ (omega arith) (omega arith),
-            (
-              plain 13 13 _ (omega arith) (omega arith),
-              (
-                plain 14 15 _ (omega arith) (omega arith),
-                (
-                  plain 16 16 _ (omega arith) (omega arith),
-                  (
-                    plain 17 17 _ (omega arith) (omega arith),
-                    (
-                      plain 18 18 _ (omega arith) (omega arith),
-                      (
-                        plain 19 31 _ (omega arith) (omega arith),
-                        (
-                          plain 32 32 _ (omega arith) (omega arith),
-                          (
-                            plain 33 33 _ (omega arith) (omega arith),
-                            (
-                              record {
-                                low_is = omega arith;
-                                below = omega arith;
-                                whole = no_levels document.carried.lst document.carried.levels lists;
-                              },
-                              (
-                                plain 74 74 _ (omega arith) (omega arith),
-                                tt,
-                              ),
-                            ),
-                          ),
-                        ),
-                      ),
-                    ),
-                  ),
-                ),
-              ),
-            ),
-          ),
-        ),
-      ),
-    ),
-  ),
-)
-
 full_part : (s : LaidOut) (k : ℕ) (part : TableEntry) → slice_get (full_entries s.document) k ≡ Some part →
     IsPartAt (table_stream s.document) (fib_pair (wd_stream s.document) part.number) part
 unfolding table_stream full_fib
 full_part s k part here =
     let d = s.document in
-    let stands = entry_stands (full_entries d) k part (numbered d s.formed.carried.lists) here in
+    let stands = entry_stands (full_entries d) k part (table_numbered d (full_text d) s.formed.carried.lists) here in
     let pairs : pair_at (entries_pairs (full_entries d)) part.number ≡ fib_pair (wd_stream d) part.number =
     ap (λ (fib : FibFields). pair_at fib.pairs part.number) (sym (fib_read s).fields)
     ∙ pair_at-fib_pairs (wd_stream d) part.number stands.below in
     subst (λ pair. IsPartAt (entries_bytes (full_entries d)) pair part) pairs stands.there
-
--- no bookmarks stand there
-without_bookmarks : (s : LaidOut) → (fib_pair (wd_stream s.document) bookmark_pair).1 ≡ 0
-unfolding full_fib
-without_bookmarks s =
-    let d = s.document in
-    let pairs : pair_at (entries_pairs (full_entries d)) bookmark_pair ≡ fib_pair (wd_stream d) bookmark_pair =
-    ap (λ (fib : FibFields). pair_at fib.pairs bookmark_pair) (sym (fib_read s).fields)
-    ∙ pair_at-fib_pairs (wd_stream d) bookmark_pair (lit< tt) in
-    sym (ap (λ (pair : ℕ × ℕ). pair.1) pairs) ∙ no_bookmarks (full_entries d) (allowed d)
 
 -- the parts of the saved text are those of the layout
 entries_same : (document : Document) → saved_entries document (full_saved_text document) ≡ full_entries document
@@ -410,7 +333,6 @@ saved_of s contents has =
         flags = sym (ap (λ (fib : FibFields). fib.kept.flags) read.fields);
       };
       parts = λ k part here. full_part s k part (subst (λ parts. slice_get parts k ≡ Some part) (entries_same d) here);
-      bookmarks = without_bookmarks s;
       wd_small = omega (arith, short);
       has_wd = has.wd;
       has_table = subst (λ name. HasNamed contents.streams name (table_stream d)) (sym named) has.table;

@@ -11,7 +11,7 @@ use Rattle.cfb_streams.specs.Container.{container_rules}
 use Rattle.cfb_streams.specs.Names.{wd_name}
 use Rattle.fib_form.specs.Fib.{fib_pair}
 use Rattle.fib_form.specs.FibFields.{fib_fields, text_length}
-use Rattle.fib_form.specs.FibRules.{fib_rules, IsLongPart}
+use Rattle.fib_form.specs.FibRules.{fib_rules}
 use Rattle.fib_form.specs.TableParts.{pair_of}
 use Rattle.fib_form.specs.declared.table_parts.TablePart.TheVariants.{Stshf, SttbfFfn, Dop, SttbfAssoc, Clx, PlfLst}
 use Rattle.fib_form.specs.declared.table_parts.TablePart.TheVariants.{PlfLfo}
@@ -23,13 +23,12 @@ use Rattle.plain_doc.specs.Collected.{sections_of}
 use Rattle.plain_doc.proofs.RightLemmas.{sound_is_right}
 use Rattle.doc_load.specs.Source.{story_begin, part_bytes, part_place}
 use Rattle.doc_load.specs.FileRules.{file_rules, HasText, loading_rules, table_stream_name, clx_of, contents_rules}
-use Rattle.doc_load.specs.BookmarkRules.{bookmark_pair, rules_of_bookmarks}
 use Rattle.doc_load.specs.ListRules.{rules_of_lists}
 use Rattle.doc_load.specs.SheetRules.{rules_of_sheet}
 use Rattle.doc_load.specs.PairRules.{BreaksPairs}
 use Rattle.doc_load.specs.PartRules.{HasPartLists, part_rules}
 use Rattle.doc_load.proofs.RowLemmas.{index_of_get}
-use Rattle.doc_load.proofs.RefusalLemmas.{holds-rule, stream-there}
+use Rattle.doc_load.proofs.RefusalLemmas.{stream-there}
 use Rattle.doc_load.specs.SectionRules.{section_fc}
 use Rattle.doc_read.specs.Holds.{HoldsDocument, IsDocumentFrom}
 use Rattle.doc_read.specs.Sections.{IsSectionSettings, HaveSettings}
@@ -42,6 +41,7 @@ use Rattle.save_laws.proofs.PartsHeld.{head_cuts, note_cuts, sections_part, shee
 use Rattle.save_laws.proofs.PartsHeld.{note_fields_part, head_fields_part, refs_part, head_cuts_part, levels_part}
 use Rattle.save_laws.proofs.SavedLemmas.{Save, the_source, part_is}
 use Rattle.save_laws.proofs.PairLemmas.{pairs_hold}
+use Rattle.save_laws.proofs.MarksHeld.{bookmarks_held}
 use Rattle.save_laws.proofs.SectionRulesHeld.{sections_hold, bins_hold}
 use Rattle.save_laws.proofs.ItemsHeld.{the_lists, the_maps, the_parts, main_held, notes_held, heads_held}
 use Rattle.save_laws.proofs.FormatRulesHeld.{formats_hold}
@@ -60,18 +60,15 @@ sheet_holds s =
 lists_hold : (s : Save) → Hold (rules_of_lists (the_source s))
 lists_hold s = (levels_part s).rules
 
--- no bookmarks were written
-bookmarks_hold : (s : Save) → Hold (rules_of_bookmarks (the_source s))
-bookmarks_hold s =
-    let none = s.is.bookmarks in
-    holds-rule Wd 57 (IsLongPart s.saved.stream.wd bookmark_pair 6) (λ place long. omega (arith, long.1, none))
-
 parts_hold : (s : Save) → Hold (part_rules (the_source s))
 parts_hold s = (
   (sections_hold s, bins_hold s),
   (
     formats_hold s,
-    (sheet_holds s, (fields_hold s, (notes_hold s, (heads_hold s, (ends_hold s, (lists_hold s, bookmarks_hold s)))))),
+    (
+      sheet_holds s,
+      (fields_hold s, (notes_hold s, (heads_hold s, (ends_hold s, (lists_hold s, (bookmarks_held s).rules))))),
+    ),
   ),
 )
 
@@ -124,6 +121,7 @@ lists_held s = record {
   has_notes = notes_cut s;
   has_heads = (head_cuts_part s).has;
   has_levels = (levels_part s).has;
+  has_bookmarks = (bookmarks_held s).has;
 }
 
 settings_held : (s : Save) → HaveSettings s.saved.stream.wd s.saved.seds (the_maps s)
@@ -150,11 +148,11 @@ carried_held s =
     let lst : TableEntry = record { number = pair_of PlfLst; bytes = carried.lst; behind = carried.levels } in
     record {
       fonts = sym (part_is s 7 SttbfFfn carried.fonts refl);
-      dop = sym (part_is s 11 Dop carried.dop refl);
-      assoc = sym (part_is s 12 SttbfAssoc carried.assoc refl);
-      lst = sym (s.is.parts 14 lst refl).bytes;
+      dop = sym (part_is s 14 Dop carried.dop refl);
+      assoc = sym (part_is s 15 SttbfAssoc carried.assoc refl);
+      lst = sym (s.is.parts 17 lst refl).bytes;
       levels_are = refl;
-      lfo = sym (part_is s 15 PlfLfo carried.lfo refl);
+      lfo = sym (part_is s 18 PlfLfo carried.lfo refl);
       clsid = s.is.clsid;
       lid = s.is.kept.lid;
       lid_fe = s.is.kept.lid_fe;
@@ -176,6 +174,7 @@ document_is s = record {
         (length-heads s) (heads_held s);
     sheet = refl;
     carried = carried_held s;
+    bookmarks = refl;
   };
 }
 
@@ -222,7 +221,7 @@ files_hold file document saved table contents formed sound is of =
       document_is = held.document_is.document_is;
     } in
     record {
-      accepted = (rules, (document, (holds, sound)));
+      accepted = (rules, (document, (holds, sound.rules)));
       holds = holds;
       contents_are = refl;
       text_is = refl;

@@ -46,6 +46,7 @@ the_lists s = record {
   notes = note_cuts s;
   heads = head_cuts s;
   levels = s.document.carried.levels;
+  bookmarks = s.document.bookmarks;
 }
 
 -- the settings of the sections

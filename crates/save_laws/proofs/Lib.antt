@@ -4,6 +4,7 @@ pub mod SavedLemmas
 pub mod ItemRules
 pub mod ListedLemmas
 pub mod PartsHeld
+pub mod MarksHeld
 pub mod PairLemmas
 pub mod SectionRulesHeld
 pub mod ReadLemmas

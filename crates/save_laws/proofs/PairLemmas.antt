@@ -24,29 +24,24 @@ use Rattle.save_laws.specs.Saves.{saved_entries}
 use Rattle.save_laws.proofs.SavedLemmas.{the_source, part_is, Save}
 use Rattle.save_laws.proofs.PartsHeld.{some_sections, sections_part}
 
--- the entries have these numbers, and those that are needed have bytes
-abbrev AreTight : List TableEntry → List ℕ → Type 0
-AreTight [] [] = ⊤
-AreTight [] (n ∷ ns) = ⊥
-AreTight (part ∷ parts) [] = ⊥
-AreTight (part ∷ parts) (n ∷ ns) =
-    ((part.number ≡ n) × (IsNeeded n → 0 < length part.bytes)) × AreTight parts ns
-
-record IsTightAt (parts : List TableEntry) (ns : List ℕ) (k : ℕ) : Type 0 where
+-- one of the entries has this number, and has bytes where it is needed
+record IsTight (parts : List TableEntry) (n : ℕ) : Type 0 where
+  at : ℕ
   part : TableEntry
-  here : slice_get parts k ≡ Some part
-  number : part.number ≡ slice_index ns k
-  some : IsNeeded (slice_index ns k) → 0 < length part.bytes
+  here : slice_get parts at ≡ Some part
+  number : part.number ≡ n
+  some : IsNeeded n → 0 < length part.bytes
 
-tight_at : (parts : List TableEntry) (ns : List ℕ) (k : ℕ) → AreTight parts ns → k < length ns → IsTightAt parts ns k
-tight_at [] [] k tight below = absurd (omega arith)
-tight_at [] (n ∷ ns) k tight below = absurd tight
-tight_at (part ∷ parts) [] k tight below = absurd tight
-tight_at (part ∷ parts) (n ∷ ns) zero tight below =
-    record { part = part; here = refl; number = tight.0.0; some = tight.0.1 }
-tight_at (part ∷ parts) (n ∷ ns) (suc k) tight below =
-    let later = tight_at parts ns k tight.1 (omega arith) in
-    record { part = later.part; here = later.here; number = later.number; some = later.some }
+-- so it is with each of these numbers
+abbrev AreTight : List TableEntry → List ℕ → Type 0
+AreTight parts [] = ⊤
+AreTight parts (n ∷ ns) = IsTight parts n × AreTight parts ns
+
+tight_at : (parts : List TableEntry) (ns : List ℕ) (k : ℕ) → AreTight parts ns → k < length ns →
+    IsTight parts (slice_index ns k)
+tight_at parts [] k tight below = absurd (omega arith)
+tight_at parts (n ∷ ns) zero tight below = tight.0
+tight_at parts (n ∷ ns) (suc k) tight below = tight_at parts ns k tight.1 (omega arith)
 
 -- the number is one of those that are needed, as a test
 abbrev is_needed : ℕ → Bool
@@ -60,6 +55,28 @@ not_needed n no_need need = elim need [
   | inr (inr (inr (inl e))) ↦ false≢true (sym (subst (λ m. is_needed m ≡ false) e no_need))
   | inr (inr (inr (inr e))) ↦ false≢true (sym (subst (λ m. is_needed m ≡ false) e no_need))
 ]
+
+-- an entry of a number that is not needed
+free : (parts : List TableEntry) (n at : ℕ) (part : TableEntry) → slice_get parts at ≡ Some part → part.number ≡ n →
+    is_needed n ≡ false → IsTight parts n
+free parts n at part here number no_need = record {
+  at = at;
+  part = part;
+  here = here;
+  number = number;
+  some = λ need. absurd (not_needed n no_need need);
+}
+
+-- an entry that has bytes
+full : (parts : List TableEntry) (n at : ℕ) (part : TableEntry) → slice_get parts at ≡ Some part → part.number ≡ n →
+    0 < length part.bytes → IsTight parts n
+full parts n at part here number some = record {
+  at = at;
+  part = part;
+  here = here;
+  number = number;
+  some = λ need. some;
+}
 
 bin_some : (bin : List ℕ) → 1 ≤ bin_count bin → 0 < length bin
 bin_some bin some = omega (arith, some)
@@ -89,62 +106,43 @@ sections_some s =
     omega (arith, counted, ap length bytes)
 
 tight : (s : Save) → AreTight (saved_entries s.document s.saved) read_pairs
-tight s = (
-  (refl, λ need. sheet_some s.document.sheet),
-  (
-    (refl, λ need. absurd (not_needed 2 refl need)),
-    (
-      (refl, λ need. absurd (not_needed 3 refl need)),
+tight s =
+    let parts = saved_entries s.document s.saved in
+    let lists : AreTight parts (73 ∷ 74 ∷ []) = (
+      free parts 73 17 _ refl refl refl,
+      (free parts 74 18 _ refl refl refl, tt),
+    ) in
+    let clx = full parts 33 16 _ refl refl (clx_some s.saved.pieces s.saved.clx s.is.clx) in
+    let later : AreTight parts (31 ∷ 32 ∷ 33 ∷ 73 ∷ 74 ∷ []) = (
+      free parts 31 14 _ refl refl refl,
+      (free parts 32 15 _ refl refl refl, (clx, lists)),
+    ) in
+    let fields : AreTight parts (15 ∷ 16 ∷ 17 ∷ 18 ∷ 31 ∷ 32 ∷ 33 ∷ 73 ∷ 74 ∷ []) = (
+      free parts 15 7 _ refl refl refl,
       (
-        (refl, λ need. sections_some s),
-        (
-          (refl, λ need. absurd (not_needed 11 refl need)),
-          (
-            (refl, λ need. bin_some s.saved.stream.characters s.is.characters.some),
-            (
-              (refl, λ need. bin_some s.saved.stream.paragraphs s.is.paragraphs.some),
-              (
-                (refl, λ need. absurd (not_needed 15 refl need)),
-                (
-                  (refl, λ need. absurd (not_needed 16 refl need)),
-                  (
-                    (refl, λ need. absurd (not_needed 17 refl need)),
-                    (
-                      (refl, λ need. absurd (not_needed 18 refl need)),
-                      (
-                        (refl, λ need. absurd (not_needed 31 refl need)),
-                        (
-                          (refl, λ need. absurd (not_needed 32 refl need)),
-                          (
-                            (refl, λ need. clx_some s.saved.pieces s.saved.clx s.is.clx),
-                            (
-                              (refl, λ need. absurd (not_needed 73 refl need)),
-                              (
-                                (refl, λ need. absurd (not_needed 74 refl need)),
-                                tt,
-                              ),
-                            ),
-                          ),
-                        ),
-                      ),
-                    ),
-                  ),
-                ),
-              ),
-            ),
-          ),
-        ),
+        free parts 16 8 _ refl refl refl,
+        (free parts 17 9 _ refl refl refl, (free parts 18 10 _ refl refl refl, later)),
       ),
-    ),
-  ),
-)
+    ) in
+    let characters = full parts 12 5 _ refl refl (bin_some s.saved.stream.characters s.is.characters.some) in
+    let paragraphs = full parts 13 6 _ refl refl (bin_some s.saved.stream.paragraphs s.is.paragraphs.some) in
+    let bins : AreTight parts (11 ∷ 12 ∷ 13 ∷ 15 ∷ 16 ∷ 17 ∷ 18 ∷ 31 ∷ 32 ∷ 33 ∷ 73 ∷ 74 ∷ []) = (
+      free parts 11 4 _ refl refl refl,
+      (characters, (paragraphs, fields)),
+    ) in (
+      full parts 1 0 _ refl refl (sheet_some s.document.sheet),
+      (
+        free parts 2 1 _ refl refl refl,
+        (free parts 3 2 _ refl refl refl, (full parts 6 3 _ refl refl (sections_some s), bins)),
+      ),
+    )
 
 pub pairs_hold : (s : Save) → Nowhere (BreaksPairs s.saved.stream.wd (length s.table))
 pairs_hold s place w =
     let wd = s.saved.stream.wd in
     let found = tight_at (saved_entries s.document s.saved) read_pairs w.entry (tight s) w.below in
     let n = slice_index read_pairs w.entry in
-    let placed = s.is.parts w.entry found.part found.here in
+    let placed = s.is.parts found.at found.part found.here in
     let within : (fib_pair wd n).0 + (fib_pair wd n).1 ≤ length s.table =
     subst (λ m. (fib_pair wd m).0 + (fib_pair wd m).1 ≤ length s.table) found.number (omega (arith, placed.within)) in
     let len : (fib_pair wd n).1 ≡ length found.part.bytes =

@@ -168,7 +168,7 @@ levels_part s =
     let levels = s.document.carried.levels in
     let part : TableEntry = record { number = pair_of PlfLst; bytes = lst; behind = levels } in
     let at = part_place source PlfLst in
-    let placed : IsPartAt s.table (fib_pair s.saved.stream.wd (pair_of PlfLst)) part = s.is.parts 14 part refl in
+    let placed : IsPartAt s.table (fib_pair s.saved.stream.wd (pair_of PlfLst)) part = s.is.parts 17 part refl in
     let bytes : part_bytes source PlfLst ≡ lst = placed.bytes in
     let lcb : ℕ = length (part_bytes source PlfLst) in
     let lcb_is : (fib_pair s.saved.stream.wd (pair_of PlfLst)).1 ≡ lcb = placed.len ∙ ap length (sym bytes) in

@@ -10,7 +10,6 @@ use Rattle.piece_table.specs.Piece.{TextPiece, flat_pieces, ArePieces}
 use Rattle.piece_table.specs.Printing.{IsPrintable, IsPrintedClx}
 use Rattle.plain_doc.specs.declared.document.Document.{Document}
 use Rattle.plain_doc.specs.Collected.{sections_of}
-use Rattle.doc_load.specs.BookmarkRules.{bookmark_pair}
 use Rattle.doc_load.specs.FileRules.{table_stream_name}
 use Rattle.doc_read.specs.CarriedParts.{carried_streams}
 use Rattle.doc_bits.specs.Together.{AreTogether}
@@ -60,7 +59,6 @@ pub record IsFastSaved
   pub parts :
       (k : ℕ) (part : TableEntry) → slice_get (saved_entries document saved) k ≡ Some part →
       IsPartAt table (fib_pair saved.stream.wd part.number) part
-  pub bookmarks : (fib_pair saved.stream.wd bookmark_pair).1 ≡ 0
   pub wd_small : length saved.stream.wd < 2 ^ 32
   pub has_wd : HasNamed contents.streams wd_name saved.stream.wd
   pub has_table : HasNamed contents.streams (table_stream_name saved.stream.wd) table

@@ -17,7 +17,6 @@ use Rattle.doc_parts.specs.declared.lists.Sed.{Sed}
 use Rattle.doc_parts.specs.Sections.{HasSepx}
 use Rattle.plain_doc.specs.declared.document.Document.{Document}
 use Rattle.plain_doc.specs.Collected.{sections_of}
-use Rattle.doc_load.specs.BookmarkRules.{bookmark_pair}
 use Rattle.doc_load.specs.SectionRules.{sepx_list}
 use Rattle.doc_load.specs.PartRules.{PartLists, HasPartLists}
 use Rattle.doc_load.specs.FileRules.{FileText, HasText, table_stream_name, source_of, contents_rules}
@@ -80,7 +79,7 @@ StandsForText stream pieces document ends =
 
 -- the document is saved: the places of the pieces stand for its text, their Clx is printed, sections have their Sepxes,
 -- the FIB breaks no rule and has the counts and what is kept, each part of the table stream stands where its pair says,
--- no bookmarks stand there, and the container has the two streams and what is carried along
+-- those of the bookmarks too, and the container has the two streams and what is carried along
 pub record IsSavedAs (document : Document) (saved : SavedText) (table : List ℕ) (contents : Contents) : Type 0 where
   pub pieces : ArePieces saved.pieces
   pub printable : IsPrintable saved.pieces
@@ -95,7 +94,6 @@ pub record IsSavedAs (document : Document) (saved : SavedText) (table : List ℕ
   pub parts :
       (k : ℕ) (part : TableEntry) → slice_get (saved_entries document saved) k ≡ Some part →
       IsPartAt table (fib_pair saved.stream.wd part.number) part
-  pub bookmarks : (fib_pair saved.stream.wd bookmark_pair).1 ≡ 0
   pub wd_small : length saved.stream.wd < 2 ^ 32
   pub has_wd : HasNamed contents.streams wd_name saved.stream.wd
   pub has_table : HasNamed contents.streams (table_stream_name saved.stream.wd) table

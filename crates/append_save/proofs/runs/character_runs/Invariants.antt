@@ -3,8 +3,4 @@ use Rattle.full_save.specs.RunsSoFar.{AreCharactersSoFar}
 use Rattle.append_save.proofs.runs.character_runs.Given as goal
 
 abbrev pub invariant-loop-i : goal.invariant-loop-i
-invariant-loop-i l = AreCharactersSoFar l.base (take l.i l.items) (record {
-  closed = l.runs.closed;
-  from = l.runs.from;
-  chp = l.runs.chp;
-})
+invariant-loop-i l = AreCharactersSoFar l.base (take l.i l.items) l.runs

@@ -17,10 +17,10 @@ returns-in_err-edit-2-clause-err g c =
     rw (p.1, p.2, refused.1.0)
     (edit_guarded c.args.command.now c.args.session.now _ c.in_ok-edit.edit.facts refused.0 c.args.index
     c.requires.edits
-    plan.0 plan.1.1 refused.1.1)
+    plan.0 plan.1.1.1 refused.1.1)
 
 pub returns-clause-made : goal.returns-clause-made
 returns-clause-made g c =
     let plan = c.in_ok-edit.ensures in
     edit_made c.args.command.now c.args.session.now c.make.new.self _ _ c.in_ok-edit.edit.facts c.requires.edits plan.0
-    plan.1.1 c.in_ok-edit-2.ensures.1 c.in_ok-make.ensures.ok c.note_all.ensures.after
+    plan.1.1.1 c.in_ok-edit-2.ensures.1 c.in_ok-make.ensures.ok c.note_all.ensures.after

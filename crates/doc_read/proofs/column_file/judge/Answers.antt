@@ -1,8 +1,12 @@
-use Rattle.std.proofs.Common.{MatchResult, subst}
+use Rattle.std.proofs.Common.{MatchResult, subst, sym}
 use Rattle.plain_doc.specs.declared.document.Document.{Document}
+use Rattle.plain_doc.specs.Marks.{HasFormedBookmarks}
 use Rattle.plain_doc.specs.Sound.{IsSound, document_rules}
 use Rattle.doc_load.specs.Faults.{IsReadFault}
 use Rattle.doc_read.proofs.column_file.judge.Goals as goal
+
+pub judge_items-requires : goal.judge_items-requires
+judge_items-requires c = subst HasFormedBookmarks (sym c.in_ok-items.ensures) c.requires
 
 pub returns : goal.returns
 returns c =

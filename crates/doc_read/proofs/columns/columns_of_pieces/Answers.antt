@@ -65,7 +65,8 @@ push_piece-requires-clause-reader c =
     let reader = c.index_mut.result.now in
     subst (λ (p : TextRest). IsPieceReader p.view reader) (sym c.new-part.ensures)
     (reader_right (text_view c.args.text.now) readers number reader c.in_ok-number.ensures.readers
-    (reader_at readers number reader c.modifier.result.now c.in_ok-number.ensures.serves c.index_mut.ensures.value).0)
+    (reader_at readers number reader c.modifier-modifier.result.now c.in_ok-number.ensures.serves
+    c.index_mut.ensures.value).0)
 
 pub loop-i-preserved : goal.loop-i-preserved
 loop-i-preserved c =
@@ -83,9 +84,9 @@ loop-i-preserved c =
     let piece = read.0 in
     let here = read.1.0 in
     let len_is : piece.len ≡ c.piece.result.len = ap (λ (p : Piece). p.len) read.1.1 in
-    let modifier : Some piece.modifier ≡ Some c.modifier.result.now =
-    ap (option_map (λ (p : TextPiece). p.modifier)) (sym here) ∙ c.modifier.ensures.value in
-    let modifier_is : piece.modifier ≡ c.modifier.result.now = cc (modifier) in
+    let modifier : Some piece.modifier ≡ Some c.modifier-modifier.result.now =
+    ap (option_map (λ (p : TextPiece). p.modifier)) (sym here) ∙ c.modifier-modifier.ensures.value in
+    let modifier_is : piece.modifier ≡ c.modifier-modifier.result.now = cc (modifier) in
     let within : cp + added ≤ count = omega (arith, c.min.ensures, c.loop-i.invariant.len) in
     let old_items = items_of units old.chps old.besides in
     let new_items = items_of units new.chps new.besides in
@@ -98,7 +99,7 @@ loop-i-preserved c =
     let readers = c.reader_for.new.readers.items in
     let number = c.in_ok-number.number in
     let reader = c.index_mut.result.now in
-    let at = reader_at readers number reader c.modifier.result.now c.in_ok-number.ensures.serves
+    let at = reader_at readers number reader c.modifier-modifier.result.now c.in_ok-number.ensures.serves
     c.index_mut.ensures.value in
     let same = at.1 ∙ sym modifier_is in
     let long : cp + added - cp ≡ added = omega arith in
@@ -111,7 +112,8 @@ loop-i-preserved c =
     let besides = subst (λ m. AddsEach (IsBesideAt view m) added old.besides new.besides) same
     (subst (λ n. AddsEach (IsBesideAt view reader.characters.modifier) n old.besides new.besides) long
     (subst
-    (λ (p : TextRest). AddsEach (IsBesideAt p.view reader.characters.modifier) (cp + added - cp) old.besides new.besides)
+    (λ (p : TextRest). AddsEach (IsBesideAt p.view reader.characters.modifier) (cp + added - cp) old.besides
+    new.besides)
     c.new-part.ensures c.in_ok-push_piece.ensures.besides)) in
     let adds = adds_items view piece.modifier cp added old.chps new.chps old.besides new.besides c.loop-i.invariant.chps
     c.loop-i.invariant.besides within chps besides in

@@ -23,4 +23,5 @@ returns c =
       cuts_are = λ i. record { notes = notes i; heads = heads i; head_count = count i };
       sheet_is = sheet;
       carried_is = c.in_ok-carried.ensures;
+      bookmarks_are = ap (λ (p : PartLists). p.bookmarks) c.parts.view_is;
     }

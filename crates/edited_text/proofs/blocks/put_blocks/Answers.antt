@@ -1,7 +1,7 @@
 use Rattle.std.proofs.Common.{take, arith, rules}
 use Rattle.std.proofs.Common.{◌∙◌}
 use Rattle.std.proofs.lemmas.Result.{err_from_is_err_and}
-use Rattle.edit_ops.specs.Changes.{all_changed}
+use Rattle.edit_changes.specs.Changes.{all_changed}
 use Rattle.edited_text.proofs.GrowLemmas.{sound_few, sound_count, nothing_grown, have_grown, still_added, step_fits}
 use Rattle.edited_text.proofs.GrowLemmas.{step_here, step_room, grown_more, added_more, added_same}
 use Rattle.edited_text.proofs.TextChangeLemmas.{can_step}

@@ -1,4 +1,5 @@
 use Rattle.std.proofs.Common.{◌∙◌, sym, ap, subst, arith, rules}
+use Rattle.plain_doc.specs.declared.document.Document.{Document}
 use Rattle.edited_text.specs.SectionPlans.{FitsPlan, plan_after}
 use Rattle.edited_text.proofs.PlanLemmas.{nothing_planned, planned_fits, planned_more, all_planned}
 use Rattle.edited_text.proofs.sections.sections_after.Goals as goal
@@ -10,7 +11,7 @@ loop-k-init c =
 
 pub section_step-requires : goal.section_step-requires
 section_step-requires c =
-    subst (λ m. FitsPlan m c.loop-k.new.items c.get.result.now) (sym c.as_slice-main.ensures.items)
+    subst (λ (d : Document). FitsPlan d.main c.loop-k.new.items c.get.result.now) (sym c.document.view_is)
     (planned_fits c.args.document.now c.args.changes.now c.args.places.now c.loop-k.k c.loop-k.new.items
     c.get.result.now c.loop-k.invariant c.get.ensures)
 
@@ -19,7 +20,7 @@ loop-k-preserved c =
     planned_more c.args.document.now c.args.changes.now c.args.places.now c.loop-k.k c.loop-k.new.items _
     c.get.result.now c.loop-k.invariant c.get.ensures
     (c.in_ok-new.ensures
-    ∙ ap (λ m. plan_after m c.loop-k.new.items c.get.result.now) c.as_slice-main.ensures.items)
+    ∙ ap (λ (d : Document). plan_after d.main c.loop-k.new.items c.get.result.now) c.document.view_is)
 
 pub returns : goal.returns
 returns c =

@@ -1,7 +1,8 @@
 use Rattle.std.proofs.Common.{◌≡◌, ◌+◌, get_or, sym, ap, subst, ◌∙◌}
 use Rattle.std.specs.Prelude.{option_map}
 use Rattle.plain_doc.specs.Collected.{field_of}
-use Rattle.full_save.proofs.ListLemmas.{IsListedUpTo, listed_entry, listed_nothing, listed_all}
+use Rattle.full_save.specs.Lists.{IsListedUpTo}
+use Rattle.full_save.proofs.ListLemmas.{listed_entry, listed_nothing, listed_all}
 use Rattle.full_save.proofs.lists.add_fields.Goals as goal
 use Rattle.full_save.proofs.lists.add_fields.Goals.{in-Some+in_ok-add, in_default}
 

@@ -1,5 +1,5 @@
 use Rattle.plain_doc.specs.Collected.{field_of}
-use Rattle.full_save.proofs.ListLemmas.{IsListedUpTo}
+use Rattle.full_save.specs.Lists.{IsListedUpTo}
 use Rattle.full_save.proofs.lists.add_fields.Given as goal
 
 abbrev pub invariant-loop-i : goal.invariant-loop-i

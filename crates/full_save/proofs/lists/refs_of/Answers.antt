@@ -3,7 +3,8 @@ use Rattle.plain_doc.specs.declared.item.Item.{Item}
 use Rattle.plain_doc.specs.declared.item.NoteKind.{NoteKind}
 use Rattle.plain_doc.specs.Collected.{is_auto}
 use Rattle.doc_parts.specs.declared.lists.NoteRef.{NoteRef}
-use Rattle.full_save.proofs.ListLemmas.{IsListedUpTo, listed_entry, listed_nothing, listed_all}
+use Rattle.full_save.specs.Lists.{IsListedUpTo}
+use Rattle.full_save.proofs.ListLemmas.{listed_entry, listed_nothing, listed_all}
 use Rattle.full_save.proofs.lists.refs_of.Goals as goal
 use Rattle.full_save.proofs.lists.refs_of.Goals.{in-Some+in_ok-add, in_default}
 

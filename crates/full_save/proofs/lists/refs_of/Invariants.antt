@@ -1,6 +1,6 @@
 use Rattle.std.proofs.Common.{[]}
 use Rattle.plain_doc.specs.Collected.{is_auto}
-use Rattle.full_save.proofs.ListLemmas.{IsListedUpTo}
+use Rattle.full_save.specs.Lists.{IsListedUpTo}
 use Rattle.full_save.proofs.lists.refs_of.Given as goal
 
 abbrev pub invariant-loop-cp : goal.invariant-loop-cp

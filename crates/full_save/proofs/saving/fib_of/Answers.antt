@@ -1,3 +1,4 @@
+use Rattle.plain_doc.specs.declared.document.Document.{Document}
 use Rattle.std.proofs.Common.{◌+◌, List, ℕ, false, length, ap, sym, subst, ◌∙◌, arith}
 use Rattle.fib_form.specs.declared.form.Form.TheVariants.{Early}
 use Rattle.fib_form.specs.FibFields.{AreCounts, ArePairs}
@@ -29,12 +30,12 @@ made-requires-clause-pairs c =
 pub returns : goal.returns
 unfolding full_fib
 returns c =
-    let d = c.args.document.now in
     let mac = c.cb_mac.ensures ∙ ap (λ (bytes : List ℕ). text_at + length bytes) c.requires.body.bytes in
     let counts = ap (λ (t : TableText). t.counts) c.requires.body.text in
+    let carried = ap (λ (x : Document). x.carried) c.document.view_is in
     c.made.ensures ∙ (λ i. record {
       form = Early;
-      kept = record { lid = d.carried.lid; lid_fe = d.carried.lid_fe; flags = d.carried.flags };
+      kept = record { lid = (carried i).lid; lid_fe = (carried i).lid_fe; flags = (carried i).flags };
       quick_saves = 0;
       complex = false;
       which_table = 1;

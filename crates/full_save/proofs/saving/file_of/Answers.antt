@@ -1,3 +1,4 @@
+use Rattle.plain_doc.specs.declared.document.Document.{Document}
 use Rattle.std.proofs.Common.{◌≡◌, List, length, ap, sym, subst, ◌∙◌, arith}
 use Rattle.cfb_streams.specs.Contents.{NamedBytes, AreStreams}
 use Rattle.cfb_layout.specs.Counts.{sectors_needed}
@@ -12,10 +13,11 @@ use Rattle.full_save.specs.Streams.{saved_streams}
 use Rattle.full_save.specs.Layout.{layout_streams, full_save_image}
 use Rattle.full_save.proofs.TextLaidOut.{few_items}
 use Rattle.full_save.proofs.LayoutLemmas.{layout_are, fits_short, wd_of}
+use Rattle.full_save.proofs.MarkLengths.{fit_parts}
 use Rattle.full_save.proofs.saving.file_of.Goals as goal
 
-pub write_table-requires-clause-notes : goal.write_table-requires-clause-notes
-write_table-requires-clause-notes c =
+pub write_column_table-requires-clause-notes : goal.write_column_table-requires-clause-notes
+write_column_table-requires-clause-notes c =
     let d = c.args.document.now in
     let formed = c.requires.formed in
     let right = c.requires.right in
@@ -23,8 +25,8 @@ write_table-requires-clause-notes c =
     let n = few.notes in
     omega arith
 
-pub write_table-requires-clause-heads : goal.write_table-requires-clause-heads
-write_table-requires-clause-heads c =
+pub write_column_table-requires-clause-heads : goal.write_column_table-requires-clause-heads
+write_column_table-requires-clause-heads c =
     let d = c.args.document.now in
     let formed = c.requires.formed in
     let right = c.requires.right in
@@ -32,9 +34,13 @@ write_table-requires-clause-heads c =
     let n = few.heads in
     omega arith
 
-pub write_table-requires-clause-small : goal.write_table-requires-clause-small
+pub write_column_table-requires-clause-marks : goal.write_column_table-requires-clause-marks
+write_column_table-requires-clause-marks c =
+    fit_parts c.args.document.now c.requires.right
+
+pub write_column_table-requires-clause-small : goal.write_column_table-requires-clause-small
 unfolding table_stream
-write_table-requires-clause-small c =
+write_column_table-requires-clause-small c =
     let d = c.args.document.now in
     let formed = c.requires.formed in
     let right = c.requires.right in
@@ -63,8 +69,10 @@ streams_with-requires c =
     let wd : c.as_slice-2.result.now ≡ wd_stream d =
     c.as_slice-2.ensures
     ∙ (c.in_ok-wd.ensures ∙ (λ i. wd_of (c.fib_of-fib.ensures i) (c.requires.body.bytes i))) in
-    let saved : saved_streams c.as_slice.result.now c.as_slice-2.result.now d.carried.streams ≡ layout_streams d =
-    (λ i. saved_streams (table i) (wd i) d.carried.streams) in
+    let carried = ap (λ (x : Document). x.carried) c.document.view_is in
+    let saved : saved_streams c.as_slice.result.now c.as_slice-2.result.now c.document.inside.carried.streams
+    ≡ layout_streams d =
+    (λ i. saved_streams (table i) (wd i) (carried i).streams) in
     subst AreStreams (sym saved) (layout_are d formed right).are
 
 pub whole-requires : goal.whole-requires
@@ -80,8 +88,10 @@ whole-requires c =
     let wd : c.as_slice-2.result.now ≡ wd_stream d =
     c.as_slice-2.ensures
     ∙ (c.in_ok-wd.ensures ∙ (λ i. wd_of (c.fib_of-fib.ensures i) (c.requires.body.bytes i))) in
-    let saved : saved_streams c.as_slice.result.now c.as_slice-2.result.now d.carried.streams ≡ layout_streams d =
-    (λ i. saved_streams (table i) (wd i) d.carried.streams) in
+    let carried = ap (λ (x : Document). x.carried) c.document.view_is in
+    let saved : saved_streams c.as_slice.result.now c.as_slice-2.result.now c.document.inside.carried.streams
+    ≡ layout_streams d =
+    (λ i. saved_streams (table i) (wd i) (carried i).streams) in
     let streams : c.in_ok-streams.streams ≡ layout_streams d = c.in_ok-streams.ensures ∙ saved in
     let count = (layout_are d formed right).count in
     let same = ap (λ (xs : List NamedBytes). length xs) streams in
@@ -100,10 +110,12 @@ returns-in-Ok c =
     let wd : c.as_slice-2.result.now ≡ wd_stream d =
     c.as_slice-2.ensures
     ∙ (c.in_ok-wd.ensures ∙ (λ i. wd_of (c.fib_of-fib.ensures i) (c.requires.body.bytes i))) in
-    let saved : saved_streams c.as_slice.result.now c.as_slice-2.result.now d.carried.streams ≡ layout_streams d =
-    (λ i. saved_streams (table i) (wd i) d.carried.streams) in
+    let carried = ap (λ (x : Document). x.carried) c.document.view_is in
+    let saved : saved_streams c.as_slice.result.now c.as_slice-2.result.now c.document.inside.carried.streams
+    ≡ layout_streams d =
+    (λ i. saved_streams (table i) (wd i) (carried i).streams) in
     let streams : c.in_ok-streams.streams ≡ layout_streams d = c.in_ok-streams.ensures ∙ saved in
-    c.in-Ok.ensures.1 ∙ ap (λ (xs : List NamedBytes). compound_file xs d.carried.clsid) streams
+    c.in-Ok.ensures.1 ∙ (λ i. compound_file (streams i) (carried i).clsid)
 
 pub returns-in-Err-TooLarge : goal.returns-in-Err-TooLarge
 unfolding table_stream wd_stream layout_streams
@@ -118,8 +130,10 @@ returns-in-Err-TooLarge c =
     let wd : c.as_slice-2.result.now ≡ wd_stream d =
     c.as_slice-2.ensures
     ∙ (c.in_ok-wd.ensures ∙ (λ i. wd_of (c.fib_of-fib.ensures i) (c.requires.body.bytes i))) in
-    let saved : saved_streams c.as_slice.result.now c.as_slice-2.result.now d.carried.streams ≡ layout_streams d =
-    (λ i. saved_streams (table i) (wd i) d.carried.streams) in
+    let carried = ap (λ (x : Document). x.carried) c.document.view_is in
+    let saved : saved_streams c.as_slice.result.now c.as_slice-2.result.now c.document.inside.carried.streams
+    ≡ layout_streams d =
+    (λ i. saved_streams (table i) (wd i) (carried i).streams) in
     let streams : c.in_ok-streams.streams ≡ layout_streams d = c.in_ok-streams.ensures ∙ saved in
     let lengths = ap (λ (xs : List NamedBytes). sectors_needed (lengths_of xs)) streams in
     let fault : IsLayoutFault (lengths_of c.in_ok-streams.streams) (TooLarge c.in-Err-TooLarge.sectors) =

@@ -5,18 +5,21 @@ use Rattle.full_save.specs.declared.table_text.TableText.{TableText}
 use Rattle.full_save.specs.TableText.{table_entries}
 use Rattle.full_save.specs.TableStream.{entries_bytes}
 use Rattle.full_save.specs.WordDocument.{table_stream, wd_stream}
+use Rattle.plain_doc.specs.declared.document.Document.{Document}
+use Rattle.full_save.specs.Streams.{saved_streams}
 use Rattle.full_save.specs.Layout.{layout_streams}
 use Rattle.full_save.proofs.TextLaidOut.{few_items}
 use Rattle.full_save.proofs.StreamLengths.{short_body, short_table}
 use Rattle.full_save.proofs.LayoutLemmas.{layout_are, total_short, length-wd_stream, body_stream}
+use Rattle.full_save.proofs.MarkLengths.{fit_parts}
 use Rattle.full_save.proofs.saving.sectors_with.Goals as goal
 
-pub table_stream_len-requires-clause-sheet : goal.table_stream_len-requires-clause-sheet
-table_stream_len-requires-clause-sheet c =
+pub column_table_len-requires-clause-sheet : goal.column_table_len-requires-clause-sheet
+column_table_len-requires-clause-sheet c =
     c.requires.right.writable
 
-pub table_stream_len-requires-clause-notes : goal.table_stream_len-requires-clause-notes
-table_stream_len-requires-clause-notes c =
+pub column_table_len-requires-clause-notes : goal.column_table_len-requires-clause-notes
+column_table_len-requires-clause-notes c =
     let d = c.args.document.now in
     let formed = c.requires.formed in
     let right = c.requires.right in
@@ -24,8 +27,8 @@ table_stream_len-requires-clause-notes c =
     let n = few.notes in
     omega arith
 
-pub table_stream_len-requires-clause-heads : goal.table_stream_len-requires-clause-heads
-table_stream_len-requires-clause-heads c =
+pub column_table_len-requires-clause-heads : goal.column_table_len-requires-clause-heads
+column_table_len-requires-clause-heads c =
     let d = c.args.document.now in
     let formed = c.requires.formed in
     let right = c.requires.right in
@@ -33,9 +36,13 @@ table_stream_len-requires-clause-heads c =
     let n = few.heads in
     omega arith
 
-pub table_stream_len-requires-clause-small : goal.table_stream_len-requires-clause-small
+pub column_table_len-requires-clause-marks : goal.column_table_len-requires-clause-marks
+column_table_len-requires-clause-marks c =
+    fit_parts c.args.document.now c.requires.right
+
+pub column_table_len-requires-clause-small : goal.column_table_len-requires-clause-small
 unfolding table_stream
-table_stream_len-requires-clause-small c =
+column_table_len-requires-clause-small c =
     let d = c.args.document.now in
     let formed = c.requires.formed in
     let right = c.requires.right in
@@ -63,7 +70,9 @@ sectors_needed-sectors-requires c =
     let is_wd : length (wd_stream d) ≡ c.stream_len.result =
     length-wd_stream d ∙ sym (c.stream_len.ensures ∙ ap body_stream c.requires.body.bytes) in
     let are : c.in_ok-lengths.lengths.items ≡ lengths_of (layout_streams d) =
-    c.in_ok-lengths.ensures (table_stream d) (wd_stream d) is_table is_wd in
+    c.in_ok-lengths.ensures (table_stream d) (wd_stream d) is_table is_wd
+    ∙ ap (λ (x : Document). lengths_of (saved_streams (table_stream d) (wd_stream d) x.carried.streams))
+    c.document.view_is in
     let total = total_short (layout_streams d) (layout_are d formed right).are in
     let same = ap sum (c.deref.ensures.value ∙ are) in
     omega arith
@@ -79,5 +88,7 @@ returns c =
     let is_wd : length (wd_stream d) ≡ c.stream_len.result =
     length-wd_stream d ∙ sym (c.stream_len.ensures ∙ ap body_stream c.requires.body.bytes) in
     let are : c.in_ok-lengths.lengths.items ≡ lengths_of (layout_streams d) =
-    c.in_ok-lengths.ensures (table_stream d) (wd_stream d) is_table is_wd in
+    c.in_ok-lengths.ensures (table_stream d) (wd_stream d) is_table is_wd
+    ∙ ap (λ (x : Document). lengths_of (saved_streams (table_stream d) (wd_stream d) x.carried.streams))
+    c.document.view_is in
     c.sectors_needed-sectors.ensures ∙ ap sectors_needed (c.deref.ensures.value ∙ are)

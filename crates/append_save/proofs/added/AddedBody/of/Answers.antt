@@ -17,7 +17,7 @@ use Rattle.append_save.specs.KeptBins.{kept_bins}
 use Rattle.append_save.specs.MarkRuns.{mark_runs, mark_runs_end}
 use Rattle.append_save.specs.PlannedSections.{planned_sepxes, planned_seds}
 use Rattle.append_save.specs.Appended.{fast_bin_table, fast_seds}
-use Rattle.append_save.proofs.ReadyLemmas.{Ready, is_right, characters_within, paragraphs_within, characters_named}
+use Rattle.append_save.proofs.ReadyLemmas.{ready, is_right, characters_within, paragraphs_within, characters_named}
 use Rattle.append_save.proofs.ReadyLemmas.{paragraphs_named, old_table_is, runs_right, have_room}
 use Rattle.append_save.proofs.TableLemmas.{bins_printable}
 use Rattle.append_save.proofs.BodyLemmas.{body_end, body_short, body_is}
@@ -28,47 +28,27 @@ use Rattle.append_save.proofs.added.AddedBody.of.Goals as goal
 pub old_part-table-requires : goal.old_part-table-requires
 old_part-table-requires c =
     let save : FastSave = save_of c.args.old.now c.args.document.now c.args.text.now in
-    let r : Ready = record {
-      save = save;
-      can = c.requires.kept;
-      formed = c.requires.formed;
-      items = c.as_slice-items.ensures.formed;
-    } in
+    let r = ready save c.requires.kept c.requires.formed c.as_slice-items.ensures.formed in
     characters_within r
 
 pub add_characters-requires-clause-old : goal.add_characters-requires-clause-old
 add_characters-requires-clause-old c =
     let save : FastSave = save_of c.args.old.now c.args.document.now c.args.text.now in
-    let r : Ready = record {
-      save = save;
-      can = c.requires.kept;
-      formed = c.requires.formed;
-      items = c.as_slice-items.ensures.formed;
-    } in
+    let r = ready save c.requires.kept c.requires.formed c.as_slice-items.ensures.formed in
     let old = c.old_part-table.ensures ∙ characters_named r in
     subst IsBinTable (sym old) (old_table_is Chpx r)
 
 pub add_characters-requires-clause-runs : goal.add_characters-requires-clause-runs
 add_characters-requires-clause-runs c =
     let save : FastSave = save_of c.args.old.now c.args.document.now c.args.text.now in
-    let r : Ready = record {
-      save = save;
-      can = c.requires.kept;
-      formed = c.requires.formed;
-      items = c.as_slice-items.ensures.formed;
-    } in
+    let r = ready save c.requires.kept c.requires.formed c.as_slice-items.ensures.formed in
     let same = c.as_slice-items.ensures.items in
     subst (λ (xs : List Item). AreRuns Chpx (text_runs Chpx save.base xs)) (sym same) (runs_right Chpx r)
 
 pub add_characters-requires-clause-room : goal.add_characters-requires-clause-room
 add_characters-requires-clause-room c =
     let save : FastSave = save_of c.args.old.now c.args.document.now c.args.text.now in
-    let r : Ready = record {
-      save = save;
-      can = c.requires.kept;
-      formed = c.requires.formed;
-      items = c.as_slice-items.ensures.formed;
-    } in
+    let r = ready save c.requires.kept c.requires.formed c.as_slice-items.ensures.formed in
     let same = c.as_slice-items.ensures.items in
     let first = c.pages_for-first.ensures ∙ ap (λ (xs : List Item). units_for 512 (save.base + 2 * length xs)) same in
     subst (λ (x : ℕ × List Item). x.0 + length (text_runs Chpx save.base x.1) ≤ 4194304)
@@ -77,12 +57,7 @@ add_characters-requires-clause-room c =
 pub add_characters-requires-clause-printable : goal.add_characters-requires-clause-printable
 add_characters-requires-clause-printable c =
     let save : FastSave = save_of c.args.old.now c.args.document.now c.args.text.now in
-    let r : Ready = record {
-      save = save;
-      can = c.requires.kept;
-      formed = c.requires.formed;
-      items = c.as_slice-items.ensures.formed;
-    } in
+    let r = ready save c.requires.kept c.requires.formed c.as_slice-items.ensures.formed in
     let same = c.as_slice-items.ensures.items in
     let old = c.old_part-table.ensures ∙ characters_named r in
     let first = c.pages_for-first.ensures ∙ ap (λ (xs : List Item). units_for 512 (save.base + 2 * length xs)) same in
@@ -93,35 +68,20 @@ add_characters-requires-clause-printable c =
 pub old_part-table-requires-2 : goal.old_part-table-requires-2
 old_part-table-requires-2 c =
     let save : FastSave = save_of c.args.old.now c.args.document.now c.args.text.now in
-    let r : Ready = record {
-      save = save;
-      can = c.requires.kept;
-      formed = c.requires.formed;
-      items = c.as_slice-items.ensures.formed;
-    } in
+    let r = ready save c.requires.kept c.requires.formed c.as_slice-items.ensures.formed in
     paragraphs_within r
 
 pub add_paragraphs-requires-clause-old : goal.add_paragraphs-requires-clause-old
 add_paragraphs-requires-clause-old c =
     let save : FastSave = save_of c.args.old.now c.args.document.now c.args.text.now in
-    let r : Ready = record {
-      save = save;
-      can = c.requires.kept;
-      formed = c.requires.formed;
-      items = c.as_slice-items.ensures.formed;
-    } in
+    let r = ready save c.requires.kept c.requires.formed c.as_slice-items.ensures.formed in
     let old = c.old_part-table-2.ensures ∙ paragraphs_named r in
     subst IsBinTable (sym old) (old_table_is Papx r)
 
 pub add_paragraphs-requires-clause-runs : goal.add_paragraphs-requires-clause-runs
 add_paragraphs-requires-clause-runs c =
     let save : FastSave = save_of c.args.old.now c.args.document.now c.args.text.now in
-    let r : Ready = record {
-      save = save;
-      can = c.requires.kept;
-      formed = c.requires.formed;
-      items = c.as_slice-items.ensures.formed;
-    } in
+    let r = ready save c.requires.kept c.requires.formed c.as_slice-items.ensures.formed in
     let same = c.as_slice-items.ensures.items in
     let old = c.old_part-table-2.ensures ∙ paragraphs_named r in
     subst (λ (x : List ℕ × List Item). AreRuns Papx (mark_runs x.0 save.base x.1)) (λ i. (sym old i, sym same i))
@@ -130,12 +90,7 @@ add_paragraphs-requires-clause-runs c =
 pub add_paragraphs-requires-clause-room : goal.add_paragraphs-requires-clause-room
 add_paragraphs-requires-clause-room c =
     let save : FastSave = save_of c.args.old.now c.args.document.now c.args.text.now in
-    let r : Ready = record {
-      save = save;
-      can = c.requires.kept;
-      formed = c.requires.formed;
-      items = c.as_slice-items.ensures.formed;
-    } in
+    let r = ready save c.requires.kept c.requires.formed c.as_slice-items.ensures.formed in
     let same = c.as_slice-items.ensures.items in
     let first = c.pages_for-first.ensures ∙ ap (λ (xs : List Item). units_for 512 (save.base + 2 * length xs)) same in
     let next = c.in_ok-characters.ensures.next
@@ -147,12 +102,7 @@ add_paragraphs-requires-clause-room c =
 pub add_paragraphs-requires-clause-printable : goal.add_paragraphs-requires-clause-printable
 add_paragraphs-requires-clause-printable c =
     let save : FastSave = save_of c.args.old.now c.args.document.now c.args.text.now in
-    let r : Ready = record {
-      save = save;
-      can = c.requires.kept;
-      formed = c.requires.formed;
-      items = c.as_slice-items.ensures.formed;
-    } in
+    let r = ready save c.requires.kept c.requires.formed c.as_slice-items.ensures.formed in
     let same = c.as_slice-items.ensures.items in
     let old = c.old_part-table-2.ensures ∙ paragraphs_named r in
     let first = c.pages_for-first.ensures ∙ ap (λ (xs : List Item). units_for 512 (save.base + 2 * length xs)) same in
@@ -165,24 +115,14 @@ add_paragraphs-requires-clause-printable c =
 pub append_sections-requires-clause-sections : goal.append_sections-requires-clause-sections
 append_sections-requires-clause-sections c =
     let save : FastSave = save_of c.args.old.now c.args.document.now c.args.text.now in
-    let r : Ready = record {
-      save = save;
-      can = c.requires.kept;
-      formed = c.requires.formed;
-      items = c.as_slice-items.ensures.formed;
-    } in
+    let r = ready save c.requires.kept c.requires.formed c.as_slice-items.ensures.formed in
     subst (All HasSavableSection) (sym c.as_slice.ensures.items)
     (sections_savable save.document r.formed (is_right r))
 
 pub append_sections-requires-clause-few : goal.append_sections-requires-clause-few
 append_sections-requires-clause-few c =
     let save : FastSave = save_of c.args.old.now c.args.document.now c.args.text.now in
-    let r : Ready = record {
-      save = save;
-      can = c.requires.kept;
-      formed = c.requires.formed;
-      items = c.as_slice-items.ensures.formed;
-    } in
+    let r = ready save c.requires.kept c.requires.formed c.as_slice-items.ensures.formed in
     let few = few_items save.document (is_right r) in
     let stories = few.stories in
     let len = ap length c.as_slice.ensures.items in
@@ -191,17 +131,12 @@ append_sections-requires-clause-few c =
 pub append_sections-requires-clause-room : goal.append_sections-requires-clause-room
 append_sections-requires-clause-room c =
     let save : FastSave = save_of c.args.old.now c.args.document.now c.args.text.now in
-    let r : Ready = record {
-      save = save;
-      can = c.requires.kept;
-      formed = c.requires.formed;
-      items = c.as_slice-items.ensures.formed;
-    } in
+    let r = ready save c.requires.kept c.requires.formed c.as_slice-items.ensures.formed in
     let same = c.as_slice-items.ensures.items in
     let old = c.old_part-table-2.ensures ∙ paragraphs_named r in
     let made = pages_made save c.as_slice-items.result.now c.old_part-table-2.result.now c.new-bytes.result
-    c.append_text.new.out c.add_characters.new.out c.add_paragraphs.new.out same old c.new-bytes.ensures
-    c.in_ok-append_text.ensures c.in_ok-characters.ensures.bytes c.in_ok-paragraphs.ensures.bytes in
+    c.add_text.new.out c.add_characters.new.out c.add_paragraphs.new.out same old c.new-bytes.ensures
+    c.in_ok-add_text.ensures c.in_ok-characters.ensures.bytes c.in_ok-paragraphs.ensures.bytes in
     let len = ap length made in
     let short = body_short r in
     omega (arith, len, short)
@@ -209,12 +144,7 @@ append_sections-requires-clause-room c =
 pub counts_of-requires-clause-main : goal.counts_of-requires-clause-main
 counts_of-requires-clause-main c =
     let save : FastSave = save_of c.args.old.now c.args.document.now c.args.text.now in
-    let r : Ready = record {
-      save = save;
-      can = c.requires.kept;
-      formed = c.requires.formed;
-      items = c.as_slice-items.ensures.formed;
-    } in
+    let r = ready save c.requires.kept c.requires.formed c.as_slice-items.ensures.formed in
     let few = few_items save.document (is_right r) in
     let n = few.stories in
     omega (arith, n)
@@ -222,12 +152,7 @@ counts_of-requires-clause-main c =
 pub counts_of-requires-clause-notes : goal.counts_of-requires-clause-notes
 counts_of-requires-clause-notes c =
     let save : FastSave = save_of c.args.old.now c.args.document.now c.args.text.now in
-    let r : Ready = record {
-      save = save;
-      can = c.requires.kept;
-      formed = c.requires.formed;
-      items = c.as_slice-items.ensures.formed;
-    } in
+    let r = ready save c.requires.kept c.requires.formed c.as_slice-items.ensures.formed in
     let few = few_items save.document (is_right r) in
     let n = few.notes in
     omega (arith, n)
@@ -235,12 +160,7 @@ counts_of-requires-clause-notes c =
 pub counts_of-requires-clause-heads : goal.counts_of-requires-clause-heads
 counts_of-requires-clause-heads c =
     let save : FastSave = save_of c.args.old.now c.args.document.now c.args.text.now in
-    let r : Ready = record {
-      save = save;
-      can = c.requires.kept;
-      formed = c.requires.formed;
-      items = c.as_slice-items.ensures.formed;
-    } in
+    let r = ready save c.requires.kept c.requires.formed c.as_slice-items.ensures.formed in
     let few = few_items save.document (is_right r) in
     let n = few.heads in
     omega (arith, n)
@@ -248,24 +168,14 @@ counts_of-requires-clause-heads c =
 pub print_clx-requires : goal.print_clx-requires
 print_clx-requires c =
     let save : FastSave = save_of c.args.old.now c.args.document.now c.args.text.now in
-    let r : Ready = record {
-      save = save;
-      can = c.requires.kept;
-      formed = c.requires.formed;
-      items = c.as_slice-items.ensures.formed;
-    } in
+    let r = ready save c.requires.kept c.requires.formed c.as_slice-items.ensures.formed in
     printable r
 
 pub returns : goal.returns
 unfolding fast_bin_table
 returns c =
     let save : FastSave = save_of c.args.old.now c.args.document.now c.args.text.now in
-    let r : Ready = record {
-      save = save;
-      can = c.requires.kept;
-      formed = c.requires.formed;
-      items = c.as_slice-items.ensures.formed;
-    } in
+    let r = ready save c.requires.kept c.requires.formed c.as_slice-items.ensures.formed in
     let same = c.as_slice-items.ensures.items in
     let first = c.pages_for-first.ensures ∙ ap (λ (xs : List Item). units_for 512 (save.base + 2 * length xs)) same in
     let next = c.in_ok-characters.ensures.next
@@ -273,8 +183,8 @@ returns c =
     let characters = c.old_part-table.ensures ∙ characters_named r in
     let paragraphs = c.old_part-table-2.ensures ∙ paragraphs_named r in
     let made = pages_made save c.as_slice-items.result.now c.old_part-table-2.result.now c.new-bytes.result
-    c.append_text.new.out c.add_characters.new.out c.add_paragraphs.new.out same paragraphs c.new-bytes.ensures
-    c.in_ok-append_text.ensures c.in_ok-characters.ensures.bytes c.in_ok-paragraphs.ensures.bytes in
+    c.add_text.new.out c.add_characters.new.out c.add_paragraphs.new.out same paragraphs c.new-bytes.ensures
+    c.in_ok-add_text.ensures c.in_ok-characters.ensures.bytes c.in_ok-paragraphs.ensures.bytes in
     let main = c.as_slice.ensures.items in
     let table : c.in_ok-characters.characters.table ≡ fast_bin_table Chpx save = c.in_ok-characters.ensures.table
     ∙ (λ i. printed_bin

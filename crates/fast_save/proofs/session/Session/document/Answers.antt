@@ -5,5 +5,5 @@ use Rattle.fast_save.proofs.session.Session.document.Goals as goal
 
 pub returns : goal.returns
 returns c =
-    sound_copy c.copy.result c.self.inside.document c.args.self.now.document
-    (ap (λ (view : SessionView). view.document) c.self.view_is) c.self.invariant.0.sound c.copy.ensures
+    sound_copy c.items_of.result c.self.inside.document c.args.self.now.document
+    (ap (λ (view : SessionView). view.document) c.self.view_is) c.self.invariant.0.sound c.items_of.ensures.items

@@ -2,6 +2,7 @@ use Rattle.std.proofs.Common.{◌≡◌, ◌∙◌, ap, subst, List, ℕ, length
 use Rattle.cfb_sectors.specs.Header.{sector_count}
 use Rattle.fib_form.specs.FibFields.{FibFields}
 use Rattle.piece_table.specs.Piece.{TextPiece, one_piece}
+use Rattle.plain_doc.specs.Formed.{IsFormed}
 use Rattle.full_save.specs.Text.{text_items}
 use Rattle.full_save.specs.WordDocument.{full_fib, text_at}
 use Rattle.full_save.specs.Layout.{full_save_image, FitsCompoundFile}
@@ -35,9 +36,10 @@ returns-clause-ok c =
     let document = c.self.inside.document in
     let parts = c.in_ok-parts.parts in
     let counts = c.counts_of-self-inside.result in
-    let made : (c.in_ok-file.file ≡ full_save_image document) × FitsCompoundFile document = c.in_ok-file.ensures in
+    let made : (c.in_ok-file.file ≡ full_save_image document) × (FitsCompoundFile document × IsFormed document) =
+    c.in_ok-file.ensures in
     let savable : IsSavable document =
-    record { formed = c.documents_are_formed.ensures; sound = c.self.invariant.0.sound; fits = made.1 } in
+    record { formed = made.1.1; sound = c.self.invariant.0.sound; fits = made.1.0 } in
     let pieces = one_piece text_at (length (text_items document)) in
     let file_is : c.as_slice-2.result.now ≡ full_save_image document = c.as_slice-2.ensures ∙ made.0 in
     let first : AreCountsOf pieces (sector_count c.as_slice-2.result.now) (bin_length parts.fib) counts =
@@ -77,4 +79,4 @@ returns-clause-ok c =
     subst
     (λ (view : SessionView).
     FitsCompoundFile view.document × (IsHeldInFull view.document × (new ≡ session_after_full view)))
-    c.self.view_is (made.1, (full_saves_hold document savable, after))
+    c.self.view_is (made.1.0, (full_saves_hold document savable, after))

@@ -1,7 +1,7 @@
 use Rattle.std.proofs.Common.{◌≡◌, ◌∙◌, refl, sym, ap, subst, List, ℕ, arith}
 use Rattle.plain_doc.specs.declared.document.Document.{Document}
 use Rattle.edit_guards.specs.declared.facts.Facts.{Facts}
-use Rattle.edit_ops.specs.declared.changes.Change.{Change}
+use Rattle.edit_changes.specs.declared.changes.Change.{Change}
 use Rattle.edit_ops.specs.Edits.{changes_of}
 use Rattle.edit_ops.specs.EditFacts.{edit_facts}
 use Rattle.edited_text.specs.EditSteps.{AreEditSteps}
@@ -27,7 +27,7 @@ edit-requires-clause-steps c =
     let planned : IsPlanned document command c.args.edit =
     subst (λ (document : Document). IsPlanned document command c.args.edit)
     (sym (ap (λ (view : SessionView). view.document) c.self.view_is)) c.requires.planned in
-    subst (AreEditSteps document) (sym c.in_ok-changes.ensures)
+    subst (AreEditSteps document) (sym planned.1.0)
     (commands_are_steps document command c.self.invariant.0.sound planned.0)
 
 pub edit-requires-clause-count : goal.edit-requires-clause-count
@@ -63,7 +63,7 @@ invariant_of-self-2 c =
     let made : IsPlanned document command c.args.edit =
     subst (λ (document : Document). IsPlanned document command c.args.edit)
     (sym (ap (λ (view : SessionView). view.document) c.self.view_is)) c.requires.planned in
-    let changes : c.in_ok-changes.changes ≡ changes_of document command = c.in_ok-changes.ensures in
+    let changes : c.args.edit.changes ≡ changes_of document command = made.1.0 in
     let text : IsTextEdit document (changes_of document command) inside.parts.text c.edit.new.self =
     subst (λ (list : List Change). IsTextEdit document list inside.parts.text c.edit.new.self) changes
     c.in_ok-edit.ensures.text in
@@ -78,7 +78,7 @@ invariant_of-self-2 c =
     let units : ℕ = (edit_facts document command).units_in in
     let few = few_units document command made.0 in
     let session : IsSession inside.file c.args.edit.document new =
-    subst (λ (after : Document). IsSession inside.file after new) (sym made.1.0)
+    subst (λ (after : Document). IsSession inside.file after new) (sym made.1.1.0)
     (session_edited inside.file document command inside.parts new is made.0 text sections refl refl) in
     let counted : IsCounted inside.file new (after_edit command units inside.counts) =
     counted_after inside.file document command inside.parts new inside.counts c.self.invariant.1 room made.0.tried.codes
@@ -92,5 +92,5 @@ invariant_of-self-2 c =
     text.added) in
     let counts : c.after_edit-self-inside.result ≡ after_edit command units inside.counts =
     c.after_edit-self-inside.ensures
-    ∙ ap (λ (facts : Facts). after_edit command facts.units_in inside.counts) made.1.1 in
+    ∙ ap (λ (facts : Facts). after_edit command facts.units_in inside.counts) made.1.1.1 in
     (session, subst (IsCounted inside.file new) (sym counts) counted)

@@ -24,9 +24,14 @@ counts_of-counts-requires c =
     let least = whole.least in
     omega (arith, least)
 
-pub returns-in_err-file : goal.returns-in_err-file
-returns-in_err-file c =
-    let p = err_from_is_err_and c.from_residual-in_err-file.result c.from_residual-in_err-file.ensures.1 in
+pub returns-in_err-bytes : goal.returns-in_err-bytes
+returns-in_err-bytes c =
+    let p = err_from_is_err_and c.from_residual-in_err-bytes.result c.from_residual-in_err-bytes.ensures.1 in
+    rw (p.1, p.2) tt
+
+pub returns-in_err-parts : goal.returns-in_err-parts
+returns-in_err-parts c =
+    let p = err_from_is_err_and c.from_residual-in_err-parts.result c.from_residual-in_err-parts.ensures.1 in
     rw (p.1, p.2) tt
 
 pub invariant_of-result : goal.invariant_of-result
@@ -46,7 +51,7 @@ invariant_of-result c =
     let counted : IsCounted c.args.file.now parts counts =
     counted_at_start c.args.file.now parts counts (file_whole c.args.file.now c.in_ok-opened.ensures.holds.rules)
     c.counts_of-counts.ensures c.in_ok-parts.ensures.fresh c.in_ok-parts.ensures.written in
-    subst (λ (file : List ℕ). IsSession file document parts × IsCounted file parts counts) (sym c.in_ok-file.ensures)
+    subst (λ (file : List ℕ). IsSession file document parts × IsCounted file parts counts) (sym c.in_ok-bytes.ensures)
     (session, counted)
 
 pub returns : goal.returns
@@ -65,7 +70,7 @@ returns c =
       counts = counts;
       quick_saves = parts.fib.quick_saves;
     }))
-    (sym c.in_ok-file.ensures)
+    (sym c.in_ok-bytes.ensures)
     (subst
     (λ (document : Document).
     IsStarted c.args.file.now (record {

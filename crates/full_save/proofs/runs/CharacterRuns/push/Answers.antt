@@ -1,19 +1,14 @@
-use Rattle.std.proofs.Common.{[], ◌∷◌, ◌++◌, ap, ◌∙◌, refl}
+use Rattle.std.proofs.Common.{[], ◌∷◌, List, sym, subst, arith}
+use Rattle.std.proofs.lemmas.List.{append-nil}
 use Rattle.prop_map.specs.Settings.{Settings}
-use Rattle.full_save.proofs.SoFarLemmas.{characters_go_on, characters_change}
+use Rattle.plain_doc.specs.declared.item.Item.{Item}
+use Rattle.full_save.specs.RunsSoFar.{AreCharactersSoFar}
+use Rattle.full_save.proofs.AlikeLemmas.{alike_one}
 use Rattle.full_save.proofs.runs.CharacterRuns.push.Goals as goal
-
-pub returns-then-equal : goal.returns-then-equal
-returns-then-equal c = λ at done here so.
-    characters_go_on at done c.args.item.now c.args.self.now (c.if-equal.ensures.0 refl) so
 
 pub returns : goal.returns
 returns c = λ at done here so.
-    let old = c.args.self.now in
-    let replaced = ap
-    (λ (chp : Settings). old.closed ++ (record { from = old.from; to = c.args.end; istd = 0; map = chp }) ∷ [])
-    c.replace-chp.ensures.value in
-    characters_change at c.args.end done c.args.item.now old
-    (record { closed = c.add.new.self; from = c.args.end; chp = c.replace-chp.new.dest }) here c.if-self-end.false
-    (λ same. absurd (cc (c.if-equal.ensures.1 same))) (c.in_ok-add.ensures.ok ∙ replaced) refl
-    (c.replace-chp.ensures.after ∙ c.in_ok-copy.ensures) so
+    let item = c.args.item.now in
+    let chp : Item → Settings = λ item. item.chp in
+    c.in_ok-push_run.ensures at done (item ∷ []) 0 (omega (arith, here)) (alike_one chp item)
+    (subst (λ (xs : List Item). AreCharactersSoFar at xs c.args.self.now) (sym (append-nil done)) so)

@@ -1,3 +1,4 @@
+use Rattle.plain_doc.specs.declared.document.Document.{Document}
 use Rattle.std.proofs.Common.{◌≡◌, ◌≤◌, ◌<◌, ◌+◌, ◌*◌, ◌^◌, ◌++◌, ℕ, List, length, ap, sym, subst, ◌∙◌, arith}
 use Rattle.std.specs.Prelude.{All}
 use Rattle.fkp_pages.specs.declared.kind.PageKind.TheVariants.{Chpx, Papx}
@@ -8,7 +9,6 @@ use Rattle.fkp_pages.specs.Runs.{AreRuns}
 use Rattle.fkp_pages.specs.Packed.{pages_of}
 use Rattle.fkp_pages.specs.InARow.{numbered_bins}
 use Rattle.cfb_layout.specs.Sectors.{units_for, padded}
-use Rattle.plain_doc.specs.declared.item.Item.{Item}
 use Rattle.plain_doc.specs.Collected.{sections_of}
 use Rattle.full_save.specs.Text.{text_items}
 use Rattle.full_save.specs.Sections.{sepxes, seds_from, HasSavableSection}
@@ -16,7 +16,8 @@ use Rattle.full_save.specs.WordDocument.{text_at, units_bytes, text_bytes, docum
 use Rattle.full_save.specs.WordDocument.{first_character_page, first_paragraph_page, pages_end}
 use Rattle.full_save.proofs.StreamLengths.{few_runs, few_pages}
 use Rattle.full_save.proofs.TextLaidOut.{few_items, runs_are}
-use Rattle.full_save.proofs.BodyLemmas.{length-units, last_fc-text_runs, sections_savable, bins_printable, text_and_pages, body_is}
+use Rattle.full_save.proofs.BodyLemmas.{length-units, last_fc-text_runs, sections_savable, bins_printable}
+use Rattle.full_save.proofs.BodyLemmas.{text_and_pages, body_is}
 use Rattle.full_save.proofs.BodyLemmas.{pages_end_is, pages_short}
 use Rattle.full_save.proofs.word_document.WordBody.of_text.Goals as goal
 
@@ -126,8 +127,7 @@ append_sepxes-requires-clause-sections c =
     let d = c.args.document.now in
     let formed = c.requires.formed in
     let right = c.requires.right in
-    subst (λ (items : List Item). All HasSavableSection items) (sym c.as_slice.ensures.items) (sections_savable d
-    formed right)
+    subst (λ (x : Document). All HasSavableSection x.main) (sym c.document.view_is) (sections_savable d formed right)
 
 pub append_sepxes-requires-clause-room : goal.append_sepxes-requires-clause-room
 append_sepxes-requires-clause-room c =
@@ -266,7 +266,7 @@ returns c =
     c.args.text.now.paragraphs).starts) c.new-paragraphs.ensures
     ∙ (λ i. numbered_bins (next i) (later i))) in
     let more = few_pages Papx d formed right in
-    let sections = ap sections_of c.as_slice.ensures.items in
+    let sections = ap (λ (x : Document). sections_of x.main) c.document.view_is in
     let place : 1024 + length c.append_papx_pages.new.out ≡ pages_end d = ap (λ (xs : List ℕ). 1024 + length xs) three
     ∙ pages_end_is d formed right in
     let seds = c.in_ok-seds.ensures.seds ∙ (λ i. seds_from 0 (place i) (sections i)) in

@@ -1,0 +1,13 @@
+use Rattle.std.proofs.Common.{subst, Option, Some}
+use Rattle.edited_text.specs.declared.session_text.SessionText.{SessionText}
+use Rattle.fast_save.specs.Written.{IsTextToWrite}
+use Rattle.fast_save.proofs.WrittenLemmas.{can_written}
+use Rattle.fast_save.proofs.written.written_by_items.Goals as goal
+
+pub appended-requires : goal.appended-requires
+appended-requires c =
+    let document = c.args.document.now in
+    let parts = c.args.parts.now in
+    let counts = c.args.counts.now in
+    can_written document parts counts (Some c.in-Some.text) c.requires
+    (subst (λ (o : Option SessionText). IsTextToWrite document parts counts o) c.in-Some.is c.in_ok-text.ensures)

@@ -1,0 +1,9 @@
+-- Items that stand in a row and have something in common.
+use Rattle.std.specs.Prelude.{◌≡◌, ◌<◌, ◌≤◌, ◌+◌, ℕ, List, length, Some, slice_get}
+use Rattle.plain_doc.specs.declared.item.Item.{Item}
+
+-- so many items of a text, from a place on, have this
+pub record HaveAlike {A : Type 0} (what : Item → A) (value : A) (text : List Item) (place count : ℕ) : Type 0 where
+  pub within : place + count ≤ length text
+  pub each :
+      (j : ℕ) (item : Item) → place ≤ j → j < place + count → slice_get text j ≡ Some item → what item ≡ value
