@@ -2,3 +2,6 @@ pub mod NumberedLemmas
 pub mod LineLemmas
 pub mod ParagraphLemmas
 pub mod OneTextLemmas
+pub mod WalkLemmas
+pub mod StoryLemmas
+pub mod CountLemmas

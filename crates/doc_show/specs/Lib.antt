@@ -1,5 +1,6 @@
 pub mod Settings
 pub mod Story
+pub mod Walks
 pub mod Listing
 pub mod Counts
 pub mod MainText

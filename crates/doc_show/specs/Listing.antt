@@ -1,8 +1,9 @@
--- The lines that show a document: its styles, and then its texts.
+-- The lines that show a document: its styles, its texts, and then its bookmarks.
 use Rattle.std.specs.Prelude.{ℕ, false, List, [], ◌∷◌, ◌++◌, Option, Some, None, codes}
 use Rattle.std.specs.List.{flat_map, enumerate_from}
 use Rattle.std.specs.Fmt.{decimal}
 use Rattle.text_codes.specs.Shown.{shown}
+use Rattle.doc_parts.specs.declared.bookmark_order.Bookmark.{Bookmark}
 use Rattle.style_sheet.specs.declared.styles.Style.{Style}
 use Rattle.style_sheet.specs.declared.styles.Kind.{Kind}
 use Rattle.style_sheet.specs.declared.styles.Kind.TheVariants.{Para, Char, Other}
@@ -53,9 +54,19 @@ abbrev pub numbered_lines : List ℕ → List (List Item) → List ℕ
 numbered_lines word texts =
     flat_map (λ numbered. text_lines (word ++ decimal numbered.0) numbered.1) (enumerate_from 0 texts)
 
--- the styles, the main text, the notes, the header texts
+-- a bookmark: where it begins, where it ends, and its name
+abbrev pub bookmark_line : Bookmark → List ℕ
+bookmark_line bookmark =
+    line (codes "bookmark " ++ (decimal bookmark.from ++ (32 ∷ [] ++ (decimal bookmark.to
+    ++ (32 ∷ [] ++ shown false bookmark.name)))))
+
+abbrev pub bookmark_lines : List Bookmark → List ℕ
+bookmark_lines list = flat_map bookmark_line list
+
+-- the styles, the main text, the notes, the header texts, the bookmarks
 abbrev pub listing_of : Document → List ℕ
 listing_of document =
     sheet_lines document.sheet
     ++ (text_lines (codes "story main") document.main
-    ++ (numbered_lines (codes "story note ") document.notes ++ numbered_lines (codes "story head ") document.heads))
+    ++ (numbered_lines (codes "story note ") document.notes
+    ++ (numbered_lines (codes "story head ") document.heads ++ bookmark_lines document.bookmarks)))

@@ -10,7 +10,8 @@ use Rattle.plain_doc.specs.declared.item.Item.{Item}
 use Rattle.plain_doc.specs.declared.item.Mark.{Mark}
 use Rattle.plain_doc.specs.declared.document.Document.{Document}
 use Rattle.plain_doc.specs.Paragraphs.{IsParagraphEnd}
-use Rattle.doc_show.specs.Settings.{byte_text, word_text, settings_text}
+use Rattle.text_codes.specs.Digits.{byte_text, word_text}
+use Rattle.doc_show.specs.Settings.{settings_text}
 use Rattle.doc_show.specs.Story.{line}
 
 -- a word and settings

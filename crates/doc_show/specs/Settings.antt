@@ -1,18 +1,10 @@
 -- The text of settings. All hexadecimal digits are lower-case.
-use Rattle.std.specs.Prelude.{ℕ, ◌/◌, ◌%◌, List, [], ◌∷◌, ◌++◌}
+use Rattle.std.specs.Prelude.{ℕ, List, [], ◌∷◌, ◌++◌}
 use Rattle.std.specs.List.{flat_map}
 use Rattle.std.specs.FinMap.{entries}
-use Rattle.text_codes.specs.Shown.{hex_digit}
+use Rattle.text_codes.specs.Digits.{byte_text, word_text}
 use Rattle.sprm_table.specs.Sprm.{Prl}
 use Rattle.prop_map.specs.Settings.{Settings}
-
--- the two digits of a byte
-abbrev pub byte_text : ℕ → List ℕ
-byte_text byte = hex_digit (byte / 16) ∷ hex_digit (byte % 16) ∷ []
-
--- the four digits of a word
-abbrev pub word_text : ℕ → List ℕ
-word_text word = byte_text (word / 256) ++ byte_text (word % 256)
 
 -- the bytes of a value in their order
 abbrev pub value_text : List ℕ → List ℕ

@@ -11,7 +11,8 @@ use Rattle.plain_doc.specs.declared.item.NoteKind.{NoteKind}
 use Rattle.plain_doc.specs.declared.item.NoteKind.TheVariants.{Auto, Custom}
 use Rattle.plain_doc.specs.Stretches.{stretches}
 use Rattle.plain_doc.specs.Settings.{same_settings, is_inside}
-use Rattle.doc_show.specs.Settings.{byte_text, settings_text}
+use Rattle.text_codes.specs.Digits.{byte_text}
+use Rattle.doc_show.specs.Settings.{settings_text}
 
 -- a line ends with a line feed
 abbrev pub line : List ℕ → List ℕ

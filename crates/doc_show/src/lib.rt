@@ -1,6 +1,7 @@
 //! The texts that show a document: its styles and texts, how much it has, and what is in effect at an item.
 #![tactic(auto)]
 
+mod bookmark_lines;
 mod counts;
 mod laws;
 mod plain_text;
@@ -9,9 +10,10 @@ mod settings;
 mod story;
 mod styles;
 mod texts;
+mod walk;
 
-pub use counts::{Counts, accepted_line, counts_text, styles_in};
+pub use counts::{accepted_line, columns_accepted_line};
 pub use laws::property_lines_are_one;
-pub use plain_text::main_text;
-pub use properties::props_lines;
-pub use texts::listing;
+pub use plain_text::{columns_main_text, main_text};
+pub use properties::{columns_props_lines, props_lines};
+pub use texts::{columns_listing, listing};

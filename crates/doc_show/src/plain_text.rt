@@ -3,17 +3,24 @@ ghost use Rattle.std.specs.Prelude.{◌≡◌, IfOk};
 ghost use Rattle.doc_show.specs.MainText.{main_text_of};
 
 use doc_bits::{Memory, Text};
+use doc_columns::ColumnDocument;
 use plain_doc::Document;
 use std::alloc::Global;
 use text_codes::ShownText;
 
-/// The shown main text of a document, with a line feed for each paragraph mark.
+/// The shown main text of a document, with a line feed for each paragraph mark. The document is put by columns first.
 pub fn main_text(alloc: Global, document: &Document) -> Result<Text, Memory>
     ensures { IfOk result (λ text. text ≡ main_text_of document.now) }
 {
+    let columns = ColumnDocument::from_document(alloc, document)?;
+    columns_main_text(alloc, &columns)
+}
+
+/// The same of a document by columns. It is linear in the units.
+pub fn columns_main_text(alloc: Global, document: &ColumnDocument) -> Result<Text, Memory>
+    ensures { IfOk result (λ text. text ≡ main_text_of document.now) }
+{
     let mut text = ShownText::new(alloc, true);
-    for item in document.main.as_slice() {
-        text.push(item.unit)?;
-    }
+    text.push_all(document.main.units())?;
     text.finish()
 }

@@ -7,38 +7,61 @@ ghost use Rattle.plain_doc.specs.Sound.{IsSound};
 ghost use Rattle.doc_show.specs.Properties.{ArePropertyLines, IsMarkFrom, item_lines, mark_lines, tab_text, tabs_line};
 ghost use Rattle.doc_show.specs.Properties.{unit_line, style_line};
 
-use crate::settings::{push_byte, push_word};
+use crate::story::paragraph_end;
 use crate::styles::push_map;
 use doc_bits::{Memory, Text};
+use doc_columns::{ColumnDocument, Columns};
 use effective_props::{ParaEffect, Tab, Tabs, effective_char, effective_para};
-use plain_doc::{Document, Item, Mark, paragraph_end};
+use plain_doc::{Document, Item, Mark};
 use prop_map::PropMap;
+use run_lists::{Cursor, seek};
 use std::alloc::Global;
+use text_codes::{push_byte, push_word};
 
-/// The seven lines on an item of the main text.
+/// The seven lines on an item of the main text. The document is put by columns first.
 pub fn props_lines(alloc: Global, document: &Document, pos: usize) -> Result<Text, Memory>
     requires sound { IsSound document.now }
     requires within { pos < length document.now.main }
     ensures { IfOk result (ArePropertyLines document.now pos) }
 {
-    let items = document.main.as_slice();
+    let columns = ColumnDocument::from_document(alloc, document)?;
+    columns_props_lines(alloc, &columns, pos)
+}
+
+/// The same of a document by columns. It is linear in the runs before the end of the paragraph, and in the bases of its
+/// style.
+pub fn columns_props_lines(
+    alloc: Global,
+    document: &ColumnDocument,
+    pos: usize,
+) -> Result<Text, Memory>
+    requires sound { IsSound document.now }
+    requires within { pos < length document.now.main }
+    ensures { IfOk result (ArePropertyLines document.now pos) }
+{
     let sheet = &document.sheet;
-    let item = &items[pos];
-    let mark = mark_from(items, pos).unwrap();
+    let _len = document.main.len();
+    let item = document.main.item(alloc, pos)?;
+    let mark = mark_from(&document.main, pos).unwrap();
     let chp = effective_char(alloc, sheet, mark.istd, &item.chp)?;
     let effect = effective_para(alloc, sheet, mark.istd, &mark.pap)?;
     let mut text = Text::new(alloc);
-    push_item(alloc, &mut text, item, mark.istd, &chp)?;
+    push_item(alloc, &mut text, &item, mark.istd, &chp)?;
     push_mark(alloc, &mut text, mark, &effect)?;
     Ok(text)
 }
 
 /// The first mark from an item on, which is that of the item's paragraph.
-fn mark_from(items: &[Item], pos: usize) -> Option<&Mark>
-    ensures { MatchOption result (HasNoParagraphEnd items.now pos) (λ mark. IsMarkFrom items.now pos mark.now) }
+fn mark_from(columns: &Columns, pos: usize) -> Option<&Mark>
+    requires { pos < length columns.now }
+    ensures { MatchOption result (HasNoParagraphEnd columns.now pos) (λ mark. IsMarkFrom columns.now pos mark.now) }
 {
-    let end = paragraph_end(items, pos)?;
-    items[end].mark.as_ref()
+    let len = columns.len();
+    let besides = columns.besides();
+    let mut marks = Cursor::new();
+    let end = paragraph_end(besides, &mut marks, pos, len);
+    let last = seek(besides, &mut marks, end - 1);
+    last.mark.as_ref()
 }
 
 /// Appends the lines on an item in a paragraph of a style, with the settings that are in effect.

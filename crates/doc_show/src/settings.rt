@@ -1,11 +1,10 @@
 // The text of settings: for each code ascending a space, four digits, an equals sign, and the bytes of its value.
-ghost use Rattle.std.specs.Prelude.{◌≡◌, ◌<◌, ◌++◌, OnOk};
-ghost use Rattle.text_codes.specs.Shown.{hex_digit};
-ghost use Rattle.doc_show.specs.Settings.{byte_text, word_text, value_text, setting_text, settings_text};
+ghost use Rattle.std.specs.Prelude.{◌≡◌, ◌++◌, OnOk};
+ghost use Rattle.doc_show.specs.Settings.{value_text, setting_text, settings_text};
 
 use doc_bits::{Memory, Text};
 use prop_map::PropMap;
-use std::str;
+use text_codes::{push_byte, push_word};
 
 /// Appends the text of settings. After want of memory a part of it may be there, as with each call here.
 pub(crate) fn push_settings(text: &mut Text, map: &PropMap) -> Result<(), Memory>
@@ -36,33 +35,4 @@ fn push_value(text: &mut Text, value: &[u8]) -> Result<(), Memory>
         push_byte(text, *byte)?;
     }
     Ok(())
-}
-
-/// Appends the four lower-case hexadecimal digits of a word.
-pub(crate) fn push_word(text: &mut Text, word: u16) -> Result<(), Memory>
-    ensures { OnOk result (text.new ≡ text.old ++ word_text word) }
-{
-    push_byte(text, (word / 256) as u8)?;
-    push_byte(text, (word % 256) as u8)
-}
-
-/// Appends the two lower-case hexadecimal digits of a byte.
-pub(crate) fn push_byte(text: &mut Text, byte: u8) -> Result<(), Memory>
-    ensures { OnOk result (text.new ≡ text.old ++ byte_text byte) }
-{
-    let digits = [digit(byte / 16), digit(byte % 16)];
-    text.push_all(str::from_utf8(&digits).unwrap())
-}
-
-/// The lower-case hexadecimal digit of a number below 16.
-fn digit(number: u8) -> u8
-    requires { number < 16 }
-    ensures value { result ≡ hex_digit number }
-    ensures ascii { result < 128 }
-{
-    if number < 10 {
-        b'0' + number
-    } else {
-        b'a' + (number - 10)
-    }
 }

@@ -1,64 +1,91 @@
-// The lines that show a text.
-ghost use Rattle.std.specs.Prelude.{◌≡◌, ◌-◌, ◌<◌, ◌++◌, false};
-ghost use Rattle.std.specs.Prelude.{length, map, slice_get, Some, OnOk, IfOk};
+// The lines that show a text. They are made run by run: no item is put together.
+ghost use Rattle.std.specs.Prelude.{◌≡◌, ℕ, ◌+◌, ◌-◌, ◌^◌, ◌<◌, ◌≤◌, ◌++◌, ◌&&◌, true, false};
+ghost use Rattle.std.specs.Prelude.{length, slice_get, slice_range, Some, None, IsSome, OnOk};
 ghost use Rattle.std.specs.List.{flat_map};
-ghost use Rattle.text_codes.specs.Shown.{shown};
-ghost use Rattle.plain_doc.specs.Stretches.{stretches, BeginsStretch};
-ghost use Rattle.plain_doc.specs.Settings.{is_inside, same_settings};
-ghost use Rattle.doc_show.specs.Story.{is_one_run, is_plain as plain_of, item_word, mark_line, paragraph_lines};
+ghost use Rattle.run_lists.specs.Spread.{spread, extent};
+ghost use Rattle.run_lists.specs.Places.{IsAt};
+ghost use Rattle.plain_doc.specs.declared.item.Item.{Item};
+ghost use Rattle.plain_doc.specs.Stretches.{stretches};
+ghost use Rattle.plain_doc.specs.Settings.{same_settings};
+ghost use Rattle.doc_columns.specs.declared.beside.Beside as stands;
+ghost use Rattle.doc_columns.specs.Beside.{beside_of};
+ghost use Rattle.doc_show.specs.Story.{is_one_run, item_word, mark_line};
 ghost use Rattle.doc_show.specs.Story.{run_line, sect_line, story_lines};
+ghost use Rattle.doc_show.specs.Walks.{items_in, AreParts, IsWalk, is_bare, alike_line};
 
-use crate::settings::{push_byte, push_settings};
+use crate::settings::push_settings;
+use crate::walk::{Alike, Parts, Walk, alike_from, value_until};
 use doc_bits::{Memory, Text};
-use plain_doc::{Item, Mark, NoteKind};
+use doc_columns::{Beside, Columns};
+use plain_doc::{Mark, NoteKind};
 use prop_map::PropMap;
+use run_lists::{Cursor, Run, seek};
 use std::alloc::Global;
-use text_codes::ShownText;
+use text_codes::{push_byte, show_units};
 
-/// Appends the lines of a text: of each paragraph its mark, its runs, and the section that ends with it. After want of
-/// memory a part of them may be there, as with each call here.
-pub(crate) fn push_story(alloc: Global, text: &mut Text, items: &[Item]) -> Result<(), Memory>
-    ensures { OnOk result (text.new ≡ text.old ++ story_lines items.now) }
+/// Appends the lines of a text. After want of memory a part of them may be there, as with each call here. It is linear
+/// in the units and the runs.
+pub(crate) fn push_story(alloc: Global, text: &mut Text, columns: &Columns) -> Result<(), Memory>
+    ensures { OnOk result (text.new ≡ text.old ++ story_lines columns.now) }
 {
+    let _len = columns.len();
+    let parts = Parts {
+        units: columns.units(),
+        chps: columns.chps(),
+        besides: columns.besides(),
+    };
+    push_paragraphs(alloc, text, &parts)
+}
+
+/// Appends the lines of paragraphs: of each its mark, its runs, and the section that ends with it.
+fn push_paragraphs(alloc: Global, text: &mut Text, parts: &Parts<'_>) -> Result<(), Memory>
+    requires { AreParts parts.now }
+    ensures { OnOk result (text.new ≡ text.old ++ story_lines (items_in parts.now)) }
+{
+    let mut walk = Walk::new();
+    let mut marks = Cursor::new();
     let mut at = 0;
-    while at < items.len() {
-        let len = paragraph_len(&items[at..]);
-        push_paragraph(alloc, text, &items[at..at + len])?;
-        at += len;
+    while at < parts.units.len() {
+        let end = paragraph_end(parts.besides, &mut marks, at, parts.units.len());
+        let last = seek(parts.besides, &mut marks, end - 1);
+        push_mark(alloc, text, &last.mark)?;
+        push_runs(alloc, text, parts, &mut walk, at, end)?;
+        push_sect(text, &last.sect)?;
+        at = end;
     }
     Ok(())
 }
 
-/// The number of items up to the first mark.
-fn paragraph_len(items: &[Item]) -> usize
-    requires { 0 < length items.now }
-    ensures { BeginsStretch is_inside items.now result }
+/// Where the paragraph of a place ends: behind the first mark, or at the end of the text, which has `len` units.
+pub(crate) fn paragraph_end(
+    besides: &[Run<Beside>],
+    marks: &mut Cursor,
+    place: usize,
+    len: usize,
+) -> usize
+    requires long { extent besides.now ≡ len }
+    requires few { len < 2 ^ 32 }
+    requires at { IsAt besides.now marks.old }
+    requires ahead { marks.old.begin ≤ place }
+    requires within { place < len }
+    ensures at { IsAt besides.now marks.new }
+    ensures ahead { marks.new.begin < result }
+    ensures some { place < result }
+    ensures within { result ≤ len }
+    ensures inside { (k : ℕ) (beside : stands.Beside) → place ≤ k → k + 1 < result
+        → slice_get (spread besides.now) k ≡ Some beside → beside.mark ≡ None }
+    ensures ends { result < len → (beside : stands.Beside)
+        → slice_get (spread besides.now) (result - 1) ≡ Some beside → IsSome beside.mark }
 {
-    for (i, item) in items.iter().enumerate() {
-        if item.mark.is_some() {
-            return i + 1;
+    let mut at = place;
+    while at < len {
+        let (beside, end) = value_until(besides, marks, at);
+        if beside.mark.is_some() {
+            return at + 1;
         }
+        at = end;
     }
-    items.len()
-}
-
-/// Appends the lines of a paragraph.
-fn push_paragraph(alloc: Global, text: &mut Text, items: &[Item]) -> Result<(), Memory>
-    requires { 0 < length items.now }
-    ensures { OnOk result (text.new ≡ text.old ++ paragraph_lines items.now) }
-{
-    let last = last_of(items);
-    push_mark(alloc, text, &last.mark)?;
-    push_runs(alloc, text, items)?;
-    push_sect(text, &last.sect)
-}
-
-/// The last item.
-fn last_of(items: &[Item]) -> &Item
-    requires { 0 < length items.now }
-    ensures { slice_get items.now (length items.now - 1) ≡ Some result.now }
-{
-    &items[items.len() - 1]
+    len
 }
 
 /// Appends the line of a mark.
@@ -87,37 +114,72 @@ fn push_sect(text: &mut Text, sect: &Option<PropMap>) -> Result<(), Memory>
     Ok(())
 }
 
-/// Appends the lines of the runs of a paragraph.
-fn push_runs(alloc: Global, text: &mut Text, items: &[Item]) -> Result<(), Memory>
-    ensures { OnOk result (text.new ≡ text.old ++ flat_map run_line (stretches is_one_run items.now)) }
+/// Appends the lines of the runs of a paragraph, which stands from `from` to before `end`.
+fn push_runs(
+    alloc: Global,
+    text: &mut Text,
+    parts: &Parts<'_>,
+    walk: &mut Walk,
+    from: usize,
+    end: usize,
+) -> Result<(), Memory>
+    requires parts { AreParts parts.now }
+    requires walk { IsWalk parts.now walk.old from }
+    requires ordered { from ≤ end }
+    requires within { end ≤ length parts.now.units.now }
+    ensures walk { OnOk result (IsWalk parts.now walk.new end) }
+    ensures lines { OnOk result (text.new ≡ text.old
+        ++ flat_map run_line (stretches is_one_run (slice_range (items_in parts.now) from end))) }
 {
-    let mut at = 0;
-    while at < items.len() {
-        let len = run_len(&items[at..]);
-        push_run(alloc, text, &items[at..at + len])?;
-        at += len;
+    let mut at = from;
+    while at < end {
+        let first = alike_from(parts, walk, at);
+        let until = run_end(parts, walk, &first, at, end);
+        push_run(alloc, text, &first, &parts.units[at..until])?;
+        at = until;
     }
     Ok(())
 }
 
-/// The number of items of the first run.
-fn run_len(items: &[Item]) -> usize
-    requires { 0 < length items.now }
-    ensures { BeginsStretch is_one_run items.now result }
+/// Where the run of a place ends, which begins with items that have this in common, in a paragraph up to `end`.
+fn run_end(parts: &Parts<'_>, walk: &mut Walk, first: &Alike<'_>, place: usize, end: usize) -> usize
+    requires parts { AreParts parts.now }
+    requires walk { IsWalk parts.now walk.old place }
+    requires some { place < first.now.end }
+    requires before { place < end }
+    requires within { end ≤ length parts.now.units.now }
+    requires chps { (k : ℕ) (item : Item) → place ≤ k → k < first.now.end
+        → slice_get (items_in parts.now) k ≡ Some item → item.chp ≡ first.now.chp.now }
+    requires besides { (k : ℕ) (item : Item) → place ≤ k → k < first.now.end
+        → slice_get (items_in parts.now) k ≡ Some item → beside_of item ≡ first.now.beside.now }
+    ensures walk { IsWalk parts.now walk.new result }
+    ensures some { place < result }
+    ensures within { result ≤ end }
+    ensures joined { (k : ℕ) (item next : Item) → place ≤ k → k + 1 < result
+        → slice_get (items_in parts.now) k ≡ Some item → slice_get (items_in parts.now) (k + 1) ≡ Some next
+        → is_one_run item next ≡ true }
+    ensures ends { result < end → (item next : Item) → slice_get (items_in parts.now) (result - 1) ≡ Some item
+        → slice_get (items_in parts.now) result ≡ Some next → is_one_run item next ≡ false }
 {
-    for i in 1..items.len() {
-        if !joins(&items[i - 1], &items[i]) {
-            return i;
-        }
+    if !is_plain(first.beside) {
+        return place + 1;
     }
-    items.len()
+    let mut until = first.end;
+    while until < end {
+        let next = alike_from(parts, walk, until);
+        if !goes_on(first, &next) {
+            return until;
+        }
+        until = next.end;
+    }
+    end
 }
 
-/// Whether two items are of one run.
-fn joins(item: &Item, next: &Item) -> bool
-    ensures { result ≡ is_one_run item.now next.now }
+/// Whether a run goes on with what others have in common.
+fn goes_on(first: &Alike<'_>, next: &Alike<'_>) -> bool
+    ensures { result ≡ (is_bare next.now.beside.now && same_settings first.now.chp.now next.now.chp.now) }
 {
-    is_plain(item) && is_plain(next) && has_same_settings(&item.chp, &next.chp)
+    is_plain(next.beside) && has_same_settings(first.chp, next.chp)
 }
 
 /// Whether two maps have the same codes and values.
@@ -127,23 +189,23 @@ fn has_same_settings(one: &PropMap, other: &PropMap) -> bool
     one.equal(other)
 }
 
-/// Whether an item is no field character and no reference.
-fn is_plain(item: &Item) -> bool
-    ensures { result ≡ plain_of item.now }
+/// Whether there is no field character and no reference.
+fn is_plain(beside: &Beside) -> bool
+    ensures { result ≡ is_bare beside.now }
 {
-    item.fld.is_none() && item.note.is_none()
+    beside.fld.is_none() && beside.note.is_none()
 }
 
-/// Appends the line of a run, a field character or a reference.
-fn push_run(alloc: Global, text: &mut Text, items: &[Item]) -> Result<(), Memory>
-    requires { 0 < length items.now }
-    ensures { OnOk result (text.new ≡ text.old ++ run_line items.now) }
+/// Appends the line of a run, a field character or a reference: of these units, whose items begin
+/// with what they have in common.
+fn push_run(alloc: Global, text: &mut Text, first: &Alike<'_>, units: &[u16]) -> Result<(), Memory>
+    ensures { OnOk result (text.new ≡ text.old
+        ++ alike_line first.now.beside.now first.now.chp.now units.now) }
 {
-    let first = &items[0];
-    push_item_word(text, &first.fld, &first.note)?;
-    push_settings(text, &first.chp)?;
+    push_item_word(text, &first.beside.fld, &first.beside.note)?;
+    push_settings(text, first.chp)?;
     text.push_all(" | ")?;
-    let shown = shown_units(alloc, items)?;
+    let shown = show_units(alloc, units)?;
     text.push_all(shown.as_str())?;
     text.push_all("\n")
 }
@@ -163,15 +225,4 @@ fn push_item_word(text: &mut Text, fld: &Option<u8>, note: &Option<NoteKind>) ->
             Some(NoteKind::Custom) => text.push_all("note custom"),
         },
     }
-}
-
-/// The shown text of the units of items.
-fn shown_units(alloc: Global, items: &[Item]) -> Result<Text, Memory>
-    ensures { IfOk result (λ text. text ≡ shown false (map (λ i. i.unit) items.now)) }
-{
-    let mut text = ShownText::new(alloc, false);
-    for item in items {
-        text.push(item.unit)?;
-    }
-    text.finish()
 }

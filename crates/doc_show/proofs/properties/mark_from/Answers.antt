@@ -1,10 +1,32 @@
-use Rattle.std.proofs.Common.{◌∙◌, ap, sym}
-use Rattle.plain_doc.specs.declared.item.Item.{Item}
-use Rattle.doc_show.proofs.ParagraphLemmas.{mark_found}
+-- The mark is found beside the last item of the paragraph.
+use Rattle.std.proofs.Common.{◌≡◌, length, arith}
+use Rattle.run_lists.specs.Spread.{spread, extent}
+use Rattle.doc_columns.specs.Beside.{beside_of}
+use Rattle.doc_columns.proofs.CollectLemmas.{start_at}
+use Rattle.doc_columns.proofs.EqualityLemmas.{column_long}
+use Rattle.doc_show.proofs.ParagraphLemmas.{mark_beside}
 use Rattle.doc_show.proofs.properties.mark_from.Goals as goal
+
+pub paragraph_end-end-requires-clause-long : goal.paragraph_end-end-requires-clause-long
+paragraph_end-end-requires-clause-long c =
+    column_long c.besides-besides.result.now c.args.columns.now beside_of c.len-len.result c.besides-besides.ensures
+    c.len-len.ensures.len
+
+pub paragraph_end-end-requires-clause-at : goal.paragraph_end-end-requires-clause-at
+paragraph_end-end-requires-clause-at c = start_at c.besides-besides.result.now c.new-marks.result c.new-marks.ensures
+
+pub seek-last-requires-clause-within : goal.seek-last-requires-clause-within
+seek-last-requires-clause-within c =
+    let long : extent c.besides-besides.result.now ≡ c.len-len.result =
+    column_long c.besides-besides.result.now c.args.columns.now beside_of c.len-len.result c.besides-besides.ensures
+    c.len-len.ensures.len in
+    omega (arith, long, c.paragraph_end-end.ensures.some, c.paragraph_end-end.ensures.within)
 
 pub returns : goal.returns
 returns c =
-    mark_found c.args.items.now c.args.pos c.in_ok-end.end c.index-items-end.result c.as_ref.result
-    c.in_ok-end.ensures c.index-items-end.is (c.as_ref.ensures.value
-    ∙ sym (ap (λ (i : Item). i.mark) c.index-items-end.is))
+    let found = c.paragraph_end-end.ensures in
+    let long : c.len-len.result ≡ length c.args.columns.now = c.len-len.ensures.len in
+    mark_beside c.args.columns.now (spread c.besides-besides.result.now) c.args.pos c.paragraph_end-end.result
+    c.seek-last.result.now c.as_ref.result c.besides-besides.ensures found.some
+    (omega (arith, found.within, long)) found.inside (λ more. found.ends (omega (arith, more, long)))
+    c.seek-last.ensures.value c.as_ref.ensures.value

@@ -11,7 +11,7 @@ loop-k-preserved c =
     c.loop-k.k [] c.get.result.now c.args.text.now c.loop-k.text c.push_numbered.new.text
     (omega arith) (get_or_from_slice_get c.args.texts.now c.loop-k.k c.get.result.now [] c.get.ensures)
     c.loop-k.invariant
-    (rw c.as_slice.ensures.items at c.in_ok-push_numbered.ensures)
+    c.in_ok-push_numbered.ensures
 
 pub returns : goal.returns
 returns c =

@@ -1,0 +1,9 @@
+use Rattle.std.proofs.Common.{◌≡◌, IfOk, subst}
+use Rattle.plain_doc.specs.declared.document.Document.{Document}
+use Rattle.doc_show.specs.Counts.{accepted_line_of}
+use Rattle.doc_show.proofs.counts.accepted_line.Goals as goal
+
+pub returns : goal.returns
+returns c =
+    subst (λ (d : Document). IfOk c.columns_accepted_line.result (λ text. text ≡ accepted_line_of d))
+    c.in_ok-columns.ensures c.columns_accepted_line.ensures

@@ -1,0 +1,21 @@
+use Rattle.std.proofs.Common.{◌≡◌, ℕ, ◌<◌, ◌≤◌, ◌-◌, None, Some}
+use Rattle.std.specs.Prelude.{slice_get}
+use Rattle.run_lists.specs.Spread.{spread}
+use Rattle.run_lists.specs.Places.{IsAt}
+use Rattle.doc_columns.specs.declared.beside.Beside.{Beside}
+use Rattle.doc_show.proofs.story.paragraph_end.Given as goal
+
+-- no mark stands between the place and here
+abbrev pub invariant-loop-at : goal.invariant-loop-at
+invariant-loop-at l = record {
+  cursor : IsAt l.besides l.marks;
+  ahead : l.marks.begin ≤ l.at;
+  behind : l.place < l.at → l.marks.begin < l.at;
+  from : l.place ≤ l.at;
+  within : l.at ≤ l.len;
+  none : (k : ℕ) (beside : Beside) → l.place ≤ k → k < l.at → slice_get (spread l.besides) k ≡ Some beside →
+      beside.mark ≡ None;
+}
+
+abbrev pub decreases-loop-at : goal.decreases-loop-at
+decreases-loop-at l = l.len - l.at

@@ -1,0 +1,9 @@
+use Rattle.std.proofs.Common.{◌≡◌, IfOk, subst}
+use Rattle.plain_doc.specs.declared.document.Document.{Document}
+use Rattle.doc_show.specs.Listing.{listing_of}
+use Rattle.doc_show.proofs.texts.listing.Goals as goal
+
+pub returns : goal.returns
+returns c =
+    subst (λ (d : Document). IfOk c.columns_listing.result (λ text. text ≡ listing_of d)) c.in_ok-columns.ensures
+    c.columns_listing.ensures
