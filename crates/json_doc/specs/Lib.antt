@@ -1,4 +1,12 @@
-pub mod Plain
-pub mod Out
-pub mod Digits
-pub mod Settings
+pub mod Frames
+pub mod Pieces
+pub mod Styles
+pub mod CarriedParts
+pub mod Documents
+pub mod ReadValues
+pub mod PieceReading
+pub mod StyleReading
+pub mod CarriedReading
+pub mod DocumentReading
+pub mod Reading
+pub mod Laws

@@ -1,29 +1,22 @@
-// Laws on texts of JSON.
-ghost use Rattle.json_doc.specs.Digits.{DigitsAreOne};
-ghost use Rattle.json_doc.specs.Plain.{PlainTextsAreJson, PlainValuesAreRead, ReadKeysAscend};
-ghost use Rattle.json_doc.specs.Settings.{SettingsAreOne};
+// Laws on documents as JSON.
+ghost use Rattle.json_doc.specs.Laws.{JsonFormsAreOne, JsonTextsAreRead, JsonIsShallow, TextsAreReadBack};
 
-/// The compact text of a value is read as the value, where its numbers are whole and fit 64 bits and its keys ascend.
-pub fn plain_values_are_read()
-    ensures { PlainValuesAreRead }
+/// Well-formed documents with the same value, or with the same text, are the same.
+pub fn json_forms_are_one()
+    ensures { JsonFormsAreOne }
 {}
 
-/// The compact text of such a value is its JSON, where its strings and keys are texts.
-pub fn plain_texts_are_json()
-    ensures { PlainTextsAreJson }
+/// The text of a well-formed document is read as its value.
+pub fn json_texts_are_read()
+    ensures { JsonTextsAreRead }
 {}
 
-/// Bytes have one value that stands for them, and units have one; each is read as what it stands for.
-pub fn digits_are_one()
-    ensures { DigitsAreOne }
+/// The value of a document is at most six deep and has no float.
+pub fn json_is_shallow()
+    ensures { JsonIsShallow }
 {}
 
-/// What is read of a text has each key of an object once, in ascending order.
-pub fn read_keys_ascend()
-    ensures { ReadKeysAscend }
-{}
-
-/// Settings have one value that stands for them, and are read from it; its text is read back as the value.
-pub fn settings_are_one()
-    ensures { SettingsAreOne }
+/// The text of a sound document is read as the document, or memory is refused.
+pub fn texts_are_read_back()
+    ensures { TextsAreReadBack }
 {}

@@ -1,16 +1,20 @@
-//! Parts of a document as JSON: the values they are, how these are read and written, and that each text is read back.
+//! A document as JSON: the value that it is, its text, and how it is read back.
 #![tactic(auto)]
 
-mod digits;
+mod carried_parts;
+mod carried_reading;
+mod documents;
+mod fault;
 mod laws;
 mod leaves;
-mod out;
-mod settings;
+mod piece_reading;
+mod pieces;
+mod reading;
+mod style_reading;
+mod styles;
 
-pub use digits::{hex_units_in, write_bytes, write_units};
-pub use laws::{
-    digits_are_one, plain_texts_are_json, plain_values_are_read, read_keys_ascend, settings_are_one,
-};
-pub use leaves::{write_null, write_number};
-pub use out::JsonOut;
-pub use settings::write_settings;
+pub use documents::{json_out, to_json};
+pub use fault::JsonFault;
+pub use laws::{json_forms_are_one, json_is_shallow, json_texts_are_read, texts_are_read_back};
+pub use pieces::Piece;
+pub use reading::from_json;

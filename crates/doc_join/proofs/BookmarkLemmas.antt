@@ -1,0 +1,254 @@
+-- The bookmarks of a joined document: one more, their form, and their names.
+use Rattle.std.proofs.Common.{◌≡◌, ◌∙◌, inl, inr, refl, sym, ap, subst, ℕ, zero, suc, ◌+◌, ◌<◌, ◌≤◌, Bool, true, false}
+use Rattle.std.proofs.Common.{cond, not, ◌||◌, List, [], ◌∷◌, ◌++◌, length, take, map, get_or, Some, arith}
+use Rattle.std.proofs.Common.{append_assoc}
+use Rattle.std.proofs.Math.Seq.{take-length}
+use Rattle.std.specs.Prelude.{All, slice_get}
+use Rattle.std.specs.List.{filter, count_by}
+use Rattle.std.proofs.lemmas.Bool.{cases_lt, cases_Bool}
+use Rattle.std.proofs.lemmas.Bool.Decides.{nat_tests}
+use Rattle.std.proofs.lemmas.List.{take_more, map-append, length-map, append-nil}
+use Rattle.std.proofs.lemmas.List.Elements.{All-append, All-map, All-weaker, All-filter, filter_more}
+use Rattle.std.proofs.lemmas.List.Sums.{count_by-le-length, length-filter, sum_by-cons, sum_by-append}
+use Rattle.std.proofs.lemmas.Option.{get_or_from_slice_get}
+use Rattle.doc_bits.specs.Rules.{Nowhere}
+use Rattle.doc_bits.proofs.ListLemmas.{there_is}
+use Rattle.doc_parts.specs.declared.bookmark_order.Bookmark.{Bookmark}
+use Rattle.doc_parts.specs.Order.{in_order}
+use Rattle.doc_parts.specs.Bookmarks.{bookmark_cmp, IsFormedBookmark, AreFormedBookmarks, end_moved, moved_bookmark}
+use Rattle.doc_parts.specs.Bookmarks.{moved_bookmarks}
+use Rattle.doc_parts.specs.Names.{is_named, AreApart, HasSameName}
+use Rattle.doc_parts.proofs.BookmarkLemmas.{bookmark_total}
+use Rattle.doc_parts.proofs.OrderLemmas.{in_order_sorted, all_in_order, order_counted}
+use Rattle.doc_parts.proofs.NameLemmas.{named_is, one_named, apart_more, apart_less, apart_nowhere}
+use Rattle.doc_join.specs.Bookmarks.{bookmark_behind, has_name, bookmarks_from_second, joined_bookmarks}
+
+-- ---- one more of the second document
+
+-- those that the first list has no name of, so far
+abbrev others : List Bookmark → List Bookmark → List Bookmark
+others first list = filter (λ bookmark. not (has_name first bookmark.name)) list
+
+pub length-second : (len : ℕ) (first second : List Bookmark) →
+    length (bookmarks_from_second len first second) ≤ length second
+length-second len first second =
+    let p : Bookmark → Bool = λ bookmark. not (has_name first bookmark.name) in
+    omega (
+      arith,
+      length-map (filter p second) (bookmark_behind len),
+      length-filter p second,
+      count_by-le-length p second,
+    )
+
+by_test : (len : ℕ) (bookmark : Bookmark) (test old : Bool) → old ≡ test →
+    map (bookmark_behind len) (cond (not old) (bookmark ∷ []) []) ≡ cond test [] (bookmark_behind len bookmark ∷ [])
+by_test len bookmark true old is =
+    ap (λ b. map (bookmark_behind len) (cond (not b) (bookmark ∷ []) [])) is
+by_test len bookmark false old is =
+    ap (λ b. map (bookmark_behind len) (cond (not b) (bookmark ∷ []) [])) is
+
+second_tested : (len : ℕ) (first second : List Bookmark) (i : ℕ) (bookmark : Bookmark) (test : Bool) →
+    has_name first bookmark.name ≡ test → slice_get second i ≡ Some bookmark → i < length second →
+    bookmarks_from_second len first (take (i + 1) second)
+    ≡ bookmarks_from_second len first (take i second) ++ cond test [] (bookmark_behind len bookmark ∷ [])
+second_tested len first second i bookmark test is here within =
+    let p : Bookmark → Bool = λ other. not (has_name first other.name) in
+    let move : Bookmark → Bookmark = bookmark_behind len in
+    let at = get_or_from_slice_get second i bookmark bookmark here in
+    ap (map move) (filter_more p second i bookmark within)
+    ∙ (map-append move (filter p (take i second))
+    (cond (p (get_or second i bookmark)) (get_or second i bookmark ∷ []) [])
+    ∙ ap (λ list. map move (filter p (take i second)) ++ list)
+    (ap (λ (b : Bookmark). map move (cond (p b) (b ∷ []) [])) at
+    ∙ by_test len bookmark test (has_name first bookmark.name) is))
+
+-- a bookmark whose name is new comes behind the others
+pub second_more : (len : ℕ) (first second : List Bookmark) (i : ℕ) (bookmark : Bookmark) →
+    has_name first bookmark.name ≡ false → slice_get second i ≡ Some bookmark → i < length second →
+    (first ++ bookmarks_from_second len first (take i second)) ++ bookmark_behind len bookmark ∷ []
+    ≡ first ++ bookmarks_from_second len first (take (i + 1) second)
+second_more len first second i bookmark new here within =
+    append_assoc first (bookmarks_from_second len first (take i second)) (bookmark_behind len bookmark ∷ [])
+    ∙ ap (λ list. first ++ list) (sym (second_tested len first second i bookmark false new here within))
+
+-- one whose name is there does not
+pub second_same : (len : ℕ) (first second : List Bookmark) (i : ℕ) (bookmark : Bookmark) →
+    has_name first bookmark.name ≡ true → slice_get second i ≡ Some bookmark → i < length second →
+    bookmarks_from_second len first (take i second) ≡ bookmarks_from_second len first (take (i + 1) second)
+second_same len first second i bookmark old here within =
+    sym (second_tested len first second i bookmark true old here within
+    ∙ append-nil (bookmarks_from_second len first (take i second)))
+
+-- ---- a splice of nothing
+
+unmoved_end : (p : ℕ) → end_moved 0 0 0 p ≡ p
+unmoved_end p = grind (arith, nat_tests)
+
+unmoved : (list : List Bookmark) → map (moved_bookmark 0 0 0) list ≡ list
+unmoved [] = refl
+unmoved (bookmark ∷ list) =
+    let from = unmoved_end bookmark.from in
+    let to = unmoved_end bookmark.to in
+    λ i. record { name = bookmark.name; from = from i; to = to i; flags = bookmark.flags } ∷ unmoved list i
+
+pub put_in_order : (list : List Bookmark) → moved_bookmarks 0 0 0 list ≡ in_order bookmark_cmp list
+put_in_order list = ap (in_order bookmark_cmp) (unmoved list)
+
+-- ---- their form
+
+first_fits : (before len : ℕ) (bookmark : Bookmark) → IsFormedBookmark before bookmark →
+    IsFormedBookmark (before + len) bookmark
+first_fits before len bookmark formed = record {
+  ordered = formed.ordered;
+  within = let low = formed.within in omega (arith, low);
+  named = formed.named;
+  short = formed.short;
+}
+
+second_fits : (before len : ℕ) (bookmark : Bookmark) → IsFormedBookmark len bookmark →
+    IsFormedBookmark (before + len) (bookmark_behind before bookmark)
+second_fits before len bookmark formed = record {
+  ordered = let up = formed.ordered in omega (arith, up);
+  within = let low = formed.within in omega (arith, low);
+  named = formed.named;
+  short = formed.short;
+}
+
+pub both_fit : (before len : ℕ) (first second : List Bookmark) → All (IsFormedBookmark before) first →
+    All (IsFormedBookmark len) second →
+    All (IsFormedBookmark (before + len)) (first ++ bookmarks_from_second before first second)
+both_fit before len first second formed next_formed =
+    let P : Bookmark → Type 0 = IsFormedBookmark (before + len) in
+    All-append P first (bookmarks_from_second before first second)
+    (All-weaker (IsFormedBookmark before) P (first_fits before len) first formed)
+    (All-map P (bookmark_behind before) (others first second)
+    (All-filter (λ bookmark. not (has_name first bookmark.name)) (λ b. P (bookmark_behind before b)) second
+    (All-weaker (IsFormedBookmark len) (λ b. P (bookmark_behind before b)) (second_fits before len) second
+    next_formed)))
+
+pub joined_form : (before len : ℕ) (first second : List Bookmark) → AreFormedBookmarks before first →
+    AreFormedBookmarks len second → AreFormedBookmarks (before + len) (joined_bookmarks before first second)
+joined_form before len first second formed next_formed =
+    let list = first ++ bookmarks_from_second before first second in
+    record {
+      each =
+          all_in_order (IsFormedBookmark (before + len)) bookmark_cmp list
+          (both_fit before len first second formed.each next_formed.each);
+      in_order = in_order_sorted bookmark_cmp bookmark_total list;
+    }
+
+-- ---- their names
+
+-- the names of bookmarks differ where none has that of an earlier one
+apart_upto : (list : List Bookmark) (n : ℕ) → Nowhere (HasSameName list) → n ≤ length list → AreApart (take n list)
+apart_upto list zero none within = λ name. omega arith
+apart_upto list (suc n) none within =
+    let found = there_is list n (omega (arith, within)) in
+    let bookmark = found.0 in
+    let next : suc n ≡ n + 1 = omega arith in
+    let more : take (suc n) list ≡ take n list ++ bookmark ∷ [] =
+    ap (λ k. take k list) next
+    ∙ (take_more list n bookmark (omega (arith, within))
+    ∙ ap (λ (b : Bookmark). take n list ++ b ∷ []) (get_or_from_slice_get list n bookmark bookmark found.1)) in
+    let new : count_by (is_named bookmark.name) (take n list) ≡ 0 =
+    elim (cases_lt 0 (count_by (is_named bookmark.name) (take n list))) [
+      | inl earlier ↦ absurd (none bookmark.from (record {
+        entry = n;
+        below = omega (arith, within);
+        broken = record { bookmark = bookmark; here = found.1; earlier = earlier; begins = refl };
+      }))
+      | inr zero_here ↦ omega (arith, zero_here)
+    ] in
+    subst AreApart (sym more)
+    (apart_more (take n list) bookmark (apart_upto list n none (omega (arith, within))) new)
+
+apart_from : (list : List Bookmark) → Nowhere (HasSameName list) → AreApart list
+apart_from list none = subst AreApart (take-length list) (apart_upto list (length list) none (omega arith))
+
+moved_count : (len : ℕ) (name : List ℕ) (list : List Bookmark) →
+    count_by (is_named name) (map (bookmark_behind len) list) ≡ count_by (is_named name) list
+moved_count len name [] = refl
+moved_count len name (bookmark ∷ list) =
+    omega (
+      arith,
+      sum_by-cons (one_named name) (bookmark_behind len bookmark) (map (bookmark_behind len) list),
+      sum_by-cons (one_named name) bookmark list,
+      moved_count len name list,
+    )
+
+-- a name that is counted is there
+counted_any : (name : List ℕ) (list : List Bookmark) → 0 < count_by (is_named name) list → has_name list name ≡ true
+counted_any name [] some = absurd (omega (arith, some))
+counted_any name (bookmark ∷ list) some = elim (cases_Bool (is_named name bookmark)) [
+  | inl here ↦ ap (λ b. b || has_name list name) here
+  | inr other ↦
+      let one : one_named name bookmark ≡ 0 = ap (λ b. cond b 1 0) other in
+      let rest : 0 < count_by (is_named name) list =
+      omega (arith, some, one, sum_by-cons (one_named name) bookmark list) in
+      ap (λ b. b || has_name list name) other ∙ counted_any name list rest
+]
+
+one_left : (first : List Bookmark) (name : List ℕ) (bookmark : Bookmark) (list : List Bookmark) (test : Bool) →
+    has_name first bookmark.name ≡ test → has_name first name ≡ true →
+    count_by (is_named name) list ≡ 0 →
+    count_by (is_named name) (cond (not test) (bookmark ∷ list) list) ≡ 0
+one_left first name bookmark list true is there none = none
+one_left first name bookmark list false is there none = elim (cases_Bool (is_named name bookmark)) [
+  | inl here ↦
+      absurd (cc (is, there, ap (has_name first) (named_is name bookmark here)))
+  | inr other ↦
+      let one : one_named name bookmark ≡ 0 = ap (λ b. cond b 1 0) other in
+      omega (arith, one, none, sum_by-cons (one_named name) bookmark list)
+]
+
+-- those of a name that the first list has are left out
+none_left : (first : List Bookmark) (name : List ℕ) (list : List Bookmark) → has_name first name ≡ true →
+    count_by (is_named name) (others first list) ≡ 0
+none_left first name [] there = refl
+none_left first name (bookmark ∷ list) there =
+    one_left first name bookmark (others first list) (has_name first bookmark.name) refl there
+    (none_left first name list there)
+
+filter_fewer : (p : Bookmark → Bool) (name : List ℕ) (list : List Bookmark) →
+    count_by (is_named name) (filter p list) ≤ count_by (is_named name) list
+filter_fewer p name [] = omega arith
+filter_fewer p name (bookmark ∷ list) =
+    elim (p bookmark) as (λ b.
+    count_by (is_named name) (cond b (bookmark ∷ filter p list) (filter p list))
+    ≤ count_by (is_named name) (bookmark ∷ list)) [
+      | true ↦ omega (
+        arith,
+        sum_by-cons (one_named name) bookmark (filter p list),
+        sum_by-cons (one_named name) bookmark list,
+        filter_fewer p name list,
+      )
+      | false ↦ omega (arith, sum_by-cons (one_named name) bookmark list, filter_fewer p name list)
+    ]
+
+both_apart : (len : ℕ) (first second : List Bookmark) → AreApart first → AreApart second →
+    AreApart (first ++ bookmarks_from_second len first second)
+both_apart len first second one other name =
+    let both = sum_by-append (one_named name) first (bookmarks_from_second len first second) in
+    let moved = moved_count len name (others first second) in
+    elim (cases_lt 0 (count_by (is_named name) first)) [
+      | inl some ↦
+          omega (arith, both, moved, one name, none_left first name second (counted_any name first some))
+      | inr none ↦
+          omega (
+            arith,
+            both,
+            moved,
+            none,
+            filter_fewer (λ bookmark. not (has_name first bookmark.name)) name second,
+            other name,
+          )
+    ]
+
+pub joined_apart : (len : ℕ) (first second : List Bookmark) → Nowhere (HasSameName first) →
+    Nowhere (HasSameName second) → Nowhere (HasSameName (joined_bookmarks len first second))
+joined_apart len first second one other =
+    let list = first ++ bookmarks_from_second len first second in
+    apart_nowhere (joined_bookmarks len first second)
+    (apart_less list (joined_bookmarks len first second)
+    (λ f. let same = order_counted bookmark_cmp list f in omega (arith, same))
+    (both_apart len first second (apart_from first one) (apart_from second other)))

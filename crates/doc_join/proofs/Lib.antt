@@ -1,0 +1,15 @@
+pub mod SettingLemmas
+pub mod SheetLemmas
+pub mod TextLemmas
+pub mod BookmarkLemmas
+pub mod SoundLemmas
+pub mod PartLemmas
+pub mod LayerLemmas
+pub mod PlaceLemmas
+pub mod EffectLemmas
+pub mod CellLemmas
+pub mod RightTextLemmas
+pub mod RightMainLemmas
+pub mod RightSheetLemmas
+pub mod JoinedRightLemmas
+pub mod BrokenRuleLemmas

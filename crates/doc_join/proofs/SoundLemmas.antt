@@ -1,0 +1,147 @@
+-- What two sound documents have that a join asks for.
+use Rattle.std.proofs.Common.{◌≡◌, ◌∙◌, inl, inr, refl, sym, ap, subst, ◌+◌, ◌-◌, ◌<◌, ◌≤◌, List, [], ◌∷◌, length}
+use Rattle.std.proofs.Common.{map, take}
+use Rattle.std.proofs.Common.{drop, get_or, Some, arith, length-append, length-take, length-drop}
+use Rattle.std.specs.Prelude.{is_some, Result, Ok, Err, MatchResult, IsOk}
+use Rattle.std.proofs.lemmas.List.{length-map}
+use Rattle.std.proofs.lemmas.List.Sums.{count_by-le-length}
+use Rattle.std.proofs.lemmas.Option.{slice_get-get_or, none-some}
+use Rattle.doc_bits.specs.Places.{rank}
+use Rattle.doc_bits.specs.declared.places.Where.{Where}
+use Rattle.doc_bits.specs.declared.places.Where.TheVariants.{Main, Note, Head}
+use Rattle.style_sheet.proofs.OneChainLemmas.{there}
+use Rattle.plain_doc.specs.declared.item.Item.{Item}
+use Rattle.plain_doc.specs.declared.document.Document.{Document}
+use Rattle.doc_parts.specs.Bookmarks.{AreFormedBookmarks}
+use Rattle.plain_doc.specs.Marks.{HasFormedBookmarks}
+use Rattle.plain_doc.specs.RightDocument.{IsRightDocument}
+use Rattle.plain_doc.specs.RulesOfTexts.{text_of, last_unit}
+use Rattle.plain_doc.specs.Sound.{IsSound, NamesFirstRule, document_rules}
+use Rattle.plain_doc.proofs.RightLemmas.{sound_is_right}
+use Rattle.doc_join.specs.declared.renumbering.Renumbering.{Renumbering}
+use Rattle.doc_join.specs.Texts.{renumbered_item, renumbered_text, ending_section, section_ended, joined_main}
+use Rattle.doc_join.specs.Texts.{HaveOwnStyles, AllHaveOwnStyles}
+use Rattle.doc_join.specs.Join.{document_join, first_numbers, second_numbers, slots_together, most_slots}
+use Rattle.doc_join.specs.declared.fault.JoinFault.{JoinFault}
+use Rattle.doc_join.specs.declared.fault.JoinFault.TheVariants.{Styles, Unsound, Memory}
+use Rattle.doc_join.specs.Faults.{IsJoined, IsJoinFault, IsUnsound}
+use Rattle.doc_join.proofs.BookmarkLemmas.{joined_form}
+
+-- ---- marks have styles of the sheet
+
+own_styles : (document : Document) (numbers : Renumbering) (part : Where) (text : List Item) →
+    IsRightDocument document → numbers.slots ≡ length document.sheet.styles → text_of document part ≡ Some text →
+    HaveOwnStyles numbers text
+own_styles document numbers part text right slots is k d within mark marked =
+    let para =
+    (right.texts part text is).styles k (get_or text k d) (slice_get-get_or text k d within) mark marked in
+    let here = there document.sheet mark.istd (omega (arith, para)) in
+    omega (arith, here, slots)
+
+pub main_styles : (document : Document) (numbers : Renumbering) → IsSound document →
+    numbers.slots ≡ length document.sheet.styles → HaveOwnStyles numbers document.main
+main_styles document numbers sound slots =
+    own_styles document numbers Main document.main (sound_is_right document sound) slots refl
+
+pub note_styles : (document : Document) (numbers : Renumbering) → IsSound document →
+    numbers.slots ≡ length document.sheet.styles → AllHaveOwnStyles numbers document.notes
+note_styles document numbers sound slots k d within =
+    own_styles document numbers (Note k) (get_or document.notes k d) (sound_is_right document sound) slots
+    (slice_get-get_or document.notes k d within)
+
+pub head_styles : (document : Document) (numbers : Renumbering) → IsSound document →
+    numbers.slots ≡ length document.sheet.styles → AllHaveOwnStyles numbers document.heads
+head_styles document numbers sound slots k d within =
+    own_styles document numbers (Head k) (get_or document.heads k d) (sound_is_right document sound) slots
+    (slice_get-get_or document.heads k d within)
+
+-- ---- how many there are
+
+pub record AreFew (document : Document) : Type 0 where
+  pub some : 0 < length document.main
+  pub main : length document.main ≤ 499998
+  pub notes : length document.notes ≤ 499998
+  pub heads : length document.heads ≤ 2999994
+  pub separators : 6 ≤ length document.heads
+  pub bookmarks : length document.bookmarks ≤ 16000
+
+some_item : (document : Document) → IsRightDocument document → 0 < length document.main
+some_item document right = elim (right.texts Main document.main refl).ends [
+  | inl unit ↦ has_items document.main unit
+  | inr head ↦ let same = ap rank head.0.1 in absurd (omega (arith, same))
+]
+  where
+    has_items : (text : List Item) → last_unit text ≡ Some 0x0D → 0 < length text
+    has_items [] unit = absurd (none-some 0x0D unit)
+    has_items (item ∷ text) unit = omega arith
+
+pub are_few : (document : Document) → IsSound document → AreFew document
+are_few document sound =
+    let right = sound_is_right document sound in
+    let few = right.few in
+    let notes = count_by-le-length (λ (item : Item). is_some item.note) document.main in
+    let sections = count_by-le-length (λ (item : Item). is_some item.sect) document.main in
+    record {
+      some = some_item document right;
+      main = omega (arith, few);
+      notes = omega (arith, few, notes, right.notes);
+      heads = omega (arith, few, sections, right.heads);
+      separators = omega (arith, right.heads);
+      bookmarks = right.few_bookmarks;
+    }
+
+-- ---- the bookmarks are formed
+
+pub length-ended : (text : List Item) → length (section_ended text) ≡ length text
+length-ended text =
+    let last = length text - 1 in
+    omega (
+      arith,
+      length-append (take last text) (map ending_section (drop last text)),
+      length-take last text,
+      length-map (drop last text) ending_section,
+      length-drop last text,
+    )
+
+pub length-main : (ones others : Renumbering) (first second : List Item) →
+    length (joined_main ones first others second) ≡ length first + length second
+length-main ones others first second =
+    omega (
+      arith,
+      length-append (section_ended (renumbered_text ones first)) (renumbered_text others second),
+      length-ended (renumbered_text ones first),
+      length-map first (renumbered_item ones),
+      length-map second (renumbered_item others),
+    )
+
+pub joined_bookmarks_formed : (first second : Document) → IsSound first → IsSound second →
+    HasFormedBookmarks (document_join first second)
+joined_bookmarks_formed first second sound next_sound =
+    subst (λ len. AreFormedBookmarks len (document_join first second).bookmarks)
+    (sym (length-main (first_numbers first) (second_numbers first second) first.main second.main))
+    (joined_form (length first.main) (length second.main) first.bookmarks second.bookmarks sound.bookmarks
+    next_sound.bookmarks)
+
+-- ---- what the judge answers
+
+fault_of : (first second made : Document) (fault : JoinFault) → made ≡ document_join first second →
+    slots_together first second ≤ most_slots → IsUnsound made fault → IsJoinFault first second fault
+fault_of first second made (Styles slots) is fits unsound = absurd unsound
+fault_of first second made (Unsound rule place at) is fits unsound =
+    (fits, subst (λ d. NamesFirstRule (document_rules d) (record { rule = rule; place = place; at = at })) is unsound)
+fault_of first second made Memory is fits unsound = tt
+
+pub outcome : (first second made : Document) (verdict : Result (Unit {0}) JoinFault)
+    (answer : Result Document JoinFault) → made ≡ document_join first second →
+    slots_together first second ≤ most_slots → MatchResult verdict (λ _. IsSound made) (IsUnsound made) →
+    MatchResult answer (λ given. (given ≡ made) × IsOk verdict) (λ fault. verdict ≡ Err fault) →
+    MatchResult answer (IsJoined first second) (IsJoinFault first second)
+outcome first second made (Ok done) (Ok given) is fits judged given_is = record {
+  is = given_is.0 ∙ is;
+  fits = fits;
+  sound = subst IsSound (sym given_is.0) judged;
+}
+outcome first second made (Err fault) (Ok given) is fits judged given_is = absurd (cc given_is.1)
+outcome first second made verdict (Err fault) is fits judged given_is =
+    fault_of first second made fault is fits
+    (subst (λ (v : Result (Unit {0}) JoinFault). MatchResult v (λ _. IsSound made) (IsUnsound made)) given_is judged)

@@ -1,0 +1,9 @@
+pub mod Numbers
+pub mod Settings
+pub mod Styles
+pub mod Texts
+pub mod Bookmarks
+pub mod Join
+pub mod Faults
+pub mod Effects
+pub mod Laws

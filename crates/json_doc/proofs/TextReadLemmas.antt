@@ -1,0 +1,235 @@
+-- A text is read from its stretches, and from no other pieces.
+use Rattle.std.proofs.Common.{◌≡◌, ◌+◌, ◌-◌, ◌<◌, ◌≤◌, ◌^◌, ℕ, zero, suc, Bool, true, false, not, ◌&&◌, ◌||◌}
+use Rattle.std.proofs.Common.{List, [], ◌∷◌, ◌++◌, Option, Some, None, is_some, length, map, get_or, slice_get}
+use Rattle.std.proofs.Common.{refl, sym, ap, ◌∙◌, subst, arith, All}
+use Rattle.std.specs.Prelude.{⊤, MatchResult, Result, Ok, Err}
+use Rattle.edit_script.specs.declared.faults.Misfit.{Misfit}
+use Rattle.edit_script.specs.declared.faults.Misfit.TheVariants.{Shape}
+use Rattle.std.proofs.Common.{inl, inr, slice_index}
+use Rattle.std.proofs.lemmas.Bool.{cases_Bool}
+use Rattle.std.proofs.lemmas.List.{length-map, get_or-map}
+use Rattle.std.proofs.lemmas.Option.{same_Some, slice_get_read}
+use Rattle.serde_json.specs.Data.{Data}
+use Rattle.prop_map.specs.Settings.{Settings}
+use Rattle.plain_doc.specs.declared.item.Item.{Item}
+use Rattle.plain_doc.specs.Document.{IsFormedItem}
+use Rattle.plain_doc.specs.Settings.{same_settings}
+use Rattle.plain_doc.specs.Stretches.{joins_next, joins_at, IsJoined, goes_over}
+use Rattle.plain_doc.proofs.SettingsLemmas.{same_settings-Decides}
+use Rattle.bare_items.specs.Specials.{is_special}
+use Rattle.json_doc.specs.declared.pieces.Piece.{Piece}
+use Rattle.json_doc.specs.Pieces.{is_one_piece, piece_from, piece_json, stretch_json}
+use Rattle.json_doc.specs.PieceReading.{piece_of, piece_items, item_with, is_special_piece, IsRightPiece}
+use Rattle.json_doc.specs.PieceReading.{IsFormedPiece}
+use Rattle.json_doc.specs.PieceReading.{IsPieceAdded, IsNoPiece}
+use Rattle.json_doc.proofs.PieceLemmas.{units_of}
+use Rattle.json_doc.proofs.PieceReadLemmas.{pieces_one, piece_spelt}
+
+-- ---- items that join
+
+-- the item with another unit
+abbrev with_unit : Item → ℕ → Item
+with_unit item unit = record item { unit = unit }
+
+both_true : (a b : Bool) → (a && b) ≡ true → (a ≡ true) × (b ≡ true)
+both_true true b e = (refl, e)
+both_true false b e = absurd (cc (e))
+
+not_true : (b : Bool) → not b ≡ true → b ≡ false
+not_true true e = absurd (cc (e))
+not_true false e = refl
+
+none_is : {A : Type 0} (o : Option A) → is_some o ≡ false → o ≡ None
+none_is None e = refl
+none_is (Some a) e = absurd (cc (e))
+
+neither : (a b : Bool) → (a || b) ≡ false → (a ≡ false) × (b ≡ false)
+neither true b e = absurd (cc (e))
+neither false b e = (refl, e)
+
+-- a bare item is its unit and its settings
+record IsBare (item : Item) : Type 0 where
+  mark : item.mark ≡ None
+  sect : item.sect ≡ None
+  fld : item.fld ≡ None
+  note : item.note ≡ None
+
+bare : (item : Item) → is_special item ≡ false → IsBare item
+bare item e =
+    let a = neither (is_some item.mark) (is_some item.sect || (is_some item.fld || is_some item.note)) e in
+    let b = neither (is_some item.sect) (is_some item.fld || is_some item.note) a.1 in
+    let c = neither (is_some item.fld) (is_some item.note) b.1 in
+    record {
+      mark = none_is item.mark a.0;
+      sect = none_is item.sect b.0;
+      fld = none_is item.fld c.0;
+      note = none_is item.note c.1;
+    }
+
+record AreJoined (item next : Item) : Type 0 where
+  bare_item : is_special item ≡ false
+  bare_next : is_special next ≡ false
+  settings : item.chp ≡ next.chp
+
+joined : (item next : Item) → is_one_piece item next ≡ true → AreJoined item next
+joined item next e =
+    let a = both_true (not (is_special item)) (not (is_special next) && same_settings item.chp next.chp) e in
+    let b = both_true (not (is_special next)) (same_settings item.chp next.chp) a.1 in
+    record {
+      bare_item = not_true (is_special item) a.0;
+      bare_next = not_true (is_special next) b.0;
+      settings = (same_settings-Decides item.chp next.chp).0 b.1;
+    }
+
+-- an item that joins the next one differs in its unit alone
+same_but_unit : (item next : Item) → is_one_piece item next ≡ true → next ≡ with_unit item next.unit
+same_but_unit item next e =
+    let j = joined item next e in
+    let a = bare item j.bare_item in
+    let b = bare next j.bare_next in
+    λ i. record {
+      unit = next.unit;
+      fld = (b.fld ∙ sym a.fld) i;
+      note = (b.note ∙ sym a.note) i;
+      chp = sym j.settings i;
+      mark = (b.mark ∙ sym a.mark) i;
+      sect = (b.sect ∙ sym a.sect) i;
+    }
+
+-- the rest of a stretch is one
+joined_rest : (x y : Item) (more : List Item) → IsJoined is_one_piece (x ∷ y ∷ more) → IsJoined is_one_piece (y ∷ more)
+joined_rest x y more j k less =
+    let next : suc k + 1 ≡ suc (k + 1) = omega arith in
+    ap (λ i. joins_next is_one_piece (slice_get (y ∷ more) k) (slice_get (x ∷ y ∷ more) i)) (sym next)
+    ∙ j (suc k) (omega (arith, less))
+
+-- the items of a stretch are its first one with their units
+pub stretch_same : (item : Item) (more : List Item) → IsJoined is_one_piece (item ∷ more) →
+    map (with_unit item) (units_of more) ≡ more
+stretch_same item [] j = refl
+stretch_same item (y ∷ more) j =
+    let first = same_but_unit item y (j 0 (omega arith)) in
+    let rest : map (with_unit item) (units_of more) ≡ more =
+    ap (λ z. map (with_unit z) (units_of more)) (sym first) ∙ stretch_same y more (joined_rest item y more j) in
+    λ i. sym first i ∷ rest i
+
+-- a special item is a stretch of its own
+alone : (item : Item) (more : List Item) → IsJoined is_one_piece (item ∷ more) → is_special item ≡ true → more ≡ []
+alone item [] j special = refl
+alone item (y ∷ more) j special = absurd (cc (special, (joined item y (j 0 (omega arith))).bare_item))
+
+-- the piece of a stretch has its items
+pub from_items : (item : Item) (more : List Item) → IsJoined is_one_piece (item ∷ more) →
+    piece_items (piece_from item more) ≡ item ∷ more
+from_items item more j = ap (λ rest. item ∷ rest) (stretch_same item more j)
+
+-- ---- a piece behind items
+
+first_with : (piece : Piece) (units : List ℕ) → 1 ≤ length units →
+    (unit : ℕ) × (slice_get (map (item_with piece) units) 0 ≡ Some (item_with piece unit))
+first_with piece [] some = absurd (omega (arith, some))
+first_with piece (u ∷ us) some = (u, refl)
+
+pub goes_over_is : (items : List Item) (last : Item) (piece : Piece) (b : Bool) → 0 < length items →
+    last ≡ get_or items (length items - 1) last → 1 ≤ length piece.units →
+    ((unit : ℕ) → b ≡ is_one_piece last (item_with piece unit)) → b ≡ goes_over is_one_piece items (piece_items piece)
+goes_over_is items last piece b some is units test =
+    let first = first_with piece piece.units units in
+    let here = slice_get_read items (length items) (length items - 1) last refl (omega (arith, some)) is in
+    test first.0 ∙ (λ i. joins_next is_one_piece (sym here i) (sym first.1 i))
+
+-- what comes of a piece that was read
+pub added_of : (value : Data) (old new : List Item) (piece : Piece) (r : Result ⊤ Misfit) →
+    piece_of value ≡ Some piece →
+    IsFormedPiece piece →
+    MatchResult r
+    (λ _. (goes_over is_one_piece old (piece_items piece) ≡ false) × (new ≡ old ++ piece_items piece))
+    (λ fault. fault ≡ Shape → goes_over is_one_piece old (piece_items piece) ≡ true) →
+    MatchResult r (λ _. IsPieceAdded value old new) (λ fault. fault ≡ Shape → IsNoPiece value old)
+added_of value old new piece (Ok t) read formed m = record {
+  piece = piece;
+  read = read;
+  formed = formed;
+  apart = m.0;
+  grown = m.1;
+}
+added_of value old new piece (Err fault) read formed m = λ shape other right apart e.
+    let same : other ≡ piece = same_Some other piece (sym (pieces_one.back other (piece_spelt other right))
+    ∙ ap piece_of (sym e) ∙ read) in
+    cc (subst (λ p. goes_over is_one_piece old (piece_items p) ≡ false) same apart, m shape)
+
+-- ---- formed items and formed pieces
+
+-- the items of a formed piece
+pub formed_items : (piece : Piece) → IsFormedPiece piece → All IsFormedItem (piece_items piece)
+formed_items piece formed k d within =
+    let inside : k < length piece.units = omega (arith, within, length-map {B = Item} piece.units) in
+    subst IsFormedItem (sym (get_or-map (item_with piece) piece.units k 0 d inside)) (record {
+      maps = record { chp = formed.0.chp; pap = formed.0.pap; sect = formed.0.sect };
+      unit = subst (λ u. u < 2 ^ 16) refl (formed.1.units k);
+      style = formed.1.style;
+      field = formed.1.field;
+    })
+
+-- they join
+same_self : (set : Settings) → same_settings set set ≡ true
+same_self set = (same_settings-Decides set set).1 refl
+
+joins_self : (piece : Piece) (u v : ℕ) → is_special_piece piece ≡ false →
+    is_one_piece (item_with piece u) (item_with piece v) ≡ true
+joins_self piece u v bare = rw (bare, same_self piece.chp) refl
+
+pairs_join : (piece : Piece) (units : List ℕ) (k : ℕ) → k + 1 < length units → is_special_piece piece ≡ false →
+    joins_at is_one_piece (map (item_with piece) units) k ≡ true
+pairs_join piece [] k less bare = absurd (omega (arith, less))
+pairs_join piece (u ∷ []) k less bare = absurd (omega (arith, less))
+pairs_join piece (u ∷ v ∷ more) zero less bare = joins_self piece u v bare
+pairs_join piece (u ∷ v ∷ more) (suc k) less bare =
+    let next : suc k + 1 ≡ suc (k + 1) = omega arith in
+    ap (λ i. joins_next is_one_piece (slice_get (map (item_with piece) (v ∷ more)) k) (slice_get (map (item_with piece)
+    (u ∷ v ∷ more)) i)) next
+    ∙ pairs_join piece (v ∷ more) k (omega (arith, less)) bare
+
+pub items_joined : (piece : Piece) → IsRightPiece piece → IsJoined is_one_piece (piece_items piece)
+items_joined piece right k less = elim (cases_Bool (is_special_piece piece)) [
+  | inl special ↦ let one = right.alone special in
+      absurd (omega (arith, one, less, length-map {B = Item} piece.units))
+  | inr bare ↦ pairs_join piece piece.units k (omega (arith, less, length-map {B = Item} piece.units)) bare
+]
+
+-- a piece that has units is that of its items
+units_back : (piece : Piece) (units : List ℕ) → units_of (map (item_with piece) units) ≡ units
+units_back piece [] = refl
+units_back piece (u ∷ us) = ap (λ more. u ∷ more) (units_back piece us)
+
+again : (piece : Piece) (units : List ℕ) → piece.units ≡ units → 1 ≤ length units →
+    piece_json piece ≡ stretch_json (map (item_with piece) units)
+again piece [] is some = absurd (omega (arith, some))
+again piece (u ∷ us) is some =
+    ap (λ units. piece_json (record piece { units = units })) (is ∙ ap (λ more. u ∷ more) (sym (units_back piece us)))
+
+pub units_again : (piece : Piece) → IsRightPiece piece → piece_json piece ≡ stretch_json (piece_items piece)
+units_again piece right = again piece piece.units refl right.some
+
+-- the piece of a stretch of formed items is formed
+units_small : (items : List Item) → All IsFormedItem items → (i : ℕ) → slice_index (units_of items) i < 2 ^ 16
+units_small [] formed i = omega arith
+units_small (x ∷ xs) formed zero = (formed zero x (omega arith)).unit
+units_small (x ∷ xs) formed (suc i) = units_small xs (λ k d less. formed (suc k) d (omega (arith, less))) i
+
+pub formed_from : (item : Item) (more : List Item) → IsJoined is_one_piece (item ∷ more) →
+    All IsFormedItem (item ∷ more) → IsFormedPiece (piece_from item more)
+formed_from item more joined formed =
+    let first = formed zero item (omega arith) in (
+      record {
+        chp = first.maps.chp;
+        pap = first.maps.pap;
+        sect = first.maps.sect;
+        some = omega arith;
+        alone = λ special.
+            let none = alone item more joined special in
+            let count = ap length none in
+            omega (arith, count, length-map {B = ℕ} more);
+      },
+      record { units = units_small (item ∷ more) formed; style = first.style; field = first.field },
+    )

@@ -1,5 +1,0 @@
-use Rattle.json_doc.proofs.PlainLemmas.{plain_read}
-use Rattle.json_doc.proofs.laws.plain_values_are_read.Goals as goal
-
-pub returns : goal.returns
-returns c = plain_read

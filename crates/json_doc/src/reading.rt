@@ -1,0 +1,216 @@
+// Bytes read as a document.
+ghost use Rattle.std.specs.Prelude.{◌≡◌, ◌≢◌, ◌⊎◌, ℕ, MatchResult, Some, None};
+ghost use Rattle.serde_json.specs.View.{view, items_view};
+ghost use Rattle.serde_json.specs.Errors.{IsMemory};
+ghost use Rattle.doc_bits.specs.declared.places.Where.{Where};
+ghost use Rattle.edit_script.specs.Json.{IsJson, Gives};
+ghost use Rattle.plain_doc.specs.declared.document.Document.{Document};
+ghost use Rattle.plain_doc.specs.Marks.{HasFormedBookmarks};
+ghost use Rattle.plain_doc.specs.Sound.{IsSound, NamesFirstRule, document_rules};
+ghost use Rattle.json_values.specs.Plain.{HasKeysInOrder};
+ghost use Rattle.json_doc.specs.Documents.{bookmarks_json, json_value};
+ghost use Rattle.json_doc.specs.DocumentReading.{bookmark_of, bookmark_of_items, AreMarks, document_values};
+ghost use Rattle.json_doc.specs.ReadValues.{Reads};
+ghost use Rattle.json_doc.specs.Reading.{IsWhole, IsReadAs, IsJsonFault};
+ghost use Rattle.json_doc.specs.StyleReading.{list_as};
+
+use crate::JsonFault;
+use crate::carried_reading::carried_in;
+use crate::piece_reading::{text_in, texts_in};
+use crate::style_reading::sheet_in;
+use doc_parts::{Bookmark, Bookmarks};
+use edit_script::{Misfit, position_in, short_in};
+use json_values::{Row, hex_units_in};
+use plain_doc::{Document, check, documents_are_formed};
+use serde_json::{Error, Value};
+use std::alloc::Global;
+
+/// Reads a document: the JSON that its text is, in any order of keys and with any spaces. `Json` comes where the bytes
+/// are no JSON, else `Shape` where no well-formed document has their value, else `Unsound` where that document is not
+/// sound.
+pub fn from_json(alloc: Global, bytes: &[u8]) -> Result<Document, JsonFault>
+    ensures { MatchResult result (IsReadAs bytes.now) (IsJsonFault bytes.now) }
+{
+    let value = json_of(alloc, bytes)?;
+    let read = document_in(alloc, &value);
+    // The tree of values takes many times the bytes.
+    drop(value);
+    match read {
+        Ok(document) => {
+            documents_are_formed(&document);
+            judged(document)
+        }
+        Err(Misfit::Shape) => Err(JsonFault::Shape),
+        Err(Misfit::Memory) => Err(JsonFault::Memory),
+    }
+}
+
+/// The value that the bytes spell.
+fn json_of(alloc: Global, bytes: &[u8]) -> Result<Value, JsonFault>
+    ensures { MatchResult result (λ value. IsJson bytes.now (view value)) (IsJsonFault bytes.now) }
+{
+    match Value::from_slice(alloc, bytes) {
+        Ok(value) => Ok(value),
+        Err(error) => Err(fault_of(&error)),
+    }
+}
+
+/// Why the bytes are not read as JSON.
+fn fault_of(error: &Error) -> JsonFault
+    ensures json { result ≡ JsonFault.Json → ¬ (IsMemory error.now) }
+    ensures either { (result ≡ JsonFault.Json) ⊎ (result ≡ JsonFault.Memory) }
+{
+    if error.is_memory() {
+        JsonFault::Memory
+    } else {
+        JsonFault::Json
+    }
+}
+
+/// A document that is judged.
+fn judged(document: Document) -> Result<Document, JsonFault>
+    requires { HasFormedBookmarks document }
+    ensures { MatchResult result
+        (λ sound. (sound ≡ document) × IsSound document)
+        (λ fault. (rule : ℕ) × ((place : Where) × ((at : ℕ) × ((fault ≡ JsonFault.Unsound rule place at)
+        × NamesFirstRule (document_rules document) (record { rule = rule; place = place; at = at }))))) }
+{
+    match check(&document) {
+        Ok(()) => Ok(document),
+        Err(fault) => Err(JsonFault::Unsound {
+            rule: fault.rule,
+            place: fault.place,
+            at: fault.at,
+        }),
+    }
+}
+
+/// The values at the six keys of a document.
+#[derive(Drop)]
+struct Parts<'a> {
+    bookmarks: &'a Value,
+    carried: &'a Value,
+    heads: &'a Value,
+    main: &'a Value,
+    notes: &'a Value,
+    sheet: &'a Value,
+}
+
+/// The values at the six keys.
+fn parts_in(value: &Value) -> Result<Parts<'_>, Misfit>
+    ensures { MatchResult result
+        (λ parts. document_values (view value.now) ≡ Some (record {
+          bookmarks = view parts.bookmarks.now;
+          carried = view parts.carried.now;
+          heads = view parts.heads.now;
+          main = view parts.main.now;
+          notes = view parts.notes.now;
+          sheet = view parts.sheet.now;
+        }))
+        (λ fault. fault ≡ Misfit.Shape → document_values (view value.now) ≡ None) }
+{
+    let mut row = Row::of(value)?;
+    let bookmarks = row.need("bookmarks")?;
+    let carried = row.need("carried")?;
+    let heads = row.need("heads")?;
+    let main = row.need("main")?;
+    let notes = row.need("notes")?;
+    let sheet = row.need("sheet")?;
+    row.end()?;
+    Ok(Parts {
+        bookmarks,
+        carried,
+        heads,
+        main,
+        notes,
+        sheet,
+    })
+}
+
+/// A bookmark: its name, where it begins and ends, and its flags.
+fn bookmark_in(alloc: Global, value: &Value) -> Result<Bookmark, Misfit>
+    ensures { Gives result (bookmark_of (view value.now)) }
+{
+    match value.as_array() {
+        None => Err(Misfit::Shape),
+        Some(values) => bookmark_from(alloc, values.as_slice()),
+    }
+}
+
+/// The bookmark of four values.
+fn bookmark_from(alloc: Global, values: &[Value]) -> Result<Bookmark, Misfit>
+    ensures { Gives result (bookmark_of_items (items_view values.now)) }
+{
+    match values {
+        [name, from, to, flags] => {
+            let name = hex_units_in(alloc, name)?;
+            let from = position_in(from)?;
+            let to = position_in(to)?;
+            let flags = short_in(flags)?;
+            Ok(Bookmark {
+                name,
+                from,
+                to,
+                flags,
+            })
+        }
+        [] | [_] | [_, _] | [_, _, _] => Err(Misfit::Shape),
+        [_, _, _, _, _, ..] => Err(Misfit::Shape),
+    }
+}
+
+/// The bookmarks of an array. Where there are 2^32 or more memory is refused.
+fn bookmarks_in(alloc: Global, value: &Value) -> Result<Bookmarks, Misfit>
+    ensures { Gives result (list_as bookmark_of (view value.now)) }
+{
+    let Some(values) = value.as_array() else {
+        return Err(Misfit::Shape);
+    };
+    if values.len() >= 1 << 32 {
+        return Err(Misfit::Memory);
+    }
+    let mut bookmarks = Bookmarks::new(alloc);
+    // A list that does not know its names takes each in one step.
+    bookmarks.splice(0, 0, Bookmarks::new(alloc))?;
+    for value in values.iter() {
+        bookmarks.add(bookmark_in(alloc, value)?)?;
+    }
+    Ok(bookmarks)
+}
+
+/// Bookmarks of a main text of `len` units.
+fn marks_in(alloc: Global, value: &Value, len: usize) -> Result<Bookmarks, Misfit>
+    ensures { Reads bookmarks_json (AreMarks len) (view value.now) result }
+{
+    let bookmarks = bookmarks_in(alloc, value)?;
+    let _ = bookmarks.len();
+    if !bookmarks.are_formed(len) {
+        return Err(Misfit::Shape);
+    }
+    Ok(bookmarks)
+}
+
+/// The document that a value stands for.
+fn document_in(alloc: Global, value: &Value) -> Result<Document, Misfit>
+    ensures { MatchResult result
+        (λ document. HasFormedBookmarks document
+        × (HasKeysInOrder (view value.now) → view value.now ≡ json_value document))
+        (λ fault. fault ≡ Misfit.Shape
+        → (document : Document) → IsWhole document → view value.now ≢ json_value document) }
+{
+    let parts = parts_in(value)?;
+    let main = text_in(alloc, parts.main)?;
+    let bookmarks = marks_in(alloc, parts.bookmarks, main.len())?;
+    let notes = texts_in(alloc, parts.notes)?;
+    let heads = texts_in(alloc, parts.heads)?;
+    let sheet = sheet_in(alloc, parts.sheet)?;
+    let carried = carried_in(alloc, parts.carried)?;
+    Ok(Document {
+        main,
+        notes,
+        heads,
+        sheet,
+        carried,
+        bookmarks,
+    })
+}

@@ -1,0 +1,9 @@
+pub mod PlainLemmas
+pub mod OutLemmas
+pub mod DigitLemmas
+pub mod HexLemmas
+pub mod SettingsLemmas
+pub mod OrderLemmas
+pub mod CodeLemmas
+pub mod SpeltLemmas
+pub mod TextLemmas

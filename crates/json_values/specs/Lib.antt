@@ -1,0 +1,5 @@
+pub mod Plain
+pub mod Out
+pub mod Digits
+pub mod Settings
+pub mod Rows

@@ -1,0 +1,48 @@
+-- Settings as an object: the codes are its keys, four digits each, and ascend; the bytes of the operands' values are
+-- its values.
+use Rattle.std.specs.Prelude.{◌≡◌, ℕ, ◌<◌, ◌^◌, List, [], ◌∷◌, ◌++◌, Bool, Some}
+use Rattle.std.specs.List.{All}
+use Rattle.std.specs.FinMap.{entries}
+use Rattle.json.specs.Print.{quoted}
+use Rattle.serde_json.specs.Data.{Data, object, Members, no_members, member}
+use Rattle.serde_json.specs.Written.{comma_if, compact_text}
+use Rattle.doc_bits.specs.Number.{AreBytes}
+use Rattle.sprm_table.specs.Sprm.{Prl}
+use Rattle.prop_map.specs.Settings.{Settings}
+use Rattle.prop_map.specs.Formed.{IsPropertyMap}
+use Rattle.edit_script.specs.Values.{settings_of}
+use Rattle.text_codes.specs.Digits.{word_text}
+use Rattle.json_values.specs.Digits.{bytes_json}
+use Rattle.json_values.specs.Plain.{IsPlain, HasTexts, HasKeysInOrder}
+
+-- a member for each entry
+abbrev pub settings_members : List Prl → Members
+settings_members [] = no_members
+settings_members (prl ∷ more) = member (word_text prl.0) (bytes_json prl.1) (settings_members more)
+
+-- the value that stands for settings
+abbrev pub settings_json : Settings → Data
+settings_json set = object (settings_members (entries set))
+
+-- the text of an entry, behind a comma where one stands before it
+abbrev pub entry_text : Bool → Prl → List ℕ
+entry_text later prl = comma_if later ++ (quoted (word_text prl.0) ++ 58 ∷ compact_text (bytes_json prl.1))
+
+-- a code of 16 bits and a value of bytes
+pub record IsSpeltEntry (prl : Prl) : Type 0 where
+  pub code : prl.0 < 2 ^ 16
+  pub value : AreBytes prl.1
+
+-- each entry of the settings is such
+abbrev pub AreSpelt : Settings → Type 0
+AreSpelt set = All IsSpeltEntry (entries set)
+
+-- settings have one value that stands for them, whose text is read back; other values whose keys ascend stand for
+-- none; the settings that a place may hold are such
+pub record SettingsAreOne : Type 0 where
+  pub back : (set : Settings) → AreSpelt set → settings_of (settings_json set) ≡ Some set
+  pub one : (value : Data) (set : Settings) → HasKeysInOrder value → settings_of value ≡ Some set →
+      AreSpelt set × (value ≡ settings_json set)
+  pub plain : (set : Settings) → AreSpelt set → IsPlain (settings_json set)
+  pub texts : (set : Settings) → AreSpelt set → HasTexts (settings_json set)
+  pub formed : (groups : ℕ) (set : Settings) → IsPropertyMap groups set → AreSpelt set
