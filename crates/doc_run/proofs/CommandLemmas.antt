@@ -4,8 +4,8 @@ use Rattle.std.proofs.Common.{arith}
 use Rattle.std.specs.Prelude.{slice_index, slice_index_or}
 use Rattle.std.specs.Str.Parse.{digits_value}
 use Rattle.doc_tasks.specs.Tasks.{text_task, check_task, show_task, props_task, outline_task, full_task}
-use Rattle.doc_tasks.specs.Tasks.{title_task, retitle_task, compare_task}
-use Rattle.doc_run.specs.Commands.{Request, streams, on_document, on_two, edit, generate, IsCommand}
+use Rattle.doc_tasks.specs.Tasks.{title_task, retitle_task, export_task, compare_task, join_task}
+use Rattle.doc_run.specs.Commands.{Request, streams, on_document, on_two, edit, from_json, generate, IsCommand}
 
 -- the word that stands there
 word_at : ℕ → List (List ℕ) → List ℕ
@@ -28,6 +28,10 @@ decoded words =
     else if letters words == 116 * 256 + 105 then on_document title_task (word_at 1 words)
     else if letters words == 114 * 256 + 101 then
     on_document (retitle_task (word_at 2 words) (word_at 3 words)) (word_at 1 words)
+    else if letters words == 101 * 256 + 120 then on_document (export_task (word_at 2 words)) (word_at 1 words)
+    else if letters words == 105 * 256 + 109 then from_json (word_at 1 words) (word_at 2 words)
+    else if letters words == 106 * 256 + 111 then
+    on_two (join_task (word_at 3 words)) (word_at 1 words) (word_at 2 words)
     else if letters words == 101 * 256 + 113 then on_two compare_task (word_at 1 words) (word_at 2 words)
     else if letters words == 103 * 256 + 101 then generate (digits_value 10 (word_at 1 words)) (word_at 2 words)
     else if letters words == 101 * 256 + 100 then edit (word_at 1 words) (word_at 2 words) (word_at 3 words)
@@ -45,7 +49,10 @@ is_decoded words (on_document outline_task file) h = ap decoded h
 is_decoded words (on_document (full_task out) file) h = ap decoded h
 is_decoded words (on_document title_task file) h = ap decoded h
 is_decoded words (on_document (retitle_task title out) file) h = ap decoded h.spelt
+is_decoded words (on_document (export_task out) file) h = ap decoded h
 is_decoded words (on_two compare_task first second) h = ap decoded h
+is_decoded words (on_two (join_task out) first second) h = ap decoded h
+is_decoded words (from_json file out) h = ap decoded h
 is_decoded words (edit file script out) h = ap decoded h
 is_decoded words (generate seed out) h = ap decoded h.spelt ∙ ap (λ n. generate n out) (sym h.number.number.value)
 

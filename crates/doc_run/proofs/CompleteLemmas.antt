@@ -14,12 +14,15 @@ use Rattle.doc_tasks.specs.Outcomes.{Outcome}
 use Rattle.doc_tasks.specs.Replies.{EndsBy}
 use Rattle.doc_tasks.specs.Judged.{Judges, stream_rules}
 use Rattle.doc_tasks.specs.Answers.{ListsStreams, AnswersFile, AnswersTwo}
-use Rattle.doc_tasks.proofs.OutcomeLemmas.{status_said}
+use Rattle.doc_tasks.proofs.OutcomeLemmas.{status_said, ends_done}
 use Rattle.doc_tasks.proofs.JudgedLemmas.{streams_single}
 use Rattle.doc_tasks.proofs.AnswerLemmas.{file_done, two_done}
-use Rattle.doc_run.specs.Commands.{Request, streams, on_document, on_two, edit, generate, IsCommand}
+use Rattle.doc_tasks.specs.Imports.{Imports}
+use Rattle.doc_tasks.proofs.ImportLemmas.{import_done}
+use Rattle.doc_run.specs.Commands.{Request, streams, on_document, on_two, edit, from_json, generate, IsCommand}
 use Rattle.doc_run.specs.Stages.{longest_file, BreaksLengthRule, ReadsFile}
 use Rattle.doc_run.specs.Edits.{EditsBy, IsOverlongScript, EditsFile}
+use Rattle.doc_run.specs.Imports.{IsOverlongJson}
 use Rattle.doc_run.specs.Endings.{ReadsSecond, Ends, IsEnding}
 use Rattle.doc_run.specs.Completeness.{HoldsRight, CanServe}
 use Rattle.doc_run.proofs.CommandLemmas.{command_one}
@@ -115,6 +118,13 @@ served policies (edit file script out) files outcome can ends calm =
     (settled script files IsOverlongScript next outcome x.reads calm) in
     edited_done start out can.bytes can.commands outcome can.is (can.accepted x.session x.started)
     (short_says script IsOverlongScript next can.bytes outcome can.short said)
+served policies (from_json file out) files outcome can ends calm =
+    let next = λ (b : List ℕ). EndsBy (Some out) (Imports b) in
+    let said : Says file IsOverlongJson next (Some can.bytes) outcome =
+    subst (λ t. Says file IsOverlongJson next t outcome) can.there
+    (settled file files IsOverlongJson next outcome ends calm) in
+    ends_done (Some out) (Imports can.bytes) outcome (λ reply is. import_done can.bytes reply can.can is)
+    (short_says file IsOverlongJson next can.bytes outcome can.short said)
 served policies (generate seed out) files outcome can ends calm = generated_done seed out outcome ends calm
 
 pub complete :

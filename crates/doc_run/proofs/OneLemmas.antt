@@ -17,9 +17,13 @@ use Rattle.doc_tasks.specs.Judged.{Judges, stream_rules}
 use Rattle.doc_tasks.specs.Answers.{ListsStreams, AnswersFile, AnswersTwo}
 use Rattle.doc_tasks.proofs.JudgedLemmas.{refused_one, streams_single}
 use Rattle.doc_tasks.proofs.AnswerLemmas.{lists_one, file_one, two_one}
-use Rattle.doc_run.specs.Commands.{Request, streams, on_document, on_two, edit, generate, IsCommand}
+use Rattle.doc_tasks.specs.Imports.{Imports}
+use Rattle.doc_tasks.proofs.OutcomeLemmas.{ends_one as replied_one}
+use Rattle.doc_tasks.proofs.ImportLemmas.{import_one}
+use Rattle.doc_run.specs.Commands.{Request, streams, on_document, on_two, edit, from_json, generate, IsCommand}
 use Rattle.doc_run.specs.Stages.{longest_file, BreaksLengthRule, Reads, ReadsFile}
 use Rattle.doc_run.specs.Edits.{EditsBy, IsOverlongScript, EditsFile, ReadsScript}
+use Rattle.doc_run.specs.Imports.{IsOverlongJson}
 use Rattle.doc_run.specs.Endings.{ReadsSecond, Ends, IsEnding, EndsFast, EndingIsOne}
 use Rattle.doc_run.proofs.CommandLemmas.{command_one}
 use Rattle.doc_run.proofs.AlikeLemmas.{IsOne, one_same, one_when}
@@ -144,6 +148,10 @@ ends_one policies words (on_two pair first second) files a b asked x y ca cb =
 ends_one policies words (edit file script out) files a b asked x y ca cb =
     files_one (EndsFast words files) file files all_rules (EditsFile policies script out (Some files)) a b ca cb
     all_single (λ bytes s t. scripts_one policies words file script out files bytes a b asked ca cb s t) x y
+ends_one policies words (from_json file out) files a b asked x y ca cb =
+    let free = EndsFast words files in
+    reads_one free file files IsOverlongJson (λ bytes. EndsBy (Some out) (Imports bytes)) a b ca cb (λ s t. s ∙ sym t)
+    (λ bytes there s t. one_same free a b (replied_one (Some out) (Imports bytes) a b (import_one bytes) s t)) x y
 ends_one policies words (generate seed out) files a b asked x y ca cb =
     one_when (EndsFastFrom seed) (EndsFast words files) a b
     (λ last. inr (record { seed = seed; out = out; asked = asked; last = last }))

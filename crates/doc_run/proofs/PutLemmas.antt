@@ -15,11 +15,13 @@ use Rattle.doc_tasks.specs.Replies.{EndsBy, Replies, RepliesTwo}
 use Rattle.doc_tasks.specs.Judged.{Judges, stream_rules}
 use Rattle.doc_tasks.specs.Answers.{ListsStreams, AnswersFile, AnswersTwo}
 use Rattle.doc_tasks.proofs.OutcomeLemmas.{status_said, ends_put, ends_inside, after_reading_inside}
-use Rattle.doc_run.specs.Commands.{Request, streams, on_document, on_two, edit, generate, put_under, IsCommand}
-use Rattle.doc_run.specs.Commands.{PutsUnder}
+use Rattle.doc_tasks.specs.Imports.{Imports}
+use Rattle.doc_run.specs.Commands.{Request, streams, on_document, on_two, edit, from_json, generate, put_under}
+use Rattle.doc_run.specs.Commands.{IsCommand, PutsUnder}
 use Rattle.doc_run.specs.Stages.{BreaksLengthRule, Reads, ReadsFile}
 use Rattle.doc_run.specs.Generates.{Generates}
 use Rattle.doc_run.specs.Edits.{IsOverlongScript, EditsBy, EditsFile}
+use Rattle.doc_run.specs.Imports.{IsOverlongJson}
 use Rattle.doc_run.specs.Endings.{ReadsSecond, Ends, IsEnding}
 
 -- none of the statuses of a failing sink and of want of memory
@@ -100,6 +102,10 @@ ends_fine policies (edit file script out) held outcome e =
     reads_fine (Some out) script held IsOverlongScript (λ b. EndsBy (Some out) (by b)) outcome
     (λ long. said_fine (Some out) 7 _ outcome long (λ s. omega (arith, s), λ s. omega (arith, s)))
     (λ b y. reply_fine (Some out) (by b) outcome y) x.reads) e
+ends_fine policies (from_json file out) held outcome e =
+    reads_fine (Some out) file held IsOverlongJson (λ b. EndsBy (Some out) (Imports b)) outcome
+    (λ long. said_fine (Some out) 7 _ outcome long (λ s. omega (arith, s), λ s. omega (arith, s)))
+    (λ b y. reply_fine (Some out) (Imports b) outcome y) e
 ends_fine policies (generate seed out) held outcome (inl fault) =
     said_fine (Some out) 4 _ outcome fault (calm_below 4 (omega arith))
 ends_fine policies (generate seed out) held outcome (inr made) = reply_fine (Some out) (Generates seed) outcome made
@@ -133,6 +139,7 @@ faulted policies (streams file) held = inr (inl refl)
 faulted policies (on_document task file) held = inr (inl refl)
 faulted policies (on_two pair first second) held = inr (inl refl)
 faulted policies (edit file script out) held = inr (inl refl)
+faulted policies (from_json file out) held = inr (inl refl)
 faulted policies (generate seed out) held = inl refl
 
 pub ending_faulted :

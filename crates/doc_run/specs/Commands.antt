@@ -3,9 +3,9 @@ use Rattle.std.specs.Prelude.{◌≡◌, ◌≤◌, List, [], ◌∷◌, ℕ, le
 use Rattle.std.specs.Str.Parse.{IsNumeral, digits_value}
 use Rattle.doc_edit.specs.GeneratedRuns.{most_seed}
 use Rattle.doc_tasks.specs.Tasks.{FileTask, text_task, check_task, show_task, props_task, outline_task, full_task}
-use Rattle.doc_tasks.specs.Tasks.{title_task, retitle_task, task_of, out_of}
+use Rattle.doc_tasks.specs.Tasks.{title_task, retitle_task, export_task, task_of, out_of}
 use Rattle.summary_set.specs.Written.{IsTitle}
-use Rattle.doc_tasks.specs.Tasks.{PairTask, compare_task, pair_of, out_of_two}
+use Rattle.doc_tasks.specs.Tasks.{PairTask, compare_task, join_task, pair_of, out_of_two}
 use Rattle.doc_run.specs.declared.command.Command as asked
 use Rattle.doc_run.specs.declared.command.Command.TheVariants as asked_for
 
@@ -19,6 +19,8 @@ pub data Request : Type 0 where
   on_two : (pair : PairTask) → (first second : List ℕ) → Request
   -- edit the document of a file by a script, and put its last save under a name
   edit : (file script out : List ℕ) → Request
+  -- save the document that is the JSON of a file under a name
+  from_json : (file out : List ℕ) → Request
   -- put what the generator makes of a seed under a name
   generate : (seed : ℕ) → (out : List ℕ) → Request
 
@@ -28,6 +30,7 @@ request_of (asked_for.Streams file) = streams file.now
 request_of (asked_for.OnDocument task file) = on_document (task_of task) file.now
 request_of (asked_for.OnTwo pair first second) = on_two (pair_of pair) first.now second.now
 request_of (asked_for.Edit file script out) = edit file.now script.now out.now
+request_of (asked_for.Import file out) = from_json file.now out.now
 request_of (asked_for.Gen seed out) = generate seed out.now
 
 -- the number of a word of one to nine decimal digits
@@ -68,10 +71,12 @@ AsksFor words outline_task file = words ≡ codes "outline" ∷ file ∷ []
 AsksFor words (full_task out) file = words ≡ codes "full" ∷ file ∷ out ∷ []
 AsksFor words title_task file = words ≡ codes "title" ∷ file ∷ []
 AsksFor words (retitle_task title out) file = AsksToRetitle words title out file
+AsksFor words (export_task out) file = words ≡ codes "export" ∷ file ∷ out ∷ []
 
 -- the words ask for a task on the documents of two files
 abbrev pub AsksForTwo : List (List ℕ) → PairTask → (first second : List ℕ) → Type 0
 AsksForTwo words compare_task first second = words ≡ codes "equal" ∷ first ∷ second ∷ []
+AsksForTwo words (join_task out) first second = words ≡ codes "join" ∷ first ∷ second ∷ out ∷ []
 
 -- the words are the command
 abbrev pub IsCommand : List (List ℕ) → Request → Type 0
@@ -79,6 +84,7 @@ IsCommand words (streams file) = words ≡ codes "streams" ∷ file ∷ []
 IsCommand words (on_document task file) = AsksFor words task file
 IsCommand words (on_two pair first second) = AsksForTwo words pair first second
 IsCommand words (edit file script out) = words ≡ codes "edit" ∷ file ∷ script ∷ out ∷ []
+IsCommand words (from_json file out) = words ≡ codes "import" ∷ file ∷ out ∷ []
 IsCommand words (generate seed out) = AsksForGenerated words seed out
 
 -- the words are no command
@@ -95,6 +101,7 @@ put_under (streams file) = None
 put_under (on_document task file) = out_of task
 put_under (on_two pair first second) = out_of_two pair
 put_under (edit file script out) = Some out
+put_under (from_json file out) = Some out
 put_under (generate seed out) = Some out
 
 -- the command puts bytes under the name

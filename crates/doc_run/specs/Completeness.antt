@@ -16,7 +16,8 @@ use Rattle.doc_tasks.specs.Tasks.{FileTask, PairTask}
 use Rattle.doc_tasks.specs.Judged.{stream_rules}
 use Rattle.doc_tasks.specs.Replies.{CanReply, CanReplyTwo}
 use Rattle.doc_run.specs.Stages.{longest_file}
-use Rattle.doc_run.specs.Commands.{Request, streams, on_document, on_two, edit, generate}
+use Rattle.doc_tasks.specs.Imports.{CanImport}
+use Rattle.doc_run.specs.Commands.{Request, streams, on_document, on_two, edit, from_json, generate}
 
 -- the name holds bytes that break none of the rules
 pub record HoldsRight (rules : List ℕ → Rules Place) (files : Files) (name : List ℕ) : Type 0 where
@@ -50,10 +51,18 @@ pub record IsEditable (policies : List Policy) (files : Files) (file script : Li
       (session : SessionView) → IsStarted right.bytes session →
       IsAcceptedScript (start_of session policies) commands
 
+-- the name holds the JSON of a document that can be saved, and no more bytes than any file
+pub record IsImportable (files : Files) (name : List ℕ) : Type 0 where
+  pub bytes : List ℕ
+  pub there : file_at files name ≡ Some bytes
+  pub short : length bytes ≤ longest_file
+  pub can : CanImport bytes
+
 -- nothing that the command names stands in its way
 abbrev pub CanServe : List Policy → Request → Files → Type 0
 CanServe policies (streams file) files = HoldsRight stream_rules files file
 CanServe policies (on_document task file) files = IsAnswerable task files file
 CanServe policies (on_two pair first second) files = AreAnswerable pair files first second
 CanServe policies (edit file script out) files = IsEditable policies files file script
+CanServe policies (from_json file out) files = IsImportable files file
 CanServe policies (generate seed out) files = ⊤

@@ -13,9 +13,11 @@ use Rattle.doc_tasks.specs.Outcomes.{Outcome, says, AreAlike}
 use Rattle.doc_tasks.specs.Tasks.{PairTask}
 use Rattle.doc_tasks.specs.Judged.{stream_rules}
 use Rattle.doc_tasks.specs.Answers.{ListsStreams, AnswersFile, AnswersTwo}
-use Rattle.doc_run.specs.Commands.{Request, streams, on_document, on_two, edit, generate, IsCommand, IsNoCommand}
+use Rattle.doc_run.specs.Commands.{Request, streams, on_document, on_two, edit, from_json, generate}
+use Rattle.doc_run.specs.Commands.{IsCommand, IsNoCommand}
 use Rattle.doc_run.specs.Stages.{ReadsFile}
 use Rattle.doc_run.specs.Edits.{SavesLast, EditsFile}
+use Rattle.doc_run.specs.Imports.{ReadsJson}
 use Rattle.doc_run.specs.Generates.{EndsGenerated}
 
 -- the second file is read once the first one is accepted
@@ -28,6 +30,7 @@ Ends policies (streams file) held = ReadsFile file held stream_rules ListsStream
 Ends policies (on_document task file) held = ReadsFile file held all_rules (AnswersFile task file)
 Ends policies (on_two pair first second) held = ReadsFile first held all_rules (ReadsSecond pair second held)
 Ends policies (edit file script out) held = ReadsFile file held all_rules (EditsFile policies script out held)
+Ends policies (from_json file out) held = ReadsJson file out held
 Ends policies (generate seed out) held = EndsGenerated seed out
 
 -- the words are no command

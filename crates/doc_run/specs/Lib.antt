@@ -4,6 +4,7 @@ pub mod Outcomes
 pub mod Stages
 pub mod Reading
 pub mod Edits
+pub mod Imports
 pub mod Generates
 pub mod Endings
 pub mod Completeness

@@ -22,7 +22,7 @@ pub enum Command<'a> {
     },
     /// Ask something of the documents of two files.
     OnTwo {
-        pair: Pair,
+        pair: Pair<'a>,
         first: &'a str,
         second: &'a str,
     },
@@ -30,6 +30,11 @@ pub enum Command<'a> {
     Edit {
         file: &'a str,
         script: &'a str,
+        out: &'a str,
+    },
+    /// Save the document that is the JSON of a file under a name.
+    Import {
+        file: &'a str,
         out: &'a str,
     },
     /// Put what the generator makes of a seed under a name.
@@ -81,6 +86,16 @@ fn command_on_two<'a>(word: &str, first: &'a str, second: &'a str) -> Option<Com
         let task = Task::Full { out: second };
         return Some(Command::OnDocument { task, file: first });
     }
+    if word == "export" {
+        let task = Task::Export { out: second };
+        return Some(Command::OnDocument { task, file: first });
+    }
+    if word == "import" {
+        return Some(Command::Import {
+            file: first,
+            out: second,
+        });
+    }
     if word == "equal" {
         let pair = Pair::Compare;
         return Some(Command::OnTwo {
@@ -114,6 +129,14 @@ fn command_on_three<'a>(
             file,
             script: second,
             out,
+        });
+    }
+    if word == "join" {
+        let pair = Pair::Join { out };
+        return Some(Command::OnTwo {
+            pair,
+            first: file,
+            second,
         });
     }
     let task = retitle_asked(word, second, out)?;

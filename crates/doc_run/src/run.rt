@@ -14,7 +14,7 @@ ghost use Rattle.doc_run.specs.Completeness.{CanServe};
 
 use crate::command::{Command, command_of};
 use crate::generated::generate_under;
-use crate::serve::{serve_document, serve_edit, serve_streams, serve_two};
+use crate::serve::{serve_document, serve_edit, serve_import, serve_streams, serve_two};
 use crate::status::{STATUS_MEMORY, STATUS_SHELF_FAULT, STATUS_SINK_FAULT, STATUS_USAGE};
 use doc_bits::Memory;
 use doc_outer::{PutFault, Shelf, Sink, write_all};
@@ -124,7 +124,7 @@ fn ending_after_put<S: Shelf>(
 }
 
 /// The ending of a run, before anything is put or printed.
-fn ending_of<S: Shelf>(
+pub fn ending_of<S: Shelf>(
     alloc: Global,
     words: &[String],
     shelf: &mut S,
@@ -148,6 +148,7 @@ fn ending_of<S: Shelf>(
         Some(Command::Edit { file, script, out }) => serve_edit(
             alloc, shelf, file, script, out, guards,
         ),
+        Some(Command::Import { file, out }) => serve_import(alloc, shelf, file, out),
         Some(Command::Gen { seed, out }) => generate_under(alloc, seed, out),
         None => {
             let text = usage_line(alloc)?;

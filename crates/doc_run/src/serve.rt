@@ -9,21 +9,26 @@ ghost use Rattle.doc_tasks.specs.Tasks.{task_of, pair_of};
 ghost use Rattle.doc_tasks.specs.Replies.{EndsBy};
 ghost use Rattle.doc_tasks.specs.Judged.{stream_rules, Judges};
 ghost use Rattle.doc_tasks.specs.Answers.{ListsStreams, AnswersFile};
+ghost use Rattle.doc_tasks.specs.Imports.{Imports};
 ghost use Rattle.doc_run.specs.Outcomes.{IsCaused, IsOnlyRead};
 ghost use Rattle.doc_run.specs.Stages.{BreaksLengthRule, ReadsFile};
 ghost use Rattle.doc_run.specs.Reading.{Follows, AnswersBeside};
 ghost use Rattle.doc_run.specs.Edits.{EditsBy, IsOverlongScript, ReadsScript, EditsFile};
+ghost use Rattle.doc_run.specs.Imports.{IsOverlongJson, ReadsJson};
 ghost use Rattle.doc_run.specs.Endings.{ReadsSecond};
 
 use crate::begin::{Begun, begin_taken};
 use crate::edit::{edit_under, overlong_script};
 use crate::stage::{Taken, open_taken, overlong, take_whole};
 use doc_bits::Memory;
+use doc_columns::ColumnDocument;
 use doc_outer::Shelf;
-use doc_tasks::{Ending, Pair, Reached, Task, answer_file, answer_two, list_streams, open_file};
+use doc_tasks::{
+    Ending, Pair, Reached, Task, answer_file, answer_two, import_file, list_streams, open_file,
+    overlong_json,
+};
 use edit_guards::Guard;
 use fast_save::Session;
-use plain_doc::Document;
 use std::alloc::Global;
 
 /// The ending where the streams of a file are asked for.
@@ -85,13 +90,13 @@ fn answer_taken(alloc: Global, task: Task<'_>, name: &str, taken: Taken) -> Resu
 pub(crate) fn serve_two<S: Shelf>(
     alloc: Global,
     shelf: &mut S,
-    pair: Pair,
+    pair: Pair<'_>,
     first: &str,
     second: &str,
 ) -> Result<Ending, Memory>
     ensures read { IsOnlyRead S.Shelf shelf.old shelf.new }
     ensures ends { IfOk result (λ e. ReadsFile first.now (S.held shelf.old) all_rules
-        (ReadsSecond (pair_of pair) second.now (S.held shelf.old)) e) }
+        (ReadsSecond (pair_of pair.entry) second.now (S.held shelf.old)) e) }
     ensures cause { IfOk result (λ e. IsCaused S.Shelf shelf.old shelf.new e.status) }
 {
     let taken = take_whole(alloc, shelf, first)?;
@@ -106,14 +111,14 @@ pub(crate) fn serve_two<S: Shelf>(
 fn serve_second<S: Shelf>(
     alloc: Global,
     shelf: &mut S,
-    pair: Pair,
-    first: &Document,
+    pair: Pair<'_>,
+    first: &ColumnDocument,
     second: &str,
 ) -> Result<Ending, Memory>
     requires { IsSound first.now }
     ensures read { IsOnlyRead S.Shelf shelf.old shelf.new }
     ensures ends { IfOk result (λ e.
-        ReadsFile second.now (S.held shelf.old) all_rules (AnswersBeside (pair_of pair) first.now) e) }
+        ReadsFile second.now (S.held shelf.old) all_rules (AnswersBeside (pair_of pair.entry) first.now) e) }
     ensures cause { IfOk result (λ e. IsCaused S.Shelf shelf.old shelf.new e.status) }
 {
     let taken = take_whole(alloc, shelf, second)?;
@@ -123,14 +128,14 @@ fn serve_second<S: Shelf>(
 /// The ending where something is asked of a document and of that of what was read.
 fn second_taken(
     alloc: Global,
-    pair: Pair,
-    first: &Document,
+    pair: Pair<'_>,
+    first: &ColumnDocument,
     name: &str,
     taken: Taken,
 ) -> Result<Ending, Memory>
     requires { IsSound first.now }
     ensures { IfOk result (λ e. Follows taken (BreaksLengthRule name.now)
-        (λ bytes. Judges (all_rules bytes) name.now (AnswersBeside (pair_of pair) first.now bytes)) e) }
+        (λ bytes. Judges (all_rules bytes) name.now (AnswersBeside (pair_of pair.entry) first.now bytes)) e) }
 {
     match taken {
         Taken::Whole(bytes) => answer_second(alloc, pair, first, name, bytes.as_slice()),
@@ -142,20 +147,47 @@ fn second_taken(
 /// The ending where something is asked of a document and of that of a file that was read whole.
 fn answer_second(
     alloc: Global,
-    pair: Pair,
-    first: &Document,
+    pair: Pair<'_>,
+    first: &ColumnDocument,
     name: &str,
     file: &[u8],
 ) -> Result<Ending, Memory>
     requires { IsSound first.now }
     ensures judges { IfOk result (λ e.
-        Judges (all_rules file.now) name.now (AnswersBeside (pair_of pair) first.now file.now) e) }
+        Judges (all_rules file.now) name.now (AnswersBeside (pair_of pair.entry) first.now file.now) e) }
     ensures bytes { AreBytes file.now }
 {
     let reached = open_file(alloc, name, file)?;
     match reached {
         Reached::Opened(second) => answer_two(alloc, pair, first, &second),
         Reached::Stopped(ending) => Ok(ending),
+    }
+}
+
+/// The ending where the document that is the JSON of a file is saved under a name. No rule of files is judged.
+pub(crate) fn serve_import<S: Shelf>(
+    alloc: Global,
+    shelf: &mut S,
+    file: &str,
+    out: &str,
+) -> Result<Ending, Memory>
+    ensures read { IsOnlyRead S.Shelf shelf.old shelf.new }
+    ensures ends { IfOk result (λ e. ReadsJson file.now out.now (S.held shelf.old) e) }
+    ensures cause { IfOk result (λ e. IsCaused S.Shelf shelf.old shelf.new e.status) }
+{
+    let taken = take_whole(alloc, shelf, file)?;
+    import_taken(alloc, taken, out)
+}
+
+/// The ending where the document that is the JSON of what was read is saved.
+fn import_taken(alloc: Global, taken: Taken, out: &str) -> Result<Ending, Memory>
+    ensures { IfOk result (λ e. Follows taken IsOverlongJson
+        (λ bytes. EndsBy (Some out.now) (Imports bytes)) e) }
+{
+    match taken {
+        Taken::Whole(bytes) => import_file(alloc, bytes.as_slice(), out),
+        Taken::Overlong => overlong_json(alloc),
+        Taken::Stopped(ending) => Ok(ending),
     }
 }
 

@@ -1,9 +1,11 @@
 pub mod ListingLemmas
 pub mod OutcomeLemmas
 pub mod JudgedLemmas
-pub mod AsciiLemmas
 pub mod SoundLemmas
 pub mod SaveLemmas
 pub mod SummaryLemmas
+pub mod JoinLemmas
+pub mod ExportLemmas
+pub mod ImportLemmas
 pub mod ReplyLemmas
 pub mod AnswerLemmas

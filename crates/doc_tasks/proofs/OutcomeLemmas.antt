@@ -5,8 +5,8 @@ use Rattle.std.proofs.lemmas.Option.{none-some}
 use Rattle.doc_tasks.specs.declared.reply.Reply.{Reply}
 use Rattle.doc_tasks.specs.declared.reply.Reply.TheVariants.{Done, Made, Refused}
 use Rattle.doc_tasks.specs.declared.reply.Refusal.{Refusal}
-use Rattle.doc_tasks.specs.declared.reply.Refusal.TheVariants.{Script, Position, Edit, Save, Guarded, Different}
-use Rattle.doc_tasks.specs.declared.reply.Refusal.TheVariants.{NoSummary, WrongSummary}
+use Rattle.doc_tasks.specs.declared.reply.Refusal.TheVariants.{Script, Json, Position, Edit, Styles, Unsound, Save}
+use Rattle.doc_tasks.specs.declared.reply.Refusal.TheVariants.{Guarded, Different, NoSummary, WrongSummary}
 use Rattle.doc_tasks.specs.Outcomes.{Outcome, PutFile, says}
 use Rattle.doc_tasks.specs.Replies.{status_of, outcome_of, EndsBy, IsDone}
 
@@ -31,8 +31,11 @@ said_inside status text outcome e is = inside status outcome (status_said status
 
 refusal_inside : (why : Refusal) → IsAfterReading (status_of why)
 refusal_inside Script = inr (omega arith)
+refusal_inside Json = inr (omega arith)
 refusal_inside Position = inr (omega arith)
 refusal_inside Edit = inr (omega arith)
+refusal_inside Styles = inr (omega arith)
+refusal_inside Unsound = inr (omega arith)
 refusal_inside Save = inr (omega arith)
 refusal_inside Guarded = inr (omega arith)
 refusal_inside Different = inr (omega arith)

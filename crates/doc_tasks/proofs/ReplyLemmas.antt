@@ -6,12 +6,14 @@ use Rattle.list_numbers.proofs.OneLemmas.{lines_one as outline_one}
 use Rattle.doc_tasks.specs.declared.reply.Reply.{Reply}
 use Rattle.doc_tasks.specs.declared.reply.Reply.TheVariants.{Done}
 use Rattle.doc_tasks.specs.Tasks.{FileTask, text_task, check_task, show_task, props_task, outline_task, full_task}
-use Rattle.doc_tasks.specs.Tasks.{title_task, retitle_task}
-use Rattle.doc_tasks.specs.Tasks.{PairTask, compare_task}
+use Rattle.doc_tasks.specs.Tasks.{title_task, retitle_task, export_task}
+use Rattle.doc_tasks.specs.Tasks.{PairTask, compare_task, join_task}
 use Rattle.doc_tasks.specs.Replies.{IsDone, ShowsItem, HasNoPosition, ShowsItemOrNone, Replies, CanReply}
-use Rattle.doc_tasks.specs.Replies.{RepliesTwo, CanReplyTwo}
+use Rattle.doc_tasks.specs.Replies.{Compares, RepliesTwo, CanReplyTwo}
 use Rattle.doc_tasks.proofs.SaveLemmas.{done_said, saved_one, saved_done}
 use Rattle.doc_tasks.proofs.SummaryLemmas.{title_one, title_done, retitle_one, retitle_done}
+use Rattle.doc_tasks.proofs.ExportLemmas.{export_one, export_done}
+use Rattle.doc_tasks.proofs.JoinLemmas.{join_one, join_done}
 
 -- a position is in the main text or beyond it
 item_or_none :
@@ -43,15 +45,21 @@ replies_one outline_task name document a b x y =
 replies_one (full_task out) name document a b x y = saved_one _ document a b x y
 replies_one title_task name document a b x y = title_one name document.carried.streams a b x y
 replies_one (retitle_task title out) name document a b x y = retitle_one title name document a b x y
+replies_one (export_task out) name document a b x y = export_one document a b x y
+
+compared_one :
+    (first second : Document) (a b : Reply) → Compares first second a → Compares first second b → a ≡ b
+compared_one first second a b (inl x) (inl y) = x.1 ∙ sym y.1
+compared_one first second a b (inl x) (inr y) = absurd (y.0 x.0)
+compared_one first second a b (inr x) (inl y) = absurd (x.0 y.0)
+compared_one first second a b (inr x) (inr y) = x.1 ∙ sym y.1
 
 -- one reply on two documents
 pub replies_two_one :
     (pair : PairTask) (first second : Document) (a b : Reply) → RepliesTwo pair first second a →
     RepliesTwo pair first second b → a ≡ b
-replies_two_one compare_task first second a b (inl x) (inl y) = x.1 ∙ sym y.1
-replies_two_one compare_task first second a b (inl x) (inr y) = absurd (y.0 x.0)
-replies_two_one compare_task first second a b (inr x) (inl y) = absurd (x.0 y.0)
-replies_two_one compare_task first second a b (inr x) (inr y) = x.1 ∙ sym y.1
+replies_two_one compare_task first second a b x y = compared_one first second a b x y
+replies_two_one (join_task out) first second a b x y = join_one first second a b x y
 
 item_done :
     (pos : ℕ) (document : Document) (reply : Reply) → pos < length document.main →
@@ -71,9 +79,14 @@ replies_done outline_task name document reply can x = done_said x.text reply x.i
 replies_done (full_task out) name document reply can x = saved_done _ document reply can x
 replies_done title_task name document reply can x = title_done name document.carried.streams reply can x
 replies_done (retitle_task title out) name document reply can x = retitle_done title name document reply can x
+replies_done (export_task out) name document reply can x = export_done document reply can x
+
+compared_done : (first second : Document) (reply : Reply) → first ≡ second → Compares first second reply → IsDone reply
+compared_done first second reply same (inl x) = done_said _ reply x.1
+compared_done first second reply same (inr x) = absurd (x.0 same)
 
 pub replies_two_done :
     (pair : PairTask) (first second : Document) (reply : Reply) → CanReplyTwo pair first second →
     RepliesTwo pair first second reply → IsDone reply
-replies_two_done compare_task first second reply can (inl x) = done_said _ reply x.1
-replies_two_done compare_task first second reply can (inr x) = absurd (x.0 can)
+replies_two_done compare_task first second reply can x = compared_done first second reply can x
+replies_two_done (join_task out) first second reply can x = join_done first second reply can x

@@ -31,4 +31,7 @@ sound_with_carried document carried sound =
       bases = right.bases;
       short = right.short;
       writable = right.writable;
+      bookmarks = right.bookmarks;
+      few_bookmarks = right.few_bookmarks;
+      names = right.names;
     })

@@ -4,6 +4,9 @@ pub mod Tasks
 pub mod Saves
 pub mod SummaryLines
 pub mod Summaries
+pub mod Joins
+pub mod Exports
+pub mod Imports
 pub mod Replies
 pub mod Judged
 pub mod Answers

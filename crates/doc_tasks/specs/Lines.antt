@@ -13,7 +13,7 @@ use Rattle.doc_show.specs.Story.{line}
 abbrev pub usage_line : List ℕ
 usage_line = line (codes "usage: docbin text FILE | streams FILE | check FILE | show FILE | props FILE POS" ++ (codes
     " | full FILE OUT | equal A B | edit FILE SCRIPT OUT | gen N OUT | outline FILE | title FILE" ++ codes
-    " | retitle FILE TEXT OUT"))
+    " | retitle FILE TEXT OUT | export FILE OUT | import FILE OUT | join A B OUT"))
 
 -- how a place is named
 abbrev pub place_name : Where → List ℕ

@@ -10,21 +10,26 @@ use Rattle.list_numbers.specs.Outline.{AreOutlineLines}
 use Rattle.doc_tasks.specs.declared.reply.Reply.{Reply}
 use Rattle.doc_tasks.specs.declared.reply.Reply.TheVariants.{Done, Made, Refused}
 use Rattle.doc_tasks.specs.declared.reply.Refusal.{Refusal}
-use Rattle.doc_tasks.specs.declared.reply.Refusal.TheVariants.{Script, Position, Edit, Save, Guarded, Different}
-use Rattle.doc_tasks.specs.declared.reply.Refusal.TheVariants.{NoSummary, WrongSummary}
+use Rattle.doc_tasks.specs.declared.reply.Refusal.TheVariants.{Script, Json, Position, Edit, Styles, Unsound, Save}
+use Rattle.doc_tasks.specs.declared.reply.Refusal.TheVariants.{Guarded, Different, NoSummary, WrongSummary}
 use Rattle.doc_tasks.specs.Outcomes.{Outcome, says, puts}
 use Rattle.doc_tasks.specs.Lines.{position_line, equal_line, different_line}
 use Rattle.doc_tasks.specs.Saves.{Saves}
 use Rattle.doc_tasks.specs.Summaries.{TellsTitle, PutsTitle, HasPropertySet, CanRetitle}
+use Rattle.doc_tasks.specs.Exports.{Exports, CanExport}
+use Rattle.doc_tasks.specs.Joins.{Joins, CanJoin}
 use Rattle.doc_tasks.specs.Tasks.{FileTask, text_task, check_task, show_task, props_task, outline_task, full_task}
-use Rattle.doc_tasks.specs.Tasks.{title_task, retitle_task}
-use Rattle.doc_tasks.specs.Tasks.{PairTask, compare_task}
+use Rattle.doc_tasks.specs.Tasks.{title_task, retitle_task, export_task}
+use Rattle.doc_tasks.specs.Tasks.{PairTask, compare_task, join_task}
 
 -- the status of a refusal
 abbrev pub status_of : Refusal → ℕ
 status_of Script = 7
+status_of Json = 7
 status_of Position = 8
 status_of Edit = 8
+status_of Styles = 8
+status_of Unsound = 8
 status_of Save = 9
 status_of Guarded = 10
 status_of Different = 11
@@ -81,6 +86,7 @@ Replies outline_task name document reply = ShowsOutline document reply
 Replies (full_task out) name document reply = Saves (codes "full") document reply
 Replies title_task name document reply = TellsTitle name document.carried.streams reply
 Replies (retitle_task title out) name document reply = PutsTitle title name document reply
+Replies (export_task out) name document reply = Exports document reply
 
 -- the document has what the task asks for
 abbrev pub CanReply : FileTask → Document → Type 0
@@ -92,6 +98,7 @@ CanReply outline_task document = ⊤
 CanReply (full_task out) document = FitsCompoundFile document
 CanReply title_task document = HasPropertySet document.carried.streams
 CanReply (retitle_task title out) document = CanRetitle title document
+CanReply (export_task out) document = CanExport document
 
 -- two documents are equal or not
 abbrev pub Compares : Document → Document → Reply → Type 0
@@ -101,7 +108,9 @@ Compares first second reply =
 -- what is asked of two documents comes to
 abbrev pub RepliesTwo : PairTask → Document → Document → Reply → Type 0
 RepliesTwo compare_task first second reply = Compares first second reply
+RepliesTwo (join_task out) first second reply = Joins first second reply
 
 -- the documents have what it asks for
 abbrev pub CanReplyTwo : PairTask → Document → Document → Type 0
 CanReplyTwo compare_task first second = first ≡ second
+CanReplyTwo (join_task out) first second = CanJoin first second

@@ -23,6 +23,8 @@ pub data FileTask : Type 0 where
   title_task : FileTask
   -- its full save with this title, for a name
   retitle_task : (title out : List ℕ) → FileTask
+  -- its text as JSON, for a name
+  export_task : (out : List ℕ) → FileTask
 
 -- what the program keeps of it
 abbrev pub task_of : asked.Task → FileTask
@@ -34,6 +36,7 @@ task_of asked_for.Outline = outline_task
 task_of (asked_for.Full out) = full_task out.now
 task_of asked_for.Title = title_task
 task_of (asked_for.Retitle title out) = retitle_task title out.now
+task_of (asked_for.Export out) = export_task out.now
 
 -- the name that its bytes are made for
 abbrev pub out_of : FileTask → Option (List ℕ)
@@ -45,14 +48,19 @@ out_of outline_task = None
 out_of (full_task out) = Some out
 out_of title_task = None
 out_of (retitle_task title out) = Some out
+out_of (export_task out) = Some out
 
 -- what is asked of the documents of two files
 pub data PairTask : Type 0 where
   -- whether they are equal
   compare_task : PairTask
+  -- the full save of the second behind the first, for a name
+  join_task : (out : List ℕ) → PairTask
 
 abbrev pub pair_of : asked_pair.Pair → PairTask
 pair_of asked_for_pair.Compare = compare_task
+pair_of (asked_for_pair.Join out) = join_task out.now
 
 abbrev pub out_of_two : PairTask → Option (List ℕ)
 out_of_two compare_task = None
+out_of_two (join_task out) = Some out

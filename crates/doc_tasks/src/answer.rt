@@ -11,6 +11,8 @@ ghost use Rattle.doc_tasks.specs.Answers.{AnswersFile, ListsStreams};
 
 use crate::ending::Ending;
 use crate::equality::compare;
+use crate::export::export_reply;
+use crate::joining::join_reply;
 use crate::lines::rule_line;
 use crate::listing::listing;
 use crate::look::{check_reply, outline_reply, props_reply, show_reply, text_reply};
@@ -22,8 +24,7 @@ use crate::summary::title_reply;
 use crate::task::{Pair, Task};
 use doc_bits::Memory;
 use doc_columns::ColumnDocument;
-use doc_read::{ReadFault, open, read};
-use plain_doc::Document;
+use doc_read::{ReadFault, open};
 use std::alloc::Global;
 use std::mem::forget;
 
@@ -64,19 +65,21 @@ fn reply_on(
         Task::Full { .. } => full_reply(alloc, document),
         Task::Title => title_reply(alloc, name, &document.carried.streams),
         Task::Retitle { title, .. } => retitle_reply(alloc, title, name, document),
+        Task::Export { .. } => export_reply(alloc, document),
     }
 }
 
 /// The ending where something is asked of two documents.
 pub fn answer_two(
     alloc: Global,
-    pair: Pair,
-    first: &Document,
-    second: &Document,
+    pair: Pair<'_>,
+    first: &ColumnDocument,
+    second: &ColumnDocument,
 ) -> Result<Ending, Memory>
     requires first { IsSound first.now }
     requires second { IsSound second.now }
-    ensures { IfOk result (EndsBy (out_of_two (pair_of pair)) (RepliesTwo (pair_of pair) first.now second.now)) }
+    ensures { IfOk result
+        (EndsBy (out_of_two (pair_of pair.entry)) (RepliesTwo (pair_of pair.entry) first.now second.now)) }
 {
     let reply = reply_on_two(alloc, pair, first, second)?;
     Ending::under(alloc, pair.out(), reply)
@@ -85,16 +88,17 @@ pub fn answer_two(
 /// What is asked of two documents comes to.
 fn reply_on_two(
     alloc: Global,
-    pair: Pair,
-    first: &Document,
-    second: &Document,
+    pair: Pair<'_>,
+    first: &ColumnDocument,
+    second: &ColumnDocument,
 ) -> Result<Reply, Memory>
     requires first { IsSound first.now }
     requires second { IsSound second.now }
-    ensures { IfOk result (RepliesTwo (pair_of pair) first.now second.now) }
+    ensures { IfOk result (RepliesTwo (pair_of pair.entry) first.now second.now) }
 {
     match pair {
         Pair::Compare => compare(alloc, first, second),
+        Pair::Join { .. } => join_reply(alloc, first, second),
     }
 }
 
@@ -113,7 +117,7 @@ pub fn list_streams(alloc: Global, name: &str, file: &[u8]) -> Result<Ending, Me
 #[derive(Drop)]
 pub enum Reached {
     /// The document that it holds.
-    Opened(Document),
+    Opened(ColumnDocument),
     /// The run ends so.
     Stopped(Ending),
 }
@@ -123,7 +127,7 @@ pub fn open_file(alloc: Global, name: &str, file: &[u8]) -> Result<Reached, Memo
     ensures is { IfOk result (λ r. IsJudged name.now file.now r) }
     ensures bytes { AreBytes file.now }
 {
-    match read(alloc, file) {
+    match open(alloc, file) {
         Ok(opened) => {
             let parts = opened.into_parts();
             Ok(Reached::Opened(parts.0))

@@ -5,14 +5,18 @@ ghost use Rattle.doc_tasks.specs.Replies.{Compares};
 use crate::lines::{different_line, equal_line};
 use crate::reply::{Refusal, Reply};
 use doc_bits::Memory;
-use plain_doc::{Document, equal};
+use doc_columns::ColumnDocument;
 use std::alloc::Global;
 
 /// What comparing two documents comes to.
-pub(crate) fn compare(alloc: Global, first: &Document, second: &Document) -> Result<Reply, Memory>
+pub(crate) fn compare(
+    alloc: Global,
+    first: &ColumnDocument,
+    second: &ColumnDocument,
+) -> Result<Reply, Memory>
     ensures { IfOk result (Compares first.now second.now) }
 {
-    if equal(first, second) {
+    if first.equal(second) {
         let text = equal_line(alloc)?;
         return Ok(Reply::Done(text));
     }

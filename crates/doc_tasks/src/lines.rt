@@ -16,7 +16,8 @@ pub fn usage_line(alloc: Global) -> Result<Text, Memory>
     let line = String::from_str(
         alloc,
         "usage: docbin text FILE | streams FILE | check FILE | show FILE | props FILE POS | full FILE OUT \
-         | equal A B | edit FILE SCRIPT OUT | gen N OUT | outline FILE | title FILE | retitle FILE TEXT OUT\n",
+         | equal A B | edit FILE SCRIPT OUT | gen N OUT | outline FILE | title FILE | retitle FILE TEXT OUT \
+         | export FILE OUT | import FILE OUT | join A B OUT\n",
     )?;
     Ok(Text::from_string(line))
 }

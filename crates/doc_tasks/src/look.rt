@@ -9,12 +9,10 @@ ghost use Rattle.doc_tasks.specs.declared.reply.Reply.TheVariants.{Done};
 
 use crate::lines::position_line;
 use crate::reply::{Refusal, Reply};
-use column_show::{accepted_line, main_text};
 use doc_bits::Memory;
 use doc_columns::ColumnDocument;
-use doc_show::{listing, props_lines};
+use doc_show::{columns_accepted_line, columns_listing, columns_main_text, columns_props_lines};
 use list_numbers::outline_lines;
-use plain_doc::Document;
 use std::alloc::Global;
 use std::mem::forget;
 
@@ -22,7 +20,7 @@ use std::mem::forget;
 pub(crate) fn text_reply(alloc: Global, document: &ColumnDocument) -> Result<Reply, Memory>
     ensures { IfOk result (λ r. r ≡ Done (main_text_of document.now)) }
 {
-    let text = main_text(alloc, document)?;
+    let text = columns_main_text(alloc, document)?;
     Ok(Reply::Done(text))
 }
 
@@ -30,20 +28,16 @@ pub(crate) fn text_reply(alloc: Global, document: &ColumnDocument) -> Result<Rep
 pub(crate) fn check_reply(alloc: Global, document: &ColumnDocument) -> Result<Reply, Memory>
     ensures { IfOk result (λ r. r ≡ Done (accepted_line_of document.now)) }
 {
-    let text = accepted_line(alloc, document)?;
+    let text = columns_accepted_line(alloc, document)?;
     Ok(Reply::Done(text))
 }
 
 /// The styles and texts of a document.
 pub(crate) fn show_reply(alloc: Global, document: &ColumnDocument) -> Result<Reply, Memory>
-    requires { IsSound document.now }
     ensures { IfOk result (λ r. r ≡ Done (listing_of document.now)) }
 {
-    let items = document.expand(alloc)?;
-    let text = listing(alloc, &items);
-    // The run is about to end.
-    forget(items);
-    Ok(Reply::Done(text?))
+    let text = columns_listing(alloc, document)?;
+    Ok(Reply::Done(text))
 }
 
 /// An item of the main text of a document.
@@ -55,18 +49,6 @@ pub(crate) fn props_reply(
     requires { IsSound document.now }
     ensures { IfOk result (ShowsItemOrNone pos document.now) }
 {
-    let items = document.expand(alloc)?;
-    let reply = item_reply(alloc, pos, &items);
-    // As above.
-    forget(items);
-    reply
-}
-
-/// The same by the items.
-fn item_reply(alloc: Global, pos: u32, document: &Document) -> Result<Reply, Memory>
-    requires { IsSound document.now }
-    ensures { IfOk result (ShowsItemOrNone pos document.now) }
-{
     let len = document.main.len();
     if pos as usize >= len {
         let text = position_line(alloc, pos, len)?;
@@ -75,7 +57,7 @@ fn item_reply(alloc: Global, pos: u32, document: &Document) -> Result<Reply, Mem
             text,
         });
     }
-    let text = props_lines(alloc, document, pos as usize)?;
+    let text = columns_props_lines(alloc, document, pos as usize)?;
     Ok(Reply::Done(text))
 }
 
@@ -86,7 +68,7 @@ pub(crate) fn outline_reply(alloc: Global, document: &ColumnDocument) -> Result<
 {
     let items = document.expand(alloc)?;
     let text = outline_lines(alloc, &items);
-    // As above.
+    // The run is about to end, so the items are not taken apart.
     forget(items);
     Ok(Reply::Done(text?))
 }

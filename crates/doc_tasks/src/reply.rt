@@ -3,8 +3,8 @@ ghost use Rattle.std.specs.Prelude.{◌≡◌};
 ghost use Rattle.doc_tasks.specs.Replies.{status_of};
 
 use crate::status::{
-    STATUS_DIFFERENT, STATUS_EDIT, STATUS_GUARD, STATUS_NO_SUMMARY, STATUS_POSITION, STATUS_SAVE,
-    STATUS_SCRIPT, STATUS_WRONG_SUMMARY,
+    STATUS_DIFFERENT, STATUS_EDIT, STATUS_GUARD, STATUS_JSON, STATUS_NO_SUMMARY, STATUS_POSITION,
+    STATUS_SAVE, STATUS_SCRIPT, STATUS_STYLES, STATUS_UNSOUND, STATUS_WRONG_SUMMARY,
 };
 use doc_bits::{Bytes, Text};
 
@@ -13,10 +13,16 @@ use doc_bits::{Bytes, Text};
 pub enum Refusal {
     /// Bytes are no script.
     Script,
+    /// Bytes are no document as JSON.
+    Json,
     /// The main text has no such position.
     Position,
     /// An edit is refused.
     Edit,
+    /// Two documents have too many styles for one.
+    Styles,
+    /// A document that was made breaks a rule.
+    Unsound,
     /// A save needs more than a file has.
     Save,
     /// A guard does not allow an edit.
@@ -36,8 +42,11 @@ impl Refusal {
     {
         match self {
             Refusal::Script => STATUS_SCRIPT,
+            Refusal::Json => STATUS_JSON,
             Refusal::Position => STATUS_POSITION,
             Refusal::Edit => STATUS_EDIT,
+            Refusal::Styles => STATUS_STYLES,
+            Refusal::Unsound => STATUS_UNSOUND,
             Refusal::Save => STATUS_SAVE,
             Refusal::Guarded => STATUS_GUARD,
             Refusal::Different => STATUS_DIFFERENT,

@@ -86,6 +86,7 @@ fn with_summary(alloc: Global, document: Document, bytes: &[u8]) -> Result<Docum
         heads,
         sheet,
         carried,
+        bookmarks,
     } = document;
     let place = summary_place(&carried.streams);
     let carried = carried.with_stream(alloc, place, bytes)?;
@@ -95,5 +96,6 @@ fn with_summary(alloc: Global, document: Document, bytes: &[u8]) -> Result<Docum
         heads,
         sheet,
         carried,
+        bookmarks,
     })
 }

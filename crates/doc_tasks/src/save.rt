@@ -1,5 +1,7 @@
 // Saves of a document.
-ghost use Rattle.std.specs.Prelude.{◌≡◌, length, IfOk, codes};
+ghost use Rattle.std.specs.Prelude.{◌≡◌, length, IfOk, MatchResult, codes};
+ghost use Rattle.plain_doc.specs.declared.document.Document.{Document as SavedDocument};
+ghost use Rattle.full_save.specs.Layout.{full_save_image, FitsCompoundFile, IsTooLarge};
 ghost use Rattle.plain_doc.specs.Sound.{IsSound};
 ghost use Rattle.doc_tasks.specs.Saves.{Saves};
 ghost use Rattle.doc_tasks.specs.declared.reply.Reply.TheVariants.{Made, Refused};
@@ -10,21 +12,17 @@ use crate::lines::{bytes_line, needs_line};
 use crate::reply::{Refusal, Reply};
 use doc_bits::{Bytes, Memory};
 use doc_columns::ColumnDocument;
-use full_save::{SaveFault, full};
+use full_save::{SaveFault, full, full_by_columns};
 use plain_doc::Document;
 use std::alloc::Global;
-use std::mem::forget;
 
 /// The full save of a document.
 pub(crate) fn full_reply(alloc: Global, document: &ColumnDocument) -> Result<Reply, Memory>
     requires { IsSound document.now }
     ensures { IfOk result (Saves (codes "full") document.now) }
 {
-    let items = document.expand(alloc)?;
-    let reply = saved(alloc, "full", &items);
-    // The run is about to end, so the items are not taken apart.
-    forget(items);
-    reply
+    let reply = reply_of(alloc, "full", full_by_columns(alloc, document))?;
+    Ok(reply)
 }
 
 /// The full save of a document, for a command of this word.
@@ -32,10 +30,30 @@ pub(crate) fn saved(alloc: Global, word: &str, document: &Document) -> Result<Re
     requires { IsSound document.now }
     ensures { IfOk result (Saves word.now document.now) }
 {
-    match full(alloc, document) {
+    let reply = reply_of(alloc, word, full(alloc, document))?;
+    Ok(reply)
+}
+
+/// The reply of what a full save comes to.
+fn reply_of(alloc: Global, word: &str, file: Result<Bytes, SaveFault>) -> Result<Reply, Memory>
+    ensures { IfOk result (λ reply. (document : SavedDocument) →
+        MatchResult file (λ bytes. (bytes ≡ full_save_image document) × FitsCompoundFile document)
+        (IsTooLarge document) → Saves word.now document reply) }
+{
+    match file {
         Ok(bytes) => made(alloc, word, bytes),
-        Err(SaveFault::TooLarge { sectors }) => too_large(alloc, word, sectors),
-        Err(SaveFault::Memory) => Err(Memory),
+        Err(fault) => not_made(alloc, word, fault),
+    }
+}
+
+/// The reply where a full save makes no file.
+fn not_made(alloc: Global, word: &str, fault: SaveFault) -> Result<Reply, Memory>
+    ensures { IfOk result (λ reply. (document : SavedDocument) →
+        IsTooLarge document fault → Saves word.now document reply) }
+{
+    match fault {
+        SaveFault::TooLarge { sectors } => too_large(alloc, word, sectors),
+        SaveFault::Memory => Err(Memory),
     }
 }
 

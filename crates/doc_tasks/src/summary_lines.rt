@@ -1,7 +1,6 @@
 // The lines on a summary.
 ghost use Rattle.std.specs.Prelude.{◌≡◌, ◌<◌, [], ◌∷◌, ◌++◌, IfOk, OnOk, IsTrue};
 ghost use Rattle.std.specs.List.{flat_map};
-ghost use Rattle.text_codes.specs.Shown.{hex_digit};
 ghost use Rattle.doc_tasks.specs.SummaryLines.{is_shown as is_plain, byte_escape, shown_byte, shown_field, field_line};
 ghost use Rattle.doc_tasks.specs.SummaryLines.{three_lines, no_summary_line as no_summary_of};
 ghost use Rattle.doc_tasks.specs.SummaryLines.{wrong_summary_line as wrong_summary_of};
@@ -10,6 +9,7 @@ use doc_bits::{Bytes, Memory, Text};
 use std::alloc::Global;
 use std::str;
 use summary_set::Fields;
+use text_codes::hex_digit;
 
 /// The lines of title, subject and author.
 pub(crate) fn fields_lines(alloc: Global, fields: &Fields) -> Result<Text, Memory>
@@ -82,21 +82,8 @@ fn push_plain(text: &mut Text, byte: u8) -> Result<(), Memory>
 fn push_escape(text: &mut Text, byte: u8) -> Result<(), Memory>
     ensures { OnOk result (text.new ≡ text.old ++ byte_escape byte) }
 {
-    let shown = [b'\\', b'x', digit(byte / 16), digit(byte % 16)];
+    let shown = [b'\\', b'x', hex_digit(byte / 16), hex_digit(byte % 16)];
     text.push_all(str::from_utf8(&shown).unwrap())
-}
-
-/// The lower-case hexadecimal digit of a number below 16.
-fn digit(number: u8) -> u8
-    requires { number < 16 }
-    ensures value { result ≡ hex_digit number }
-    ensures ascii { result < 128 }
-{
-    if number < 10 {
-        b'0' + number
-    } else {
-        b'a' + (number - 10)
-    }
 }
 
 /// The line for a document that has no summary.

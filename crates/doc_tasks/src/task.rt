@@ -23,6 +23,8 @@ pub enum Task<'a> {
     Title,
     /// Its full save with this title, for a name.
     Retitle { title: Title<'a>, out: &'a str },
+    /// Its text as JSON, for a name.
+    Export { out: &'a str },
 }
 
 impl<'a> Task<'a> {
@@ -33,6 +35,7 @@ impl<'a> Task<'a> {
         match self {
             Task::Full { out } => Some(out),
             Task::Retitle { out, .. } => Some(out),
+            Task::Export { out } => Some(out),
             Task::Text | Task::Check | Task::Show | Task::Props(_) => None,
             Task::Outline | Task::Title => None,
         }
@@ -41,18 +44,21 @@ impl<'a> Task<'a> {
 
 /// What is asked of the documents of two files.
 #[derive(Clone, Copy)]
-pub enum Pair {
+pub enum Pair<'a> {
     /// Whether they are equal.
     Compare,
+    /// The full save of the second behind the first, for a name.
+    Join { out: &'a str },
 }
 
-impl Pair {
+impl<'a> Pair<'a> {
     /// The name that bytes are made for.
-    pub fn out(&self) -> Option<&str>
+    pub fn out(&self) -> Option<&'a str>
         ensures { option_map (λ name. name.now) result ≡ out_of_two (pair_of self.now) }
     {
         match self {
             Pair::Compare => None,
+            Pair::Join { out } => Some(out),
         }
     }
 }

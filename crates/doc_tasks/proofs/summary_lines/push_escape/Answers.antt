@@ -2,7 +2,7 @@ use Rattle.std.proofs.Common.{ℕ, [], ◌∷◌, ◌<◌, arith}
 use Rattle.std.specs.Str.{IsUtf8}
 use Rattle.std.proofs.lemmas.Str.Ascii.{IsAscii-cons, IsAscii-nil}
 use Rattle.std.proofs.lemmas.Str.{IsUtf8-from_ascii}
-use Rattle.doc_tasks.proofs.AsciiLemmas.{accepted}
+use Rattle.text_codes.proofs.DigitLemmas.{accepted}
 use Rattle.doc_tasks.proofs.summary_lines.push_escape.Goals as goal
 
 -- a reverse solidus, an x and two bytes below 128 are a text
@@ -14,5 +14,5 @@ four_are_utf8 a b la lb =
 
 pub unwrap-requires : goal.unwrap-requires
 unwrap-requires c =
-    accepted _ _ _ c.from_utf8.result (four_are_utf8 c.digit.result c.digit-2.result c.digit.ensures.ascii
-    c.digit-2.ensures.ascii) c.from_utf8.ensures.cases
+    accepted _ _ _ c.from_utf8.result (four_are_utf8 c.hex_digit.result c.hex_digit-2.result c.hex_digit.ensures.ascii
+    c.hex_digit-2.ensures.ascii) c.from_utf8.ensures.cases

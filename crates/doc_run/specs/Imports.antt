@@ -1,0 +1,15 @@
+-- How a run ends that saves the document which is the JSON of a file.
+use Rattle.std.specs.Prelude.{◌≡◌, List, ℕ, Option, Some}
+use Rattle.doc_outer.specs.Held.{Files}
+use Rattle.doc_tasks.specs.Imports.{Imports, overlong_json_line}
+use Rattle.doc_tasks.specs.Outcomes.{Outcome, says}
+use Rattle.doc_tasks.specs.Replies.{EndsBy}
+use Rattle.doc_run.specs.Stages.{Reads}
+
+-- JSON that is overlong
+abbrev pub IsOverlongJson : Outcome → Type 0
+IsOverlongJson outcome = outcome ≡ says 7 overlong_json_line
+
+-- the file is read, no rule of files is judged on it, and its document is saved under a name
+abbrev pub ReadsJson : (file out : List ℕ) → Option Files → Outcome → Type 0
+ReadsJson file out held = Reads file held IsOverlongJson (λ bytes. EndsBy (Some out) (Imports bytes))

@@ -1,0 +1,21 @@
+use Rattle.std.proofs.Common.{◌≡◌}
+use Rattle.std.specs.Prelude.{codes}
+use Rattle.std.proofs.lemmas.Result.{IfOk-weaker}
+use Rattle.doc_tasks.specs.declared.reply.Reply.{Reply}
+use Rattle.doc_tasks.specs.declared.reply.Reply.TheVariants.{Refused}
+use Rattle.doc_tasks.specs.declared.reply.Refusal.TheVariants.{Unsound}
+use Rattle.doc_tasks.specs.Lines.{rule_line}
+use Rattle.doc_tasks.specs.Joins.{Joins}
+use Rattle.doc_tasks.proofs.JoinLemmas.{unsound_said}
+use Rattle.doc_tasks.proofs.joining.joined.Goals as goal
+
+pub returns-in-Err-Unsound : goal.returns-in-Err-Unsound
+returns-in-Err-Unsound c =
+    let first = c.args.first.now in
+    let second = c.args.second.now in
+    let fault = c.in-Err-Unsound in
+    IfOk-weaker c.unsound.result
+    (λ (r : Reply). r ≡ Refused Unsound (rule_line (codes "join") fault.rule (fault.place, fault.at)))
+    (Joins first second)
+    (λ r h. unsound_said first second fault.field-0 fault.rule fault.place fault.at r fault.ensures fault.field-0-is h)
+    c.unsound.ensures

@@ -1,0 +1,98 @@
+// JSON as a document.
+ghost use Rattle.std.specs.Prelude.{◌≡◌, ℕ, List, IfOk, Some, codes};
+ghost use Rattle.doc_bits.specs.Number.{AreBytes};
+ghost use Rattle.doc_tasks.specs.declared.reply.Reply.TheVariants.{Refused};
+ghost use Rattle.doc_tasks.specs.declared.reply.Refusal.TheVariants.{Json, Unsound};
+ghost use Rattle.doc_tasks.specs.Imports.{not_json_line as not_json_of, wrong_shape_line as wrong_shape_of, Imports};
+ghost use Rattle.doc_tasks.specs.Imports.{overlong_json_line as overlong_of};
+ghost use Rattle.doc_tasks.specs.Lines.{rule_line as rule_of};
+ghost use Rattle.doc_tasks.specs.Outcomes.{says};
+ghost use Rattle.doc_tasks.specs.Replies.{EndsBy};
+ghost use Rattle.json_doc.specs.Reading.{IsJsonFault};
+
+use crate::ending::Ending;
+use crate::lines::rule_line;
+use crate::reply::{Refusal, Reply};
+use crate::save::saved;
+use crate::status::STATUS_JSON;
+use doc_bits::{Memory, Text, Where};
+use json_doc::{JsonFault, from_json};
+use std::alloc::Global;
+use std::mem::forget;
+
+/// The ending where the bytes of a file are to be a document as JSON, which is saved for a name.
+pub fn import_file(alloc: Global, file: &[u8], out: &str) -> Result<Ending, Memory>
+    ensures ends { IfOk result (EndsBy (Some out.now) (Imports file.now)) }
+    ensures bytes { AreBytes file.now }
+{
+    let reply = import_reply(alloc, file)?;
+    Ending::under(alloc, Some(out), reply)
+}
+
+/// The full save of the document that the bytes of a file spell.
+fn import_reply(alloc: Global, file: &[u8]) -> Result<Reply, Memory>
+    ensures { IfOk result (Imports file.now) }
+{
+    match from_json(alloc, file) {
+        Ok(document) => {
+            let reply = saved(alloc, "import", &document);
+            // The run is about to end, so the document is not taken apart.
+            forget(document);
+            reply
+        }
+        Err(fault) => not_read(alloc, fault),
+    }
+}
+
+/// The reply of bytes that are not read as a document.
+fn not_read(alloc: Global, fault: JsonFault) -> Result<Reply, Memory>
+    ensures { IfOk result (λ reply. (bytes : List ℕ) → IsJsonFault bytes fault → Imports bytes reply) }
+{
+    match fault {
+        JsonFault::Json => not_json(alloc),
+        JsonFault::Shape => wrong_shape(alloc),
+        JsonFault::Unsound { rule, place, at } => unsound(alloc, rule, place, at),
+        JsonFault::Memory => Err(Memory),
+    }
+}
+
+/// The reply of bytes that are no JSON.
+fn not_json(alloc: Global) -> Result<Reply, Memory>
+    ensures { IfOk result (λ r. r ≡ Refused Json not_json_of) }
+{
+    let line = String::from_str(alloc, "import: not JSON\n")?;
+    Ok(Reply::Refused {
+        why: Refusal::Json,
+        text: Text::from_string(line),
+    })
+}
+
+/// The reply of JSON that no document has.
+fn wrong_shape(alloc: Global) -> Result<Reply, Memory>
+    ensures { IfOk result (λ r. r ≡ Refused Json wrong_shape_of) }
+{
+    let line = String::from_str(alloc, "import: wrong shape\n")?;
+    Ok(Reply::Refused {
+        why: Refusal::Json,
+        text: Text::from_string(line),
+    })
+}
+
+/// The reply of a document that breaks a rule.
+fn unsound(alloc: Global, rule: u8, part: Where, at: u32) -> Result<Reply, Memory>
+    ensures { IfOk result (λ r. r ≡ Refused Unsound (rule_of (codes "import") rule (part, at))) }
+{
+    let text = rule_line(alloc, "import", rule, part, at)?;
+    Ok(Reply::Refused {
+        why: Refusal::Unsound,
+        text,
+    })
+}
+
+/// The ending where a file has more bytes than are read.
+pub fn overlong_json(alloc: Global) -> Result<Ending, Memory>
+    ensures { IfOk result (λ e. e ≡ says 7 overlong_of) }
+{
+    let line = String::from_str(alloc, "import: too long\n")?;
+    Ok(Ending::new(STATUS_JSON, Text::from_string(line)))
+}

@@ -1,0 +1,96 @@
+// One document after another.
+ghost use Rattle.std.specs.Prelude.{◌≡◌, IfOk, codes};
+ghost use Rattle.plain_doc.specs.Sound.{IsSound};
+ghost use Rattle.doc_tasks.specs.declared.reply.Reply.TheVariants.{Refused};
+ghost use Rattle.doc_tasks.specs.declared.reply.Refusal.TheVariants.{Styles, Unsound};
+ghost use Rattle.doc_tasks.specs.Lines.{rule_line as rule_of};
+ghost use Rattle.doc_tasks.specs.Joins.{styles_line as styles_of, Joins};
+
+use crate::lines::rule_line;
+use crate::reply::{Refusal, Reply};
+use crate::save::saved;
+use doc_bits::{Memory, Text, Where};
+use doc_columns::ColumnDocument;
+use doc_join::{JoinFault, join};
+use plain_doc::Document;
+use std::alloc::Global;
+use std::mem::forget;
+
+/// The full save of one document with another behind it.
+pub(crate) fn join_reply(
+    alloc: Global,
+    first: &ColumnDocument,
+    second: &ColumnDocument,
+) -> Result<Reply, Memory>
+    requires first { IsSound first.now }
+    requires second { IsSound second.now }
+    ensures { IfOk result (Joins first.now second.now) }
+{
+    let items = first.expand(alloc)?;
+    let reply = join_behind(alloc, &items, second);
+    // The run is about to end, so the items are not taken apart.
+    forget(items);
+    reply
+}
+
+/// The same where the first is there item by item.
+fn join_behind(alloc: Global, first: &Document, second: &ColumnDocument) -> Result<Reply, Memory>
+    requires first { IsSound first.now }
+    requires second { IsSound second.now }
+    ensures { IfOk result (Joins first.now second.now) }
+{
+    let items = second.expand(alloc)?;
+    let reply = joined(alloc, first, &items);
+    // As above.
+    forget(items);
+    reply
+}
+
+/// The same where both are.
+fn joined(alloc: Global, first: &Document, second: &Document) -> Result<Reply, Memory>
+    requires first { IsSound first.now }
+    requires second { IsSound second.now }
+    ensures { IfOk result (Joins first.now second.now) }
+{
+    match join(alloc, first, second) {
+        Ok(made) => {
+            let reply = saved(alloc, "join", &made);
+            // As above.
+            forget(made);
+            reply
+        }
+        Err(JoinFault::Styles { slots }) => too_many_styles(alloc, slots),
+        Err(JoinFault::Unsound { rule, place, at }) => unsound(alloc, rule, place, at),
+        Err(JoinFault::Memory) => Err(Memory),
+    }
+}
+
+/// The reply of two documents with more styles together than a sheet has.
+fn too_many_styles(alloc: Global, slots: u32) -> Result<Reply, Memory>
+    ensures { IfOk result (λ r. r ≡ Refused Styles (styles_of slots)) }
+{
+    let text = styles_line(alloc, slots)?;
+    Ok(Reply::Refused {
+        why: Refusal::Styles,
+        text,
+    })
+}
+
+/// The line of the slots of both sheets.
+fn styles_line(alloc: Global, slots: u32) -> Result<Text, Memory>
+    ensures { IfOk result (λ text. text ≡ styles_of slots) }
+{
+    let line = format!(in alloc; "join: styles {slots}\n")?;
+    Ok(Text::from_string(line))
+}
+
+/// The reply of a joined document that breaks a rule.
+fn unsound(alloc: Global, rule: u8, part: Where, at: u32) -> Result<Reply, Memory>
+    ensures { IfOk result (λ r. r ≡ Refused Unsound (rule_of (codes "join") rule (part, at))) }
+{
+    let text = rule_line(alloc, "join", rule, part, at)?;
+    Ok(Reply::Refused {
+        why: Refusal::Unsound,
+        text,
+    })
+}
