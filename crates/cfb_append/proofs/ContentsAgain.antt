@@ -472,3 +472,14 @@ save_stays old new contents after has chains change is are name stream here name
     let was = subst (λ k. IsStreamOf old has.parts k stream) are.grown_is (has.streams.each are.grown stream here) in
     subst (λ bytes. StaysInPlace name (length change.fib) old new bytes) (sym (grown_stream_is s stream was).bytes_are)
     (saved_in_place s after are name stream here named)
+
+-- the stream that grew had the bytes of the save
+pub grown_bytes_are : (old new : List ℕ) (contents after : Contents) (has : HasContents old contents) (chains :
+    OldChains) (change : StreamChange) → IsSave old new contents has chains change → (are : AreContentsAfter contents
+    after has.entries chains (added_sectors old chains change) change) → (stream : Stream) → slice_get contents.streams
+    are.grown ≡ Some stream → stream.bytes ≡ chains.bytes
+unfolding save_of
+grown_bytes_are old new contents after has chains change is are stream here =
+    let s = save_of old new contents has chains change is in
+    let was = subst (λ k. IsStreamOf old has.parts k stream) are.grown_is (has.streams.each are.grown stream here) in
+    (grown_stream_is s stream was).bytes_are

@@ -1,8 +1,9 @@
 -- The file after a save, byte by byte.
 use Rattle.std.proofs.Common.{◌≡◌, inl, inr, ℕ, ◌+◌, ◌-◌, ◌*◌, ◌/◌, ◌%◌, ◌<◌, ◌≤◌, List, [], ◌∷◌, ◌++◌, length}
-use Rattle.std.proofs.Common.{map, drop, slice_index, refl, ap, ◌∙◌, arith}
+use Rattle.std.proofs.Common.{map, drop, slice_index, refl, sym, ap, ◌∙◌, arith}
 use Rattle.std.specs.List.{range_with_len}
 use Rattle.std.proofs.lemmas.Bool.{cases_lt}
+use Rattle.std.proofs.lemmas.List.{ext_get_or}
 use Rattle.std.proofs.lemmas.List.FromFn.{get_or-map-range_with_len, length-map-range_with_len}
 use Rattle.doc_bits.specs.Rules.{Hold}
 use Rattle.doc_bits.specs.Number.{AreBytes, number_bytes, zeros}
@@ -159,12 +160,29 @@ sector_at b x o at low h is =
     ∙ (pick_high at 512 (header_byte b at) (byte_in b (at / 512 - 1) (at % 512)) (omega arith)
     ∙ (ap (λ k. byte_in b k (at % 512)) sector ∙ ap (λ k. byte_in b x k) rest))
 
+-- a file with this header and these sectors is that one
+pub file_by_sectors : (b : Before) (new : List ℕ) → length new ≡ 512 * (sectors_after b.old (added_of b) + 1) → ((at :
+    ℕ)
+    → at < 512 → slice_index new at ≡ header_byte b at) → ((x o : ℕ) → x < sectors_after b.old (added_of b) → o < 512 →
+    slice_index new ((x + 1) * 512 + o) ≡ byte_in b x o) → new ≡ file_after b
+file_by_sectors b new len front each =
+    let all = length-file_after b in
+    ext_get_or 0 new (file_after b) (len ∙ sym all) (λ at h. elim (cases_lt at 512) [
+      | inl low ↦ front at low ∙ sym (header_at b at low)
+      | inr high ↦
+          let x = at / 512 - 1 in
+          let o = at % 512 in
+          let place : at ≡ (x + 1) * 512 + o = omega arith in
+          ap (λ k. slice_index new k) place ∙ (each x o (omega arith) (omega arith) ∙ sym (sector_at b x o at
+          (omega arith) (omega arith) place))
+    ])
+
 -- the four parts of the header
-header_front : (b : Before) (at : ℕ) → at < 44 → header_byte b at ≡ slice_index b.old at
+pub header_front : (b : Before) (at : ℕ) → at < 44 → header_byte b at ≡ slice_index b.old at
 unfolding header_byte
 header_front b at h = pick_low at 44 _ _ h
 
-header_count : (b : Before) (i : ℕ) → i < 4 → header_byte b (44 + i) ≡ slice_index (number_bytes 4 (fat_sector_count
+pub header_count : (b : Before) (i : ℕ) → i < 4 → header_byte b (44 + i) ≡ slice_index (number_bytes 4 (fat_sector_count
     b.old + (added_of b).fat)) i
 unfolding header_byte
 header_count b i h =
@@ -172,13 +190,15 @@ header_count b i h =
     pick_high (44 + i) 44 _ _ (omega arith) ∙ (pick_low (44 + i) 48 _ _ (omega arith) ∙ ap (λ k. slice_index
     (number_bytes 4 (fat_sector_count b.old + (added_of b).fat)) k) place)
 
-header_middle : (b : Before) (at : ℕ) → 48 ≤ at → at < 76 + 4 * fat_sector_count b.old → header_byte b at ≡ slice_index
+pub header_middle : (b : Before) (at : ℕ) → 48 ≤ at → at < 76 + 4 * fat_sector_count b.old → header_byte b at ≡
+    slice_index
     b.old at
 unfolding header_byte
 header_middle b at from h = pick_high at 44 _ _ (omega arith) ∙ (pick_high at 48 _ _ from ∙ pick_low at (76 + 4 *
     fat_sector_count b.old) _ _ h)
 
-header_list : (b : Before) (k i : ℕ) → k < (added_of b).fat → i < 4 → header_byte b (76 + 4 * (fat_sector_count b.old +
+pub header_list : (b : Before) (k i : ℕ) → k < (added_of b).fat → i < 4 → header_byte b (76 + 4 * (fat_sector_count
+    b.old +
     k) + i) ≡ slice_index (number_bytes 4 (fat_from (added_of b) + k)) i
 unfolding header_byte
 header_list b k i h low =
@@ -193,7 +213,7 @@ header_list b k i h low =
     ∙ (ap (λ n. slice_index (number_bytes 4 (fat_from (added_of b) + n)) ((at - 76) % 4)) number ∙ ap (λ n.
     slice_index (number_bytes 4 (fat_from (added_of b) + k)) n) rest))))
 
-header_rest : (b : Before) (at : ℕ) → 76 + 4 * (fat_sector_count b.old + (added_of b).fat) ≤ at → header_byte b at ≡
+pub header_rest : (b : Before) (at : ℕ) → 76 + 4 * (fat_sector_count b.old + (added_of b).fat) ≤ at → header_byte b at ≡
     slice_index b.old at
 unfolding header_byte
 header_rest b at from = pick_high at 44 _ _ (omega arith) ∙ (pick_high at 48 _ _ (omega arith) ∙ (pick_high at (76 + 4 *

@@ -1,11 +1,10 @@
 -- Entries that are freed one after another.
-use Rattle.std.proofs.Common.{◌≡◌, ◌≢◌, inl, inr, ℕ, ◌+◌, ◌<◌, ◌≤◌, List, length, take, slice_index, slice_set}
-use Rattle.std.proofs.Common.{refl, sym, ap, ◌∙◌, subst, arith, length-take, length-set}
+use Rattle.std.proofs.Common.{◌≡◌, inl, inr, ℕ, ◌+◌, ◌<◌, List, length, take, slice_index, slice_set}
+use Rattle.std.proofs.Common.{refl, sym, ap, ◌∙◌, arith, length-take, length-set}
 use Rattle.std.proofs.lemmas.Bool.{cases_eq}
-use Rattle.std.proofs.lemmas.List.{get_or-take, take_all, get_or-set_same, get_or-set_other}
-use Rattle.cfb_sectors.specs.SectorChain.{HasSector}
+use Rattle.std.proofs.lemmas.List.{get_or-take, get_or-set_same, get_or-set_other}
 use Rattle.cfb_layout.specs.Sectors.{free_sector}
-use Rattle.cfb_append.specs.Writing.{AreFreed}
+use Rattle.cfb_append.specs.Tables.{AreFreed}
 
 pub freed_none : (old freed : List ℕ) → AreFreed old old (take 0 freed)
 freed_none old freed = record {

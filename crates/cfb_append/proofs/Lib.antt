@@ -11,5 +11,15 @@ pub mod PickLemmas
 pub mod FileAfter
 pub mod TablesThere
 pub mod SectorsThere
-pub mod OverLemmas
 pub mod FreeLemmas
+pub mod RoleLemmas
+pub mod EntryLemmas
+pub mod TableLemmas
+pub mod SourceLemmas
+pub mod NamedLemmas
+pub mod AfterLemmas
+pub mod ReadyLemmas
+pub mod WrittenLemmas
+pub mod InPlaceLemmas
+pub mod AllowedLemmas
+pub mod CallerLemmas

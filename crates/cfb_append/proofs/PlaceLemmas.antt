@@ -112,7 +112,7 @@ same_not_before name other third a b before =
           omega arith
     ]
 
-named_once : (file : List ℕ) (contents : Contents) (has : HasContents file contents) (name : List ℕ) (i j : ℕ)
+pub named_once : (file : List ℕ) (contents : Contents) (has : HasContents file contents) (name : List ℕ) (i j : ℕ)
     (s t : Stream) → i < j → slice_get contents.streams i ≡ Some s → slice_get contents.streams j ≡ Some t →
     AreSameNames s.name name → ¬ AreSameNames t.name name
 named_once file contents has name i j s t less a b one other =

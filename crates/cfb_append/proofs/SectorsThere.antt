@@ -38,7 +38,7 @@ use Rattle.cfb_append.proofs.TablesThere.{range_run, owns_grown, not_fat, not_mi
 use Rattle.cfb_append.proofs.TablesThere.{directory_changes, mini_low, directory_low}
 
 -- the sectors of the stream that grows
-chain_run_after : (b : Before) → IsRun (fresh_from (added_of b)) (chain_after b.chains (added_of b))
+pub chain_run_after : (b : Before) → IsRun (fresh_from (added_of b)) (chain_after b.chains (added_of b))
 chain_run_after b =
     let from = (sizes_of b).from in
     let path = b.are.grown.holds.chain.path in
@@ -119,7 +119,7 @@ chain_apart_of b k h =
           added_apart b x (omega arith) (omega arith)
     ]
 
-grown_byte : (b : Before) (k o : ℕ) → k < length (chain_after b.chains (added_of b)) → byte_in b (slice_index
+pub grown_byte : (b : Before) (k o : ℕ) → k < length (chain_after b.chains (added_of b)) → byte_in b (slice_index
     (chain_after b.chains (added_of b)) k) o ≡ slice_index (grown_joined b) (512 * k + o)
 unfolding byte_in
 grown_byte b k o h =
@@ -141,7 +141,7 @@ inside_of b xs few low =
     let fits = b.fits in
     record { short = omega arith; few = few; inside = λ i h. let below = low i h in omega arith }
 
-length_joined : (file xs : List ℕ) → AreSectorsOf file xs → length (joined file xs) ≡ length xs * 512
+pub length_joined : (file xs : List ℕ) → AreSectorsOf file xs → length (joined file xs) ≡ length xs * 512
 length_joined file xs are = length_all (sector_bytes 512 512 file) 512 xs (λ k h. let room = are.inside k h in
     length-sector 512 512 file (slice_index xs k) (omega arith))
 
@@ -158,7 +158,7 @@ joined_is b xs ys are len low each =
     refl
     ∙ (each (x / 512) (x % 512) (omega arith) (omega arith) ∙ ap (λ n. slice_index ys n) place)))
 
-length_grown_joined : (b : Before) → length (grown_joined b) ≡ length (chain_after b.chains (added_of b)) * 512
+pub length_grown_joined : (b : Before) → length (grown_joined b) ≡ length (chain_after b.chains (added_of b)) * 512
 unfolding grown_joined
 length_grown_joined b =
     let bytes = grown_bytes b.change b.chains.bytes in
@@ -192,7 +192,7 @@ fresh_not_grown : (b : Before) (x : ℕ) → fresh_from (added_of b) ≤ x → l
 fresh_not_grown b x from = place_none (chain_after b.chains (added_of b)) x (λ has. let low = (chain_run_after b).within
     has.index has.inside in let here = has.here in omega arith)
 
-fresh_byte : (b : Before) (k o : ℕ) → k < (added_of b).fresh → byte_in b (slice_index (range_with_len (fresh_from
+pub fresh_byte : (b : Before) (k o : ℕ) → k < (added_of b).fresh → byte_in b (slice_index (range_with_len (fresh_from
     (added_of b)) (added_of b).fresh) k) o ≡ slice_index (padded 512 0 b.change.table) (512 * k + o)
 unfolding byte_in
 fresh_byte b k o h =
@@ -223,7 +223,8 @@ table_is b =
     (λ k o h less. fresh_byte b k o (omega arith))
 
 -- all other sectors
-kept_byte : (b : Before) (x o : ℕ) → ¬ IsTouched b.old b.has.parts b.chains (added_of b) x → byte_in b x o ≡ slice_index
+pub kept_byte : (b : Before) (x o : ℕ) → ¬ IsTouched b.old b.has.parts b.chains (added_of b) x → byte_in b x o ≡
+    slice_index
     b.old ((x + 1) * 512 + o)
 unfolding byte_in fats_after
 kept_byte b x o quiet =
@@ -264,7 +265,7 @@ sectors_change b = record {
   kept = λ s low quiet i h. sector_at b s i ((s + 1) * 512 + i) (omega arith) h refl ∙ kept_byte b s i quiet;
 }
 
-saved_behind : (b : Before) → IsSavedBehind b.old (file_after b) b.has.parts b.chains (added_of b) b.change
+pub saved_behind : (b : Before) → IsSavedBehind b.old (file_after b) b.has.parts b.chains (added_of b) b.change
 saved_behind b = record {
   header = header_changes b;
   tables = tables_change b;

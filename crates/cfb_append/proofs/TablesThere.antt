@@ -1,5 +1,5 @@
 -- The tables and the directory of the file after a save, as it is made byte by byte.
-use Rattle.std.proofs.Common.{◌≡◌, ◌≢◌, inl, inr, ℕ, ◌+◌, ◌-◌, ◌*◌, ◌/◌, ◌%◌, ◌^◌, ◌<◌, ◌≤◌, [], ◌∷◌, length}
+use Rattle.std.proofs.Common.{◌≡◌, ◌≢◌, inl, inr, ℕ, ◌+◌, ◌-◌, ◌*◌, ◌/◌, ◌%◌, ◌^◌, ◌<◌, ◌≤◌, List, [], ◌∷◌, length}
 use Rattle.std.proofs.Common.{slice_index, refl, sym, ap, ◌∙◌, arith, length-append}
 use Rattle.std.specs.List.{range_with_len}
 use Rattle.std.proofs.lemmas.Bool.{cases_lt, cases_order}
@@ -22,7 +22,7 @@ use Rattle.cfb_layout.proofs.HeldLemmas.{owners_apart}
 use Rattle.cfb_layout.proofs.ImageChains.{run_sector}
 use Rattle.cfb_layout.proofs.RunLemmas.{IsRun, run_join, has_either}
 use Rattle.cfb_append.specs.Change.{grown_bytes, fresh_from, fat_from, end_of}
-use Rattle.cfb_append.specs.Tables.{ChangesFat, ChangesTables, mini_entry}
+use Rattle.cfb_append.specs.Tables.{ChangesFat, ChangesTables, mini_entry, CanChangeFat}
 use Rattle.cfb_append.specs.Appended.{HasStart, ChangesDirectory}
 use Rattle.cfb_append.specs.Save.{LeavesSectors, nothing, mini_sectors, sectors}
 use Rattle.cfb_append.proofs.PickLemmas.{pick, pick_low, pick_high, place_in, place_has, place_none, place_is, spelled}
@@ -128,7 +128,7 @@ unfolding mini_after
 mini_below b s = pick_below _ _ _ _ (2 ^ 32) (omega arith) (old_below b _)
 
 -- an entry of the FAT after
-fat_byte : (b : Before) (s i : ℕ) → s < 128 * (fat_sector_count b.old + (added_of b).fat) → i < 4 → byte_in b
+pub fat_byte : (b : Before) (s i : ℕ) → s < 128 * (fat_sector_count b.old + (added_of b).fat) → i < 4 → byte_in b
     (slice_index (fats_after b) (s / 128)) (4 * (s % 128) + i) ≡ slice_index (number_bytes 4 (entry_after b s)) i
 unfolding byte_in
 fat_byte b s i h low =
@@ -254,6 +254,31 @@ unfolding entry_after entry_new
 entry_unused b s from = pick_high s (added_of b).from _ _ (omega arith) ∙ (pick_high s (fat_from (added_of b)) _ _
     (omega arith) ∙ pick_high s (end_of (added_of b)) _ _ from)
 
+pub entries_change : (b : Before) (covered : ℕ) → ChangesFat (fat_table b.old).entry (entry_after b) b.chains (added_of
+    b) covered
+entries_change b covered = record {
+  kept = entry_kept b;
+  free = entry_free b;
+  joined = entry_joined b;
+  chained = entry_added b;
+  marks = entry_mark b;
+  unused = λ s from h. entry_unused b s from;
+}
+
+-- the entries that are there can be changed
+pub can_change : (b : Before) (entries : List ℕ) → length entries ≡ 128 * fat_sector_count b.old → CanChangeFat entries
+    b.chains (added_of b) (128 * (fat_sector_count b.old + (added_of b).fat))
+can_change b entries len =
+    let from = (sizes_of b).from in
+    record {
+      some = b.are.grown.holds.chain.path.some;
+      last = last_low b;
+      freed = λ s has. let low = (freed_of b s b.are.leaves has).low in omega arith;
+      apart = last_not_freed b;
+      from = omega arith;
+      holds = (sizes_of b).holds;
+    }
+
 fat_changes : (b : Before) → ChangesFat (fat_table b.old).entry (fat_table (file_after b)).entry b.chains (added_of b)
     (128 * fat_sector_count (file_after b))
 fat_changes b =
@@ -286,7 +311,7 @@ pub mini_low : (b : Before) (k : ℕ) → k < length b.has.parts.mini_fat → sl
 mini_low b k h = let low = (mini_fat_apart b.old b.has.parts.mini_fat b.has.mini_fat).inside k h in let from =
     (sizes_of b).from in omega arith
 
-mini_byte : (b : Before) (s i : ℕ) → s < 128 * length b.has.parts.mini_fat → i < 4 → byte_in b (slice_index
+pub mini_byte : (b : Before) (s i : ℕ) → s < 128 * length b.has.parts.mini_fat → i < 4 → byte_in b (slice_index
     b.has.parts.mini_fat (s / 128)) (4 * (s % 128) + i) ≡ slice_index (number_bytes 4 (mini_after b s)) i
 unfolding byte_in
 mini_byte b s i h low =
@@ -312,19 +337,20 @@ mini_entry_is b s h =
     (4 * (s % 128) + i) ((x + 1) * 512 + 4 * (s % 128) + i) (omega arith) (omega arith) (omega arith) ∙ mini_byte b s i
     h h2)
 
-freed_mini_low : (b : Before) (x : ℕ) → LeavesSectors b.old b.has.parts b.chains → HasSector b.chains.freed_mini x → x <
+pub freed_mini_low : (b : Before) (x : ℕ) → LeavesSectors b.old b.has.parts b.chains → HasSector b.chains.freed_mini x
+    → x <
     128 * length b.has.parts.mini_fat
 freed_mini_low b x (nothing empty none minis) has = absurd (no_sector b.chains.freed_mini x minis has)
 freed_mini_low b x (mini_sectors small holds none) has =
     let low = holds.chain.path.within has.index has.inside in let here = has.here in omega arith
 freed_mini_low b x (sectors large holds none) has = absurd (no_sector b.chains.freed_mini x none has)
 
-mini_free : (b : Before) (s : ℕ) → HasSector b.chains.freed_mini s → mini_after b s ≡ free_sector
+pub mini_free : (b : Before) (s : ℕ) → HasSector b.chains.freed_mini s → mini_after b s ≡ free_sector
 unfolding mini_after
 mini_free b s has = pick_low (place_in b.chains.freed_mini s) (length b.chains.freed_mini) _ _ (place_has
     b.chains.freed_mini s has.index has.inside has.here)
 
-mini_kept : (b : Before) (s : ℕ) → ¬ HasSector b.chains.freed_mini s → mini_after b s ≡ mini_entry b.old
+pub mini_kept : (b : Before) (s : ℕ) → ¬ HasSector b.chains.freed_mini s → mini_after b s ≡ mini_entry b.old
     b.has.parts.mini_fat s
 unfolding mini_after
 mini_kept b s none = pick_high (place_in b.chains.freed_mini s) (length b.chains.freed_mini) _ _ (place_none
@@ -354,7 +380,7 @@ pub not_directory : (b : Before) (owner : Owner) (x : ℕ) → owner ≢ of_dire
 not_directory b owner x other own = place_none b.has.parts.directory x (λ has. owners_apart b.old b.has.parts owner
     of_directory x (before_accepted b) other own has)
 
-entry_byte : (b : Before) (k o : ℕ) → k < entry_count b.has.parts.directory → o < 128 → byte_in b (slice_index
+pub entry_byte : (b : Before) (k o : ℕ) → k < entry_count b.has.parts.directory → o < 128 → byte_in b (slice_index
     b.has.parts.directory (k / 4)) (128 * (k % 4) + o) ≡ directory_byte b k o (slice_index b.old (entry_place
     b.has.parts.directory k + o))
 unfolding byte_in
@@ -386,7 +412,7 @@ entry_at b k o h low =
     sector_at b x (128 * (k % 4) + o) (entry_place b.has.parts.directory k + o) (omega arith) (omega arith)
     (omega arith) ∙ entry_byte b k o h low
 
-byte_front : (b : Before) (k o old : ℕ) → o < 116 → directory_byte b k o old ≡ old
+pub byte_front : (b : Before) (k o old : ℕ) → o < 116 → directory_byte b k o old ≡ old
 unfolding directory_byte
 byte_front b k o old h = pick_low o 116 _ _ h
 
@@ -403,7 +429,7 @@ pick_other a b x y ne = elim (cases_order a b) [
 pick_same : (a b x y : ℕ) → a ≡ b → pick a b x (pick b a x y) ≡ y
 pick_same a b x y e = pick_high a b x _ (omega arith) ∙ pick_high b a x y (omega arith)
 
-byte_other : (b : Before) (k o old : ℕ) → k ≢ b.chains.grown_entry → k ≢ b.chains.table_entry → directory_byte b k o
+pub byte_other : (b : Before) (k o old : ℕ) → k ≢ b.chains.grown_entry → k ≢ b.chains.table_entry → directory_byte b k o
     old ≡ old
 unfolding directory_byte
 byte_other b k o old one another = elim (cases_lt o 116) [
@@ -412,29 +438,29 @@ byte_other b k o old one another = elim (cases_lt o 116) [
       b.chains.table_entry _ _ another)
 ]
 
-byte_grown : (b : Before) (o old : ℕ) → 116 ≤ o → directory_byte b b.chains.grown_entry o old ≡ pick o 120 old
+pub byte_grown : (b : Before) (o old : ℕ) → 116 ≤ o → directory_byte b b.chains.grown_entry o old ≡ pick o 120 old
     (size_byte (length (grown_bytes b.change b.chains.bytes)) o)
 unfolding directory_byte
 byte_grown b o old h = pick_high o 116 _ _ h ∙ pick_same b.chains.grown_entry b.chains.grown_entry _ _ refl
 
-byte_table : (b : Before) (o old : ℕ) → 116 ≤ o → directory_byte b b.chains.table_entry o old ≡ pick o 120
+pub byte_table : (b : Before) (o old : ℕ) → 116 ≤ o → directory_byte b b.chains.table_entry o old ≡ pick o 120
     (slice_index (number_bytes 4 (fresh_from (added_of b))) (o - 116)) (size_byte (length b.change.table) o)
 unfolding directory_byte
 byte_table b o old h = pick_high o 116 _ _ h ∙ (pick_other b.chains.table_entry b.chains.grown_entry _ _
     (λ e. b.are.apart (sym e)) ∙ pick_same b.chains.table_entry b.chains.table_entry _ _ refl)
 
-size_low : (size i : ℕ) → i < 4 → size_byte size (120 + i) ≡ slice_index (number_bytes 4 size) i
+pub size_low : (size i : ℕ) → i < 4 → size_byte size (120 + i) ≡ slice_index (number_bytes 4 size) i
 unfolding size_byte
 size_low size i h = let place : 120 + i - 120 ≡ i = omega arith in pick_low (120 + i) 124 _ _ (omega arith) ∙ ap (λ k.
     slice_index (number_bytes 4 size) k) place
 
-size_high : (size i : ℕ) → i < 4 → size_byte size (124 + i) ≡ slice_index (number_bytes 4 0) i
+pub size_high : (size i : ℕ) → i < 4 → size_byte size (124 + i) ≡ slice_index (number_bytes 4 0) i
 unfolding size_byte
 size_high size i h = let place : 124 + i - 124 ≡ i = omega arith in pick_high (124 + i) 124 _ _ (omega arith) ∙ ap (λ k.
     slice_index (number_bytes 4 0) k) place
 
 -- the start and the size of an entry whose last bytes are these
-grown_inside : (b : Before) → b.chains.grown_entry < entry_count b.has.parts.directory
+pub grown_inside : (b : Before) → b.chains.grown_entry < entry_count b.has.parts.directory
 grown_inside b = (reached_there b.old b.has.parts.directory b.are.grown.is_large.is_entry.reached).1
 
 table_inside : (b : Before) → b.chains.table_entry < entry_count b.has.parts.directory

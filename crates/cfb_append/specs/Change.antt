@@ -10,6 +10,11 @@ pub record StreamChange : Type 0 where
   pub tail : List ℕ
   pub table : List ℕ
 
+-- the change, and the name of the stream that is written anew
+pub record NamedChange : Type 0 where
+  pub change : StreamChange
+  pub name : List ℕ
+
 -- the stream that grows: the new front, the old bytes behind it, and the tail
 abbrev pub grown_bytes : StreamChange → List ℕ → List ℕ
 grown_bytes change bytes = change.fib ++ (drop (length change.fib) bytes ++ change.tail)
@@ -41,6 +46,18 @@ grown_count chains change = units_for 512 (length (grown_bytes change chains.byt
 
 abbrev pub fresh_count : StreamChange → ℕ
 fresh_count change = units_for 512 (length change.table)
+
+-- the same by the lengths of the chain and of the two streams
+abbrev pub grown_more : ℕ → ℕ → ℕ
+grown_more chain grown = units_for 512 grown - chain
+
+abbrev pub added_for : List ℕ → ℕ → ℕ → ℕ → Added
+added_for file chain grown table = record {
+  from = valid_below file;
+  grown = grown_more chain grown;
+  fresh = units_for 512 table;
+  fat = fat_sectors_more (fat_sector_count file) (valid_below file + grown_more chain grown + units_for 512 table);
+}
 
 unfoldable pub added_sectors : List ℕ → OldChains → StreamChange → Added
 added_sectors file chains change = record {

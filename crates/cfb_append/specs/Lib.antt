@@ -4,5 +4,6 @@ pub mod Appended
 pub mod Save
 pub mod InPlace
 pub mod Laws
-pub mod Writing
 pub mod Contract
+pub mod Roles
+pub mod Sources

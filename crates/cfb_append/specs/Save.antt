@@ -10,6 +10,8 @@ use Rattle.cfb_streams.specs.StreamRules.{Parts, mini_table_of}
 use Rattle.cfb_streams.specs.Contents.{Stream, Contents}
 use Rattle.cfb_streams.specs.Container.{container_rules, HasContents, IsLongBody}
 use Rattle.cfb_layout.specs.Counts.{most_sectors}
+use Rattle.cfb_layout.specs.declared.faults.LayoutFault.{LayoutFault}
+use Rattle.cfb_layout.specs.declared.faults.LayoutFault.TheVariants.{TooLarge, Memory}
 use Rattle.cfb_append.specs.Change.{StreamChange, grown_bytes, OldChains, Added, fresh_from, sectors_after}
 use Rattle.cfb_append.specs.Change.{added_sectors}
 use Rattle.cfb_append.specs.Appended.{chain_after, IsSavedBehind}
@@ -24,6 +26,12 @@ pub data LeavesSectors (file : List ℕ) (parts : Parts) (chains : OldChains) : 
   sectors : IsLargeStream file parts.directory chains.table_entry → HoldsChain (fat_table file) (stream_head file 512
       (entry_place parts.directory chains.table_entry)) chains.freed → chains.freed_mini ≡ [] →
       LeavesSectors file parts chains
+
+-- the chain of a short stream; no other one has mini sectors
+pub record IsMiniChain (file : List ℕ) (parts : Parts) (entry : ℕ) (sectors : List ℕ) : Type 0 where
+  pub short : IsSmallStream file parts.directory entry → HoldsChain (mini_table_of file parts.directory parts.mini_fat)
+      (stream_head file 64 (entry_place parts.directory entry)) sectors
+  pub none : ¬ IsSmallStream file parts.directory entry → sectors ≡ []
 
 -- two streams of the file: one with sectors of its own, which grows, and another one
 pub record AreOldChains (file : List ℕ) (parts : Parts) (chains : OldChains) : Type 0 where
@@ -76,3 +84,28 @@ pub record AreContentsAfter (before after : Contents) (entries : List ℕ) (chai
   pub table_is : slice_index entries table ≡ chains.table_entry
   pub streams : AreStreamsAfter before.streams after.streams grown table chains added change
   pub clsid : after.clsid ≡ before.clsid
+
+-- a file that is accepted, with its parts, and a change that may be put there
+pub record CanSave (old : List ℕ) (parts : Parts) (chains : OldChains) (change : StreamChange) : Type 0 where
+  pub contents : Contents
+  pub has : HasContents old contents
+  pub same : parts ≡ has.parts
+  pub hold : Hold (container_rules old)
+  pub are : AreOldChains old has.parts chains
+  pub put : CanBePut chains change
+
+-- and the file after is no longer than a file may be
+pub record IsReady (old : List ℕ) (parts : Parts) (chains : OldChains) (change : StreamChange) (added : Added) : Type 0
+  where
+    pub can : CanSave old parts chains change
+    pub is : added ≡ added_sectors old chains change
+    pub fits : FitsAfter old (added_sectors old chains change)
+
+-- the number of sectors that are too many
+pub record AreTooMany (old : List ℕ) (chains : OldChains) (change : StreamChange) (sectors : ℕ) : Type 0 where
+  pub many : most_sectors < sectors_after old (added_sectors old chains change)
+  pub number : sectors ≡ sectors_after old (added_sectors old chains change)
+
+abbrev pub IsSaveFault : List ℕ → OldChains → StreamChange → LayoutFault → Type 0
+IsSaveFault old chains change (TooLarge count) = AreTooMany old chains change count
+IsSaveFault old chains change Memory = Unit {0}

@@ -1,5 +1,5 @@
 use Rattle.std.proofs.Common.{take}
-use Rattle.cfb_append.specs.Writing.{AreFreed}
+use Rattle.cfb_append.specs.Tables.{AreFreed}
 use Rattle.cfb_append.proofs.tables.free_entries.Given as goal
 
 abbrev pub invariant-loop-sector : goal.invariant-loop-sector
