@@ -1,8 +1,9 @@
 // Documents put by columns, and back.
+use crate::edits::EACH;
 use crate::scripted::edited;
-use column_show::{accepted_line, main_text};
 use doc_bits::Memory;
 use doc_columns::{ColumnDocument, is_sound};
+use doc_show::{columns_accepted_line, columns_main_text};
 use plain_doc::{Document, blank, equal};
 use std::alloc::Global;
 use std::test::Fail;
@@ -20,8 +21,8 @@ fn are_shown_alike(
     plain: &Document,
     columns: &ColumnDocument,
 ) -> Result<bool, Memory> {
-    let text = main_text(alloc, columns)?;
-    let line = accepted_line(alloc, columns)?;
+    let text = columns_main_text(alloc, columns)?;
+    let line = columns_accepted_line(alloc, columns)?;
     let same_text = text.as_str() == doc_show::main_text(alloc, plain)?.as_str();
     let same_line = line.as_str() == doc_show::accepted_line(alloc, plain)?.as_str();
     Ok(same_text && same_line)
@@ -45,8 +46,7 @@ fn the_blank_document_goes_by_columns(rt: HostRuntime) -> Result<(), Fail> {
 
 #[test]
 fn a_document_of_all_kinds_of_edits_goes_by_columns(rt: HostRuntime) -> Result<(), Fail> {
-    let (document, made) = edited(rt.alloc())?;
-    assert!(rt; made);
+    let document = edited(rt.alloc(), EACH)?;
     assert!(rt; goes_by_columns(rt.alloc(), &document)?);
     Ok(())
 }

@@ -1,38 +1,95 @@
-// Edits of each kind on a document by columns and on the plain one. docs/COMMANDS.md tells what each does.
-use crate::scripted_columns::of_script;
+// Edits of each kind on a document by columns. docs/COMMANDS.md tells what each does; the outcomes are those of an
+// independent model of edits.
+use crate::played::Answer::{Breaks, Code, Made, Range};
+use crate::played::{Outcome, of_script};
+use crate::scripted::edited;
+use plain_doc::equal;
 use std::test::Fail;
 
-/// An edit of each kind, on texts, notes, header texts and styles.
+/// An edit of each kind, on texts, notes, header texts, styles and bookmarks, and some that are refused.
 pub const EACH: &str = "[\
-    {\"do\":\"insert\",\"story\":\"main\",\"at\":0,\"text\":\"Dear Ann, dear Bob, and all of you\"},\
-    {\"do\":\"split\",\"story\":\"main\",\"at\":9},\
-    {\"do\":\"char\",\"story\":\"main\",\"from\":2,\"to\":15,\"set\":{\"0835\":\"01\"}},\
-    {\"do\":\"char\",\"story\":\"main\",\"from\":4,\"to\":6,\"set\":{\"0836\":\"01\"}},\
-    {\"do\":\"plain\",\"story\":\"main\",\"from\":5,\"to\":12},\
-    {\"do\":\"para\",\"story\":\"main\",\"at\":0,\"set\":{\"2405\":\"01\"}},\
+    {\"do\":\"insert\",\"story\":\"main\",\"at\":0,\"text\":\"Hello world, dear Bob\"},\
+    {\"do\":\"char\",\"story\":\"main\",\"from\":3,\"to\":9,\"set\":{\"0835\":\"01\"}},\
+    {\"do\":\"split\",\"story\":\"main\",\"at\":5},\
+    {\"do\":\"para\",\"story\":\"main\",\"at\":2,\"set\":{\"2461\":\"01\"}},\
+    {\"do\":\"bookmark\",\"name\":\"dear\",\"from\":14,\"to\":18},\
+    {\"do\":\"note\",\"at\":4,\"text\":\"A note\"},\
+    {\"do\":\"note\",\"at\":12,\"text\":\"Another\"},\
+    {\"do\":\"char\",\"story\":\"note:1\",\"from\":2,\"to\":5,\"set\":{\"0836\":\"01\"}},\
+    {\"do\":\"bookmark\",\"name\":\"field\",\"from\":7,\"to\":7},\
+    {\"do\":\"field\",\"story\":\"main\",\"at\":7,\"type\":33,\"code\":\"PAGE\",\"result\":\"1\"},\
+    {\"do\":\"sect\",\"at\":9,\"new\":false,\"set\":{\"5026\":\"0200\"}},\
+    {\"do\":\"sect\",\"at\":3,\"new\":true,\"set\":{\"5026\":\"0200\"}},\
+    {\"do\":\"insert\",\"story\":\"head:6\",\"at\":0,\"text\":\"Head\"},\
+    {\"do\":\"insert\",\"story\":\"head:6\",\"at\":2,\"text\":\"XY\"},\
+    {\"do\":\"row\",\"story\":\"main\",\"at\":0,\"width\":500,\"cells\":[\"ab\",\"\",\"c\"]},\
+    {\"do\":\"plain\",\"story\":\"main\",\"from\":8,\"to\":20},\
     {\"do\":\"style\",\"story\":\"main\",\"at\":12,\"istd\":1},\
-    {\"do\":\"field\",\"story\":\"main\",\"at\":5,\"type\":33,\"code\":\" PAGE \",\"result\":\"1\"},\
-    {\"do\":\"note\",\"at\":3,\"text\":\" Net price.\"},\
-    {\"do\":\"note\",\"at\":1,\"text\":\" The first.\"},\
-    {\"do\":\"insert\",\"story\":\"note:1\",\"at\":2,\"text\":\"really \"},\
-    {\"do\":\"sect\",\"at\":0,\"new\":false,\"set\":{\"b017\":\"0807\"}},\
-    {\"do\":\"sect\",\"at\":2,\"new\":true,\"set\":{\"b018\":\"0807\"}},\
-    {\"do\":\"insert\",\"story\":\"head:7\",\"at\":0,\"text\":\"Offer\"},\
-    {\"do\":\"row\",\"story\":\"main\",\"at\":0,\"width\":1000,\"cells\":[\"a\",\"b\"]},\
-    {\"do\":\"stylechar\",\"istd\":0,\"set\":{\"4a43\":\"1800\"}},\
-    {\"do\":\"stylepara\",\"istd\":1,\"set\":{\"2403\":\"01\"}},\
-    {\"do\":\"erase\",\"story\":\"main\",\"from\":12,\"to\":14},\
+    {\"do\":\"stylechar\",\"istd\":0,\"set\":{\"0835\":\"01\"}},\
+    {\"do\":\"stylepara\",\"istd\":1,\"set\":{\"2461\":\"01\"}},\
+    {\"do\":\"merge\",\"story\":\"main\",\"at\":14},\
+    {\"do\":\"unmark\",\"name\":\"field\"},\
+    {\"do\":\"unmark\",\"name\":\"field\"},\
+    {\"do\":\"bookmark\",\"name\":\"dear\",\"from\":0,\"to\":1},\
+    {\"do\":\"erase\",\"story\":\"main\",\"from\":9,\"to\":16},\
+    {\"do\":\"erase\",\"story\":\"main\",\"from\":9,\"to\":1600},\
+    {\"do\":\"erase\",\"story\":\"note:0\",\"from\":2,\"to\":3},\
+    {\"do\":\"erase\",\"story\":\"main\",\"from\":0,\"to\":30},\
+    {\"do\":\"erase\",\"story\":\"main\",\"from\":8,\"to\":12},\
     {\"do\":\"save\",\"mode\":\"full\"}]";
+
+/// What they answer, and how long the main text is after each.
+pub const EACH_OUTCOMES: [Outcome; 29] = [
+    Outcome(Made(1, 21, 0, 0), 22),
+    Outcome(Made(3, 0, 0, 0), 22),
+    Outcome(Made(9, 1, 0, 0), 23),
+    Outcome(Made(5, 0, 0, 0), 23),
+    Outcome(Made(15, 0, 0, 0), 23),
+    Outcome(Made(8, 9, 0, 0), 24),
+    Outcome(Made(8, 10, 0, 0), 25),
+    Outcome(Made(3, 0, 0, 0), 25),
+    Outcome(Made(15, 0, 0, 0), 25),
+    Outcome(Made(7, 8, 0, 0), 33),
+    Outcome(Made(11, 0, 0, 0), 33),
+    Outcome(Made(11, 1, 0, 0), 34),
+    Outcome(Made(1, 6, 0, 0), 34),
+    Outcome(Made(1, 2, 0, 0), 34),
+    Outcome(Made(12, 7, 0, 0), 41),
+    Outcome(Made(4, 0, 0, 0), 41),
+    Outcome(Made(6, 0, 0, 0), 41),
+    Outcome(Made(13, 0, 0, 0), 41),
+    Outcome(Made(14, 0, 0, 1), 41),
+    Outcome(Made(10, 0, 1, 1), 40),
+    Outcome(Made(16, 0, 0, 0), 40),
+    Outcome(Range, 40),
+    Outcome(Breaks(69, 31), 40),
+    Outcome(Breaks(62, 12), 40),
+    Outcome(Range, 40),
+    Outcome(Made(2, 0, 1, 0), 40),
+    Outcome(Made(2, 0, 54, 0), 10),
+    Outcome(Range, 10),
+    Outcome(Made(0, 0, 0, 0), 10),
+];
 
 #[test]
 fn an_edit_of_each_kind_is_made_by_columns(rt: HostRuntime) -> Result<(), Fail> {
-    let both = of_script(rt.alloc(), EACH)?;
-    assert!(rt; both.agree);
+    let both = of_script(rt.alloc(), EACH, &EACH_OUTCOMES)?;
+    assert!(rt; both.expected);
+    Ok(())
+}
+
+// `apply_plain` puts columns anew of the items for each edit.
+#[test]
+fn columns_that_are_kept_hold_the_same_items(rt: HostRuntime) -> Result<(), Fail> {
+    let kept = of_script(rt.alloc(), EACH, &EACH_OUTCOMES)?;
+    let document = edited(rt.alloc(), EACH)?;
+    let expanded = kept.columns.expand(rt.alloc())?;
+    assert!(rt; equal(&expanded, &document));
     Ok(())
 }
 
 /// Edits that are refused: a position behind the end, a code of paragraphs on characters, half of a field, the only
-/// mark, and a style that is not there.
+/// mark, a style and a note that are not there.
 const REFUSED: &str = "[\
     {\"do\":\"insert\",\"story\":\"main\",\"at\":2,\"text\":\"a\"},\
     {\"do\":\"char\",\"story\":\"main\",\"from\":0,\"to\":1,\"set\":{\"2403\":\"01\"}},\
@@ -43,11 +100,22 @@ const REFUSED: &str = "[\
     {\"do\":\"insert\",\"story\":\"note:0\",\"at\":0,\"text\":\"a\"},\
     {\"do\":\"save\",\"mode\":\"full\"}]";
 
+/// What they answer, and how long the main text is after each.
+const REFUSED_OUTCOMES: [Outcome; 8] = [
+    Outcome(Range, 1),
+    Outcome(Code, 1),
+    Outcome(Made(7, 5, 0, 0), 6),
+    Outcome(Breaks(62, 1), 6),
+    Outcome(Breaks(60, 4), 6),
+    Outcome(Breaks(64, 5), 6),
+    Outcome(Range, 6),
+    Outcome(Made(0, 0, 0, 0), 6),
+];
+
 // The field and the save are made.
 #[test]
 fn what_is_refused_leaves_columns_as_they_were(rt: HostRuntime) -> Result<(), Fail> {
-    let both = of_script(rt.alloc(), REFUSED)?;
-    assert!(rt; both.agree);
-    assert!(rt; both.made == 2);
+    let both = of_script(rt.alloc(), REFUSED, &REFUSED_OUTCOMES)?;
+    assert!(rt; both.expected);
     Ok(())
 }

@@ -2,21 +2,22 @@
 ghost use Rattle.plain_doc.specs.Sound.{IsSound};
 
 use crate::edits::EACH;
-use crate::scripted_columns::{is_same, of_script};
-use column_show::{accepted_line, main_text};
+use crate::scripted::{breaks_none, edited};
 use doc_bits::Memory;
 use doc_columns::ColumnDocument;
 use doc_read::open;
+use doc_show::{columns_accepted_line, columns_main_text};
 use full_save::{SaveFault, full};
-use plain_doc::{Document, check};
+use plain_doc::{Document, equal};
 use std::alloc::Global;
 use std::test::Fail;
 
 /// Whether the full save of a document is read into the same one by columns, with the same main text and line.
 fn comes_back(alloc: Global, document: &Document) -> Result<bool, SaveFault> {
-    match check(document) {
-        Ok(()) => comes_back_sound(alloc, document),
-        Err(_) => Ok(false),
+    if breaks_none(document) {
+        comes_back_sound(alloc, document)
+    } else {
+        Ok(false)
     }
 }
 
@@ -33,17 +34,18 @@ fn comes_back_sound(alloc: Global, document: &Document) -> Result<bool, SaveFaul
 
 /// Whether a document by columns has the items, the main text and the line of a plain one.
 fn is_shown_as(alloc: Global, columns: &ColumnDocument, plain: &Document) -> Result<bool, Memory> {
-    let text = main_text(alloc, columns)?;
-    let line = accepted_line(alloc, columns)?;
+    let text = columns_main_text(alloc, columns)?;
+    let line = columns_accepted_line(alloc, columns)?;
     let same_text = text.as_str() == doc_show::main_text(alloc, plain)?.as_str();
     let same_line = line.as_str() == doc_show::accepted_line(alloc, plain)?.as_str();
-    Ok(same_text && same_line && is_same(alloc, plain, columns)?)
+    let expanded = columns.expand(alloc)?;
+    Ok(same_text && same_line && equal(plain, &expanded))
 }
 
 #[test]
 fn a_file_is_read_into_columns(rt: HostRuntime) -> Result<(), Fail> {
-    let both = of_script(rt.alloc(), EACH)?;
-    assert!(rt; comes_back(rt.alloc(), &both.plain) == Ok(true));
+    let document = edited(rt.alloc(), EACH)?;
+    assert!(rt; comes_back(rt.alloc(), &document) == Ok(true));
     Ok(())
 }
 

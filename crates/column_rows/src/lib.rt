@@ -8,8 +8,10 @@ mod edits;
 #[cfg(test)]
 mod files;
 #[cfg(test)]
+mod marks;
+#[cfg(test)]
+mod played;
+#[cfg(test)]
 mod runs;
 #[cfg(test)]
 mod scripted;
-#[cfg(test)]
-mod scripted_columns;

@@ -1,4 +1,5 @@
 // Documents, as the calls of the layers below read, edit and write them.
+ghost use Rattle.std.specs.Prelude.{IsTrue};
 ghost use Rattle.plain_doc.specs.Sound.{IsSound};
 
 use crate::edits::Edits;
@@ -46,9 +47,10 @@ impl Edits for Document {
         alloc: Global,
         command: &Command,
     ) -> Result<Result<Facts, EditFault>, RowFault> {
-        match check(self) {
-            Ok(()) => Ok(test(alloc, self, command)),
-            Err(_) => Err(RowFault::NotSound),
+        if is_sound(self) {
+            Ok(test(alloc, self, command))
+        } else {
+            Err(RowFault::NotSound)
         }
     }
 
@@ -57,9 +59,10 @@ impl Edits for Document {
         alloc: Global,
         command: &Command,
     ) -> Result<Result<(), EditFault>, RowFault> {
-        match check(self) {
-            Ok(()) => Ok(apply_plain(alloc, self, command)),
-            Err(_) => Err(RowFault::NotSound),
+        if is_sound(self) {
+            Ok(apply_plain(alloc, self, command))
+        } else {
+            Err(RowFault::NotSound)
         }
     }
 }
@@ -73,15 +76,23 @@ impl Plain for Document {
     }
 
     fn saved(&self, alloc: Global) -> Result<Bytes, RowFault> {
-        match check(self) {
-            Ok(()) => full_save(alloc, self),
-            Err(_) => Err(RowFault::NotSound),
+        if is_sound(self) {
+            full_save(alloc, self)
+        } else {
+            Err(RowFault::NotSound)
         }
     }
 
     fn listed(&self, alloc: Global) -> Result<Text, Memory> {
         listing(alloc, self)
     }
+}
+
+/// Whether a document breaks no rule.
+fn is_sound(document: &Document) -> bool
+    ensures { IsTrue result → IsSound document.now }
+{
+    document.bookmarks.are_formed(document.main.len()) && check(document).is_ok()
 }
 
 /// The document of a file that is opened.

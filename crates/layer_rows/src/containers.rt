@@ -10,7 +10,7 @@ use std::test::Fail;
 const CLSID: [u8; 16] = [0, 1, 2, 3, 4, 5, 6, 7, 8, 9, 10, 11, 12, 13, 14, 15];
 
 /// Bytes that differ from stream to stream.
-fn content(alloc: Global, len: usize, stream: usize) -> Result<Vec<u8>, Memory> {
+pub(crate) fn content(alloc: Global, len: usize, stream: usize) -> Result<Vec<u8>, Memory> {
     let mut bytes = Vec::new(alloc);
     let mut value = (stream % 251 * 13 % 251) as u8;
     for _ in 0..len {
@@ -21,7 +21,7 @@ fn content(alloc: Global, len: usize, stream: usize) -> Result<Vec<u8>, Memory> 
 }
 
 /// Adds a stream where it may be added.
-fn add(streams: &mut Streams, name: &[u16], bytes: &[u8]) -> Result<(), Memory> {
+pub(crate) fn add(streams: &mut Streams, name: &[u16], bytes: &[u8]) -> Result<(), Memory> {
     if streams.can_add(name, bytes) {
         streams.add(name, bytes)?;
     }
@@ -41,7 +41,7 @@ fn streams_of(alloc: Global, lengths: &[u64]) -> Result<Streams, Memory> {
 }
 
 /// The container of streams that are few enough.
-fn container_of(alloc: Global, streams: &Streams) -> Result<Bytes, LayoutFault> {
+pub(crate) fn container_of(alloc: Global, streams: &Streams) -> Result<Bytes, LayoutFault> {
     if streams.count() > 1_023 {
         return Err(LayoutFault::Memory);
     }

@@ -3,6 +3,7 @@ ghost use Rattle.std.specs.Prelude.{IsTrue};
 ghost use Rattle.std.specs.Option.{ForSome};
 ghost use Rattle.prop_map.specs.Formed.{IsPropertyMap, paragraph_groups, section_groups};
 ghost use Rattle.plain_doc.specs.Document.{HasPropertyMaps};
+ghost use Rattle.plain_doc.specs.Sound.{IsSound};
 
 use doc_bits::{Memory, Where};
 use plain_doc::{Document, Item, Items, Mark, NoteKind, Texts, blank, check};
@@ -17,7 +18,7 @@ const ZEROS: [u8; 253] = [0; 253];
 
 /// The unit of a letter: the ends of sections `B`, of paragraphs `p`, `P`, `q` and `k`, the beginning of a field `[`,
 /// and the letter `a` for all others.
-fn unit_of(letter: u8) -> u16 {
+pub(crate) fn unit_of(letter: u8) -> u16 {
     match letter {
         b'B' => 0x0C,
         b'p' | b'P' | b'q' | b'k' => 0x0D,
@@ -87,7 +88,7 @@ fn holds_section(sect: &Option<PropMap>) -> bool
 }
 
 /// Whether the maps of an item may stand in a text.
-fn holds_maps(item: &Item) -> bool
+pub(crate) fn holds_maps(item: &Item) -> bool
     ensures { IsTrue result → HasPropertyMaps item.now }
 {
     if !item.chp.is_held(CHARACTER_GROUPS) {
@@ -171,17 +172,32 @@ const ROWS: [Row<'static>; 19] = [
     Row("BP", "", HEADS, (67, Where::Main, 12)),
 ];
 
-/// The blank document with the texts of a row.
-fn document_of(alloc: Global, row: Row<'_>) -> Result<Document, Memory> {
+/// The blank document with the texts of these letters: the main text, the notes, the header texts.
+pub(crate) fn document_of(
+    alloc: Global,
+    main: &str,
+    notes: &str,
+    heads: &str,
+) -> Result<Document, Memory> {
     let mut document = blank(alloc)?;
-    document.main = text_of(alloc, row.0)?;
-    document.notes = texts_of(alloc, row.1)?;
-    document.heads = texts_of(alloc, row.2)?;
+    document.main = text_of(alloc, main)?;
+    document.notes = texts_of(alloc, notes)?;
+    document.heads = texts_of(alloc, heads)?;
     Ok(document)
+}
+
+/// Whether a document is sound.
+pub(crate) fn is_sound(document: &Document) -> bool
+    ensures { IsTrue result → IsSound document.now }
+{
+    document.bookmarks.are_formed(document.main.len()) && check(document).is_ok()
 }
 
 /// Whether the first broken rule of a document is this one, at this place.
 fn breaks(document: &Document, fault: (u8, Where, u32)) -> bool {
+    if !document.bookmarks.are_formed(document.main.len()) {
+        return false;
+    }
     match check(document) {
         Ok(()) => false,
         Err(found) => found.rule == fault.0 && found.place == fault.1 && found.at == fault.2,
@@ -193,7 +209,7 @@ fn breaks(document: &Document, fault: (u8, Where, u32)) -> bool {
 #[test]
 fn documents_of_no_file_are_judged(rt: HostRuntime) -> Result<(), Fail> {
     for row in ROWS {
-        let document = document_of(rt.alloc(), row)?;
+        let document = document_of(rt.alloc(), row.0, row.1, row.2)?;
         assert!(rt; breaks(&document, row.3), "{}", row.0);
     }
     Ok(())

@@ -4,11 +4,15 @@
 #[cfg(test)]
 mod blocks;
 #[cfg(test)]
+mod bookmarks_by_bytes;
+#[cfg(test)]
 mod containers;
 #[cfg(test)]
 mod documents;
 #[cfg(test)]
 mod guards;
+#[cfg(test)]
+mod joins;
 #[cfg(test)]
 mod maps;
 #[cfg(test)]
@@ -27,6 +31,8 @@ mod pieces;
 mod puts;
 #[cfg(test)]
 mod refusing;
+#[cfg(test)]
+mod saves;
 #[cfg(test)]
 mod scripts;
 #[cfg(test)]

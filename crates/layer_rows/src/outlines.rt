@@ -1,10 +1,10 @@
-// Numbers of paragraphs in a document that no file holds. The bytes of the list follow their layouts; the numbers and the
-// lines were worked out by hand.
-use crate::documents::{add_item, item_of};
+// Numbers of paragraphs in a document that no file holds. The bytes of the list follow their layouts; the numbers and
+// the lines were worked out by hand.
+use crate::documents::{add_item, is_sound, item_of};
 use cfb_streams::Streams;
 use doc_bits::{Bytes, Memory};
 use list_numbers::{Numbers, numbers, outline_lines};
-use plain_doc::{Carried, Document, Item, Items, blank, check};
+use plain_doc::{Carried, Document, Item, Items, blank};
 use sprm_table::Code;
 use std::alloc::Global;
 use std::test::Fail;
@@ -103,30 +103,26 @@ fn has_number(numbers: &Numbers, i: usize, units: Option<&[u16]>) -> bool {
 
 /// Whether the numbers of the four paragraphs are `3.` and `4.` on the first and the last.
 fn are_numbered(alloc: Global, document: &Document) -> Result<bool, Memory> {
-    match check(document) {
-        Err(_) => Ok(false),
-        Ok(()) => {
-            let found = numbers(alloc, document)?;
-            Ok(
-                found.len() == 4
-                    && has_number(&found, 0, Some(&[0x33, 0x2E]))
-                    && has_number(&found, 1, None)
-                    && has_number(&found, 2, None)
-                    && has_number(&found, 3, Some(&[0x34, 0x2E])),
-            )
-        }
+    if !is_sound(document) {
+        return Ok(false);
     }
+    let found = numbers(alloc, document)?;
+    Ok(
+        found.len() == 4
+            && has_number(&found, 0, Some(&[0x33, 0x2E]))
+            && has_number(&found, 1, None)
+            && has_number(&found, 2, None)
+            && has_number(&found, 3, Some(&[0x34, 0x2E])),
+    )
 }
 
 /// Whether a document has these lines.
 fn has_lines(alloc: Global, document: &Document, lines: &str) -> Result<bool, Memory> {
-    match check(document) {
-        Err(_) => Ok(false),
-        Ok(()) => {
-            let found = outline_lines(alloc, document)?;
-            Ok(found.as_str() == lines)
-        }
+    if !is_sound(document) {
+        return Ok(false);
     }
+    let found = outline_lines(alloc, document)?;
+    Ok(found.as_str() == lines)
 }
 
 #[test]
