@@ -1,0 +1,7 @@
+use Rattle.std.proofs.Common.{◌≡◌, map, take}
+use Rattle.std.specs.String.{string_bytes}
+use Rattle.docbin_c.proofs.words.words_of.Given as goal
+
+-- the words so far
+abbrev pub invariant-loop-text : goal.invariant-loop-text
+invariant-loop-text l = map string_bytes l.words.items ≡ map (λ text. text.now) (take l.text-index l.texts)

@@ -1,0 +1,149 @@
+/* Makes each call of docbin.h once, and comes to each status that a call may have. Prints nothing and ends with 0 where each is as it has to be.
+
+   usage: statuses EXAMPLES EDITED    (the folder examples/, and the letter as examples/letter.json edits it)
+
+   It is linked with --wrap=malloc and --wrap=realloc, so that memory can be refused. */
+#include <stdio.h>
+#include <stdlib.h>
+#include <string.h>
+
+#include "docbin.h"
+
+#define ROOM 4000000
+
+static bool is_refusing;
+void *__real_malloc(size_t len);
+void *__real_realloc(void *at, size_t len);
+
+void *__wrap_malloc(size_t len) { return is_refusing ? NULL : __real_malloc(len); }
+
+void *__wrap_realloc(void *at, size_t len) { return is_refusing ? NULL : __real_realloc(at, len); }
+
+static uint8_t text[ROOM], made[ROOM];
+static int wrong;
+
+static void has(bool is, const char *what) {
+  if (!is) {
+    fprintf(stderr, "wrong: %s\n", what);
+    wrong = 1;
+  }
+}
+
+/* The answer has this status and prints this line. */
+static void says(docbin_answer got, uint32_t status, const char *line) {
+  if (got.status != status || got.text_len != strlen(line) || memcmp(text, line, strlen(line))) {
+    fprintf(stderr, "wrong: %u in place of %u: %.*s in place of %s", got.status, status, (int)got.text_len, (char *)text, line);
+    wrong = 1;
+  }
+}
+
+typedef struct {
+  uint8_t at[70000];
+  size_t len;
+} bytes;
+
+static void read_from(bytes *all, const char *folder, const char *name) {
+  char path[1000];
+  snprintf(path, sizeof path, "%s%s%s", folder, *folder ? "/" : "", name);
+  FILE *file = fopen(path, "rb");
+  if (!file) {
+    perror(path);
+    exit(4);
+  }
+  all->len = fread(all->at, 1, sizeof all->at, file);
+  fclose(file);
+}
+
+static docbin_answer edit(const bytes *file, const char *script, bool is_guarded) {
+  return docbin_edit(file->at, file->len, (const uint8_t *)script, strlen(script), is_guarded, text, ROOM, made, ROOM);
+}
+
+static void keep(bytes *all, docbin_answer got) {
+  all->len = got.bytes_len;
+  memcpy(all->at, made, got.bytes_len);
+}
+
+int main(int count, char **words) {
+  static bytes hello, letter, titled, edited, other;
+  static char script[1400000];
+  if (count != 3) return 2;
+  read_from(&hello, words[1], "hello.doc");
+  read_from(&letter, words[1], "letter.doc");
+  read_from(&titled, words[1], "titled.doc");
+  read_from(&edited, "", words[2]);
+
+  /* Rooms that are too small, and rooms that are large enough. */
+  memset(text, '#', 10);
+  docbin_answer got = docbin_text(hello.at, hello.len, text, 0);
+  has(got.status == 0 && got.text_len == 6 && text[0] == '#', "a room of no bytes");
+  got = docbin_text(hello.at, hello.len, text, 3);
+  has(got.text_len == 6 && !memcmp(text, "Hel###", 6), "a room of three bytes");
+  memset(text, '#', 10);
+  got = docbin_text(hello.at, hello.len, text, 10);
+  has(got.text_len == 6 && got.bytes_len == 0 && !memcmp(text, "Hello\n####", 10), "a room of ten bytes");
+
+  /* Done. */
+  says(docbin_check(hello.at, hello.len, text, ROOM), 0, "accepted: units 6 styles 3 sections 1 notes 0 streams 0\n");
+  has(docbin_streams(letter.at, letter.len, text, ROOM).status == 0, "streams");
+  has(docbin_show(letter.at, letter.len, text, ROOM).status == 0, "show");
+  has(docbin_props(letter.at, letter.len, 3, text, ROOM).status == 0, "props");
+  has(docbin_outline(letter.at, letter.len, text, ROOM).status == 0, "outline");
+  says(docbin_title(titled.at, titled.len, text, ROOM), 0, "title Offer\nsubject Tables and chairs\nauthor Zo\\xeb Miller\n");
+  says(docbin_full(letter.at, letter.len, text, ROOM, made, ROOM), 0, "full: 7680 bytes\n");
+  keep(&other, docbin_full(letter.at, letter.len, text, ROOM, made, ROOM));
+  says(docbin_equal(letter.at, letter.len, other.at, other.len, text, ROOM), 0, "equal\n");
+  keep(&other, docbin_retitle(titled.at, titled.len, (const uint8_t *)"New", 3, text, ROOM, made, ROOM));
+  says(docbin_title(other.at, other.len, text, ROOM), 0, "title New\nsubject Tables and chairs\nauthor Zo\\xeb Miller\n");
+  keep(&other, docbin_export(letter.at, letter.len, text, ROOM, made, ROOM));
+  keep(&other, docbin_import(other.at, other.len, text, ROOM, made, ROOM));
+  says(docbin_equal(letter.at, letter.len, other.at, other.len, text, ROOM), 0, "equal\n");
+  got = docbin_join(hello.at, hello.len, letter.at, letter.len, text, ROOM, made, ROOM);
+  has(got.status == 0, "join");
+  has(docbin_equal(letter.at, letter.len, edited.at, edited.len, text, ROOM).status == 11, "an edited file");
+
+  /* Refused. */
+  says(docbin_text((const uint8_t *)"no", 2, text, ROOM), 1, "first: rule 1 File 2\n");
+  has(docbin_retitle(titled.at, titled.len, (const uint8_t *)"\xff", 1, text, ROOM, made, ROOM).status == 2, "a title that is no UTF-8");
+  has(docbin_retitle(titled.at, titled.len, (const uint8_t *)"a\nb", 3, text, ROOM, made, ROOM).status == 2, "a title with a line feed");
+  has(docbin_props(hello.at, hello.len, 4000000000u, text, ROOM).status == 2, "a position of ten digits");
+  says(docbin_props(hello.at, hello.len, 6, text, ROOM), 8, "position 6 of 6\n");
+  says(edit(&hello, "[", true), 7, "script: not JSON\n");
+  says(edit(&hello, "[{\"do\":\"erase\",\"story\":\"main\",\"from\":8,\"to\":9},{\"do\":\"save\",\"mode\":\"full\"}]", true), 8, "edit 0: range\n");
+  says(docbin_import((const uint8_t *)"{}", 2, text, ROOM, made, ROOM), 7, "import: wrong shape\n");
+  says(docbin_equal(hello.at, hello.len, letter.at, letter.len, text, ROOM), 11, "different\n");
+  says(docbin_title(hello.at, hello.len, text, ROOM), 13, "first: no summary\n");
+  for (size_t at = 512; at + 28 < titled.len; at += 64)
+    if (!memcmp(titled.at + at, "\xfe\xff\0\0", 4)) titled.at[at + 24] = 2;
+  says(docbin_title(titled.at, titled.len, text, ROOM), 14, "first: summary wrong at 24\n");
+
+  /* Fifteen fast saves, and one more. */
+  other = hello;
+  for (int i = 0; i < 16; i++) {
+    got = edit(&other, "[{\"do\":\"insert\",\"story\":\"main\",\"at\":0,\"text\":\"a\"},{\"do\":\"save\",\"mode\":\"fast\"}]", true);
+    if (i < 15) {
+      has(got.status == 0, "a fast save");
+      keep(&other, got);
+    }
+  }
+  says(got, 9, "save 1: sixteenth, count 15\n");
+
+  /* The guard of the program, and none: text of 400,000 units is put in and taken away. */
+  char *at = script + sprintf(script, "[");
+  for (int i = 0; i < 3; i++) {
+    at += sprintf(at, "{\"do\":\"insert\",\"story\":\"main\",\"at\":0,\"text\":\"");
+    memset(at, 'a', 400000);
+    at += 400000;
+    at += sprintf(at, "\"},{\"do\":\"erase\",\"story\":\"main\",\"from\":0,\"to\":400000},");
+  }
+  sprintf(at, "{\"do\":\"save\",\"mode\":\"full\"}]");
+  says(edit(&hello, script, true), 10, "edit 4: guard 0\n");
+  says(edit(&hello, script, false), 0, "edit: 7 commands, fast 0, full 1\n");
+
+  /* No memory: the rooms are what they were. */
+  memset(text, '#', 10);
+  is_refusing = true;
+  got = docbin_text(hello.at, hello.len, text, ROOM);
+  is_refusing = false;
+  has(got.status == 6 && got.text_len == 0 && got.bytes_len == 0 && !memcmp(text, "##########", 10), "no memory");
+  return wrong;
+}

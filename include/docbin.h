@@ -1,0 +1,93 @@
+/* docbin: documents of Word 97, by the library libdocbin_c.a. Each call takes bytes and gives bytes; no file is read or written.
+
+   A call serves one command of the program `docbin` and answers its status, the text that the command prints, and the bytes that it puts.
+   The caller lends room for both. `text_len` and `bytes_len` tell how much there is; the rooms hold as much of it as they can, and behind that
+   what stood there. So a call with rooms of length 0 asks for the lengths, and a call whose rooms were too small is made once more.
+
+   - No pointer is NULL, not even where its length is 0. Rooms overlap neither each other nor what a call is given.
+   - A call keeps nothing, frees what it takes, and may be made by several threads at once. Memory is the program's own malloc, realloc and free.
+     No call is made from a signal handler, or from the forked child of a process with threads.
+   - In texts the file has the name `first`, the second file or the script `second`, as in `first: rule 1 File 356`.
+
+   What a status means, and its line, is said in docs/COMMANDS.md:
+
+     0   done
+     1   a file breaks a rule, which the line names with its place
+     2   the words are no command: a title that is no UTF-8 or may not be one, a position of more than nine digits
+     6   there was no memory: both lengths are 0, and the rooms are what they were
+     7   a script, or JSON, is none
+     8   a position is not there, an edit is refused, a document that is made is not sound
+     9   a file would be too large, or a fast save is refused
+     10  a guard does not allow an edit
+     11  the documents differ
+     13  there is no summary
+     14  the summary is wrong */
+#ifndef DOCBIN_H
+#define DOCBIN_H
+
+#include <stdbool.h>
+#include <stddef.h>
+#include <stdint.h>
+
+#ifdef __cplusplus
+extern "C" {
+#endif
+
+/* What a call came to. */
+typedef struct {
+  uint64_t text_len;  /* how long the text is */
+  uint64_t bytes_len; /* how long the bytes are; 0 where the command puts none */
+  uint32_t status;
+} docbin_answer;
+
+/* The main text of a file, its paragraphs as lines. */
+docbin_answer docbin_text(const uint8_t *file, size_t file_len, uint8_t *text, size_t text_room);
+
+/* A line for each stream of the container. */
+docbin_answer docbin_streams(const uint8_t *file, size_t file_len, uint8_t *text, size_t text_room);
+
+/* Whether the file is accepted, and how much it has. */
+docbin_answer docbin_check(const uint8_t *file, size_t file_len, uint8_t *text, size_t text_room);
+
+/* The styles, texts and bookmarks, line by line. */
+docbin_answer docbin_show(const uint8_t *file, size_t file_len, uint8_t *text, size_t text_room);
+
+/* What is in effect at an item of the main text. */
+docbin_answer docbin_props(const uint8_t *file, size_t file_len, uint32_t position, uint8_t *text, size_t text_room);
+
+/* The paragraphs that have a number or a level in the outline. */
+docbin_answer docbin_outline(const uint8_t *file, size_t file_len, uint8_t *text, size_t text_room);
+
+/* Title, subject and author of the summary. */
+docbin_answer docbin_title(const uint8_t *file, size_t file_len, uint8_t *text, size_t text_room);
+
+/* Whether the documents of two files are equal: status 0, or 11. */
+docbin_answer docbin_equal(const uint8_t *first, size_t first_len, const uint8_t *second, size_t second_len, uint8_t *text, size_t text_room);
+
+/* The full save of the file's document: a function of the document alone. */
+docbin_answer docbin_full(const uint8_t *file, size_t file_len, uint8_t *text, size_t text_room, uint8_t *bytes, size_t bytes_room);
+
+/* The full save of the document with another title: at most 255 bytes, all from 0x20 to 0x7E. */
+docbin_answer docbin_retitle(const uint8_t *file, size_t file_len, const uint8_t *title, size_t title_len, uint8_t *text, size_t text_room,
+                             uint8_t *bytes, size_t bytes_room);
+
+/* The last save of a script (docbin-script(5)) over the file's document. With `is_guarded` the edits may add 1,000,000 items in all, as those of
+   the program; without, no guard is asked. */
+docbin_answer docbin_edit(const uint8_t *file, size_t file_len, const uint8_t *script, size_t script_len, bool is_guarded, uint8_t *text,
+                          size_t text_room, uint8_t *bytes, size_t bytes_room);
+
+/* The document as JSON (docs/JSON.md). */
+docbin_answer docbin_export(const uint8_t *file, size_t file_len, uint8_t *text, size_t text_room, uint8_t *bytes, size_t bytes_room);
+
+/* The full save of a document that is given as JSON. */
+docbin_answer docbin_import(const uint8_t *json, size_t json_len, uint8_t *text, size_t text_room, uint8_t *bytes, size_t bytes_room);
+
+/* The full save of one document with another behind it. */
+docbin_answer docbin_join(const uint8_t *first, size_t first_len, const uint8_t *second, size_t second_len, uint8_t *text, size_t text_room,
+                          uint8_t *bytes, size_t bytes_room);
+
+#ifdef __cplusplus
+}
+#endif
+
+#endif
