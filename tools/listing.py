@@ -93,10 +93,10 @@ class Story:
 
 
 class Listing:
-    """The styles of a document by their numbers, and its stories by their names, in the order of `show`."""
+    """The styles of a document by their numbers, its stories by their names, and its bookmarks (from, to, shown name), in the order of `show`."""
 
     def __init__(self, lines):
-        self.styles, self.stories, story = {}, {}, None
+        self.styles, self.stories, self.bookmarks, story = {}, {}, [], None
         for line in lines:
             word, _, rest = line.partition(" ")
             if word == "style" and story is None:
@@ -105,6 +105,9 @@ class Listing:
             elif word == "story":
                 story = Story(":".join(rest.split()))
                 self.stories[story.name] = story
+            elif word == "bookmark":
+                begin, end, name = rest.split(" ", 2)
+                self.bookmarks.append((int(begin), int(end), name))
             elif story is not None:
                 story.line(word, rest)
 

@@ -33,6 +33,11 @@ class Positions(Tool):
         self.assertEqual([it.split(",")[0] for it in lines if "," in it], ["main 0 4 cell", "main 4 6 cell", "main 6 7 row end", "main 7 13 paragraph"])
         self.assertEqual(self.tool("out.doc", "x", "\U0001F600")[1], "main 0 2 \U0001F600\nmain 2 3 x\n")
 
+    def test_bookmarks(self):
+        self.write("s.json", b'[{"do": "bookmark", "name": "a b", "from": 1, "to": 4}, {"do": "save", "mode": "full"}]')
+        self.assertEqual(self.docbin("edit", "hello.doc", "s.json", "out.doc")[0], 0)
+        self.assertIn("main 1 4 bookmark a b", self.tool("out.doc")[1].splitlines())
+
     def test_what_is_refused(self):
         self.assertEqual(self.tool("letter.json"), (1, "", "letter.json: rule 1 File 356\n"))
         self.assertEqual(self.tool("none.doc"), (3, "", "none.doc: No such file or directory\n"))

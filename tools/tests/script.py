@@ -41,6 +41,8 @@ class Lines(Made):
             'field 12 3 code " SEQ A "': [{"do": "field", "story": "main", "at": 3, "type": 12, "code": " SEQ A ", "result": ""}],
             "style 1 at 6": [{"do": "style", "story": "main", "at": 6, "istd": 1}],
             "plain 3 4": [{"do": "plain", "story": "main", "from": 3, "to": 4}],
+            'bookmark 3 9 "total"': [{"do": "bookmark", "name": "total", "from": 3, "to": 9}],
+            'unmark "total"': [{"do": "unmark", "name": "total"}],
             "section 6": [{"do": "sect", "at": 6, "new": True, "set": {}}],
             'define 1 bold': [{"do": "stylechar", "istd": 1, "set": {"0835": "01"}}],
             'replace 3 5 "\\u00e9 \\"x\\""': [{"do": "insert", "story": "main", "at": 3, "text": 'é "x"'},
