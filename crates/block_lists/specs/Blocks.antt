@@ -8,6 +8,7 @@ use Rattle.doc_bits.specs.Sums.{SumList}
 use Rattle.block_lists.specs.declared.places.Spot.{Spot}
 use Rattle.block_lists.specs.declared.places.Place.{Place}
 use Rattle.block_lists.specs.declared.places.Found.{Found}
+use Rattle.block_lists.specs.declared.places.Mark.{Mark}
 
 -- the list that blocks stand for
 unfoldable pub joined : {T : Type 0} → List (List T) → List T
@@ -34,18 +35,26 @@ pub record IsSpotOf {T : Type 0} (units : T → ℕ) (items : List T) (cp : ℕ)
 
 -- ---- what lists are seen as
 
--- items, and how many insertions there are ready blocks for
+-- items, how many insertions there are ready blocks for, how many blocks there are with the ready ones, and how many
+-- there is room for in the list of blocks
 pub record MeasuredList (T : Type 0) : Type 0 where
   pub items : List T
   pub spare : ℕ
-
-abbrev pub measured_list : {T : Type 0} → List T → ℕ → MeasuredList T
-measured_list xs n = record { items = xs; spare = n }
+  pub blocks : ℕ
+  pub room : ℕ
 
 abbrev pub measured_list_code : {T : Type 0} → Coded T → Coded (MeasuredList T)
 measured_list_code {T = T} t =
-    code_by (List T × ℕ) (coded× (coded_list t) coded_ℕ) (λ l. (l.items, l.spare)) (λ p. measured_list p.0 p.1) (λ
-    _. refl)
+    code_by (List T × (ℕ × (ℕ × ℕ)))
+    (coded× (coded_list t) (coded× coded_ℕ (coded× coded_ℕ coded_ℕ)))
+    (λ l. (l.items, (l.spare, (l.blocks, l.room))))
+    (λ p. record { items = p.0; spare = p.1.0; blocks = p.1.1.0; room = p.1.1.1 })
+    (λ _. refl)
+
+-- no block is made, and no room for more
+pub record IsNoLarger {T : Type 0} (old new : MeasuredList T) : Type 0 where
+  pub blocks : new.blocks ≤ old.blocks
+  pub room : new.room ≤ old.room
 
 -- blocks, and how many more there is room for
 pub record BlockRow (T : Type 0) : Type 0 where
@@ -127,6 +136,11 @@ pub record IsFoundOf {T : Type 0} (units : T → ℕ) (blocks : List (List T)) (
   pub spot : IsSpotOf units (joined blocks) cp (record { item = found.item; within = found.within })
   pub there : found.block < length blocks
   pub behind : length (joined (take found.block blocks)) ≤ found.item
+
+-- a walk is at the start of a block, or at the end
+pub record IsAtMark {T : Type 0} (blocks : List (List T)) (mark : Mark) : Type 0 where
+  pub there : mark.block ≤ length blocks
+  pub before : length (joined (take mark.block blocks)) ≡ mark.before
 
 -- ---- an item that is put
 

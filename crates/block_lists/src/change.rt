@@ -1,6 +1,6 @@
 // Items that become others.
 ghost use Rattle.std.specs.Prelude.{◌≡◌, ◌^◌, ◌<◌, ◌≤◌, ℕ, length, slice_set};
-ghost use Rattle.block_lists.specs.Blocks.{joined, units_of, map_range, AreSized};
+ghost use Rattle.block_lists.specs.Blocks.{joined, units_of, map_range, AreSized, IsNoLarger};
 
 use crate::row::Row;
 use crate::{BlockList, Mapping, Measured};
@@ -12,6 +12,7 @@ impl<T: Measured> BlockList<T> {
         requires units { units_of T.units (slice_set self.old.items i item) < 2 ^ 32 }
         ensures items { self.new.items ≡ slice_set self.old.items i item }
         ensures spare { self.new.spare ≡ self.old.spare }
+        ensures memory { IsNoLarger self.old self.new }
     {
         let place = self.row.place(i);
         self.row.set(place.block, place.within, item);
@@ -23,6 +24,7 @@ impl<T: Measured> BlockList<T> {
         requires within { last ≤ length self.old.items }
         ensures items { self.new.items ≡ map_range (C.image by.now) self.old.items first last }
         ensures spare { self.new.spare ≡ self.old.spare }
+        ensures memory { IsNoLarger self.old self.new }
     {
         change_range(&mut self.row, first, last, by);
     }
@@ -36,6 +38,7 @@ fn change_range<T: Measured, C: Mapping<T>>(row: &mut Row<T>, first: usize, last
     ensures units { units_of T.units (joined row.new.blocks) ≡ units_of T.units (joined row.old.blocks) }
     ensures sized { (full : ℕ) → AreSized row.old.blocks full → AreSized row.new.blocks full }
     ensures spare { row.new.spare ≡ row.old.spare }
+    ensures count { length row.new.blocks ≡ length row.old.blocks }
 {
     let mut before = 0;
     for block in 0..row.count() {

@@ -11,7 +11,9 @@ mod places;
 mod put;
 mod remove;
 mod row;
+mod walk;
 
 pub use list::BlockList;
 pub use measured::{Mapping, Measured};
 pub use places::Spot;
+pub use walk::Walk;

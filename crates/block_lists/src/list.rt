@@ -1,7 +1,7 @@
 // A list in blocks.
 ghost use Rattle.std.specs.Prelude.{◌≡◌, ◌+◌, ◌-◌, ◌/◌, ◌^◌, ◌<◌, ◌≤◌, [], ◌∷◌, ◌++◌};
 ghost use Rattle.std.specs.Prelude.{length, take, drop, slice_get, All, Some, OnOk};
-ghost use Rattle.block_lists.specs.Blocks.{joined, units_of, AreSized, IsSpotOf};
+ghost use Rattle.block_lists.specs.Blocks.{joined, units_of, AreSized, IsSpotOf, IsNoLarger};
 
 use crate::block::{Block, MOST};
 use crate::put::{put, put_first};
@@ -23,7 +23,7 @@ pub struct BlockList<T: Measured> {
 }
 
 impl<T: Measured> Model for BlockList<T> {
-    ghost use Rattle.std.specs.Prelude.{length};
+    ghost use Rattle.std.specs.Prelude.{◌+◌, length};
     ghost use Rattle.block_lists.specs.Blocks.{MeasuredList, measured_list_code, joined, AreInBlocks};
 
     ghost Value = { MeasuredList T };
@@ -33,6 +33,8 @@ impl<T: Measured> Model for BlockList<T> {
     ghost view = { λ list. record {
       items = joined list.row.blocks;
       spare = length list.ready.items;
+      blocks = length list.row.blocks + length list.ready.items;
+      room = length list.row.blocks + list.row.spare;
     } };
 
     ghost invariant = { λ list. AreInBlocks T.units list.row list.ready.items list.count list.full };
@@ -152,6 +154,7 @@ impl<T: Measured> BlockList<T> {
         ensures items { self.new.items ≡ take i self.old.items ++ (item ∷ drop i self.old.items) }
         ensures spare { self.old.spare ≤ self.new.spare + 1 }
         ensures no_more { self.new.spare ≤ self.old.spare }
+        ensures memory { IsNoLarger self.old self.new }
     {
         if self.count == 0 {
             self.insert_first(item);
@@ -168,6 +171,7 @@ impl<T: Measured> BlockList<T> {
         ensures items { self.new.items ≡ item ∷ [] }
         ensures spare { self.old.spare ≤ self.new.spare + 1 }
         ensures no_more { self.new.spare ≤ self.old.spare }
+        ensures memory { IsNoLarger self.old self.new }
     {
         put_first(&mut self.row, &mut self.ready, item);
         self.count = 1;
@@ -184,6 +188,7 @@ impl<T: Measured> BlockList<T> {
         ensures items { self.new.items ≡ take i self.old.items ++ (item ∷ drop i self.old.items) }
         ensures spare { self.old.spare ≤ self.new.spare + 1 }
         ensures no_more { self.new.spare ≤ self.old.spare }
+        ensures memory { IsNoLarger self.old self.new }
     {
         let place = self.row.place(i);
         let full = self.full.min(place.block);

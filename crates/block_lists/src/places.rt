@@ -22,3 +22,10 @@ pub(crate) struct Found {
     pub(crate) item: usize,
     pub(crate) within: u32,
 }
+
+/// Where a walk is: the number of a block, and how many items are before it.
+#[derive(Clone, Copy)]
+pub(crate) struct Mark {
+    pub(crate) block: usize,
+    pub(crate) before: usize,
+}

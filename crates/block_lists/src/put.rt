@@ -20,6 +20,8 @@ pub(crate) fn put<T: Measured>(row: &mut Row<T>, ready: &mut Vec<Block<T>>, plac
     ensures ready { length ready.old.items ≤ length ready.new.items + 1 }
     ensures no_more { length ready.new.items ≤ length ready.old.items }
     ensures empty { All (λ block. block ≡ []) ready.new.items }
+    ensures count { length row.new.blocks + length ready.new.items ≡ length row.old.blocks + length ready.old.items }
+    ensures held { length row.new.blocks + row.new.spare ≡ length row.old.blocks + row.old.spare }
 {
     let seat = make_room(row, ready, place);
     row.put(seat.block, seat.within, item);
@@ -38,6 +40,8 @@ fn make_room<T: Measured>(row: &mut Row<T>, ready: &mut Vec<Block<T>>, place: Pl
     ensures ready { length ready.old.items ≤ length ready.new.items + 1 }
     ensures no_more { length ready.new.items ≤ length ready.old.items }
     ensures empty { All (λ block. block ≡ []) ready.new.items }
+    ensures count { length row.new.blocks + length ready.new.items ≡ length row.old.blocks + length ready.old.items }
+    ensures held { length row.new.blocks + row.new.spare ≡ length row.old.blocks + row.old.spare }
 {
     if row.len(place.block) < MOST {
         return place;
@@ -67,6 +71,8 @@ pub(crate) fn put_first<T: Measured>(row: &mut Row<T>, ready: &mut Vec<Block<T>>
     ensures ready { length ready.old.items ≤ length ready.new.items + 1 }
     ensures no_more { length ready.new.items ≤ length ready.old.items }
     ensures empty { All (λ block. block ≡ []) ready.new.items }
+    ensures count { length row.new.blocks + length ready.new.items ≡ length row.old.blocks + length ready.old.items }
+    ensures held { length row.new.blocks + row.new.spare ≡ length row.old.blocks + row.old.spare }
 {
     let Some(fresh) = ready.pop() else {
         return;

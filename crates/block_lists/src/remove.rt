@@ -1,7 +1,7 @@
 // Items that are taken out of blocks: blocks that became short are joined with the next ones.
 ghost use Rattle.std.specs.Prelude.{◌≡◌, ◌+◌, ◌^◌, ◌<◌, ◌≤◌, ℕ, [], ◌++◌, length, take, drop, slice_set};
 ghost use Rattle.std.specs.List.{splice};
-ghost use Rattle.block_lists.specs.Blocks.{joined, units_of, block_at, number_of, IsPlaceIn, AreSizedBut};
+ghost use Rattle.block_lists.specs.Blocks.{joined, units_of, block_at, number_of, IsPlaceIn, AreSizedBut, IsNoLarger};
 
 use crate::block::MOST;
 use crate::places::Place;
@@ -21,6 +21,7 @@ impl<T: Measured> BlockList<T> {
         requires within { last ≤ length self.old.items }
         ensures items { self.new.items ≡ splice self.old.items first last [] }
         ensures spare { self.new.spare ≡ self.old.spare }
+        ensures memory { IsNoLarger self.old self.new }
     {
         if first == last {
             return;
@@ -45,6 +46,7 @@ fn erase<T: Measured>(row: &mut Row<T>, place: Place, count: usize)
     ensures spare { row.new.spare ≡ row.old.spare }
     ensures sized { (full : ℕ) → AreSizedBut row.old.blocks full place.block place.block
         → AreSizedBut row.new.blocks full place.block (place.block + 2) }
+    ensures fewer { length row.new.blocks ≤ length row.old.blocks }
 {
     let rest = row.len(place.block) - place.within;
     let here = count.min(rest);
@@ -63,6 +65,7 @@ fn drop_front<T: Measured>(row: &mut Row<T>, block: usize, count: usize)
     ensures spare { row.new.spare ≡ row.old.spare }
     ensures sized { (full from : ℕ) → from ≤ block → AreSizedBut row.old.blocks full from block
         → AreSizedBut row.new.blocks full from (block + 1) }
+    ensures fewer { length row.new.blocks ≤ length row.old.blocks }
 {
     let mut left = count;
     for _turn in block..row.count() {
@@ -83,6 +86,7 @@ fn mend<T: Measured>(row: &mut Row<T>, block: usize)
     ensures spare { row.new.spare ≡ row.old.spare }
     ensures sized { (full from : ℕ) → from ≤ block → AreSizedBut row.old.blocks full from (block + 1)
         → AreSizedBut row.new.blocks full from block }
+    ensures fewer { length row.new.blocks ≤ length row.old.blocks }
 {
     if block >= row.count() {
         return;
@@ -108,6 +112,7 @@ fn fill<T: Measured>(row: &mut Row<T>, block: usize, next: usize)
     ensures spare { row.new.spare ≡ row.old.spare }
     ensures sized { (full from : ℕ) → from ≤ block → AreSizedBut row.old.blocks full from (block + 1)
         → AreSizedBut row.new.blocks full from block }
+    ensures fewer { length row.new.blocks ≤ length row.old.blocks }
 {
     let len = row.len(block);
     let rest = row.len(next);
@@ -130,6 +135,7 @@ fn lend<T: Measured>(row: &mut Row<T>, block: usize, next: usize, count: usize)
     ensures blocks { row.new.blocks ≡ slice_set row.old.blocks block
         (block_at row.old.blocks block ++ take count (block_at row.old.blocks (block + 1))) }
     ensures spare { row.new.spare ≡ row.old.spare }
+    ensures count { length row.new.blocks ≡ length row.old.blocks }
 {
     for i in 0..count {
         let item = row.get(next, i);

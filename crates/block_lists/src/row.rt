@@ -2,10 +2,10 @@
 ghost use Rattle.std.specs.Prelude.{◌≡◌, ◌+◌, ◌^◌, ◌<◌, ◌≤◌, [], ◌∷◌, ◌++◌};
 ghost use Rattle.std.specs.Prelude.{length, take, drop, slice_get, slice_set, slice_range, Some, IfOk, OnOk};
 ghost use Rattle.std.specs.List.{splice};
-ghost use Rattle.block_lists.specs.Blocks.{joined, units_of, map_range, block_at, IsFoundOf, IsPlace};
+ghost use Rattle.block_lists.specs.Blocks.{joined, units_of, map_range, block_at, IsFoundOf, IsPlace, IsAtMark};
 
 use crate::block::Block;
-use crate::places::{Found, Place};
+use crate::places::{Found, Mark, Place};
 use crate::{Mapping, Measured};
 use doc_bits::{Ledger, Memory, Steps, Sums};
 use std::alloc::Global;
@@ -95,6 +95,7 @@ impl<T: Measured> Row<T> {
         requires units { units_of T.units block < 2 ^ 32 }
         ensures blocks { self.new.blocks ≡ splice self.old.blocks number number (block ∷ []) }
         ensures spare { self.new.spare + 1 ≡ self.old.spare }
+        ensures count { length self.new.blocks ≡ length self.old.blocks + 1 }
     {
         let units = block.units();
         let _ = self.blocks.insert(number, block);
@@ -111,6 +112,7 @@ impl<T: Measured> Row<T> {
         ensures blocks { self.new.blocks ≡ splice self.old.blocks block (block + 1)
             ((take i (block_at self.old.blocks block) ++ (item ∷ drop i (block_at self.old.blocks block))) ∷ []) }
         ensures spare { self.new.spare ≡ self.old.spare }
+        ensures count { length self.new.blocks ≡ length self.old.blocks }
     {
         let changed = &mut self.blocks[block];
         changed.insert(i, item);
@@ -126,6 +128,7 @@ impl<T: Measured> Row<T> {
         ensures blocks { self.new.blocks
             ≡ slice_set self.old.blocks block (slice_set (block_at self.old.blocks block) i item) }
         ensures spare { self.new.spare ≡ self.old.spare }
+        ensures count { length self.new.blocks ≡ length self.old.blocks }
     {
         let changed = &mut self.blocks[block];
         changed.set(i, item);
@@ -142,6 +145,7 @@ impl<T: Measured> Row<T> {
         ensures blocks { self.new.blocks
             ≡ slice_set self.old.blocks block (splice (block_at self.old.blocks block) first last []) }
         ensures spare { self.new.spare ≡ self.old.spare }
+        ensures count { length self.new.blocks ≡ length self.old.blocks }
     {
         let changed = &mut self.blocks[block];
         changed.cut(first, last);
@@ -154,6 +158,7 @@ impl<T: Measured> Row<T> {
         requires { block < length self.old.blocks }
         ensures blocks { self.new.blocks ≡ splice self.old.blocks block (block + 1) [] }
         ensures spare { self.new.spare ≡ self.old.spare }
+        ensures count { length self.new.blocks + 1 ≡ length self.old.blocks }
     {
         let _ = self.blocks.remove(block);
         self.sums.remove(block);
@@ -184,6 +189,7 @@ impl<T: Measured> Row<T> {
         ensures units { units_of T.units (map_range (C.image by.now) (block_at self.old.blocks block) first last)
             ≡ units_of T.units (block_at self.old.blocks block) }
         ensures spare { self.new.spare ≡ self.old.spare }
+        ensures count { length self.new.blocks ≡ length self.old.blocks }
     {
         let changed = &mut self.blocks[block];
         changed.change(first, last, by);
@@ -200,6 +206,7 @@ impl<T: Measured> Row<T> {
             (take 64 (block_at self.old.blocks block) ∷ drop 64 (block_at self.old.blocks block) ∷ []) }
         ensures spare { self.new.spare + 1 ≡ self.old.spare }
         ensures next { result ≡ block + 1 }
+        ensures count { length self.new.blocks ≡ length self.old.blocks + 1 }
     {
         let mut next = fresh;
         let first = &mut self.blocks[block];
@@ -260,6 +267,42 @@ impl<T: Measured> Row<T> {
             block: 0,
             item: 0,
             within: left,
+        }
+    }
+
+    /// The block of an item, from a mark on; from the start where the mark is behind the item.
+    pub(crate) fn reach(&self, mark: Mark, i: usize) -> Mark
+        requires at { IsAtMark self.now.blocks mark }
+        requires within { i < length (joined self.now.blocks) }
+        ensures at { IsAtMark self.now.blocks result }
+        ensures there { result.block < length self.now.blocks }
+        ensures ahead { result.before ≤ i }
+        ensures inside { i < result.before + length (block_at self.now.blocks result.block) }
+    {
+        let from = self.mark_before(mark, i);
+        let mut before = from.before;
+        for block in from.block..self.blocks.len() {
+            let len = self.blocks[block].len();
+            if i - before < len {
+                return Mark { block, before };
+            }
+            before += len;
+        }
+        from
+    }
+
+    /// The mark, or that of the start where the item is before the mark.
+    fn mark_before(&self, mark: Mark, i: usize) -> Mark
+        requires at { IsAtMark self.now.blocks mark }
+        ensures at { IsAtMark self.now.blocks result }
+        ensures ahead { result.before ≤ i }
+    {
+        if mark.before <= i {
+            return mark;
+        }
+        Mark {
+            block: 0,
+            before: 0,
         }
     }
 }

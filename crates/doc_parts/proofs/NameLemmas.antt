@@ -21,10 +21,10 @@ use Rattle.std.proofs.lemmas.Option.{same_Some}
 use Rattle.doc_bits.specs.Rules.{Nowhere, IsLeast}
 use Rattle.doc_bits.proofs.RuleLemmas.{first_among}
 use Rattle.doc_parts.specs.declared.bookmark_order.Bookmark.{Bookmark}
-use Rattle.doc_parts.specs.Order.{in_order}
+use Rattle.doc_parts.specs.Order.{put_in, in_order}
 use Rattle.doc_parts.specs.Bookmarks.{bookmark_cmp, HasFileNumbers, end_moved, moved_bookmark, moved_bookmarks}
 use Rattle.doc_parts.specs.Names.{is_named, AreApart, IsBookmarkList, RepeatsName, HasSameName}
-use Rattle.doc_parts.proofs.OrderLemmas.{order_counted, all_in_order}
+use Rattle.doc_parts.proofs.OrderLemmas.{order_counted, put_counted, all_put, all_in_order}
 use Rattle.doc_parts.proofs.BookmarkLemmas.{bookmark_total}
 use Rattle.doc_parts.proofs.MoveLemmas.{moved_within}
 
@@ -172,6 +172,18 @@ pub list_more : (xs ys : List Bookmark) (x : Bookmark) (apart known : Bool) → 
 list_more xs ys x apart known more one is looked = rw more (record {
   numbers = All-push HasFileNumbers xs x is.numbers one;
   differ = λ h. let both = looked h in apart_more xs x (is.differ both.0) both.1;
+})
+
+pub list_put : (xs ys : List Bookmark) (x : Bookmark) (apart known : Bool) → ys ≡ put_in bookmark_cmp x xs →
+    HasFileNumbers x → IsBookmarkList xs apart →
+    (IsTrue known → IsTrue apart × (count_by (is_named x.name) xs ≡ 0)) → IsBookmarkList ys known
+list_put xs ys x apart known put one is looked = rw put (record {
+  numbers = all_put HasFileNumbers bookmark_cmp x xs one is.numbers;
+  differ = λ h.
+      let both = looked h in
+      apart_less (xs ++ x ∷ []) (put_in bookmark_cmp x xs)
+      (λ f. omega (arith, put_counted bookmark_cmp x xs f, sum_by-cons f x xs, sum_by_push f xs x))
+      (apart_more xs x (is.differ both.0) both.1);
 })
 
 pub list_copied : (xs ys : List Bookmark) (from to : ℕ) (apart : Bool) → ys ≡ slice_range xs from to →

@@ -1,6 +1,8 @@
 -- A list that a sort left is the one that is put in order.
-use Rattle.std.proofs.Common.{◌≡◌, refl, sym, ap, subst, ◌∙◌, ℕ, zero, suc, ◌+◌, ◌<◌, Bool, true, false, cond, List, []}
-use Rattle.std.proofs.Common.{◌∷◌, ◌++◌, length, get_or, arith, Ordering}
+use Rattle.std.proofs.Common.{◌≡◌, refl, sym, ap, subst, ◌∙◌, ℕ, zero, suc, ◌+◌, ◌<◌, Bool, true, false, cond, List}
+use Rattle.std.proofs.Common.{[]}
+use Rattle.std.proofs.Common.{◌∷◌, ◌++◌, ◌≤◌, length, take, drop, get_or, arith, append_assoc, Ordering}
+use Rattle.std.proofs.lemmas.List.{take_more, drop_more, drop_all}
 use Rattle.std.specs.Prelude.{⊤}
 use Rattle.std.specs.Ordering.{is_lt, is_gt, is_le, ordering_reverse}
 use Rattle.std.specs.declared.cmp.Ordering.TheVariants.{Less, Equal, Greater}
@@ -221,6 +223,48 @@ push_in_order cmp total alone x xs sorted =
       put_counted cmp x xs f,
       sum_by-cons f x xs,
     ))
+
+-- ---- an entry is put at the place that a walk finds
+
+abbrev pub HasPassed : {K : Type 0} → (K → K → Ordering) → K → List K → ℕ → Type 0
+HasPassed cmp x xs i = put_in cmp x xs ≡ take i xs ++ put_in cmp x (drop i xs)
+
+put_before : {K : Type 0} (cmp : K → K → Ordering) (x y : K) (ys : List K) (b : Bool) → is_le (cmp x y) ≡ b →
+    put_in cmp x (y ∷ ys) ≡ cond b (x ∷ y ∷ ys) (y ∷ put_in cmp x ys)
+unfolding put_in
+put_before {K} cmp x y ys b is = ap (λ (t : Bool). cond t (x ∷ y ∷ ys) (y ∷ put_in cmp x ys)) is
+
+put_alone : {K : Type 0} (cmp : K → K → Ordering) (x : K) → put_in cmp x [] ≡ x ∷ []
+unfolding put_in
+put_alone cmp x = refl
+
+pub passed_next : {K : Type 0} (cmp : K → K → Ordering) (x y : K) (xs : List K) (i : ℕ) → i < length xs →
+    is_le (cmp x (get_or xs i y)) ≡ false → HasPassed cmp x xs i → HasPassed cmp x xs (i + 1)
+passed_next {K} cmp x y xs i low later passed =
+    let rest = put_in cmp x (drop (i + 1) xs) in
+    passed
+    ∙ ap (λ (t : List K). take i xs ++ put_in cmp x t) (drop_more xs i y low)
+    ∙ ap (λ (t : List K). take i xs ++ t) (put_before cmp x (get_or xs i y) (drop (i + 1) xs) false later)
+    ∙ sym (append_assoc (take i xs) (get_or xs i y ∷ []) rest)
+    ∙ ap (λ (t : List K). t ++ rest) (sym (take_more xs i y low))
+
+pub passed_here : {K : Type 0} (cmp : K → K → Ordering) (x y : K) (xs : List K) (i : ℕ) → i < length xs →
+    is_le (cmp x (get_or xs i y)) ≡ true → HasPassed cmp x xs i → take i xs ++ (x ∷ drop i xs) ≡ put_in cmp x xs
+passed_here {K} cmp x y xs i low before passed =
+    let cut = drop_more xs i y low in
+    ap (λ (t : List K). take i xs ++ (x ∷ t)) cut
+    ∙ ap (λ (t : List K). take i xs ++ t) (sym (put_before cmp x (get_or xs i y) (drop (i + 1) xs) true before))
+    ∙ ap (λ (t : List K). take i xs ++ put_in cmp x t) (sym cut)
+    ∙ sym passed
+
+pub passed_all : {K : Type 0} (cmp : K → K → Ordering) (x : K) (xs : List K) (i : ℕ) → length xs ≤ i →
+    HasPassed cmp x xs i → take i xs ++ (x ∷ drop i xs) ≡ put_in cmp x xs
+passed_all {K} cmp x xs i end passed =
+    let none = drop_all i xs end in
+    ap (λ (t : List K). take i xs ++ (x ∷ t)) none
+    ∙ ap (λ (t : List K). take i xs ++ t) (sym (put_alone cmp x))
+    ∙ ap (λ (t : List K). take i xs ++ put_in cmp x t) (sym none)
+    ∙ sym passed
 
 -- ---- what rises is sorted
 

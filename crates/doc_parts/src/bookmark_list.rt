@@ -1,5 +1,5 @@
 // The bookmarks of a document. After want of memory the list is what it was.
-ghost use Rattle.std.specs.Prelude.{◌≡◌, ℕ, ◌+◌, ◌-◌, ◌^◌, ◌<◌, ◌≤◌, List, [], ◌∷◌, ◌++◌, length, take};
+ghost use Rattle.std.specs.Prelude.{◌≡◌, ℕ, ◌+◌, ◌-◌, ◌^◌, ◌<◌, ◌≤◌, List, [], ◌∷◌, ◌++◌, length, take, drop};
 ghost use Rattle.std.specs.Prelude.{slice_get, slice_set, slice_range, Some, All, IsTrue, false, ◌↔◌, IfOk, OnOk};
 ghost use Rattle.std.specs.Prelude.{OnErr, not};
 ghost use Rattle.std.specs.List.{splice, filter, count_by};
@@ -48,8 +48,8 @@ impl Bookmarks {
         }
     }
 
-    /// The bookmarks of a file, in order.
-    pub(crate) fn of(mut items: Vec<Bookmark>) -> Bookmarks
+    /// These bookmarks, in order. Whether their names differ is found out.
+    pub fn of(mut items: Vec<Bookmark>) -> Bookmarks
         requires { All HasFileNumbers items.items }
         ensures { result ≡ in_order bookmark_cmp items.items }
     {
@@ -95,9 +95,23 @@ impl Bookmarks {
         ensures ok { OnOk result (self.new ≡ put_in bookmark_cmp bookmark self.old) }
         ensures err { OnErr result (self.new ≡ self.old) }
     {
-        self.add(bookmark)?;
-        sort(&mut self.items);
+        let name = bookmark.name.as_slice();
+        have_sixteen_bits(name);
+        let apart = stays_apart(self.apart, &self.items, name);
+        let place = place_of(&bookmark, &self.items);
+        self.items.insert(place, bookmark)?;
+        self.apart = apart;
         Ok(())
+    }
+
+    /// Puts the list in order, and finds out whether the names differ. It takes no memory.
+    pub fn arrange(&mut self)
+        ensures { self.new ≡ in_order bookmark_cmp self.old }
+    {
+        sort_names(&mut self.items);
+        let apart = neighbours_differ(&self.items);
+        sort(&mut self.items);
+        self.apart = apart;
     }
 
     /// The bookmarks from `from` to before `to`.
@@ -109,7 +123,7 @@ impl Bookmarks {
         let range = &self.items[from..to];
         let mut items = Vec::with_capacity(alloc, range.len())?;
         for bookmark in range {
-            items.push(bookmark.copy(alloc)?)?;
+            items.push(bookmark.copy()?)?;
         }
         Ok(Bookmarks {
             items,
@@ -251,8 +265,22 @@ fn all_formed(list: &[Bookmark], len: usize) -> bool
     true
 }
 
+/// How many bookmarks are before the first one that a bookmark does not come behind.
+fn place_of(bookmark: &Bookmark, list: &[Bookmark]) -> usize
+    ensures within { result ≤ length list.now }
+    ensures put { take result list.now ++ (bookmark.now ∷ drop result list.now)
+        ≡ put_in bookmark_cmp bookmark.now list.now }
+{
+    for i in 0..list.len() {
+        if compare(bookmark, &list[i]).is_le() {
+            return i;
+        }
+    }
+    list.len()
+}
+
 /// Whether no bookmark comes before the one before it.
-fn is_in_order(list: &[Bookmark]) -> bool
+pub fn is_in_order(list: &[Bookmark]) -> bool
     ensures { IsTrue result ↔ IsSorted bookmark_cmp list.now }
 {
     for i in 1..list.len() {
@@ -264,7 +292,7 @@ fn is_in_order(list: &[Bookmark]) -> bool
 }
 
 /// Puts a list in the order of the names. It takes no memory.
-fn sort_names(list: &mut Vec<Bookmark>)
+pub fn sort_names(list: &mut Vec<Bookmark>)
     ensures moved { IsPermutation list.old.items list.new.items }
     ensures sorted { IsSorted name_cmp list.new.items }
 {

@@ -7,27 +7,27 @@ ghost use Rattle.doc_parts.specs.Bookmarks.{bookmark_cmp, end_moved, moved_bookm
 ghost use Rattle.doc_parts.specs.Bookmarks.{IsFormedBookmark};
 ghost use Rattle.doc_parts.specs.Names.{is_named};
 
-use doc_bits::{Memory, Units};
-use std::alloc::Global;
+use crate::names::Name;
+use doc_bits::Memory;
 use std::cmp::Ordering;
 
 /// A name over a range of the main text: its units, the places where the range begins and ends, and its flags
 /// ([MS-DOC] BKC).
 #[derive(Drop)]
 pub struct Bookmark {
-    pub name: Units,
+    pub name: Name,
     pub from: u32,
     pub to: u32,
     pub flags: u16,
 }
 
 impl Bookmark {
-    /// The same bookmark.
-    pub fn copy(&self, alloc: Global) -> Result<Bookmark, Memory>
+    /// The same bookmark. Its name is shared.
+    pub fn copy(&self) -> Result<Bookmark, Memory>
         ensures { IfOk result (λ copy. copy ≡ self.now) }
     {
         Ok(Bookmark {
-            name: Units::from_slice(alloc, self.name.as_slice())?,
+            name: self.name.copy()?,
             from: self.from,
             to: self.to,
             flags: self.flags,

@@ -14,7 +14,8 @@ ghost use Rattle.doc_parts.specs.BookmarkParts.{AreRightParts, bookmark_rules};
 use crate::PartFault;
 use crate::bookmark_list::Bookmarks;
 use crate::bookmark_order::Bookmark;
-use doc_bits::{Memory, Units, get16, get32, lesser};
+use crate::names::Name;
+use doc_bits::{Memory, get16, get32, lesser};
 use std::alloc::Global;
 
 const RULE_BOOKMARKS: u8 = 57;
@@ -147,15 +148,15 @@ fn kept(
 }
 
 /// The units of a name.
-fn name_at(alloc: Global, names: &[u8], at: usize, count: usize) -> Result<Units, Memory>
+fn name_at(alloc: Global, names: &[u8], at: usize, count: usize) -> Result<Name, Memory>
     requires { at + 2 * count ≤ length names.now }
     ensures { IfOk result (λ name. name ≡ tabulate (λ i. u16_at names.now (at + 2 * i)) count) }
 {
-    let mut name = Units::new(alloc);
+    let mut units = Vec::with_capacity(alloc, count)?;
     for i in 0..count {
-        name.push_all(&[get16(names, at + 2 * i)])?;
+        units.push(get16(names, at + 2 * i))?;
     }
-    Ok(name)
+    Name::of(units)
 }
 
 /// A bookmark without its name.
@@ -168,7 +169,7 @@ struct Range {
 
 impl Range {
     /// The bookmark of that name.
-    fn named(self, name: Units) -> Bookmark
+    fn named(self, name: Name) -> Bookmark
         ensures { result ≡ record { name = name; from = self.from; to = self.to; flags = self.flags } }
     {
         Bookmark {

@@ -11,12 +11,13 @@ mod field_part;
 mod laws;
 mod level_part;
 mod lists;
+mod names;
 mod section_part;
 mod splices;
 mod story_parts;
 mod tables;
 
-pub use bookmark_list::Bookmarks;
+pub use bookmark_list::{Bookmarks, is_in_order, sort_names};
 pub use bookmark_order::{Bookmark, compare};
 pub use bookmark_parts::bookmarks;
 pub use bookmark_print::{print_ends, print_names, print_starts};
@@ -28,6 +29,7 @@ pub use laws::{
 };
 pub use level_part::{LevelFault, levels_len, list_levels};
 pub use lists::{Cuts, Fld, Flds, NoteRef, Refs, Sed, Seds};
+pub use names::Name;
 pub use section_part::{NO_SEPX, fc_sepx_place, print_sections, sections, sepx};
 pub use splices::splice_list;
 pub use story_parts::{note_refs, print_refs, print_texts, texts};

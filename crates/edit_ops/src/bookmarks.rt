@@ -5,8 +5,8 @@ ghost use Rattle.doc_parts.specs.Bookmarks.{bookmark_cmp};
 ghost use Rattle.edit_ops.specs.Bookmarks.{bookmark_named, begin_of as begin_there, new_bookmark};
 ghost use Rattle.edit_ops.specs.Bookmarks.{with_bookmark as list_with, without_bookmark as list_without};
 
-use doc_bits::{Memory, Units};
-use doc_parts::{Bookmark, Bookmarks};
+use doc_bits::Memory;
+use doc_parts::{Bookmark, Bookmarks, Name};
 use std::alloc::Global;
 
 /// The bookmark of a name, where it is there.
@@ -55,7 +55,7 @@ pub(crate) fn with_bookmark(
 {
     let mut made = list.copy(alloc, 0, list.len())?;
     made.put(Bookmark {
-        name: Units::from_slice(alloc, name)?,
+        name: Name::from_slice(alloc, name)?,
         from,
         to,
         flags: 0,

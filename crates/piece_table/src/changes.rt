@@ -47,6 +47,7 @@ impl PieceList {
         ensures begins { HasBegin self.new.pieces cp }
         ensures count { length self.new.pieces ≤ length self.old.pieces + 1 }
         ensures spare { self.old.spare ≤ self.new.spare + 1 }
+        ensures no_more { self.new.spare ≤ self.old.spare }
     {
         let _ = cut(&mut self.entries, cp, self.total);
     }
@@ -62,6 +63,7 @@ impl PieceList {
             ≡ splice (flat_pieces self.old.pieces) from to (fresh_places fresh) }
         ensures count { length self.new.pieces ≤ length self.old.pieces + 1 + length (option_to_list fresh) }
         ensures spare { self.old.spare ≤ self.new.spare + 3 }
+        ensures no_more { self.new.spare ≤ self.old.spare }
     {
         let (first, last) = cut_range(&mut self.entries, from, to, self.total);
         self.entries.remove(first, last);

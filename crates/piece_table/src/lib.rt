@@ -17,6 +17,7 @@ mod printing;
 mod reading;
 mod renewal;
 mod renumber;
+mod walk;
 
 pub use fault::ClxFault;
 pub use laws::{
@@ -25,3 +26,4 @@ pub use laws::{
 pub use pcd::{FcCompressed, Prm};
 pub use pieces::{Piece, PieceList, Spot, TextBounds};
 pub use reading::read_clx;
+pub use walk::PieceWalk;

@@ -5,4 +5,4 @@ use Rattle.doc_parts.proofs.bookmark_parts.name_at.Given as goal
 
 -- the units so far
 abbrev pub invariant-loop-i : goal.invariant-loop-i
-invariant-loop-i l = l.name ≡ tabulate (λ i. u16_at l.names (l.at + 2 * i)) l.i
+invariant-loop-i l = l.units.items ≡ tabulate (λ i. u16_at l.names (l.at + 2 * i)) l.i

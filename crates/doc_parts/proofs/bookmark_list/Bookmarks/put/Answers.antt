@@ -1,16 +1,17 @@
-use Rattle.std.proofs.Common.{◌∙◌, ap}
-use Rattle.doc_parts.specs.Order.{in_order}
+use Rattle.std.proofs.Common.{rules, ◌≡◌}
+use Rattle.doc_parts.specs.Order.{put_in}
 use Rattle.doc_parts.specs.Bookmarks.{bookmark_cmp}
-use Rattle.doc_parts.proofs.OrderLemmas.{push_in_order}
-use Rattle.doc_parts.proofs.BookmarkLemmas.{bookmark_total, bookmark_alone}
-use Rattle.doc_parts.proofs.NameLemmas.{list_sorted}
+use Rattle.doc_parts.proofs.NameLemmas.{numbers_of, list_put}
 use Rattle.doc_parts.proofs.bookmark_list.Bookmarks.put.Goals as goal
 
-pub invariant_of-self : goal.invariant_of-self
-invariant_of-self c =
-    rw c.sort.ensures (list_sorted c.self.inside.items.items c.self.inside.apart c.self.invariant)
-
-pub returns-clause-ok : goal.returns-clause-ok
-returns-clause-ok c =
-    c.sort.ensures ∙ (ap (in_order bookmark_cmp) (c.self.view_is ∙ c.in_ok-add.ensures.ok)
-    ∙ push_in_order bookmark_cmp bookmark_total bookmark_alone c.args.bookmark c.args.self.now c.requires.sorted)
+pub invariant_of-self-2 : goal.invariant_of-self-2
+invariant_of-self-2 c =
+    let put : c.insert.new.self.items ≡ put_in bookmark_cmp c.args.bookmark c.self.inside.items.items = search rules in
+    list_put c.self.inside.items.items _ c.args.bookmark c.self.inside.apart c.stays_apart-apart.result put
+    (numbers_of c.args.bookmark c.as_slice-name.result.now c.as_slice-name.ensures c.have_sixteen_bits.ensures
+    (search rules) (search rules) (search rules))
+    c.self.invariant
+    (λ known. (
+      c.stays_apart-apart.ensures.before known,
+      rw (c.as_slice-name.ensures, c.deref.ensures.value) at (c.stays_apart-apart.ensures.none known),
+    ))
