@@ -118,8 +118,8 @@ impl KeptLists {
     {
         let begin = PAGE_LEN * number as usize;
         let (from, to) = range;
-        let there = &source.wd[begin + from..begin + to];
-        if let Some(known) = self.places.number_of(source.wd, there) {
+        let place = (begin + from, begin + to);
+        if let Some(known) = self.places.number_at(source.wd, place.0, place.1) {
             let copy = self.made[known].copy(alloc)?;
             return Ok(copy);
         }
@@ -129,7 +129,7 @@ impl KeptLists {
             Some(list) => {
                 let made = make(alloc, source, list)?;
                 let copy = made.copy(alloc)?;
-                self.put(source.wd, (begin + from, begin + to), made)?;
+                self.put(source.wd, place, made)?;
                 Ok(copy)
             }
         }

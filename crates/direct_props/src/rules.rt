@@ -250,8 +250,7 @@ fn is_right_list(
     if PAGE_LEN <= from || PAGE_LEN <= to || to < from + style_len(kind) {
         return Ok(false);
     }
-    let there = &wd[begin + from..begin + to];
-    if let Some(_met) = known.number_of(wd, there) {
+    if let Some(_met) = known.number_at(wd, begin + from, begin + to) {
         return Ok(true);
     }
     match list_in(kind, &wd[begin..begin + PAGE_LEN], from, to) {

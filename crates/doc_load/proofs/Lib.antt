@@ -18,3 +18,4 @@ pub mod RightPlaces
 pub mod FormatLemmas
 pub mod EndLemmas
 pub mod StretchLemmas
+pub mod JudgedLemmas

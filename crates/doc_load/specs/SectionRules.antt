@@ -1,8 +1,9 @@
 -- The rules on the sections, 33 to 36: their table, the unit before each, and their settings.
-use Rattle.std.specs.Prelude.{◌≢◌, ℕ, ◌+◌, ◌-◌, ◌*◌, ◌≤◌, List, length, map, slice_index, slice_range}
+use Rattle.std.specs.Prelude.{◌≢◌, ℕ, ◌+◌, ◌-◌, ◌*◌, ◌≤◌, List, length, map, slice_index, slice_range, Option}
 use Rattle.doc_bits.specs.declared.places.Where.TheVariants as stands
 use Rattle.doc_bits.specs.Number.{u16_at}
-use Rattle.doc_bits.specs.Rules.{Rules, rule, ◌then◌, given, Among, From}
+use Rattle.doc_bits.specs.Rules.{Rules, rule, ◌then◌, given, Among, From, LeastOrNone}
+use Rattle.doc_bits.specs.Together.{AreTogether}
 use Rattle.doc_bits.specs.Places.{Place, rules_in}
 use Rattle.sprm_table.specs.Sprm.{HasSprmFaultAt}
 use Rattle.prop_map.specs.Formed.{section_groups}
@@ -71,3 +72,11 @@ rules_of_sections source =
     rules_in stands.Table
     (section_rules (part_bytes source PlcfSed) (part_place source PlcfSed) (story_length source Main))
     then given (HasSections source) (sed_rules source)
+
+-- the first fault of the Sepx at a place
+abbrev pub IsJudgedSepx : List ℕ → ℕ × ℕ → Option ℕ → Type 0
+IsJudgedSepx wd place fault = LeastOrNone (HasSepxFault wd place.0) fault
+
+-- those of Sepxs that were judged, by their places
+abbrev pub AreJudgedSepxs : List ℕ → List (ℕ × ℕ) → List (Option ℕ) → Type 0
+AreJudgedSepxs wd places faults = AreTogether (IsJudgedSepx wd) places faults

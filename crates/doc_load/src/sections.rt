@@ -1,6 +1,6 @@
 // The rules on the sections, one function a rule.
 ghost use Rattle.std.specs.Prelude.{◌≡◌, ◌↔◌, ◌≤◌, ◌<◌, ◌^◌};
-ghost use Rattle.std.specs.Prelude.{◌+◌, length, IsTrue, MatchResult};
+ghost use Rattle.std.specs.Prelude.{◌+◌, ℕ, List, length, IsTrue, MatchResult, IfOk, OnOk};
 ghost use Rattle.doc_bits.specs.Rules.{Hold, LeastOrNone, Nowhere};
 ghost use Rattle.fib_form.specs.declared.table_parts.TablePart.TheVariants.{PlcfSed};
 ghost use Rattle.fib_form.specs.declared.stories.StoryKind.TheVariants.{Main};
@@ -8,13 +8,14 @@ ghost use Rattle.doc_load.specs.Source.{part_place, story_units};
 ghost use Rattle.doc_load.specs.Faults.{IsReadFault};
 ghost use Rattle.doc_load.specs.SectionRules.{LacksSepx, HasSepxFault, BreaksSectionMarks, BreaksSepxs};
 ghost use Rattle.doc_load.specs.SectionRules.{BreaksSepxLists, HasSections, sed_rules, rules_of_sections};
+ghost use Rattle.doc_load.specs.SectionRules.{AreJudgedSepxs};
 
 use crate::fault::refused_part;
 use crate::{ReadFault, Source};
-use doc_bits::{Where, lesser};
+use doc_bits::{Memory, Where, lesser};
 use doc_parts::{NO_SEPX, Seds, fc_sepx_place, sections, sepx};
 use fib_form::{StoryKind, TablePart};
-use prop_map::SECTION_GROUPS;
+use prop_map::{ListPlaces, SECTION_GROUPS};
 use sprm_table::list_fault;
 use std::alloc::Global;
 use text_codes::SECTION_MARK;
@@ -37,14 +38,14 @@ pub fn read_sections(alloc: Global, source: &Source<'_>) -> Result<Seds, ReadFau
         Ok(list) => list,
         Err(fault) => return Err(refused_part(fault)),
     };
-    match judge_sections(source, &list) {
+    match judge_sections(alloc, source, &list) {
         Ok(()) => Ok(list),
         Err(fault) => Err(fault),
     }
 }
 
 /// Names the first broken rule on each section.
-fn judge_sections(source: &Source<'_>, list: &Seds) -> Result<(), ReadFault>
+fn judge_sections(alloc: Global, source: &Source<'_>, list: &Seds) -> Result<(), ReadFault>
     requires { HasSections source.now list.now }
     ensures { MatchResult result
         (λ _. Hold (sed_rules source.now list.now))
@@ -64,7 +65,7 @@ fn judge_sections(source: &Source<'_>, list: &Seds) -> Result<(), ReadFault>
             offset,
         });
     }
-    if let Some(offset) = sepx_fault(source, list) {
+    if let Some(offset) = sepx_fault(alloc, source, list)? {
         return Err(ReadFault::Refused {
             rule: RULE_SEPX_LIST,
             place: Where::Wd,
@@ -118,18 +119,58 @@ fn lacks_sepx(wd: &[u8], fc: u32) -> bool
     sepx(wd, fc).is_none()
 }
 
-/// The least place of a fault in the settings of a section. They stand in any order.
-fn sepx_fault(source: &Source<'_>, list: &Seds) -> Option<u32>
+/// The least place of a fault in the settings of a section. They stand in any order, and each Sepx is judged once.
+fn sepx_fault(alloc: Global, source: &Source<'_>, list: &Seds) -> Result<Option<u32>, Memory>
     requires { Nowhere (BreaksSepxs source.now.wd list.now (part_place source.now PlcfSed)) }
-    ensures { LeastOrNone (BreaksSepxLists source.now.wd list.now) result }
+    ensures { IfOk result (LeastOrNone (BreaksSepxLists source.now.wd list.now)) }
 {
     let wd = source.wd();
+    let mut judged = JudgedSepxs::new(alloc);
     let mut least = None;
     for k in 0..list.len() {
         let (_, fc) = list.get(k);
-        least = lesser(least, settings_fault(wd, fc));
+        let fault = judged.fault(wd, fc)?;
+        least = lesser(least, fault);
     }
-    least
+    Ok(least)
+}
+
+/// The first faults of Sepxs that were judged, by their places.
+#[derive(Drop)]
+struct JudgedSepxs {
+    places: ListPlaces,
+    faults: Vec<Option<u32>>,
+}
+
+impl JudgedSepxs {
+    /// No Sepxs. It takes no memory.
+    fn new(alloc: Global) -> JudgedSepxs
+        ensures { (wd : List ℕ) → AreJudgedSepxs wd result.places result.faults.items }
+    {
+        JudgedSepxs {
+            places: ListPlaces::new(alloc),
+            faults: Vec::new(alloc),
+        }
+    }
+
+    /// The first fault in the settings of a section, as `settings_fault` has it. A Sepx is judged once.
+    fn fault(&mut self, wd: &[u8], fc: u32) -> Result<Option<u32>, Memory>
+        requires there { ¬ (LacksSepx wd.now fc) }
+        requires small { length wd.now < 2 ^ 32 }
+        requires judged { AreJudgedSepxs wd.now self.old.places self.old.faults.items }
+        ensures judged { OnOk result (AreJudgedSepxs wd.now self.new.places self.new.faults.items) }
+        ensures fault { IfOk result (LeastOrNone (HasSepxFault wd.now fc)) }
+    {
+        let place = fc as usize;
+        if let Some(known) = self.places.number_of(place, place) {
+            let fault = self.faults[known];
+            return Ok(fault);
+        }
+        let fault = settings_fault(wd, fc);
+        self.faults.push(fault)?;
+        self.places.add(place, place)?;
+        Ok(fault)
+    }
 }
 
 /// The first fault in the settings of a section, by its place in `WordDocument`.

@@ -7,6 +7,7 @@ mod block;
 mod codes;
 mod draft;
 mod laws;
+mod list_finder;
 mod map;
 mod met_lists;
 mod modifiers;

@@ -1,29 +1,28 @@
-// Lists of a stream that were met, each of which is found again by its bytes.
-ghost use Rattle.std.specs.Prelude.{◌≡◌, ◌≤◌, ◌++◌, [], ◌∷◌, length, slice_range, IfSome, IsTrue, OnOk, OnErr};
+// Lists of a stream that were met, each of which is found again by its place or by its bytes.
+ghost use Rattle.std.specs.Prelude.{◌≡◌, ◌≤◌, ◌++◌, [], ◌∷◌, ℕ, List, length, slice_range};
+ghost use Rattle.std.specs.Prelude.{IfSome, IsTrue, OnOk, OnErr};
 ghost use Rattle.prop_map.specs.Places.{IsListLike};
 
+use crate::list_finder::{ListFinder, sum_of};
 use doc_bits::Memory;
 use std::alloc::Global;
-use std::collections::BTreeMap;
 use std::marker::Model;
 
-/// So many lists of one sum are looked at.
+/// So many lists of one row are looked at.
 const MOST_TURNS: usize = 64;
 
-/// Where a list stands, and the number of the one before it that has its sum.
+/// Where a list stands.
 #[derive(Clone, Copy)]
 struct MetList {
     from: usize,
     to: usize,
-    before: Option<usize>,
 }
 
 /// Lists that were met in a stream, each with a number: the first that is added has 0.
 #[derive(Drop)]
 pub struct MetLists {
     items: Vec<MetList>,
-    /// By the sum of its bytes, the number of the last list. A wrong one would only cost time.
-    heads: BTreeMap<u32, usize>,
+    finder: ListFinder,
 }
 
 impl Model for MetLists {
@@ -41,27 +40,47 @@ impl MetLists {
     {
         MetLists {
             items: Vec::new(alloc),
-            heads: BTreeMap::new(alloc),
+            finder: ListFinder::new(alloc),
         }
+    }
+
+    /// The number of a list that has the bytes of a place in the stream. The bytes of a place that was met are not
+    /// looked at.
+    pub fn number_at(&mut self, stream: &[u8], from: usize, to: usize) -> Option<usize>
+        requires { (from ≤ to) × (to ≤ length stream.now) }
+        ensures same { self.new ≡ self.old }
+        ensures found { IfSome result (IsListLike stream.now (slice_range stream.now from to) self.old) }
+    {
+        let guess = self.finder.guess(from);
+        if self.stands_at(guess, from, to) {
+            return Some(guess);
+        }
+        let list = &stream[from..to];
+        if self.is_like(guess, stream, list) {
+            return Some(guess);
+        }
+        let found = self.number_of(stream, list);
+        if let Some(number) = found {
+            self.finder.keep_guess(from, number);
+        }
+        found
     }
 
     /// The number of a list that has these bytes in the stream.
     pub fn number_of(&self, stream: &[u8], list: &[u8]) -> Option<usize>
         ensures { IfSome result (IsListLike stream.now list.now self.now) }
     {
-        let mut left = self.head(sum_of(list));
+        let sum = sum_of(list);
+        let mut left = self.finder.last_of(sum);
         for _turn in 0..MOST_TURNS {
-            let Some(number) = left else {
-                return None;
-            };
-            if self.items.len() <= number {
+            if left == 0 {
                 return None;
             }
-            let met = self.items[number];
-            if has_list(stream, met, list) {
+            let number = left - 1;
+            if self.finder.has_sum(number, sum) && self.is_like(number, stream, list) {
                 return Some(number);
             }
-            left = met.before;
+            left = self.finder.before(number);
         }
         None
     }
@@ -72,29 +91,33 @@ impl MetLists {
         ensures ok { OnOk result (self.new ≡ self.old ++ (from, to) ∷ []) }
         ensures err { OnErr result (self.new ≡ self.old) }
     {
-        let sum = sum_of(&stream[from..to]);
-        let before = self.head(sum);
-        self.heads.insert(sum, self.items.len())?;
-        self.items.push(MetList { from, to, before })?;
+        let number = self.items.len();
+        self.finder.add(number, sum_of(&stream[from..to]))?;
+        self.finder.keep_guess(from, number);
+        self.items.push(MetList { from, to })?;
         Ok(())
     }
 
-    /// The number of the last list with a sum.
-    fn head(&self, sum: u32) -> Option<usize> {
-        match self.heads.get(&sum) {
-            None => None,
-            Some(number) => Some(*number),
+    /// Whether the list of a number stands at a place.
+    fn stands_at(&self, number: usize, from: usize, to: usize) -> bool
+        ensures { IsTrue result → (stream : List ℕ)
+            → IsListLike stream (slice_range stream from to) self.now number }
+    {
+        match self.items.get(number) {
+            None => false,
+            Some(met) => met.from == from && met.to == to,
         }
     }
-}
 
-/// A number by which a list is looked for.
-fn sum_of(list: &[u8]) -> u32 {
-    let mut sum = 0u32;
-    for byte in list {
-        sum = sum.wrapping_mul(0x0100_0193).wrapping_add(*byte as u32);
+    /// Whether the list of a number has these bytes.
+    fn is_like(&self, number: usize, stream: &[u8], list: &[u8]) -> bool
+        ensures { IsTrue result → IsListLike stream.now list.now self.now number }
+    {
+        match self.items.get(number) {
+            None => false,
+            Some(met) => has_list(stream, *met, list),
+        }
     }
-    sum
 }
 
 /// Whether a list that was met has these bytes.

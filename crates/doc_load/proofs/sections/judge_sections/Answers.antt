@@ -1,4 +1,5 @@
-use Rattle.std.proofs.Common.{inl, inr}
+use Rattle.std.proofs.Common.{inl, inr, subst}
+use Rattle.doc_bits.specs.Rules.{LeastOrNone}
 use Rattle.doc_bits.specs.declared.places.Where.TheVariants.{Wd, Table}
 use Rattle.fib_form.specs.declared.table_parts.TablePart.TheVariants.{PlcfSed}
 use Rattle.fib_form.specs.declared.stories.StoryKind.TheVariants.{Main}
@@ -26,8 +27,8 @@ returns-in-Some-lost_sepx c =
           c.in-Some-lost_sepx.ensures),
     )
 
-pub returns-in-Some-sepx_fault : goal.returns-in-Some-sepx_fault
-returns-in-Some-sepx_fault c =
+pub returns-in-Some-2 : goal.returns-in-Some-2
+returns-in-Some-2 c =
     let source = c.args.source.now in
     let list = c.args.list.now in
     let at = part_place source PlcfSed in
@@ -39,8 +40,8 @@ returns-in-Some-sepx_fault c =
       inr (
         holds-rule Table 35 sepxs
             c.in_default-lost_sepx.ensures,
-        refused-rule Wd 36 lists c.in-Some-sepx_fault.offset
-            c.in-Some-sepx_fault.ensures,
+        refused-rule Wd 36 lists c.in-Some-2.offset
+            (subst (LeastOrNone lists) c.in-Some-2.is c.in_ok-offset.ensures),
       ),
     )
 
@@ -52,6 +53,7 @@ returns c =
       holds-rule Table 34 (BreaksSectionMarks (story_units source Main) list at) c.in_default.ensures,
       (
         holds-rule Table 35 (BreaksSepxs source.wd list at) c.in_default-lost_sepx.ensures,
-        holds-rule Wd 36 (BreaksSepxLists source.wd list) c.in_default-sepx_fault.ensures,
+        holds-rule Wd 36 (BreaksSepxLists source.wd list)
+            (subst (LeastOrNone (BreaksSepxLists source.wd list)) c.in_default-2.is c.in_ok-offset.ensures),
       ),
     )

@@ -1,6 +1,6 @@
 use Rattle.std.proofs.Common.{◌≡◌, refl, length, subst, arith}
 use Rattle.doc_bits.specs.Rules.{LeastOrNone, Among}
-use Rattle.doc_bits.proofs.RuleLemmas.{least_step}
+use Rattle.doc_bits.proofs.RuleLemmas.{least_step, least_none}
 use Rattle.doc_parts.specs.declared.lists.Sed.{Sed}
 use Rattle.doc_parts.specs.Sections.{place_of_fc_sepx}
 use Rattle.fib_form.specs.declared.table_parts.TablePart.TheVariants.{PlcfSed}
@@ -9,8 +9,8 @@ use Rattle.doc_load.specs.SectionRules.{section_fc, LacksSepx, HasSepxFault}
 use Rattle.doc_load.proofs.RowLemmas.{index_of_get}
 use Rattle.doc_load.proofs.sections.sepx_fault.Goals as goal
 
-pub settings_fault-requires-clause-there : goal.settings_fault-requires-clause-there
-settings_fault-requires-clause-there c = λ lacks.
+pub fault-requires-clause-there : goal.fault-requires-clause-there
+fault-requires-clause-there c = λ lacks.
     let source = c.args.source.now in
     let list = c.args.list.now in
     let at = part_place source PlcfSed in
@@ -26,18 +26,29 @@ settings_fault-requires-clause-there c = λ lacks.
       broken = record { here = refl; broken = lost };
     })
 
+pub loop-k-init : goal.loop-k-init
+loop-k-init c =
+    let source = c.args.source.now in
+    record {
+      least = least_none (λ k. HasSepxFault source.wd (section_fc c.args.list.now k));
+      judged = c.new-judged.ensures c.wd-wd.result.now;
+    }
+
 pub loop-k-preserved : goal.loop-k-preserved
 loop-k-preserved c =
     let source = c.args.source.now in
     let list = c.args.list.now in
     let fc : section_fc list c.loop-k.k ≡ c.get-fc.result.1 = index_of_get (λ (sed : Sed). sed.sepx) list c.loop-k.k _
     c.get-fc.ensures in
-    let here : LeastOrNone (HasSepxFault source.wd (section_fc list c.loop-k.k)) c.settings_fault.result = rw (
+    let here : LeastOrNone (HasSepxFault source.wd (section_fc list c.loop-k.k)) c.in_ok-fault.fault = rw (
       fc,
       ← c.wd-wd.ensures.bytes,
-    ) c.settings_fault.ensures in
-    rw c.lesser-least.ensures (least_step (λ k. HasSepxFault source.wd (section_fc list k)) c.loop-k.k _ _
-    c.loop-k.invariant here)
+    ) c.in_ok-fault.ensures.fault in
+    record {
+      least = rw c.lesser-least.ensures (least_step (λ k. HasSepxFault source.wd (section_fc list k)) c.loop-k.k _ _
+          c.loop-k.invariant.least here);
+      judged = c.in_ok-fault.ensures.judged;
+    }
 
 pub returns : goal.returns
 returns c =
@@ -45,4 +56,4 @@ returns c =
     let list = c.args.list.now in
     let all : c.loop-k.k ≡ length list = omega (arith, c.len-k-end.ensures) in
     subst (λ n. LeastOrNone (Among n (λ k. HasSepxFault source.wd (section_fc list k))) c.loop-k.least) all
-    c.loop-k.invariant
+    c.loop-k.invariant.least

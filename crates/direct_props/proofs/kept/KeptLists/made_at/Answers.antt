@@ -2,7 +2,7 @@ use Rattle.std.proofs.Common.{◌≡◌, ◌∙◌, ◌+◌, ◌*◌, sym, subst
 use Rattle.std.specs.Prelude.{slice_range}
 use Rattle.fkp_pages.specs.declared.kind.RunAnswer.TheVariants.{Found}
 use Rattle.fkp_pages.specs.Bin.{page_at}
-use Rattle.direct_props.specs.Kept.{IsMadeOf, IsMadeByAnswer}
+use Rattle.direct_props.specs.Kept.{AreMade, IsMadeOf, IsMadeByAnswer}
 use Rattle.direct_props.proofs.StretchLemmas.{in_page}
 use Rattle.direct_props.proofs.KeptLemmas.{kept_answer, made_of_like}
 use Rattle.direct_props.proofs.kept.KeptLists.made_at.Goals as goal
@@ -18,7 +18,7 @@ returns-in-Some-clause-made c =
     (sym c.in_ok-copy.ensures)
     (kept_answer source.kind wd source.modifier.now c.args.number from to c.index.result.now c.requires.right
     (made_of_like source.kind wd (slice_range wd (512 * c.args.number + from) (512 * c.args.number + to))
-    source.modifier.now kept.places kept.made.items c.in-Some.known c.index.result.now c.requires.kept c.in-Some.ensures
+    source.modifier.now kept.places kept.made.items c.in-Some.known c.index.result.now c.requires.kept c.in-Some.ensures.found
     c.index.ensures))
 
 pub returns-clause-kept : goal.returns-clause-kept
@@ -34,4 +34,5 @@ returns-clause-kept c =
     c.in-Some-list_in.ensures.1.0.0 ∙ in_page wd c.args.number from to (omega arith) (omega arith) in
     c.in_ok-put-in-Some-list_in.ensures.ok source.kind wd source.modifier.now
     (subst (λ l. IsMadeOf source.kind l source.modifier.now made) list c.in_ok-made-in-Some-list_in.ensures)
-    c.requires.kept
+    (subst (λ places. AreMade source.kind wd source.modifier.now places c.args.self.now.made.items)
+    (sym c.number_at.ensures.same) c.requires.kept)
