@@ -3,3 +3,5 @@ pub mod ChangesLemmas
 pub mod CollectLemmas
 pub mod RightLemmas
 pub mod EqualityLemmas
+pub mod WalkLemmas
+pub mod SeenLemmas

@@ -1,10 +1,9 @@
 // Whether texts and documents by columns are the same. No item is put together, and no memory is taken.
-ghost use Rattle.std.specs.Prelude.{◌≡◌, ◌↔◌, ℕ, ◌-◌, ◌^◌, ◌<◌, ◌≤◌, slice_range, replicate, IsTrue};
+ghost use Rattle.std.specs.Prelude.{◌≡◌, ◌↔◌, ◌^◌, ◌<◌, IsTrue};
 ghost use Rattle.run_lists.specs.Spread.{spread, extent};
-ghost use Rattle.run_lists.specs.Places.{IsAt};
 
 use crate::{ColumnDocument, ColumnTexts, Columns};
-use run_lists::{Cursor, Run, Shared, seek};
+use run_lists::{Cursor, Run, Shared, value_until};
 
 impl Columns {
     /// Whether both have the same items. It goes over the units and over each list of runs once.
@@ -72,21 +71,4 @@ fn same_values<T: Shared>(one: &[Run<T>], other: &[Run<T>], len: usize) -> bool
         place = end.min(beside_end);
     }
     true
-}
-
-/// The value at a place, and where its run ends. The cursor is not behind the place, and goes to it.
-fn value_until<'a, T>(runs: &'a [Run<T>], cursor: &mut Cursor, place: usize) -> (&'a T, usize)
-    requires at { IsAt runs.now cursor.old }
-    requires ahead { cursor.old.begin ≤ place }
-    requires within { place < extent runs.now }
-    requires few { extent runs.now < 2 ^ 32 }
-    ensures at { IsAt runs.now cursor.new }
-    ensures ahead { cursor.new.begin ≤ place }
-    ensures goes_on { place < result.1 }
-    ensures within { result.1 ≤ extent runs.now }
-    ensures values { (next : ℕ) → place ≤ next → next ≤ result.1
-        → slice_range (spread runs.now) place next ≡ replicate (next - place) result.0.now }
-{
-    let value = seek(runs, cursor, place);
-    (value, cursor.begin + runs[cursor.run].count as usize)
 }

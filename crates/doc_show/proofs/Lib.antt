@@ -5,3 +5,4 @@ pub mod OneTextLemmas
 pub mod WalkLemmas
 pub mod StoryLemmas
 pub mod CountLemmas
+pub mod SettingLemmas

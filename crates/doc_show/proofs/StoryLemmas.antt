@@ -10,78 +10,18 @@ use Rattle.std.proofs.lemmas.Option.{same_Some}
 use Rattle.doc_bits.proofs.ListLemmas.{there_is, get-map}
 use Rattle.prop_map.specs.Settings.{Settings}
 use Rattle.run_lists.specs.Spread.{spread}
-use Rattle.run_lists.proofs.SpreadLemmas.{length-spread}
 use Rattle.plain_doc.specs.declared.item.Item.{Item}
 use Rattle.plain_doc.specs.Stretches.{stretches, BeginsStretch}
 use Rattle.plain_doc.specs.Settings.{same_settings, is_inside}
 use Rattle.plain_doc.proofs.LawLemmas.{equal_are_same}
 use Rattle.doc_columns.specs.declared.beside.Beside.{Beside}
 use Rattle.doc_columns.specs.Beside.{beside_of}
-use Rattle.doc_columns.proofs.ItemsOfLemmas.{length-items_of, units-items_of, chps-items_of, besides-items_of}
-use Rattle.doc_columns.proofs.CollectLemmas.{start_at}
-use Rattle.doc_show.specs.declared.walk.Parts.{Parts}
-use Rattle.doc_show.specs.declared.walk.Walk.{Walk}
+use Rattle.doc_columns.specs.declared.walk.Parts.{Parts}
+use Rattle.doc_columns.specs.Walks.{items_in, AreParts}
+use Rattle.doc_columns.proofs.WalkLemmas.{items_long, units_are, beside_there, range_got, range_long, begins_range}
 use Rattle.doc_show.specs.Story.{is_plain, is_one_run, run_line, mark_line, sect_line, line_of_mark, line_of_sect}
 use Rattle.doc_show.specs.Story.{paragraph_lines}
-use Rattle.doc_show.specs.Walks.{items_in, AreParts, IsWalk, is_bare, alike_line}
-use Rattle.doc_show.proofs.WalkLemmas.{range_got, range_long, begins_range}
-
--- ---- columns and items
-
-long_chps : (parts : Parts) → AreParts parts → length (spread parts.chps.now) ≡ length parts.units.now
-long_chps parts are = length-spread parts.chps.now ∙ are.chps_long
-
-long_besides : (parts : Parts) → AreParts parts → length (spread parts.besides.now) ≡ length parts.units.now
-long_besides parts are = length-spread parts.besides.now ∙ are.besides_long
-
-pub items_long : (parts : Parts) → AreParts parts → length (items_in parts) ≡ length parts.units.now
-items_long parts are =
-    length-items_of parts.units.now (spread parts.chps.now) (spread parts.besides.now) (long_chps parts are)
-    (long_besides parts are)
-
-pub units_are : (parts : Parts) → AreParts parts → map (λ item. item.unit) (items_in parts) ≡ parts.units.now
-units_are parts are =
-    units-items_of parts.units.now (spread parts.chps.now) (spread parts.besides.now) (long_chps parts are)
-    (long_besides parts are)
-
-pub chps_are : (parts : Parts) → AreParts parts → map (λ item. item.chp) (items_in parts) ≡ spread parts.chps.now
-chps_are parts are =
-    chps-items_of parts.units.now (spread parts.chps.now) (spread parts.besides.now) (long_chps parts are)
-    (long_besides parts are)
-
-pub besides_are : (parts : Parts) → AreParts parts → map beside_of (items_in parts) ≡ spread parts.besides.now
-besides_are parts are =
-    besides-items_of parts.units.now (spread parts.chps.now) (spread parts.besides.now) (long_chps parts are)
-    (long_besides parts are)
-
--- what stands beside an item is in its column
-pub beside_there : (parts : Parts) → AreParts parts → (k : ℕ) (item : Item) → slice_get (items_in parts) k ≡ Some item →
-    slice_get (spread parts.besides.now) k ≡ Some (beside_of item)
-beside_there parts are k item here =
-    subst (λ (xs : List Beside). slice_get xs k ≡ Some (beside_of item)) (besides_are parts are)
-    (get-map beside_of (items_in parts) k item here)
-
--- ---- walks
-
-pub later_walk : (parts : Parts) (walk : Walk) (m n : ℕ) → IsWalk parts walk m → m ≤ n → IsWalk parts walk n
-later_walk parts walk m n is le = record {
-  at_chps = is.at_chps;
-  chps_ahead = (let ahead = is.chps_ahead in omega (arith, ahead, le));
-  at_besides = is.at_besides;
-  besides_ahead = (let ahead = is.besides_ahead in omega (arith, ahead, le));
-}
-
-pub first_walk : (parts : Parts) (walk : Walk) →
-    walk ≡ record { chps = record { run = 0; begin = 0 }; besides = record { run = 0; begin = 0 } } →
-    IsWalk parts walk 0
-first_walk parts walk is =
-    subst (λ (w : Walk). IsWalk parts w 0) (sym is)
-    (record {
-      at_chps = start_at parts.chps.now (record { run = 0; begin = 0 }) refl;
-      chps_ahead = omega arith;
-      at_besides = start_at parts.besides.now (record { run = 0; begin = 0 }) refl;
-      besides_ahead = omega arith;
-    })
+use Rattle.doc_show.specs.Walks.{is_bare, alike_line}
 
 -- ---- runs
 

@@ -1,33 +1,10 @@
--- A walk over the columns of a text.
-use Rattle.std.specs.Prelude.{◌≡◌, ℕ, ◌^◌, ◌<◌, ◌≤◌, Bool, false, not, ◌&&◌, is_some, List, ◌++◌, length, codes}
+-- The line of units whose items have the same settings.
+use Rattle.std.specs.Prelude.{ℕ, Bool, false, not, ◌&&◌, is_some, List, ◌++◌, codes}
 use Rattle.text_codes.specs.Shown.{shown}
 use Rattle.prop_map.specs.Settings.{Settings}
-use Rattle.run_lists.specs.Spread.{spread, extent}
-use Rattle.run_lists.specs.Places.{IsAt}
-use Rattle.plain_doc.specs.declared.item.Item.{Item}
 use Rattle.doc_columns.specs.declared.beside.Beside.{Beside}
-use Rattle.doc_columns.specs.Columns.{items_of}
 use Rattle.doc_show.specs.Settings.{settings_text}
 use Rattle.doc_show.specs.Story.{line, item_word}
-use Rattle.doc_show.specs.declared.walk.Parts.{Parts}
-use Rattle.doc_show.specs.declared.walk.Walk.{Walk}
-
--- the items of the columns
-abbrev pub items_in : Parts → List Item
-items_in parts = items_of parts.units.now (spread parts.chps.now) (spread parts.besides.now)
-
--- both lists of runs have a value for each unit
-pub record AreParts (parts : Parts) : Type 0 where
-  pub chps_long : extent parts.chps.now ≡ length parts.units.now
-  pub besides_long : extent parts.besides.now ≡ length parts.units.now
-  pub few : length parts.units.now < 2 ^ 32
-
--- the walk is at runs that begin at the place or before it
-pub record IsWalk (parts : Parts) (walk : Walk) (place : ℕ) : Type 0 where
-  pub at_chps : IsAt parts.chps.now walk.chps
-  pub chps_ahead : walk.chps.begin ≤ place
-  pub at_besides : IsAt parts.besides.now walk.besides
-  pub besides_ahead : walk.besides.begin ≤ place
 
 -- no field character and no reference
 abbrev pub is_bare : Beside → Bool

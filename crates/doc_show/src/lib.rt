@@ -7,10 +7,10 @@ mod laws;
 mod plain_text;
 mod properties;
 mod settings;
+mod shown_maps;
 mod story;
 mod styles;
 mod texts;
-mod walk;
 
 pub use counts::{accepted_line, columns_accepted_line};
 pub use laws::property_lines_are_one;

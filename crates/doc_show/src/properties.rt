@@ -7,10 +7,9 @@ ghost use Rattle.plain_doc.specs.Sound.{IsSound};
 ghost use Rattle.doc_show.specs.Properties.{ArePropertyLines, IsMarkFrom, item_lines, mark_lines, tab_text, tabs_line};
 ghost use Rattle.doc_show.specs.Properties.{unit_line, style_line};
 
-use crate::story::paragraph_end;
 use crate::styles::push_map;
 use doc_bits::{Memory, Text};
-use doc_columns::{ColumnDocument, Columns};
+use doc_columns::{ColumnDocument, Columns, paragraph_end};
 use effective_props::{ParaEffect, Tab, Tabs, effective_char, effective_para};
 use plain_doc::{Document, Item, Mark};
 use prop_map::PropMap;

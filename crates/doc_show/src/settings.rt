@@ -1,10 +1,11 @@
 // The text of settings: for each code ascending a space, four digits, an equals sign, and the bytes of its value.
-ghost use Rattle.std.specs.Prelude.{◌≡◌, ◌++◌, OnOk};
+ghost use Rattle.std.specs.Prelude.{◌≡◌, ◌++◌, [], ◌∷◌, OnOk};
 ghost use Rattle.doc_show.specs.Settings.{value_text, setting_text, settings_text};
 
 use doc_bits::{Memory, Text};
 use prop_map::PropMap;
-use text_codes::{push_byte, push_word};
+use std::str;
+use text_codes::{hex_digit, push_byte, push_word};
 
 /// Appends the text of settings. After want of memory a part of it may be there, as with each call here.
 pub(crate) fn push_settings(text: &mut Text, map: &PropMap) -> Result<(), Memory>
@@ -17,8 +18,37 @@ pub(crate) fn push_settings(text: &mut Text, map: &PropMap) -> Result<(), Memory
     Ok(())
 }
 
-/// Appends the text of a code and its value.
+/// Appends the text of a code and its value. What most settings have, a value of one byte, is put at once.
 fn push_setting(text: &mut Text, code: u16, value: &[u8]) -> Result<(), Memory>
+    ensures { OnOk result (text.new ≡ text.old ++ setting_text (code, value.now)) }
+{
+    match value {
+        [byte] => push_small(text, code, *byte),
+        _ => push_large(text, code, value),
+    }
+}
+
+/// Appends the text of a code and its value of one byte.
+fn push_small(text: &mut Text, code: u16, byte: u8) -> Result<(), Memory>
+    ensures { OnOk result (text.new ≡ text.old ++ setting_text (code, byte ∷ [])) }
+{
+    let high = (code / 256) as u8;
+    let low = (code % 256) as u8;
+    let shown = [
+        b' ',
+        hex_digit(high / 16),
+        hex_digit(high % 16),
+        hex_digit(low / 16),
+        hex_digit(low % 16),
+        b'=',
+        hex_digit(byte / 16),
+        hex_digit(byte % 16),
+    ];
+    text.push_all(str::from_utf8(&shown).unwrap())
+}
+
+/// Appends the text of a code and its value of any length.
+fn push_large(text: &mut Text, code: u16, value: &[u8]) -> Result<(), Memory>
     ensures { OnOk result (text.new ≡ text.old ++ setting_text (code, value.now)) }
 {
     text.push_all(" ")?;

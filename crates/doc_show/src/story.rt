@@ -1,25 +1,22 @@
 // The lines that show a text. They are made run by run: no item is put together.
-ghost use Rattle.std.specs.Prelude.{◌≡◌, ℕ, ◌+◌, ◌-◌, ◌^◌, ◌<◌, ◌≤◌, ◌++◌, ◌&&◌, true, false};
-ghost use Rattle.std.specs.Prelude.{length, slice_get, slice_range, Some, None, IsSome, OnOk};
+ghost use Rattle.std.specs.Prelude.{◌≡◌, ℕ, ◌+◌, ◌-◌, ◌<◌, ◌≤◌, ◌++◌, ◌&&◌, true, false};
+ghost use Rattle.std.specs.Prelude.{length, slice_get, slice_range, Some, OnOk};
 ghost use Rattle.std.specs.List.{flat_map};
-ghost use Rattle.run_lists.specs.Spread.{spread, extent};
-ghost use Rattle.run_lists.specs.Places.{IsAt};
 ghost use Rattle.plain_doc.specs.declared.item.Item.{Item};
 ghost use Rattle.plain_doc.specs.Stretches.{stretches};
 ghost use Rattle.plain_doc.specs.Settings.{same_settings};
-ghost use Rattle.doc_columns.specs.declared.beside.Beside as stands;
 ghost use Rattle.doc_columns.specs.Beside.{beside_of};
+ghost use Rattle.doc_columns.specs.Walks.{items_in, AreParts, IsWalk};
 ghost use Rattle.doc_show.specs.Story.{is_one_run, item_word, mark_line};
 ghost use Rattle.doc_show.specs.Story.{run_line, sect_line, story_lines};
-ghost use Rattle.doc_show.specs.Walks.{items_in, AreParts, IsWalk, is_bare, alike_line};
+ghost use Rattle.doc_show.specs.Walks.{is_bare, alike_line};
 
-use crate::settings::push_settings;
-use crate::walk::{Alike, Parts, Walk, alike_from, value_until};
+use crate::shown_maps::ShownMaps;
 use doc_bits::{Memory, Text};
-use doc_columns::{Beside, Columns};
+use doc_columns::{Alike, Beside, Columns, Parts, Walk, alike_from, paragraph_end};
 use plain_doc::{Mark, NoteKind};
 use prop_map::PropMap;
-use run_lists::{Cursor, Run, seek};
+use run_lists::{Cursor, seek};
 use std::alloc::Global;
 use text_codes::{push_byte, show_units};
 
@@ -28,12 +25,7 @@ use text_codes::{push_byte, show_units};
 pub(crate) fn push_story(alloc: Global, text: &mut Text, columns: &Columns) -> Result<(), Memory>
     ensures { OnOk result (text.new ≡ text.old ++ story_lines columns.now) }
 {
-    let _len = columns.len();
-    let parts = Parts {
-        units: columns.units(),
-        chps: columns.chps(),
-        besides: columns.besides(),
-    };
+    let parts = columns.parts();
     push_paragraphs(alloc, text, &parts)
 }
 
@@ -42,73 +34,43 @@ fn push_paragraphs(alloc: Global, text: &mut Text, parts: &Parts<'_>) -> Result<
     requires { AreParts parts.now }
     ensures { OnOk result (text.new ≡ text.old ++ story_lines (items_in parts.now)) }
 {
+    let mut maps = ShownMaps::new(alloc);
     let mut walk = Walk::new();
     let mut marks = Cursor::new();
     let mut at = 0;
     while at < parts.units.len() {
         let end = paragraph_end(parts.besides, &mut marks, at, parts.units.len());
         let last = seek(parts.besides, &mut marks, end - 1);
-        push_mark(alloc, text, &last.mark)?;
-        push_runs(alloc, text, parts, &mut walk, at, end)?;
-        push_sect(text, &last.sect)?;
+        push_mark(&mut maps, text, &last.mark)?;
+        push_runs(&mut maps, text, parts, &mut walk, at, end)?;
+        push_sect(&mut maps, text, &last.sect)?;
         at = end;
     }
     Ok(())
 }
 
-/// Where the paragraph of a place ends: behind the first mark, or at the end of the text, which has `len` units.
-pub(crate) fn paragraph_end(
-    besides: &[Run<Beside>],
-    marks: &mut Cursor,
-    place: usize,
-    len: usize,
-) -> usize
-    requires long { extent besides.now ≡ len }
-    requires few { len < 2 ^ 32 }
-    requires at { IsAt besides.now marks.old }
-    requires ahead { marks.old.begin ≤ place }
-    requires within { place < len }
-    ensures at { IsAt besides.now marks.new }
-    ensures ahead { marks.new.begin < result }
-    ensures some { place < result }
-    ensures within { result ≤ len }
-    ensures inside { (k : ℕ) (beside : stands.Beside) → place ≤ k → k + 1 < result
-        → slice_get (spread besides.now) k ≡ Some beside → beside.mark ≡ None }
-    ensures ends { result < len → (beside : stands.Beside)
-        → slice_get (spread besides.now) (result - 1) ≡ Some beside → IsSome beside.mark }
-{
-    let mut at = place;
-    while at < len {
-        let (beside, end) = value_until(besides, marks, at);
-        if beside.mark.is_some() {
-            return at + 1;
-        }
-        at = end;
-    }
-    len
-}
-
 /// Appends the line of a mark.
-fn push_mark(alloc: Global, text: &mut Text, mark: &Option<Mark>) -> Result<(), Memory>
+fn push_mark(maps: &mut ShownMaps, text: &mut Text, mark: &Option<Mark>) -> Result<(), Memory>
     ensures { OnOk result (text.new ≡ text.old ++ mark_line mark.now) }
 {
     if let Some(mark) = mark {
+        let alloc = maps.alloc;
         let istd = mark.istd;
         let word = format!(in alloc; "mark {istd}")?;
         text.push_all(word.as_str())?;
-        push_settings(text, &mark.pap)?;
+        maps.push(text, &mark.pap)?;
         text.push_all("\n")?;
     }
     Ok(())
 }
 
 /// Appends the line of a section.
-fn push_sect(text: &mut Text, sect: &Option<PropMap>) -> Result<(), Memory>
+fn push_sect(maps: &mut ShownMaps, text: &mut Text, sect: &Option<PropMap>) -> Result<(), Memory>
     ensures { OnOk result (text.new ≡ text.old ++ sect_line sect.now) }
 {
     if let Some(sect) = sect {
         text.push_all("sect")?;
-        push_settings(text, sect)?;
+        maps.push(text, sect)?;
         text.push_all("\n")?;
     }
     Ok(())
@@ -116,7 +78,7 @@ fn push_sect(text: &mut Text, sect: &Option<PropMap>) -> Result<(), Memory>
 
 /// Appends the lines of the runs of a paragraph, which stands from `from` to before `end`.
 fn push_runs(
-    alloc: Global,
+    maps: &mut ShownMaps,
     text: &mut Text,
     parts: &Parts<'_>,
     walk: &mut Walk,
@@ -135,7 +97,7 @@ fn push_runs(
     while at < end {
         let first = alike_from(parts, walk, at);
         let until = run_end(parts, walk, &first, at, end);
-        push_run(alloc, text, &first, &parts.units[at..until])?;
+        push_run(maps, text, &first, &parts.units[at..until])?;
         at = until;
     }
     Ok(())
@@ -198,14 +160,19 @@ fn is_plain(beside: &Beside) -> bool
 
 /// Appends the line of a run, a field character or a reference: of these units, whose items begin
 /// with what they have in common.
-fn push_run(alloc: Global, text: &mut Text, first: &Alike<'_>, units: &[u16]) -> Result<(), Memory>
+fn push_run(
+    maps: &mut ShownMaps,
+    text: &mut Text,
+    first: &Alike<'_>,
+    units: &[u16],
+) -> Result<(), Memory>
     ensures { OnOk result (text.new ≡ text.old
         ++ alike_line first.now.beside.now first.now.chp.now units.now) }
 {
     push_item_word(text, &first.beside.fld, &first.beside.note)?;
-    push_settings(text, first.chp)?;
+    maps.push(text, first.chp)?;
     text.push_all(" | ")?;
-    let shown = show_units(alloc, units)?;
+    let shown = show_units(maps.alloc, units)?;
     text.push_all(shown.as_str())?;
     text.push_all("\n")
 }

@@ -19,3 +19,4 @@ pub mod RowLemmas
 pub mod PackedLemmas
 pub mod RowTableLemmas
 pub mod LongerLemmas
+pub mod CountLemmas

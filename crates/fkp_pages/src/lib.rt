@@ -3,6 +3,7 @@
 #![tactic(auto)]
 
 mod bin_table;
+mod counting;
 mod kind;
 mod laws;
 mod lists;
@@ -16,6 +17,7 @@ mod writable;
 mod written;
 
 pub use bin_table::{BinRange, bin_at, bin_range, write_bin};
+pub use counting::{chpx_page_count, papx_page_count};
 pub use kind::{PAGE_LEN, PageKind, RunAnswer};
 pub use laws::{
     bin_page_is_one, list_at_is_one, list_is_spelled, run_answer_is_one, spelled_list_is_read,

@@ -64,7 +64,7 @@ pub(crate) fn write_pages(alloc: Global, runs: &[Run], kind: PageKind) -> Result
 }
 
 /// How many runs the next page takes: as many as fit.
-fn page_len(runs: &[Run], kind: PageKind) -> usize
+pub(crate) fn page_len(runs: &[Run], kind: PageKind) -> usize
     requires some { 0 < length runs.now }
     requires writable { All (IsWritableRun kind) runs.now }
     ensures some { 0 < result }

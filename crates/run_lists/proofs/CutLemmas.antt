@@ -10,11 +10,12 @@ use Rattle.std.proofs.Math.Seq.{set-append_seam, drop-append_seam}
 use Rattle.std.proofs.lemmas.List.Edits.{length-insert}
 use Rattle.std.proofs.lemmas.List.Concat.{get_or-flat_map}
 use Rattle.std.proofs.lemmas.List.Elements.{All-nil, All-append, All-replicate}
-use Rattle.std.proofs.lemmas.Option.{slice_get_within, slice_get-get_or, get_or_from_slice_get}
+use Rattle.std.proofs.lemmas.Option.{slice_get_within, slice_get-get_or, get_or_from_slice_get, same_Some}
 use Rattle.doc_bits.proofs.ListLemmas.{range_mid, All_at}
 use Rattle.run_lists.specs.declared.runs.Run.{Run}
 use Rattle.run_lists.specs.Spread.{spread, extent}
-use Rattle.run_lists.specs.Places.{IsCut}
+use Rattle.run_lists.specs.declared.cursor.Cursor.{Cursor}
+use Rattle.run_lists.specs.Places.{IsAt, IsCut}
 use Rattle.run_lists.proofs.SpreadLemmas.{spread-nil, spread-append, spread-cons, spread_push, length-spread}
 use Rattle.run_lists.proofs.SpreadLemmas.{extent-nil, extent_push, extent_more, extent-take}
 
@@ -146,6 +147,19 @@ value_in_run {T = T} runs k left run is inside =
     ∙ ap Some (subst (λ (n : ℕ). get_or (spread runs) (n + left) run.value ≡ run.value) place
     (read ∙ subst (λ (r : Run T). get_or (replicate r.count r.value) left run.value ≡ run.value) (sym here)
     (get_or-replicate run.count left run.value run.value inside)))
+
+-- the values of the cursor's run from a place on
+pub values_at : {T : Type 0} (runs : List (Run T)) (cursor : Cursor) (place k : ℕ) (run : Run T) (value : T) →
+    IsAt runs cursor → cursor.begin ≤ place → slice_get runs cursor.run ≡ Some run →
+    place < cursor.begin + run.count → slice_get (spread runs) place ≡ Some value → place ≤ k →
+    k < cursor.begin + run.count → slice_get (spread runs) k ≡ Some value
+values_at {T = T} runs cursor place k run value at ahead there inside is le until =
+    let begin = extent (take cursor.run runs) in
+    let own : (n : ℕ) → cursor.begin ≤ n → n < cursor.begin + run.count → slice_get (spread runs) n ≡ Some run.value =
+    λ n low high. subst (λ m. slice_get (spread runs) m ≡ Some run.value) (omega (arith, at.begins, low))
+    (value_in_run runs cursor.run (n - cursor.begin) run there (omega (arith, low, high))) in
+    let same : run.value ≡ value = same_Some run.value value (sym (own place ahead inside) ∙ is) in
+    own k (omega (arith, ahead, le)) until ∙ ap (λ (x : T). Some x) same
 
 -- the list around one run
 pub run_parts : {T : Type 0} (runs : List (Run T)) (k : ℕ) (run : Run T) → slice_get runs k ≡ Some run →

@@ -1,5 +1,5 @@
 // A walk over a list of runs.
-ghost use Rattle.std.specs.Prelude.{◌≡◌, ◌<◌, ◌≤◌, slice_get, Some};
+ghost use Rattle.std.specs.Prelude.{◌≡◌, ◌<◌, ◌≤◌, ◌^◌, ℕ, slice_get, Some};
 ghost use Rattle.run_lists.specs.Spread.{spread, extent};
 ghost use Rattle.run_lists.specs.Places.{IsAt, IsFound, IsIn};
 
@@ -33,6 +33,23 @@ pub fn seek<'a, T>(runs: &'a [Run<T>], cursor: &mut Cursor, place: usize) -> &'a
 {
     let spot = reach(runs, cursor, place);
     &runs[spot.run].value
+}
+
+/// The value at a place, and where its run ends. The cursor is not behind the place, and goes to it.
+pub fn value_until<'a, T>(runs: &'a [Run<T>], cursor: &mut Cursor, place: usize) -> (&'a T, usize)
+    requires at { IsAt runs.now cursor.old }
+    requires ahead { cursor.old.begin ≤ place }
+    requires within { place < extent runs.now }
+    requires few { extent runs.now < 2 ^ 32 }
+    ensures at { IsAt runs.now cursor.new }
+    ensures ahead { cursor.new.begin ≤ place }
+    ensures some { place < result.1 }
+    ensures within { result.1 ≤ extent runs.now }
+    ensures values { (k : ℕ) → place ≤ k → k < result.1
+        → slice_get (spread runs.now) k ≡ Some result.0.now }
+{
+    let value = seek(runs, cursor, place);
+    (value, cursor.begin + runs[cursor.run].count as usize)
 }
 
 /// The run of a place, which the cursor is not behind and goes to.

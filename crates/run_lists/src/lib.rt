@@ -9,7 +9,7 @@ mod runs;
 mod shared;
 
 pub use change::{Change, copy_runs};
-pub use cursor::{Cursor, seek};
+pub use cursor::{Cursor, seek, value_until};
 pub use cut::{Spot, find};
 pub use lists::splice_list;
 pub use runs::{Run, Runs};

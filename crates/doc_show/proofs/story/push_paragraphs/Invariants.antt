@@ -2,7 +2,7 @@ use Rattle.std.proofs.Common.{◌≡◌, ◌≤◌, ◌++◌, ◌-◌, length}
 use Rattle.std.specs.Prelude.{slice_range}
 use Rattle.run_lists.specs.Places.{IsAt}
 use Rattle.doc_show.specs.Story.{story_lines}
-use Rattle.doc_show.specs.Walks.{items_in, IsWalk}
+use Rattle.doc_columns.specs.Walks.{items_in, IsWalk}
 use Rattle.doc_show.proofs.story.push_paragraphs.Given as goal
 
 -- the lines of the paragraphs so far are there

@@ -3,7 +3,7 @@ use Rattle.std.specs.Prelude.{slice_range}
 use Rattle.std.specs.List.{flat_map}
 use Rattle.plain_doc.specs.Stretches.{stretches}
 use Rattle.doc_show.specs.Story.{is_one_run, run_line}
-use Rattle.doc_show.specs.Walks.{items_in, IsWalk}
+use Rattle.doc_columns.specs.Walks.{items_in, IsWalk}
 use Rattle.doc_show.proofs.story.push_runs.Given as goal
 
 -- the lines of the runs so far are there

@@ -2,7 +2,7 @@ use Rattle.std.proofs.Common.{◌≡◌, ℕ, ◌<◌, ◌≤◌, ◌-◌, Some,
 use Rattle.std.specs.Prelude.{slice_get}
 use Rattle.plain_doc.specs.declared.item.Item.{Item}
 use Rattle.doc_show.specs.Story.{is_plain}
-use Rattle.doc_show.specs.Walks.{items_in, IsWalk}
+use Rattle.doc_columns.specs.Walks.{items_in, IsWalk}
 use Rattle.doc_show.proofs.story.run_end.Given as goal
 
 -- the items from the place to here are plain and have the same settings

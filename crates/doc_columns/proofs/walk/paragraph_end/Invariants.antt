@@ -3,7 +3,7 @@ use Rattle.std.specs.Prelude.{slice_get}
 use Rattle.run_lists.specs.Spread.{spread}
 use Rattle.run_lists.specs.Places.{IsAt}
 use Rattle.doc_columns.specs.declared.beside.Beside.{Beside}
-use Rattle.doc_show.proofs.story.paragraph_end.Given as goal
+use Rattle.doc_columns.proofs.walk.paragraph_end.Given as goal
 
 -- no mark stands between the place and here
 abbrev pub invariant-loop-at : goal.invariant-loop-at

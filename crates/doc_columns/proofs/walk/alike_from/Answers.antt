@@ -3,10 +3,9 @@ use Rattle.std.proofs.Common.{arith}
 use Rattle.run_lists.specs.Spread.{spread}
 use Rattle.plain_doc.specs.declared.item.Item.{Item}
 use Rattle.doc_columns.specs.Beside.{beside_of}
-use Rattle.doc_show.specs.Walks.{items_in}
-use Rattle.doc_show.proofs.WalkLemmas.{part_at}
-use Rattle.doc_show.proofs.StoryLemmas.{chps_are, besides_are}
-use Rattle.doc_show.proofs.walk.alike_from.Goals as goal
+use Rattle.doc_columns.specs.Walks.{items_in}
+use Rattle.doc_columns.proofs.WalkLemmas.{part_at, chps_are, besides_are}
+use Rattle.doc_columns.proofs.walk.alike_from.Goals as goal
 
 pub returns-clause-chps : goal.returns-clause-chps
 returns-clause-chps c = λ k item le until here.

@@ -3,8 +3,8 @@ use Rattle.std.proofs.Common.{◌≡◌, get_or, ap, arith}
 use Rattle.std.proofs.lemmas.Option.{slice_get_within, get_or_from_slice_get}
 use Rattle.run_lists.specs.declared.runs.Run.{Run}
 use Rattle.run_lists.proofs.SpreadLemmas.{count_within}
-use Rattle.doc_show.proofs.WalkLemmas.{values_at}
-use Rattle.doc_show.proofs.walk.value_until.Goals as goal
+use Rattle.run_lists.proofs.CutLemmas.{values_at}
+use Rattle.run_lists.proofs.cursor.value_until.Goals as goal
 
 pub returns-clause-within : goal.returns-clause-within
 returns-clause-within g c =

@@ -1,0 +1,139 @@
+-- Walks over the columns of a text, and its items.
+use Rattle.std.proofs.Common.{◌≡◌, ◌∙◌, ℕ, refl, sym, ap, subst, ◌+◌, ◌-◌, ◌<◌, ◌≤◌, List, length, map, drop, Option}
+use Rattle.std.proofs.Common.{Some, None, Bool, true, false, inl, inr, arith, length-take, length-drop}
+use Rattle.std.specs.Prelude.{slice_get, slice_range, option_map}
+use Rattle.std.proofs.lemmas.Bool.{cases_lt}
+use Rattle.std.proofs.lemmas.Option.{same_Some, slice_get-map, slice_get_past}
+use Rattle.doc_bits.proofs.ListLemmas.{there_is, get-map, slice_get-take}
+use Rattle.doc_bits.proofs.TogetherLemmas.{got_drop}
+use Rattle.run_lists.specs.Spread.{spread}
+use Rattle.run_lists.proofs.SpreadLemmas.{length-spread}
+use Rattle.plain_doc.specs.declared.item.Item.{Item}
+use Rattle.plain_doc.specs.Stretches.{joins_at, joins_next, BeginsStretch}
+use Rattle.doc_columns.specs.declared.beside.Beside.{Beside}
+use Rattle.doc_columns.specs.declared.walk.Parts.{Parts}
+use Rattle.doc_columns.specs.declared.walk.Walk.{Walk}
+use Rattle.doc_columns.specs.Beside.{beside_of}
+use Rattle.doc_columns.specs.Walks.{items_in, AreParts, IsWalk}
+use Rattle.doc_columns.proofs.ItemsOfLemmas.{length-items_of, units-items_of, chps-items_of, besides-items_of}
+use Rattle.doc_columns.proofs.CollectLemmas.{start_at}
+
+-- ---- columns and items
+
+long_chps : (parts : Parts) → AreParts parts → length (spread parts.chps.now) ≡ length parts.units.now
+long_chps parts are = length-spread parts.chps.now ∙ are.chps_long
+
+long_besides : (parts : Parts) → AreParts parts → length (spread parts.besides.now) ≡ length parts.units.now
+long_besides parts are = length-spread parts.besides.now ∙ are.besides_long
+
+pub items_long : (parts : Parts) → AreParts parts → length (items_in parts) ≡ length parts.units.now
+items_long parts are =
+    length-items_of parts.units.now (spread parts.chps.now) (spread parts.besides.now) (long_chps parts are)
+    (long_besides parts are)
+
+pub units_are : (parts : Parts) → AreParts parts → map (λ item. item.unit) (items_in parts) ≡ parts.units.now
+units_are parts are =
+    units-items_of parts.units.now (spread parts.chps.now) (spread parts.besides.now) (long_chps parts are)
+    (long_besides parts are)
+
+pub chps_are : (parts : Parts) → AreParts parts → map (λ item. item.chp) (items_in parts) ≡ spread parts.chps.now
+chps_are parts are =
+    chps-items_of parts.units.now (spread parts.chps.now) (spread parts.besides.now) (long_chps parts are)
+    (long_besides parts are)
+
+pub besides_are : (parts : Parts) → AreParts parts → map beside_of (items_in parts) ≡ spread parts.besides.now
+besides_are parts are =
+    besides-items_of parts.units.now (spread parts.chps.now) (spread parts.besides.now) (long_chps parts are)
+    (long_besides parts are)
+
+-- what stands beside an item is in its column
+pub beside_there : (parts : Parts) → AreParts parts → (k : ℕ) (item : Item) → slice_get (items_in parts) k ≡ Some item →
+    slice_get (spread parts.besides.now) k ≡ Some (beside_of item)
+beside_there parts are k item here =
+    subst (λ (xs : List Beside). slice_get xs k ≡ Some (beside_of item)) (besides_are parts are)
+    (get-map beside_of (items_in parts) k item here)
+
+-- ---- walks
+
+pub later_walk : (parts : Parts) (walk : Walk) (m n : ℕ) → IsWalk parts walk m → m ≤ n → IsWalk parts walk n
+later_walk parts walk m n is le = record {
+  at_chps = is.at_chps;
+  chps_ahead = (let ahead = is.chps_ahead in omega (arith, ahead, le));
+  at_besides = is.at_besides;
+  besides_ahead = (let ahead = is.besides_ahead in omega (arith, ahead, le));
+}
+
+pub first_walk : (parts : Parts) (walk : Walk) →
+    walk ≡ record { chps = record { run = 0; begin = 0 }; besides = record { run = 0; begin = 0 } } →
+    IsWalk parts walk 0
+first_walk parts walk is =
+    subst (λ (w : Walk). IsWalk parts w 0) (sym is)
+    (record {
+      at_chps = start_at parts.chps.now (record { run = 0; begin = 0 }) refl;
+      chps_ahead = omega arith;
+      at_besides = start_at parts.besides.now (record { run = 0; begin = 0 }) refl;
+      besides_ahead = omega arith;
+    })
+
+-- a part of an element is in the column of these parts
+pub part_at : {A B : Type 0} (f : A → B) (xs : List A) (ys : List B) (k : ℕ) (x : A) (y : B) → map f xs ≡ ys →
+    slice_get xs k ≡ Some x → slice_get ys k ≡ Some y → f x ≡ y
+part_at {A = A} {B = B} f xs ys k x y is here there =
+    same_Some (f x) y
+    (sym (slice_get-map f xs k ∙ ap (λ (o : Option A). option_map f o) here)
+    ∙ ap (λ (zs : List B). slice_get zs k) is ∙ there)
+
+-- ---- ranges
+
+-- what stands at a place of a range stands in the list
+pub range_got : {A : Type 0} (xs : List A) (from to k : ℕ) (x : A) → slice_get (slice_range xs from to) k ≡ Some x →
+    slice_get xs (from + k) ≡ Some x
+range_got xs from to k x is = got_drop from xs k x (slice_get-take (to - from) (drop from xs) k x is)
+
+pub range_long : {A : Type 0} (xs : List A) (from to : ℕ) → to ≤ length xs → length (slice_range xs from to) ≡ to - from
+range_long xs from to within = omega (arith, length-take (to - from) (drop from xs), length-drop from xs)
+
+joined_by : {A : Type 0} (joins : A → A → Bool) (xs : List A) (k : ℕ) (b : Bool) (x y : A) → slice_get xs k ≡ Some x →
+    slice_get xs (k + 1) ≡ Some y → joins x y ≡ b → joins_at joins xs k ≡ b
+joined_by joins xs k b x y here next is =
+    (λ i. joins_next joins (here i) (next i)) ∙ is
+
+last_alone : {A : Type 0} (joins : A → A → Bool) (xs : List A) (k : ℕ) (x : A) → slice_get xs k ≡ Some x →
+    slice_get xs (k + 1) ≡ None → joins_at joins xs k ≡ false
+last_alone joins xs k x here next = (λ i. joins_next joins (here i) (next i))
+
+-- a range begins with a stretch that ends where no element joins the next one
+pub begins_range : {A : Type 0} (joins : A → A → Bool) (xs : List A) (from to end : ℕ) → from < to → to ≤ end →
+    end ≤ length xs →
+    ((k : ℕ) (x y : A) → from ≤ k → k + 1 < to → slice_get xs k ≡ Some x → slice_get xs (k + 1) ≡ Some y →
+    joins x y ≡ true) →
+    (to < end → (x y : A) → slice_get xs (to - 1) ≡ Some x → slice_get xs to ≡ Some y → joins x y ≡ false) →
+    BeginsStretch joins (slice_range xs from end) (to - from)
+begins_range {A = A} joins xs from to end some within inside joined ends =
+    let part = slice_range xs from end in
+    let long : length part ≡ end - from = range_long xs from end inside in
+    record {
+      some = omega (arith, some);
+      within = omega (arith, long, within);
+      joined = λ k low.
+          let one = there_is part k (omega (arith, long, within, low)) in
+          let next = there_is part (k + 1) (omega (arith, long, within, low)) in
+          let place : from + (k + 1) ≡ from + k + 1 = omega arith in
+          joined_by joins part k true one.0 next.0 one.1 next.1
+          (joined (from + k) one.0 next.0 (omega arith) (omega (arith, low))
+          (range_got xs from end k one.0 one.1)
+          (subst (λ n. slice_get xs n ≡ Some next.0) place (range_got xs from end (k + 1) next.0 next.1)));
+      ends =
+          let k = to - from - 1 in
+          let one = there_is part k (omega (arith, long, within, some)) in
+          let here : from + k ≡ to - 1 = omega (arith, some) in
+          let behind : from + (k + 1) ≡ to = omega (arith, some) in
+          let last = subst (λ n. slice_get xs n ≡ Some one.0) here (range_got xs from end k one.0 one.1) in
+          elim (cases_lt (k + 1) (length part)) [
+            | inl more ↦ (let next = there_is part (k + 1) more in
+                joined_by joins part k false one.0 next.0 one.1 next.1
+                (ends (omega (arith, more, long, some)) one.0 next.0 last
+                (subst (λ n. slice_get xs n ≡ Some next.0) behind (range_got xs from end (k + 1) next.0 next.1))))
+            | inr none ↦ last_alone joins part k one.0 one.1 (slice_get_past part (k + 1) none)
+          ];
+    }
