@@ -1,9 +1,10 @@
 -- Items that stand in a row and have something in common: those of a run.
 use Rattle.std.specs.Prelude.{slice_get}
-use Rattle.std.proofs.Common.{◌≡◌, ◌∙◌, ap, sym, subst, ℕ, zero, suc, ◌+◌, ◌-◌, ◌<◌, ◌≤◌, List, [], ◌∷◌, ◌++◌, length, map, take}
+use Rattle.std.proofs.Common.{◌≡◌, ◌∙◌, ap, sym, subst, ℕ, zero, suc, ◌+◌, ◌-◌, ◌<◌, ◌≤◌, List, [], ◌∷◌, ◌++◌, length}
+use Rattle.std.proofs.Common.{map, take}
 use Rattle.std.proofs.Common.{get_or, Some, arith, append_assoc}
 use Rattle.std.proofs.lemmas.List.{length-map, take_more}
-use Rattle.std.proofs.lemmas.Option.{slice_get_within, get_or_from_slice_get, slice_get-get_or, same_Some}
+use Rattle.std.proofs.lemmas.Option.{slice_get_within, get_or_from_slice_get, same_Some}
 use Rattle.doc_bits.proofs.ListLemmas.{get-map}
 use Rattle.run_lists.specs.declared.runs.Run.{Run}
 use Rattle.run_lists.specs.Spread.{spread, extent}
@@ -11,14 +12,6 @@ use Rattle.run_lists.proofs.SpreadLemmas.{length-spread, count_within}
 use Rattle.run_lists.proofs.CutLemmas.{value_in_run}
 use Rattle.plain_doc.specs.declared.item.Item.{Item}
 use Rattle.full_save.specs.Alike.{HaveAlike}
-
--- the item at one of the places
-pub alike_here : {A : Type 0} (what : Item → A) (value : A) (text : List Item) (place count j : ℕ) (d : Item) →
-    HaveAlike what value text place count → place ≤ j → j < place + count → what (get_or text j d) ≡ value
-alike_here what value text place count j d are low high =
-    let within = are.within in
-    let below : j < length text = omega (arith, within, high) in
-    are.each j (get_or text j d) low high (slice_get-get_or text j d below)
 
 -- a part of what they have
 pub alike_of : {A B : Type 0} (what : Item → A) (of : A → B) (value : A) (text : List Item) (place count : ℕ) →

@@ -3,7 +3,7 @@ use Rattle.std.proofs.Common.{◌≡◌, ◌<◌, ◌≤◌, ◌^◌, ◌+◌, �
 use Rattle.std.proofs.Common.{length, map, arith}
 use Rattle.std.specs.Prelude.{All}
 use Rattle.std.specs.Prelude.{slice_index}
-use Rattle.std.proofs.lemmas.List.{append_assoc, length-append, length-map}
+use Rattle.std.proofs.lemmas.List.{append_assoc, length-append}
 use Rattle.doc_bits.specs.declared.places.Where.TheVariants.{Main}
 use Rattle.doc_bits.proofs.ListLemmas.{All_at, All-from_slice_get}
 use Rattle.prop_map.specs.Formed.{section_groups}
@@ -35,9 +35,8 @@ use Rattle.full_save.proofs.TextLaidOut.{few_items, runs_are, pages_are, length-
 
 -- a text has a unit for each item
 pub length-units : (document : Document) (text : SavedText) → IsTextOf document text →
-    length text.units.items ≡ length (text_items document)
-length-units document text is =
-    ap length is.units ∙ length-map (text_items document) (λ (item : Item). item.unit)
+    text.len ≡ length (text_items document)
+length-units document text is = is.long
 
 last_of : (kind : PageKind) (at : ℕ) (part : List Item) (parts : List (List Item)) →
     last_fc (runs_from kind at (part ∷ parts)) ≡ at + 2 * length (joined_texts (part ∷ parts))

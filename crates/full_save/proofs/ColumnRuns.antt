@@ -1,13 +1,12 @@
 -- The runs of characters and of paragraphs, some items with the same settings further.
 use Rattle.std.specs.Prelude.{slice_get}
-use Rattle.std.proofs.Common.{◌≡◌, ◌≢◌, ◌∙◌, ap, sym, subst, ℕ, zero, suc, ◌+◌, ◌-◌, ◌*◌, ◌<◌, ◌≤◌, List, [], ◌∷◌, ◌++◌, length}
+use Rattle.std.proofs.Common.{◌≡◌, ◌≢◌, ◌∙◌, ap, sym, subst, ℕ, zero, suc, ◌+◌, ◌-◌, ◌*◌, ◌<◌, ◌≤◌, List, [], ◌∷◌, ◌++◌}
+use Rattle.std.proofs.Common.{length}
 use Rattle.std.proofs.Common.{map, take, get_or, Option, Some, None, arith, length-append}
 use Rattle.std.proofs.lemmas.List.{append-nil, take_all, length-map, length-take}
 use Rattle.std.proofs.lemmas.Option.{slice_get_within, get_or_from_slice_get}
 use Rattle.doc_bits.proofs.ListLemmas.{there_is}
 use Rattle.prop_map.specs.Settings.{Settings}
-use Rattle.fkp_pages.specs.declared.kind.PageKind.TheVariants.{Chpx}
-use Rattle.fkp_pages.specs.declared.lists.Run.{Run}
 use Rattle.run_lists.specs.declared.runs.Run.{Run as ValueRun}
 use Rattle.run_lists.specs.Spread.{spread, extent}
 use Rattle.run_lists.proofs.SpreadLemmas.{length-spread, extent-nil, extent_all, extent_more, count_within}
@@ -24,7 +23,8 @@ use Rattle.full_save.proofs.SoFarLemmas.{characters_go_on, characters_change, pa
 
 pub characters_more : (at : ℕ) (done text : List Item) (place count : ℕ) (runs : CharacterRuns) →
     HaveAlike (λ (item : Item). item.chp) runs.chp text place count →
-    AreCharactersSoFar at (done ++ take place text) runs → AreCharactersSoFar at (done ++ take (place + count) text) runs
+    AreCharactersSoFar at (done ++ take place text) runs → AreCharactersSoFar at (done ++ take (place + count) text)
+    runs
 characters_more at done text place zero runs are so =
     let e : place ≡ place + 0 = omega arith in
     subst (λ (n : ℕ). AreCharactersSoFar at (done ++ take n text) runs) e so
@@ -84,7 +84,8 @@ next_place what value at end done text place count here are =
 -- items without a mark
 pub paragraphs_more : (at : ℕ) (done text : List Item) (place count : ℕ) (runs : ParagraphRuns) →
     HaveAlike (λ (item : Item). item.mark) None text place count →
-    AreParagraphsSoFar at (done ++ take place text) runs → AreParagraphsSoFar at (done ++ take (place + count) text) runs
+    AreParagraphsSoFar at (done ++ take place text) runs → AreParagraphsSoFar at (done ++ take (place + count) text)
+    runs
 paragraphs_more at done text place zero runs are so =
     let e : place ≡ place + 0 = omega arith in
     subst (λ (n : ℕ). AreParagraphsSoFar at (done ++ take n text) runs) e so

@@ -62,10 +62,7 @@ are_put table wd others ordered carried short_table short_wd =
       count = omega (arith, one, two);
     }
 
--- the length of a stream with these bytes from the text on, and the stream
-abbrev pub body_stream : List ℕ → ℕ
-body_stream body = max (text_at + length body) least_length
-
+-- the stream with a FIB, and these bytes from the text on
 abbrev pub wd_of : FibFields → List ℕ → List ℕ
 wd_of fib body = filled least_length 0 (filled text_at 0 (written_fib fib) ++ body)
 

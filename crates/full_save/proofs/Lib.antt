@@ -1,6 +1,5 @@
 pub mod RunLemmas
 pub mod SoFarLemmas
-pub mod SeenLemmas
 pub mod AlikeLemmas
 pub mod ColumnRuns
 pub mod TextLemmas
@@ -26,4 +25,6 @@ pub mod NameOrder
 pub mod PutStreams
 pub mod FitLemmas
 pub mod LayoutLemmas
+pub mod MeasureLemmas
+pub mod LengthLemmas
 pub mod PlaceLemmas

@@ -1,7 +1,7 @@
 -- How long the parts of bookmarks are: nothing where there are none, and at most 2 ^ 24 bytes.
 use Rattle.std.specs.Prelude.{All}
 use Rattle.std.specs.List.{flat_map}
-use Rattle.std.proofs.Common.{◌≡◌, refl, ℕ, ◌+◌, ◌*◌, ◌^◌, ◌≤◌, List, [], ◌∷◌, ◌++◌, length, arith, length-append}
+use Rattle.std.proofs.Common.{◌≡◌, refl, ℕ, ◌*◌, ◌^◌, ◌≤◌, List, [], ◌∷◌, ◌++◌, length, arith, length-append}
 use Rattle.std.proofs.lemmas.List.Elements.{All-head, All-tail, All-weaker}
 use Rattle.doc_bits.specs.Number.{number_bytes}
 use Rattle.doc_bits.proofs.NumberLemmas.{length-number_bytes}

@@ -232,7 +232,7 @@ texts_short joined texts len =
           (λ cp. omega arith) (omega arith),
     )
 
-length-seds : (start place : ℕ) (sections : List (ℕ × Settings)) →
+pub length-seds : (start place : ℕ) (sections : List (ℕ × Settings)) →
     length (seds_from start place sections) ≡ length sections
 unfolding seds_from
 length-seds start place [] = refl

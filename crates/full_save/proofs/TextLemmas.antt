@@ -1,15 +1,17 @@
 -- A text that goes on by items, and the marks behind stories.
 use Rattle.std.proofs.Common.{◌≡◌, ◌≤◌, ◌<◌, ◌+◌, ◌∙◌, ap, refl, sym, subst, inl, inr, ℕ, Bool, true, false, List, []}
-use Rattle.std.proofs.Common.{◌∷◌, ◌++◌, length, take, drop, get_or, arith, lt-ltb}
+use Rattle.std.proofs.Common.{◌∷◌, ◌++◌, length, map, take, drop, get_or, arith, lt-ltb}
 use Rattle.std.specs.Prelude.{nat_lt}
-use Rattle.std.proofs.lemmas.List.{append_assoc, length-append, append-nil, take_more, take-append-drop}
+use Rattle.std.proofs.lemmas.List.{append_assoc, length-append, append-nil, take_more, take-append-drop, map-append}
 use Rattle.std.proofs.lemmas.Grind.{flat_map-append}
 use Rattle.std.proofs.lemmas.Bool.{cases_lt, ltb-true}
+use Rattle.doc_bits.specs.Number.{number_bytes}
 use Rattle.plain_doc.specs.declared.item.Item.{Item}
 use Rattle.plain_doc.specs.declared.document.Document.{Document}
 use Rattle.plain_doc.specs.Collected.{joined_texts}
 use Rattle.full_save.specs.declared.text.TextSoFar.{TextSoFar}
 use Rattle.full_save.specs.Text.{with_mark, mark_if, note_story, head_story, text_items}
+use Rattle.full_save.specs.WordDocument.{units_bytes, items_bytes}
 use Rattle.full_save.specs.RunsSoFar.{IsTextSoFar, GoesOnBy}
 
 pub goes_on_none : (text : TextSoFar) → GoesOnBy [] text text
@@ -109,3 +111,31 @@ text_sizes d =
       notes = with_mark_more (joined_texts d.notes);
       heads = with_mark_more (joined_texts d.heads);
     }
+
+-- ---- its bytes
+
+items_bytes-append : (xs ys : List Item) → items_bytes (xs ++ ys) ≡ items_bytes xs ++ items_bytes ys
+items_bytes-append xs ys =
+    let unit : Item → ℕ = λ item. item.unit in
+    ap units_bytes (map-append unit xs ys) ∙ flat_map-append (number_bytes 2) (map unit xs) (map unit ys)
+
+-- bytes of items behind those of others
+pub puts_both : (old mid new : List ℕ) (xs ys : List Item) → mid ≡ old ++ items_bytes xs →
+    new ≡ mid ++ items_bytes ys → new ≡ old ++ items_bytes (xs ++ ys)
+puts_both old mid new xs ys first second =
+    second
+    ∙ ap (λ (bytes : List ℕ). bytes ++ items_bytes ys) first
+    ∙ append_assoc old (items_bytes xs) (items_bytes ys)
+    ∙ ap (λ (bytes : List ℕ). old ++ bytes) (sym (items_bytes-append xs ys))
+
+-- a story has a mark where it has items
+mark_counted : (items : List Item) → nat_lt 0 (length (with_mark items)) ≡ nat_lt 0 (length items)
+mark_counted [] = refl
+mark_counted (item ∷ items) =
+    lt-ltb 0 (length (with_mark (item ∷ items))) (omega arith) ∙ sym (lt-ltb 0 (length (item ∷ items)) (omega arith))
+
+pub story_is : (items : List Item) (count : ℕ) → count ≡ length (with_mark items) →
+    items ++ mark_if (nat_lt 0 count) ≡ with_mark items
+story_is items count is =
+    ap (λ (b : Bool). items ++ mark_if b) (ap (λ (n : ℕ). nat_lt 0 n) is ∙ mark_counted items) ∙ sym
+    (with_mark_is items)

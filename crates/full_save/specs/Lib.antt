@@ -8,5 +8,6 @@ pub mod Sections
 pub mod WordDocument
 pub mod RunsSoFar
 pub mod Made
+pub mod Lengths
 pub mod Streams
 pub mod Layout

@@ -87,9 +87,9 @@ ParagraphsGoOnBy runs start old new =
     (at : ℕ) (done text : List Item) → start ≡ at + 2 * length done → spread runs ≡ map beside_of text →
     AreParagraphsSoFar at done old → AreParagraphsSoFar at (done ++ text) new
 
--- the units and the runs of a text that begins where the text of a document does
+-- the number of units and the runs of a text that begins where the text of a document does
 pub record IsTextSoFar (done : List Item) (text : TextSoFar) : Type 0 where
-  pub units : text.units.items ≡ map (λ item. item.unit) done
+  pub long : text.len ≡ length done
   pub characters : AreCharactersSoFar text_at done text.characters
   pub paragraphs : AreParagraphsSoFar text_at done text.paragraphs
 
@@ -97,9 +97,9 @@ pub record IsTextSoFar (done : List Item) (text : TextSoFar) : Type 0 where
 abbrev pub GoesOnBy : List Item → TextSoFar → TextSoFar → Type 0
 GoesOnBy items old new = (done : List Item) → IsTextSoFar done old → IsTextSoFar (done ++ items) new
 
--- a text with its runs, and these counts
+-- how long a text is, its runs, and these counts
 pub record IsWholeText (items : List Item) (counts : List ℕ) (text : SavedText) : Type 0 where
-  pub units : text.units.items ≡ map (λ item. item.unit) items
+  pub long : text.len ≡ length items
   pub characters : text.characters ≡ text_runs Chpx text_at items
   pub paragraphs : text.paragraphs ≡ text_runs Papx text_at items
   pub counts_are : text.counts ≡ counts

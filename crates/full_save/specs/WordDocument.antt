@@ -17,6 +17,7 @@ use Rattle.fkp_pages.specs.InARow.{numbered_bins}
 use Rattle.piece_table.specs.Clx.{pcdt_bytes}
 use Rattle.piece_table.specs.Printing.{plc_bytes, pcd_bytes}
 use Rattle.cfb_layout.specs.Sectors.{units_for, filled, padded}
+use Rattle.plain_doc.specs.declared.item.Item.{Item}
 use Rattle.plain_doc.specs.declared.document.Document.{Document}
 use Rattle.plain_doc.specs.Collected.{sections_of}
 use Rattle.full_save.specs.declared.table_text.TableText.{TableText}
@@ -35,9 +36,13 @@ text_at = 1024
 abbrev pub units_bytes : List ℕ → List ℕ
 units_bytes units = flat_map (number_bytes 2) units
 
+-- the bytes of the units of items
+abbrev pub items_bytes : List Item → List ℕ
+items_bytes items = units_bytes (map (λ item. item.unit) items)
+
 -- the text, and where it ends
 abbrev pub text_bytes : Document → List ℕ
-text_bytes document = units_bytes (map (λ item. item.unit) (text_items document))
+text_bytes document = items_bytes (text_items document)
 
 abbrev pub text_end : Document → ℕ
 text_end document = text_at + 2 * length (text_items document)

@@ -1,12 +1,12 @@
 //! Full saves: a document laid out as the streams of a file, and the file itself.
 #![tactic(auto)]
 
-mod column_lists;
 mod fault;
-mod formed;
+mod lengths;
 mod lists;
 mod made_parts;
 mod mark_parts;
+mod measures;
 mod pages;
 mod runs;
 mod saving;
@@ -18,10 +18,9 @@ mod text;
 mod word_document;
 
 pub use fault::SaveFault;
-pub use formed::columns_are_formed;
-pub use made_parts::{table_stream_len, write_table};
+pub use made_parts::write_table;
 pub use pages::{append_chpx_pages, append_papx_pages, append_units};
-pub use runs::CharacterRuns;
+pub use runs::character_runs;
 pub use saving::{
     full, full_by_columns, sectors, sectors_by_columns, table_len, table_len_by_columns,
 };

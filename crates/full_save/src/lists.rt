@@ -1,26 +1,42 @@
-// The lists that the table stream has of the texts of a document.
-ghost use Rattle.std.specs.Prelude.{◌≡◌, ◌+◌, ◌^◌, ◌<◌, ◌++◌, length, OnOk, IfOk};
+// The lists that the table stream has of the texts of a document: one step for each run of what stands beside units.
+ghost use Rattle.std.specs.Prelude.{◌≡◌, ◌+◌, ◌^◌, ◌<◌, ◌≤◌, ◌++◌, length, OnOk, IfOk};
 ghost use Rattle.plain_doc.specs.Collected.{joined_texts, refs_of, fields_of, is_auto};
 ghost use Rattle.plain_doc.specs.TextLists.{cuts_of};
-ghost use Rattle.full_save.specs.Lists.{fields_from};
+ghost use Rattle.full_save.specs.Lists.{fields_from, FieldsGoOn, RefsGoOn};
 
 use doc_bits::Memory;
+use doc_columns::{Beside, ColumnTexts, Columns};
 use doc_parts::{Cuts, Flds, Refs};
-use plain_doc::{Item, NoteKind, Texts};
+use plain_doc::NoteKind;
+use run_lists::Run;
 use std::alloc::Global;
 
 /// The references of the main text to notes.
-pub(crate) fn refs_of(alloc: Global, main: &[Item]) -> Result<Refs, Memory>
-    requires { length main.now < 2 ^ 32 }
+pub(crate) fn refs_of(alloc: Global, main: &Columns) -> Result<Refs, Memory>
     ensures { IfOk result (λ refs. refs ≡ refs_of main.now) }
 {
+    let _len = main.len();
     let mut refs = Refs::new(alloc);
-    for (cp, item) in main.iter().enumerate() {
-        if let Some(kind) = item.note {
-            refs.add(cp as u32, is_auto(kind))?;
-        }
+    let mut place = 0;
+    for run in main.besides() {
+        add_ref_run(&mut refs, place, run)?;
+        place += run.count;
     }
     Ok(refs)
+}
+
+/// Appends the references of a run that begins at a place.
+fn add_ref_run(refs: &mut Refs, place: u32, run: &Run<Beside>) -> Result<(), Memory>
+    requires { place + run.now.count < 2 ^ 32 }
+    ensures { OnOk result (RefsGoOn run.now place refs.old refs.new) }
+{
+    let Some(kind) = run.value.note else {
+        return Ok(());
+    };
+    for cp in place..place + run.count {
+        refs.add(cp, is_auto(kind))?;
+    }
+    Ok(())
 }
 
 /// Whether notes of this kind are numbered by themselves.
@@ -34,17 +50,17 @@ pub(crate) fn is_auto(kind: NoteKind) -> bool
 }
 
 /// The field characters of a text.
-pub(crate) fn fields_of(alloc: Global, items: &[Item]) -> Result<Flds, Memory>
-    requires { length items.now < 2 ^ 32 }
-    ensures { IfOk result (λ fields. fields ≡ fields_of items.now) }
+pub(crate) fn fields_of(alloc: Global, text: &Columns) -> Result<Flds, Memory>
+    ensures { IfOk result (λ fields. fields ≡ fields_of text.now) }
 {
+    let _len = text.len();
     let mut fields = Flds::new(alloc);
-    add_fields(&mut fields, 0, items)?;
+    add_fields(&mut fields, 0, text)?;
     Ok(fields)
 }
 
 /// The field characters of texts, which stand one after the other.
-pub(crate) fn fields_of_texts(alloc: Global, texts: &Texts) -> Result<Flds, Memory>
+pub(crate) fn fields_of_texts(alloc: Global, texts: &ColumnTexts) -> Result<Flds, Memory>
     requires { length (joined_texts texts.now) < 2 ^ 32 }
     ensures { IfOk result (λ fields. fields ≡ fields_of (joined_texts texts.now)) }
 {
@@ -52,27 +68,49 @@ pub(crate) fn fields_of_texts(alloc: Global, texts: &Texts) -> Result<Flds, Memo
     let mut cp = 0;
     for k in 0..texts.len() {
         let text = texts.get(k);
-        add_fields(&mut fields, cp, text.as_slice())?;
+        add_fields(&mut fields, cp, text)?;
         cp += text.len() as u32;
     }
     Ok(fields)
 }
 
-/// Appends the field characters of items that stand from a CP on.
-fn add_fields(fields: &mut Flds, cp: u32, items: &[Item]) -> Result<(), Memory>
-    requires { cp + length items.now < 2 ^ 32 }
-    ensures { OnOk result (fields.new ≡ fields.old ++ fields_from cp items.now) }
+/// Appends the field characters of a text that stands from a CP on.
+fn add_fields(fields: &mut Flds, cp: u32, text: &Columns) -> Result<(), Memory>
+    requires { cp + length text.now < 2 ^ 32 }
+    ensures { OnOk result (fields.new ≡ fields.old ++ fields_from cp text.now) }
 {
-    for (i, item) in items.iter().enumerate() {
-        if let Some(byte) = item.fld {
-            fields.add(cp + i as u32, item.unit, byte)?;
-        }
+    let units = text.units();
+    let mut place = 0;
+    for run in text.besides() {
+        add_field_run(fields, units, cp, place, run)?;
+        place += run.count as usize;
+    }
+    Ok(())
+}
+
+/// Appends the field characters of a run that begins at a place.
+fn add_field_run(
+    fields: &mut Flds,
+    units: &[u16],
+    cp: u32,
+    place: usize,
+    run: &Run<Beside>,
+) -> Result<(), Memory>
+    requires within { place + run.now.count ≤ length units.now }
+    requires room { cp + length units.now < 2 ^ 32 }
+    ensures { OnOk result (FieldsGoOn units.now cp run.now place fields.old fields.new) }
+{
+    let Some(byte) = run.value.fld else {
+        return Ok(());
+    };
+    for at in place..place + run.count as usize {
+        fields.add(cp + at as u32, units[at], byte)?;
     }
     Ok(())
 }
 
 /// The CPs that cut texts which stand one after the other; none where they have no items.
-pub(crate) fn cuts_of(alloc: Global, texts: &Texts) -> Result<Cuts, Memory>
+pub(crate) fn cuts_of(alloc: Global, texts: &ColumnTexts) -> Result<Cuts, Memory>
     requires { length (joined_texts texts.now) < 2 ^ 32 }
     ensures { IfOk result (λ cuts. cuts ≡ cuts_of (joined_texts texts.now) texts.now) }
 {

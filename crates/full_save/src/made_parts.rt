@@ -8,11 +8,8 @@ ghost use Rattle.plain_doc.specs.Collected.{joined_texts, fields_of, refs_of};
 ghost use Rattle.plain_doc.specs.TextLists.{cuts_of};
 ghost use Rattle.full_save.specs.TableText.{FitParts, table_entries};
 ghost use Rattle.full_save.specs.TableStream.{entries_bytes, AreWritten};
-ghost use Rattle.full_save.specs.Made.{AreMadeOf, made_entries, made_length, carried_length};
+ghost use Rattle.full_save.specs.Made.{AreMadeOf, made_entries, carried_length};
 
-use crate::column_lists::{
-    cuts_of_columns, fields_of_column_texts, fields_of_columns, refs_of_columns,
-};
 use crate::lists::{cuts_of, fields_of, fields_of_texts, refs_of};
 use crate::mark_parts::MarkParts;
 use crate::table_parts::TableParts;
@@ -21,7 +18,7 @@ use doc_bits::{Bytes, Memory};
 use doc_columns::{ColumnDocument, ColumnTexts, Columns};
 use doc_parts::{print_fields, print_refs, print_sections, print_texts};
 use fib_form::TablePart;
-use plain_doc::{Carried, Document, Item, Texts};
+use plain_doc::Carried;
 use std::alloc::Global;
 
 /// The parts that are made of a document.
@@ -40,34 +37,7 @@ struct MadeParts {
 
 impl MadeParts {
     /// The parts of a document.
-    fn of(alloc: Global, document: &Document, text: &TableText) -> Result<MadeParts, Memory>
-        requires sheet { IsWritable document.now.sheet }
-        requires notes { length (joined_texts document.now.notes) < 2 ^ 32 }
-        requires heads { length (joined_texts document.now.heads) < 2 ^ 32 }
-        requires marks { FitParts document.now.bookmarks }
-        ensures { IfOk result (AreMadeOf document.now text.now) }
-    {
-        let [main, notes, heads] = text.counts;
-        let items = document.main.as_slice();
-        Ok(MadeParts {
-            sheet: document.sheet.print(alloc)?,
-            refs: refs_part(alloc, items, main)?,
-            note_cuts: cuts_part(alloc, &document.notes, notes)?,
-            sections: print_sections(alloc, &text.seds, main)?,
-            head_cuts: cuts_part(alloc, &document.heads, heads)?,
-            main_fields: fields_part(alloc, items, main)?,
-            head_fields: fields_of_texts_part(alloc, &document.heads, heads)?,
-            note_fields: fields_of_texts_part(alloc, &document.notes, notes)?,
-            marks: MarkParts::of(alloc, &document.bookmarks, main)?,
-        })
-    }
-
-    /// The parts of a document by columns.
-    fn of_columns(
-        alloc: Global,
-        document: &ColumnDocument,
-        text: &TableText,
-    ) -> Result<MadeParts, Memory>
+    fn of(alloc: Global, document: &ColumnDocument, text: &TableText) -> Result<MadeParts, Memory>
         requires sheet { IsWritable document.now.sheet }
         requires notes { length (joined_texts document.now.notes) < 2 ^ 32 }
         requires heads { length (joined_texts document.now.heads) < 2 ^ 32 }
@@ -78,37 +48,20 @@ impl MadeParts {
         let items = &document.main;
         Ok(MadeParts {
             sheet: document.sheet.print(alloc)?,
-            refs: column_refs_part(alloc, items, main)?,
-            note_cuts: column_cuts_part(alloc, &document.notes, notes)?,
+            refs: refs_part(alloc, items, main)?,
+            note_cuts: cuts_part(alloc, &document.notes, notes)?,
             sections: print_sections(alloc, &text.seds, main)?,
-            head_cuts: column_cuts_part(alloc, &document.heads, heads)?,
-            main_fields: column_fields_part(alloc, items, main)?,
-            head_fields: column_texts_fields_part(alloc, &document.heads, heads)?,
-            note_fields: column_texts_fields_part(alloc, &document.notes, notes)?,
+            head_cuts: cuts_part(alloc, &document.heads, heads)?,
+            main_fields: fields_part(alloc, items, main)?,
+            head_fields: texts_fields_part(alloc, &document.heads, heads)?,
+            note_fields: texts_fields_part(alloc, &document.notes, notes)?,
             marks: MarkParts::of(alloc, &document.bookmarks, main)?,
         })
-    }
-
-    /// The number of their bytes.
-    fn len(&self) -> u64
-        requires { made_length self.now < 2 ^ 63 }
-        ensures { result ≡ made_length self.now }
-    {
-        len_of(&self.sheet)
-            + len_of(&self.refs)
-            + len_of(&self.note_cuts)
-            + len_of(&self.sections)
-            + len_of(&self.head_cuts)
-            + len_of(&self.main_fields)
-            + len_of(&self.head_fields)
-            + len_of(&self.note_fields)
-            + self.marks.len()
     }
 }
 
 /// PlcffndRef: the references of the main text to notes, up to a last CP.
-fn refs_part(alloc: Global, main: &[Item], end: u32) -> Result<Bytes, Memory>
-    requires { length main.now < 2 ^ 32 }
+fn refs_part(alloc: Global, main: &Columns, end: u32) -> Result<Bytes, Memory>
     ensures { IfOk result (λ bytes. bytes ≡ printed_refs (refs_of main.now) end) }
 {
     let refs = refs_of(alloc, main)?;
@@ -117,7 +70,7 @@ fn refs_part(alloc: Global, main: &[Item], end: u32) -> Result<Bytes, Memory>
 }
 
 /// PlcffndTxt or PlcfHdd: where these texts are cut, up to a last CP.
-fn cuts_part(alloc: Global, texts: &Texts, end: u32) -> Result<Bytes, Memory>
+fn cuts_part(alloc: Global, texts: &ColumnTexts, end: u32) -> Result<Bytes, Memory>
     requires { length (joined_texts texts.now) < 2 ^ 32 }
     ensures { IfOk result (λ bytes. bytes ≡ printed_texts (cuts_of (joined_texts texts.now) texts.now) end) }
 {
@@ -127,8 +80,7 @@ fn cuts_part(alloc: Global, texts: &Texts, end: u32) -> Result<Bytes, Memory>
 }
 
 /// PlcfFldMom: the field characters of the main text, up to a last CP.
-fn fields_part(alloc: Global, main: &[Item], end: u32) -> Result<Bytes, Memory>
-    requires { length main.now < 2 ^ 32 }
+fn fields_part(alloc: Global, main: &Columns, end: u32) -> Result<Bytes, Memory>
     ensures { IfOk result (λ bytes. bytes ≡ printed_fields (fields_of main.now) end) }
 {
     let fields = fields_of(alloc, main)?;
@@ -137,7 +89,7 @@ fn fields_part(alloc: Global, main: &[Item], end: u32) -> Result<Bytes, Memory>
 }
 
 /// PlcfFldHdr or PlcfFldFtn: the field characters of these texts, up to a last CP.
-fn fields_of_texts_part(alloc: Global, texts: &Texts, end: u32) -> Result<Bytes, Memory>
+fn texts_fields_part(alloc: Global, texts: &ColumnTexts, end: u32) -> Result<Bytes, Memory>
     requires { length (joined_texts texts.now) < 2 ^ 32 }
     ensures { IfOk result (λ bytes. bytes ≡ printed_fields (fields_of (joined_texts texts.now)) end) }
 {
@@ -146,65 +98,8 @@ fn fields_of_texts_part(alloc: Global, texts: &Texts, end: u32) -> Result<Bytes,
     Ok(bytes)
 }
 
-/// PlcffndRef of columns, up to a last CP.
-fn column_refs_part(alloc: Global, main: &Columns, end: u32) -> Result<Bytes, Memory>
-    ensures { IfOk result (λ bytes. bytes ≡ printed_refs (refs_of main.now) end) }
-{
-    let refs = refs_of_columns(alloc, main)?;
-    let bytes = print_refs(alloc, &refs, end)?;
-    Ok(bytes)
-}
-
-/// PlcffndTxt or PlcfHdd of columns, up to a last CP.
-fn column_cuts_part(alloc: Global, texts: &ColumnTexts, end: u32) -> Result<Bytes, Memory>
-    requires { length (joined_texts texts.now) < 2 ^ 32 }
-    ensures { IfOk result (λ bytes. bytes ≡ printed_texts (cuts_of (joined_texts texts.now) texts.now) end) }
-{
-    let cuts = cuts_of_columns(alloc, texts)?;
-    let bytes = print_texts(alloc, &cuts, end)?;
-    Ok(bytes)
-}
-
-/// PlcfFldMom of columns, up to a last CP.
-fn column_fields_part(alloc: Global, main: &Columns, end: u32) -> Result<Bytes, Memory>
-    ensures { IfOk result (λ bytes. bytes ≡ printed_fields (fields_of main.now) end) }
-{
-    let fields = fields_of_columns(alloc, main)?;
-    let bytes = print_fields(alloc, &fields, end)?;
-    Ok(bytes)
-}
-
-/// PlcfFldHdr or PlcfFldFtn of columns, up to a last CP.
-fn column_texts_fields_part(alloc: Global, texts: &ColumnTexts, end: u32) -> Result<Bytes, Memory>
-    requires { length (joined_texts texts.now) < 2 ^ 32 }
-    ensures { IfOk result (λ bytes. bytes ≡ printed_fields (fields_of (joined_texts texts.now)) end) }
-{
-    let fields = fields_of_column_texts(alloc, texts)?;
-    let bytes = print_fields(alloc, &fields, end)?;
-    Ok(bytes)
-}
-
 /// The table stream of a document with this text, and the pairs of its parts.
 pub fn write_table(
-    alloc: Global,
-    document: &Document,
-    text: &TableText,
-) -> Result<TableParts, Memory>
-    requires sheet { IsWritable document.now.sheet }
-    requires notes { length (joined_texts document.now.notes) < 2 ^ 32 }
-    requires heads { length (joined_texts document.now.heads) < 2 ^ 32 }
-    requires marks { FitParts document.now.bookmarks }
-    requires small { length (entries_bytes (table_entries document.now text.now)) < 2 ^ 32 }
-    ensures { IfOk result (AreWritten (table_entries document.now text.now)) }
-{
-    let made = MadeParts::of(alloc, document, text)?;
-    let table = table_of(alloc, &document.carried, text, &made);
-    drop(made);
-    table
-}
-
-/// The table stream of a document by columns with this text, and the pairs of its parts.
-pub(crate) fn write_column_table(
     alloc: Global,
     document: &ColumnDocument,
     text: &TableText,
@@ -216,7 +111,7 @@ pub(crate) fn write_column_table(
     requires small { length (entries_bytes (table_entries document.now text.now)) < 2 ^ 32 }
     ensures { IfOk result (AreWritten (table_entries document.now text.now)) }
 {
-    let made = MadeParts::of_columns(alloc, document, text)?;
+    let made = MadeParts::of(alloc, document, text)?;
     let table = table_of(alloc, &document.carried, text, &made);
     drop(made);
     table
@@ -258,51 +153,8 @@ fn table_of(
     Ok(table)
 }
 
-/// The number of bytes of the table stream of a document with this text. The carried parts are not copied.
-pub fn table_stream_len(alloc: Global, document: &Document, text: &TableText) -> Result<u64, Memory>
-    requires sheet { IsWritable document.now.sheet }
-    requires notes { length (joined_texts document.now.notes) < 2 ^ 32 }
-    requires heads { length (joined_texts document.now.heads) < 2 ^ 32 }
-    requires marks { FitParts document.now.bookmarks }
-    requires small { length (entries_bytes (table_entries document.now text.now)) < 2 ^ 63 }
-    ensures { IfOk result (λ len. len ≡ length (entries_bytes (table_entries document.now text.now))) }
-{
-    let made = MadeParts::of(alloc, document, text)?;
-    let len = made_table_len(&document.carried, text, &made);
-    drop(made);
-    Ok(len)
-}
-
-/// The same of a document by columns.
-pub(crate) fn column_table_len(
-    alloc: Global,
-    document: &ColumnDocument,
-    text: &TableText,
-) -> Result<u64, Memory>
-    requires sheet { IsWritable document.now.sheet }
-    requires notes { length (joined_texts document.now.notes) < 2 ^ 32 }
-    requires heads { length (joined_texts document.now.heads) < 2 ^ 32 }
-    requires marks { FitParts document.now.bookmarks }
-    requires small { length (entries_bytes (table_entries document.now text.now)) < 2 ^ 63 }
-    ensures { IfOk result (λ len. len ≡ length (entries_bytes (table_entries document.now text.now))) }
-{
-    let made = MadeParts::of_columns(alloc, document, text)?;
-    let len = made_table_len(&document.carried, text, &made);
-    drop(made);
-    Ok(len)
-}
-
-/// The number of bytes of the table stream of these parts, and those that are carried along.
-fn made_table_len(carried: &Carried, text: &TableText, made: &MadeParts) -> u64
-    requires { length (entries_bytes (made_entries carried.now text.now made.now)) < 2 ^ 63 }
-    ensures { result ≡ length (entries_bytes (made_entries carried.now text.now made.now)) }
-{
-    let of_text = len_of(&text.characters) + len_of(&text.paragraphs) + len_of(&text.clx);
-    made.len() + of_text + carried_len(carried)
-}
-
 /// The number of bytes of the carried parts.
-fn carried_len(carried: &Carried) -> u64
+pub(crate) fn carried_len(carried: &Carried) -> u64
     ensures { result ≡ carried_length carried.now }
 {
     len_of(&carried.fonts)

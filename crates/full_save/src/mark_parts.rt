@@ -1,7 +1,7 @@
 // The three parts of the table stream that hold bookmarks.
-ghost use Rattle.std.specs.Prelude.{◌≡◌, ◌^◌, ◌<◌, IfOk};
+ghost use Rattle.std.specs.Prelude.{IfOk};
 ghost use Rattle.full_save.specs.TableText.{FitParts};
-ghost use Rattle.full_save.specs.Made.{AreMarkParts, marks_length};
+ghost use Rattle.full_save.specs.Made.{AreMarkParts};
 
 use doc_bits::{Bytes, Memory};
 use doc_parts::{Bookmarks, print_ends, print_names, print_starts};
@@ -26,15 +26,5 @@ impl MarkParts {
             starts: print_starts(alloc, bookmarks, end)?,
             ends: print_ends(alloc, bookmarks, end)?,
         })
-    }
-
-    /// The number of their bytes.
-    pub(crate) fn len(&self) -> u64
-        requires { marks_length self.now < 2 ^ 63 }
-        ensures { result ≡ marks_length self.now }
-    {
-        let names = self.names.as_slice().len() as u64;
-        let starts = self.starts.as_slice().len() as u64;
-        names + starts + self.ends.as_slice().len() as u64
     }
 }

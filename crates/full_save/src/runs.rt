@@ -8,9 +8,9 @@ ghost use Rattle.full_save.specs.RunsSoFar.{ParagraphEnds, ParagraphsGoOn, Parag
 ghost use Rattle.run_lists.specs.Spread.{extent};
 
 use doc_bits::Memory;
-use doc_columns::Beside;
+use doc_columns::{Beside, Columns};
 use fkp_pages::{ChpRuns, PapRuns};
-use plain_doc::{Item, Mark};
+use plain_doc::Mark;
 use prop_map::PropMap;
 use run_lists::Run;
 use std::alloc::Global;
@@ -19,9 +19,20 @@ use std::mem;
 /// The bytes of a unit.
 pub(crate) const UNIT_LEN: u32 = 2;
 
+/// The runs of characters of a text that begins at `base`: the maximal ranges of equal settings.
+pub fn character_runs(alloc: Global, text: &Columns, base: u32) -> Result<ChpRuns, Memory>
+    requires { base + 2 * length text.now < 2 ^ 32 }
+    ensures { IfOk result (λ runs. runs ≡ text_runs PageKind.Chpx base text.now) }
+{
+    let len = text.len() as u32;
+    let mut runs = CharacterRuns::new(alloc, base);
+    runs.push_runs(alloc, text.chps(), base)?;
+    runs.finish(base + UNIT_LEN * len)
+}
+
 /// The runs of characters of a text so far. The last one may go on.
 #[derive(Drop)]
-pub struct CharacterRuns {
+pub(crate) struct CharacterRuns {
     closed: ChpRuns,
     /// Where the last run begins, and its settings. It is empty where no item came yet.
     from: u32,
@@ -30,7 +41,7 @@ pub struct CharacterRuns {
 
 impl CharacterRuns {
     /// No runs of a text that begins at `base`.
-    pub fn new(alloc: Global, base: u32) -> CharacterRuns
+    pub(crate) fn new(alloc: Global, base: u32) -> CharacterRuns
         ensures { AreCharactersSoFar base [] result }
     {
         CharacterRuns {
@@ -38,15 +49,6 @@ impl CharacterRuns {
             from: base,
             chp: PropMap::new(alloc),
         }
-    }
-
-    /// Goes on by an item, whose unit stands at `end`.
-    pub fn push(&mut self, alloc: Global, item: &Item, end: u32) -> Result<(), Memory>
-        ensures { OnOk result ((at : ℕ) (done : List TextItem) → end ≡ at + 2 * length done →
-            AreCharactersSoFar at done self.old → AreCharactersSoFar at (done ++ item.now ∷ []) self.new) }
-    {
-        self.push_run(alloc, &item.chp, 1, end)?;
-        Ok(())
     }
 
     /// Goes on by `count` items with these settings, the first of which has its unit at `end`.
@@ -94,7 +96,7 @@ impl CharacterRuns {
     }
 
     /// All runs of a text that ends at `end`.
-    pub fn finish(self, end: u32) -> Result<ChpRuns, Memory>
+    pub(crate) fn finish(self, end: u32) -> Result<ChpRuns, Memory>
         ensures { IfOk result (λ runs. (at : ℕ) (done : List TextItem) → end ≡ at + 2 * length done →
             AreCharactersSoFar at done self → runs ≡ text_runs PageKind.Chpx at done) }
     {

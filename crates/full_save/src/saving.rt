@@ -7,15 +7,17 @@ ghost use Rattle.plain_doc.specs.Formed.{IsFormed};
 ghost use Rattle.plain_doc.specs.RightDocument.{IsRightDocument};
 ghost use Rattle.full_save.specs.WordDocument.{full_fib};
 ghost use Rattle.full_save.specs.Made.{IsBodyOf};
+ghost use Rattle.full_save.specs.RunsSoFar.{IsTextOf};
 
 use crate::SaveFault;
-use crate::formed::columns_are_formed;
-use crate::made_parts::{column_table_len, write_column_table};
+use crate::lengths::{PageCounts, table_len_with, wd_len};
+use crate::made_parts::write_table;
 use crate::streams::{lengths_with, streams_with};
+use crate::text::{SavedText, text_of};
 use crate::word_document::WordBody;
 use cfb_layout::{LayoutFault, sectors_needed, whole};
 use doc_bits::{Bytes, Memory};
-use doc_columns::ColumnDocument;
+use doc_columns::{ColumnDocument, columns_are_formed};
 use fib_form::{Fib, Form, KeptFib, Pairs};
 use plain_doc::Document;
 use std::alloc::Global;
@@ -44,13 +46,10 @@ pub fn full_by_columns(alloc: Global, document: &ColumnDocument) -> Result<Bytes
         (IsTooLarge document.now) }
 {
     columns_are_formed(document);
-    let body = WordBody::of(alloc, document)?;
-    let sectors = sectors_with(alloc, document, &body)?;
-    if MAX_SECTORS < sectors {
-        return Err(SaveFault::TooLarge { sectors });
-    }
-    let file = file_of(alloc, document, &body)?;
-    Ok(file)
+    let text = text_of(alloc, document)?;
+    let file = file_with(alloc, document, &text);
+    drop(text);
+    file
 }
 
 /// The number of sectors that the full save of a document needs, whether it fits a file or not.
@@ -70,23 +69,42 @@ pub fn sectors_by_columns(alloc: Global, document: &ColumnDocument) -> Result<u6
     ensures { IfOk result (λ sectors. sectors ≡ sectors_of document.now) }
 {
     columns_are_formed(document);
-    let body = WordBody::of(alloc, document)?;
-    let sectors = sectors_with(alloc, document, &body)?;
-    Ok(sectors)
+    let text = text_of(alloc, document)?;
+    let sectors = sectors_with(alloc, document, &text);
+    drop(text);
+    sectors
 }
 
-/// The number of sectors of the full save around this WordDocument.
-fn sectors_with(alloc: Global, document: &ColumnDocument, body: &WordBody) -> Result<u64, Memory>
+/// The number of sectors of the full save with this text. Its streams are counted, and not made.
+fn sectors_with(alloc: Global, document: &ColumnDocument, text: &SavedText) -> Result<u64, Memory>
     requires formed { IsFormed document.now }
     requires right { IsRightDocument document.now }
-    requires body { IsBodyOf document.now body.now }
+    requires text { IsTextOf document.now text.now }
     ensures { IfOk result (λ sectors. sectors ≡ sectors_of document.now) }
 {
-    let table_len = column_table_len(alloc, document, &body.text)?;
-    let carried = &document.carried;
-    let lengths = lengths_with(alloc, &carried.streams, table_len, body.stream_len())?;
-    let sectors = sectors_needed(&lengths);
-    Ok(sectors)
+    let pages = PageCounts::of(text);
+    let table = table_len_with(alloc, document, pages)?;
+    let wd = wd_len(document, text.len, pages);
+    let lengths = lengths_with(alloc, &document.carried.streams, table, wd)?;
+    Ok(sectors_needed(&lengths))
+}
+
+/// The file of a document with this text. It is refused before a stream is made.
+fn file_with(alloc: Global, document: &ColumnDocument, text: &SavedText) -> Result<Bytes, SaveFault>
+    requires formed { IsFormed document.now }
+    requires right { IsRightDocument document.now }
+    requires text { IsTextOf document.now text.now }
+    ensures { MatchResult result
+        (λ file. (file ≡ full_save_image document.now) × FitsCompoundFile document.now)
+        (IsTooLarge document.now) }
+{
+    let sectors = sectors_with(alloc, document, text)?;
+    if MAX_SECTORS < sectors {
+        return Err(SaveFault::TooLarge { sectors });
+    }
+    let body = WordBody::of(alloc, document, text)?;
+    let file = file_of(alloc, document, &body)?;
+    Ok(file)
 }
 
 /// The file of a document that fits.
@@ -98,7 +116,7 @@ fn file_of(alloc: Global, document: &ColumnDocument, body: &WordBody) -> Result<
     ensures { MatchResult result (λ file. file ≡ full_save_image document.now) (IsTooLarge document.now) }
 {
     let carried = &document.carried;
-    let table = write_column_table(alloc, document, &body.text)?;
+    let table = write_table(alloc, document, &body.text)?;
     let fib = fib_of(document, body, &table.pairs);
     let wd = body.stream(alloc, &fib)?;
     let streams = streams_with(
@@ -131,9 +149,10 @@ pub fn table_len_by_columns(alloc: Global, document: &ColumnDocument) -> Result<
     ensures { IfOk result (λ len. len ≡ length (table_stream document.now)) }
 {
     columns_are_formed(document);
-    let body = WordBody::of(alloc, document)?;
-    let len = column_table_len(alloc, document, &body.text)?;
-    Ok(len)
+    let text = text_of(alloc, document)?;
+    let pages = PageCounts::of(&text);
+    drop(text);
+    table_len_with(alloc, document, pages)
 }
 
 /// The FIB of the full save, of the early form.

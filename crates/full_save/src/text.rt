@@ -1,4 +1,4 @@
-// The text of a document, as units and runs: the main text, the notes and the header texts, with the marks behind
+// The text of a document, as runs: the main text, the notes and the header texts, with the marks behind
 // stories.
 ghost use Rattle.std.specs.Prelude.{◌≡◌, ◌+◌, ◌^◌, ◌<◌, ◌≤◌, List, [], ◌∷◌, length, nat_lt, OnOk, IfOk};
 ghost use Rattle.plain_doc.specs.Collected.{joined_texts};
@@ -17,12 +17,10 @@ use std::alloc::Global;
 /// Where the text begins in `WordDocument`.
 pub(crate) const TEXT_AT: u32 = 1024;
 
-const PARAGRAPH_MARK: u16 = 0x0D;
-
-/// A text as units and runs, and the counts of its stories.
+/// How many units a text has, its runs, and the counts of its stories.
 #[derive(Drop)]
 pub(crate) struct SavedText {
-    pub(crate) units: Vec<u16>,
+    pub(crate) len: u32,
     pub(crate) characters: ChpRuns,
     pub(crate) paragraphs: PapRuns,
     pub(crate) counts: [u32; 3],
@@ -35,21 +33,21 @@ pub(crate) fn text_of(alloc: Global, document: &ColumnDocument) -> Result<SavedT
 {
     let mut text = TextSoFar::new(alloc);
     text.push_text(&document.main)?;
-    let main = text.len();
+    let main = text.len;
     text.push_story(&document.notes)?;
-    let notes = text.len() - main;
+    let notes = text.len - main;
     text.push_story(&document.heads)?;
-    let heads = text.len() - main - notes;
+    let heads = text.len - main - notes;
     text.mark_behind(main)?;
     let text = text.finish([main, notes, heads])?;
     Ok(text)
 }
 
-/// The units and the runs of a text so far.
+/// How many units a text has so far, and its runs.
 #[derive(Drop)]
 struct TextSoFar {
     alloc: Global,
-    units: Vec<u16>,
+    len: u32,
     characters: CharacterRuns,
     paragraphs: ParagraphRuns,
 }
@@ -61,40 +59,30 @@ impl TextSoFar {
     {
         TextSoFar {
             alloc,
-            units: Vec::new(alloc),
+            len: 0,
             characters: CharacterRuns::new(alloc, TEXT_AT),
             paragraphs: ParagraphRuns::new(alloc, TEXT_AT),
         }
     }
 
-    /// The number of units.
-    fn len(&self) -> u32
-        requires { length self.now.units.items < 2 ^ 30 }
-        ensures { result ≡ length self.now.units.items }
-    {
-        self.units.len() as u32
-    }
-
     /// Goes on by a text.
     fn push_text(&mut self, text: &Columns) -> Result<(), Memory>
-        requires { length self.old.units.items + length text.now < 2 ^ 30 }
+        requires { self.old.len + length text.now < 2 ^ 30 }
         ensures text { OnOk result (GoesOnBy text.now self.old self.new) }
-        ensures count { OnOk result
-            (length self.new.units.items ≡ length self.old.units.items + length text.now) }
+        ensures count { OnOk result (self.new.len ≡ self.old.len + length text.now) }
     {
-        let at = TEXT_AT + UNIT_LEN * self.len();
+        let at = TEXT_AT + UNIT_LEN * self.len;
         self.characters.push_runs(self.alloc, text.chps(), at)?;
         self.paragraphs.push_runs(self.alloc, text.besides(), at)?;
-        self.units.extend_from_slice(text.units())?;
+        self.len += text.len() as u32;
         Ok(())
     }
 
     /// Goes on by texts.
     fn push_texts(&mut self, texts: &ColumnTexts) -> Result<(), Memory>
-        requires { length self.old.units.items + length (joined_texts texts.now) < 2 ^ 30 }
+        requires { self.old.len + length (joined_texts texts.now) < 2 ^ 30 }
         ensures text { OnOk result (GoesOnBy (joined_texts texts.now) self.old self.new) }
-        ensures count { OnOk result
-            (length self.new.units.items ≡ length self.old.units.items + length (joined_texts texts.now)) }
+        ensures count { OnOk result (self.new.len ≡ self.old.len + length (joined_texts texts.now)) }
     {
         for k in 0..texts.len() {
             self.push_text(texts.get(k))?;
@@ -104,12 +92,11 @@ impl TextSoFar {
 
     /// Goes on by the texts of a story, and a mark behind them where they have items.
     fn push_story(&mut self, texts: &ColumnTexts) -> Result<(), Memory>
-        requires { length self.old.units.items + length (joined_texts texts.now) + 1 < 2 ^ 30 }
+        requires { self.old.len + length (joined_texts texts.now) + 1 < 2 ^ 30 }
         ensures text { OnOk result (GoesOnBy (with_mark (joined_texts texts.now)) self.old self.new) }
-        ensures count { OnOk result
-            (length self.new.units.items ≡ length self.old.units.items + length (with_mark (joined_texts texts.now))) }
+        ensures count { OnOk result (self.new.len ≡ self.old.len + length (with_mark (joined_texts texts.now))) }
     {
-        let before = self.len();
+        let before = self.len;
         self.push_texts(texts)?;
         self.mark_behind(before)?;
         Ok(())
@@ -117,14 +104,11 @@ impl TextSoFar {
 
     /// Goes on by a mark where units came behind the first `before`.
     fn mark_behind(&mut self, before: u32) -> Result<(), Memory>
-        requires { length self.old.units.items + 1 < 2 ^ 30 }
-        ensures text { OnOk result
-            (GoesOnBy (mark_if (nat_lt before (length self.old.units.items))) self.old self.new) }
-        ensures count { OnOk result
-            (length self.new.units.items
-            ≡ length self.old.units.items + length (mark_if (nat_lt before (length self.old.units.items)))) }
+        requires { self.old.len + 1 < 2 ^ 30 }
+        ensures text { OnOk result (GoesOnBy (mark_if (nat_lt before self.old.len)) self.old self.new) }
+        ensures count { OnOk result (self.new.len ≡ self.old.len + length (mark_if (nat_lt before self.old.len))) }
     {
-        if before < self.len() {
+        if before < self.len {
             self.push_mark()?;
             return Ok(());
         }
@@ -133,33 +117,33 @@ impl TextSoFar {
 
     /// Goes on by a mark of style 0 without settings.
     fn push_mark(&mut self) -> Result<(), Memory>
-        requires { length self.old.units.items + 1 < 2 ^ 30 }
+        requires { self.old.len + 1 < 2 ^ 30 }
         ensures text { OnOk result (GoesOnBy (extra_mark ∷ []) self.old self.new) }
-        ensures count { OnOk result (length self.new.units.items ≡ length self.old.units.items + 1) }
+        ensures count { OnOk result (self.new.len ≡ self.old.len + 1) }
     {
-        let at = TEXT_AT + UNIT_LEN * self.len();
+        let at = TEXT_AT + UNIT_LEN * self.len;
         let none = PropMap::new(self.alloc);
         self.characters.push_run(self.alloc, &none, 1, at)?;
         let mark = Mark { istd: 0, pap: none };
         self.paragraphs.close(self.alloc, &mark, at + UNIT_LEN)?;
-        self.units.push(PARAGRAPH_MARK)?;
+        self.len += 1;
         Ok(())
     }
 
     /// The whole text, with its counts.
     fn finish(self, counts: [u32; 3]) -> Result<SavedText, Memory>
-        requires { length self.units.items < 2 ^ 30 }
+        requires { self.len < 2 ^ 30 }
         ensures { IfOk result (λ text. (done : List TextItem) → IsTextSoFar done self → IsWholeText done counts text) }
     {
-        let end = TEXT_AT + UNIT_LEN * self.len();
+        let end = TEXT_AT + UNIT_LEN * self.len;
         let TextSoFar {
             alloc,
-            units,
+            len,
             characters,
             paragraphs,
         } = self;
         Ok(SavedText {
-            units,
+            len,
             characters: characters.finish(end)?,
             paragraphs: paragraphs.finish(alloc, end)?,
             counts,

@@ -1,8 +1,10 @@
 // `WordDocument` of a full save.
-ghost use Rattle.std.specs.Prelude.{◌≡◌, ◌+◌, ◌-◌, ◌*◌, ◌^◌, ◌<◌, ◌≤◌, ◌++◌, max, length, replicate, OnOk, IfOk};
+ghost use Rattle.std.specs.Prelude.{◌≡◌, ◌+◌, ◌-◌, ◌*◌, ◌/◌, ◌^◌, ◌<◌, ◌≤◌, ◌++◌, max, length, replicate, OnOk, IfOk};
 ghost use Rattle.fib_form.specs.FibBytes.{written_fib};
 ghost use Rattle.cfb_layout.specs.Sectors.{units_for, filled, padded};
-ghost use Rattle.full_save.specs.WordDocument.{units_bytes, one_piece_clx, least_length};
+ghost use Rattle.full_save.specs.WordDocument.{units_bytes, items_bytes, text_bytes, one_piece_clx, least_length};
+ghost use Rattle.full_save.specs.Text.{mark_if, text_items, text_counts};
+ghost use Rattle.plain_doc.specs.Collected.{joined_texts};
 ghost use Rattle.plain_doc.specs.Formed.{IsFormed};
 ghost use Rattle.plain_doc.specs.RightDocument.{IsRightDocument};
 ghost use Rattle.full_save.specs.Made.{IsBodyOf};
@@ -12,16 +14,17 @@ use crate::pages::{append_chpx_pages, append_papx_pages, append_units};
 use crate::runs::UNIT_LEN;
 use crate::sections::append_sepxes;
 use crate::table_text::TableText;
-use crate::text::{SavedText, TEXT_AT, text_of};
+use crate::text::{SavedText, TEXT_AT};
 use doc_bits::{Bytes, Memory};
-use doc_columns::ColumnDocument;
+use doc_columns::{ColumnDocument, ColumnTexts};
 use fib_form::Fib;
 use fkp_pages::{Bins, PAGE_LEN, write_bin};
 use piece_table::PieceList;
 use std::alloc::Global;
+use text_codes::PARAGRAPH_MARK;
 
 /// The least length of the stream.
-const LEAST_LEN: usize = 4096;
+pub(crate) const LEAST_LEN: usize = 4096;
 
 /// `WordDocument` from the text on, and what the table stream says of it.
 #[derive(Drop)]
@@ -31,20 +34,8 @@ pub(crate) struct WordBody {
 }
 
 impl WordBody {
-    /// That of a document.
-    pub(crate) fn of(alloc: Global, document: &ColumnDocument) -> Result<WordBody, Memory>
-        requires formed { IsFormed document.now }
-        requires right { IsRightDocument document.now }
-        ensures { IfOk result (IsBodyOf document.now) }
-    {
-        let text = text_of(alloc, document)?;
-        let body = WordBody::of_text(alloc, document, &text);
-        drop(text);
-        body
-    }
-
     /// That of a document with this text.
-    fn of_text(
+    pub(crate) fn of(
         alloc: Global,
         document: &ColumnDocument,
         text: &SavedText,
@@ -54,10 +45,10 @@ impl WordBody {
         requires text { IsTextOf document.now text.now }
         ensures { IfOk result (IsBodyOf document.now) }
     {
-        let len = text.units.len() as u32;
+        let len = text.len;
         let end = TEXT_AT + UNIT_LEN * len;
         let mut bytes = Bytes::new(alloc);
-        append_text(&mut bytes, &text.units)?;
+        append_document(&mut bytes, document, text)?;
         let first = pages_for(end);
         let mut characters = Bins::new(alloc);
         let second = append_chpx_pages(
@@ -86,18 +77,6 @@ impl WordBody {
         ensures { result ≡ TEXT_AT + length self.now.bytes }
     {
         TEXT_AT + self.bytes.as_slice().len() as u32
-    }
-
-    /// The number of bytes of the stream.
-    pub(crate) fn stream_len(&self) -> u64
-        requires { length self.now.bytes < 2 ^ 31 }
-        ensures { result ≡ max (TEXT_AT + length self.now.bytes) least_length }
-    {
-        let len = TEXT_AT as u64 + self.bytes.as_slice().len() as u64;
-        if len < LEAST_LEN as u64 {
-            return LEAST_LEN as u64;
-        }
-        len
     }
 
     /// The stream with this FIB.
@@ -129,7 +108,72 @@ pub fn append_text(out: &mut Bytes, units: &[u16]) -> Result<(), Memory>
     ensures { OnOk result (out.new ≡ out.old ++ padded 512 0 (units_bytes units.now)) }
 {
     append_units(out, units)?;
-    let len = UNIT_LEN as usize * units.len();
+    push_fill(out, units.len())?;
+    Ok(())
+}
+
+/// Appends the text of a document, and zeros up to a page.
+fn append_document(
+    out: &mut Bytes,
+    document: &ColumnDocument,
+    text: &SavedText,
+) -> Result<(), Memory>
+    requires text { IsTextOf document.now text.now }
+    requires few { length (text_items document.now) < 2 ^ 30 }
+    ensures { OnOk result (out.new ≡ out.old ++ padded 512 0 (text_bytes document.now)) }
+{
+    append_stories(out, document, text.counts)?;
+    push_fill(out, text.len as usize)?;
+    Ok(())
+}
+
+/// Appends the units of the text of a document whose stories have these counts.
+fn append_stories(
+    out: &mut Bytes,
+    document: &ColumnDocument,
+    counts: [u32; 3],
+) -> Result<(), Memory>
+    requires counts { counts ≡ text_counts document.now }
+    requires few { length (text_items document.now) < 2 ^ 30 }
+    ensures { OnOk result (out.new ≡ out.old ++ text_bytes document.now) }
+{
+    let [_, notes, heads] = counts;
+    append_units(out, document.main.units())?;
+    append_story(out, &document.notes, notes > 0)?;
+    append_story(out, &document.heads, heads > 0)?;
+    append_mark(out, notes + heads > 0)?;
+    Ok(())
+}
+
+/// Appends the units of texts, and a mark behind them where they are to have one.
+fn append_story(out: &mut Bytes, texts: &ColumnTexts, marked: bool) -> Result<(), Memory>
+    ensures { OnOk result (out.new ≡ out.old ++ items_bytes (joined_texts texts.now ++ mark_if marked)) }
+{
+    for k in 0..texts.len() {
+        append_units(out, texts.get(k).units())?;
+    }
+    append_mark(out, marked)?;
+    Ok(())
+}
+
+/// Appends the unit of a mark, where there is to be one.
+fn append_mark(out: &mut Bytes, marked: bool) -> Result<(), Memory>
+    ensures { OnOk result (out.new ≡ out.old ++ items_bytes (mark_if marked)) }
+{
+    if marked {
+        append_units(out, &[PARAGRAPH_MARK])?;
+        return Ok(());
+    }
+    Ok(())
+}
+
+/// Appends the zeros that fill the last page behind so many units.
+fn push_fill(out: &mut Bytes, count: usize) -> Result<(), Memory>
+    requires { count < 2 ^ 31 }
+    ensures { OnOk result
+        (out.new ≡ out.old ++ replicate ((2 * count + 511) / 512 * 512 - 2 * count) 0) }
+{
+    let len = UNIT_LEN as usize * count;
     push_zeros(out, (len + (PAGE_LEN - 1)) / PAGE_LEN * PAGE_LEN - len)?;
     Ok(())
 }

@@ -1,34 +1,67 @@
-use Rattle.std.proofs.Common.{◌≡◌, ◌+◌, get_or, sym, ap, subst, ◌∙◌}
-use Rattle.std.specs.Prelude.{option_map}
+use Rattle.std.specs.Prelude.{slice_get}
+use Rattle.std.proofs.Common.{◌≡◌, ◌<◌, List, Some, length, refl, ap, sym, arith}
+use Rattle.std.proofs.lemmas.List.{length-map}
+use Rattle.std.proofs.lemmas.Option.{slice_get_read}
+use Rattle.run_lists.specs.declared.runs.Run.{Run}
+use Rattle.run_lists.proofs.SpreadLemmas.{extent-nil}
+use Rattle.plain_doc.specs.declared.item.Item.{Item}
+use Rattle.doc_columns.specs.declared.beside.Beside.{Beside}
 use Rattle.plain_doc.specs.Collected.{field_of}
-use Rattle.full_save.specs.Lists.{IsListedUpTo}
-use Rattle.full_save.proofs.ListLemmas.{listed_entry, listed_nothing, listed_all}
+use Rattle.full_save.specs.Lists.{field_entry}
+use Rattle.full_save.proofs.ListLemmas.{listed_all}
+use Rattle.full_save.proofs.ColumnLists.{run_inside, run_after, at_end, listed_begins}
 use Rattle.full_save.proofs.lists.add_fields.Goals as goal
-use Rattle.full_save.proofs.lists.add_fields.Goals.{in-Some+in_ok-add, in_default}
 
-pub loop-i-preserved : goal.loop-i-preserved
-loop-i-preserved c =
-    let items = c.args.items.now in
-    let item = c.index-items-i.result in
-    let is_item : get_or items c.loop-i.i item ≡ item = sym c.index-items-i.is in
-    let field = ap field_of is_item in
-    elim c.match-item.branch [
-      | in-Some+in_ok-add w ↦
-          listed_entry field_of (λ e. record { cp = e.0; unit = e.1.0; byte = e.1.1 }) c.args.cp items c.loop-i.i item
-          (item.unit, w.in-Some.byte) c.args.fields.now c.loop-i.fields c.match-item.fields c.loop-i-test.true
-          (field ∙ ap (option_map (λ byte. (item.unit, byte))) w.in-Some.is)
-          (w.fields-is ∙ w.in_ok-add.ensures.ok) c.loop-i.invariant
-      | in_default w ↦
-          subst
-          (λ fields. IsListedUpTo field_of (λ e. record { cp = e.0; unit = e.1.0; byte = e.1.1 }) c.args.cp items
-          (c.loop-i.i + 1) c.args.fields.now fields) (sym w.fields-is)
-          (listed_nothing field_of (λ e. record { cp = e.0; unit = e.1.0; byte = e.1.1 }) c.args.cp items c.loop-i.i
-          item
-          c.args.fields.now c.loop-i.fields c.loop-i-test.true
-          (field ∙ ap (option_map (λ byte. (item.unit, byte))) w.in_default.is) c.loop-i.invariant)
-    ]
+pub loop-run-init : goal.loop-run-init
+loop-run-init c =
+    (sym (extent-nil Beside), listed_begins field_of field_entry c.args.cp c.args.text.now c.args.fields.now)
+
+pub overflow_add-place : goal.overflow_add-place
+overflow_add-place c =
+    let runs : List (Run Beside) = c.besides-run-items.result.now in
+    let run : Run Beside = c.run-item.result in
+    let below : c.loop-run.run-index < length runs = omega arith in
+    let is : slice_get runs c.loop-run.run-index ≡ Some run =
+    slice_get_read runs (length runs) c.loop-run.run-index run refl below c.run-item.is in
+    let alike = run_inside c.args.text.now runs c.loop-run.run-index c.loop-run.place run c.besides-run-items.ensures is
+    c.loop-run.invariant.0 in
+    let within = alike.within in
+    let room = c.requires in
+    omega (arith, within, room)
+
+pub add_field_run-requires-clause-within : goal.add_field_run-requires-clause-within
+add_field_run-requires-clause-within c =
+    let runs : List (Run Beside) = c.besides-run-items.result.now in
+    let run : Run Beside = c.run-item.result in
+    let below : c.loop-run.run-index < length runs = omega arith in
+    let is : slice_get runs c.loop-run.run-index ≡ Some run =
+    slice_get_read runs (length runs) c.loop-run.run-index run refl below c.run-item.is in
+    let alike = run_inside c.args.text.now runs c.loop-run.run-index c.loop-run.place run c.besides-run-items.ensures is
+    c.loop-run.invariant.0 in
+    let within = alike.within in
+    omega (arith, within, ap length c.units-units.ensures, length-map c.args.text.now (λ (item : Item). item.unit))
+
+pub add_field_run-requires-clause-room : goal.add_field_run-requires-clause-room
+add_field_run-requires-clause-room c =
+    let room = c.requires in
+    omega (arith, room, ap length c.units-units.ensures, length-map c.args.text.now (λ (item : Item). item.unit))
+
+pub loop-run-preserved : goal.loop-run-preserved
+loop-run-preserved c =
+    let runs : List (Run Beside) = c.besides-run-items.result.now in
+    let run : Run Beside = c.run-item.result in
+    let below : c.loop-run.run-index < length runs = omega arith in
+    let is : slice_get runs c.loop-run.run-index ≡ Some run =
+    slice_get_read runs (length runs) c.loop-run.run-index run refl below c.run-item.is in
+    let alike = run_inside c.args.text.now runs c.loop-run.run-index c.loop-run.place run c.besides-run-items.ensures is
+    c.loop-run.invariant.0 in (
+      run_after runs c.loop-run.run-index c.loop-run.place run is c.loop-run.invariant.0,
+      c.in_ok-add_field_run.ensures c.args.text.now c.args.fields.now c.units-units.ensures alike
+          c.loop-run.invariant.1,
+    )
 
 pub returns : goal.returns
 returns c =
-    listed_all field_of (λ e. record { cp = e.0; unit = e.1.0; byte = e.1.1 }) c.args.cp c.args.items.now c.loop-i.i
-    c.args.fields.now c.loop-i.fields c.loop-i-test.false c.loop-i.invariant
+    listed_all field_of field_entry c.args.cp c.args.text.now c.loop-run.place c.args.fields.now c.loop-run.fields
+    (at_end c.args.text.now c.besides-run-items.result.now c.loop-run.run-index c.loop-run.place
+    c.besides-run-items.ensures (omega arith) c.loop-run.invariant.0) c.loop-run.invariant.1

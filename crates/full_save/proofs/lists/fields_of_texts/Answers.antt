@@ -11,7 +11,6 @@ add_fields-requires c =
     let low : c.loop-k.k < length texts = let test = c.loop-k-test.true in omega arith in
     let here = get_or_from_slice_get texts c.loop-k.k c.get-text.result.now [] c.get-text.ensures in
     let size = ap length here in
-    let same = ap length c.as_slice.ensures.items in
     let fits = text_fits texts c.loop-k.k c.loop-k.cp low c.loop-k.invariant.0 in
     let small = c.requires in
     omega arith
@@ -37,7 +36,7 @@ loop-k-preserved c =
     let low : k < length texts = let test = c.loop-k-test.true in omega arith in
     let here = get_or_from_slice_get texts k c.get-text.result.now [] c.get-text.ensures in
     let size : length (get_or texts k []) ≡ c.len.result = ap length here ∙ sym c.len.ensures.len in
-    let items = c.as_slice.ensures.items ∙ sym here in
+    let items = sym here in
     let more = c.in_ok-add_fields.ensures ∙ ap (λ xs. c.loop-k.fields ++ fields_from cp xs) items in (
       subst (λ n. IsAtText texts (k + 1) (cp + n)) size (at_next texts k cp low c.loop-k.invariant.0),
       subst (λ n. HasFieldsUpTo texts (k + 1) (cp + n) c.add_fields.new.fields) size

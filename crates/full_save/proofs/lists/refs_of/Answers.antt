@@ -1,40 +1,62 @@
-use Rattle.std.proofs.Common.{◌≡◌, ◌+◌, ◌++◌, ℕ, Bool, [], ◌∷◌, get_or, sym, ap, subst, ◌∙◌, arith}
+use Rattle.std.specs.Prelude.{slice_get}
+use Rattle.std.proofs.Common.{◌≡◌, ◌<◌, List, [], Some, length, refl, sym, subst, arith}
+use Rattle.std.proofs.lemmas.Option.{slice_get_read}
+use Rattle.run_lists.specs.declared.runs.Run.{Run}
+use Rattle.run_lists.proofs.SpreadLemmas.{extent-nil}
 use Rattle.plain_doc.specs.declared.item.Item.{Item}
-use Rattle.plain_doc.specs.declared.item.NoteKind.{NoteKind}
-use Rattle.plain_doc.specs.Collected.{is_auto}
+use Rattle.doc_columns.specs.declared.beside.Beside.{Beside}
 use Rattle.doc_parts.specs.declared.lists.NoteRef.{NoteRef}
-use Rattle.full_save.specs.Lists.{IsListedUpTo}
-use Rattle.full_save.proofs.ListLemmas.{listed_entry, listed_nothing, listed_all}
+use Rattle.full_save.specs.Lists.{IsListedUpTo, ref_entry}
+use Rattle.full_save.proofs.ListLemmas.{listed_all}
+use Rattle.full_save.proofs.ColumnLists.{run_inside, run_after, at_end, listed_begins}
 use Rattle.full_save.proofs.lists.refs_of.Goals as goal
-use Rattle.full_save.proofs.lists.refs_of.Goals.{in-Some+in_ok-add, in_default}
 
-abbrev entry : ℕ × NoteKind → NoteRef
-entry e = record { cp = e.0; auto = is_auto e.1 }
+pub loop-run-init : goal.loop-run-init
+loop-run-init c = (
+  sym (extent-nil Beside),
+  subst (λ (refs : List NoteRef). IsListedUpTo (λ (item : Item). item.note) ref_entry 0 c.args.main.now 0 [] refs)
+      (sym c.new-refs.ensures) (listed_begins (λ (item : Item). item.note) ref_entry 0 c.args.main.now []),
+)
 
-pub loop-cp-preserved : goal.loop-cp-preserved
-loop-cp-preserved c =
-    let main = c.args.main.now in
-    let item = c.index-main-cp.result in
-    let is_item : get_or main c.loop-cp.cp item ≡ item = sym c.index-main-cp.is in
-    let note = ap (λ (i : Item). i.note) is_item in
-    let from_zero : c.loop-cp.cp ≡ 0 + c.loop-cp.cp = omega arith in
-    elim c.match-item.branch [
-      | in-Some+in_ok-add w ↦
-          listed_entry (λ item. item.note) entry 0 main c.loop-cp.cp item w.in-Some.kind [] c.loop-cp.refs
-          c.match-item.refs c.loop-cp-test.true (note ∙ w.in-Some.is)
-          (w.refs-is ∙ (w.in_ok-add.ensures.ok ∙ ap (λ (b : Bool). c.loop-cp.refs ++ (record {
-            cp = c.loop-cp.cp;
-            auto = b;
-          }) ∷ []) w.is_auto.ensures
-          ∙ ap (λ (n : ℕ). c.loop-cp.refs ++ (record { cp = n; auto = is_auto w.in-Some.kind }) ∷ []) from_zero))
-          c.loop-cp.invariant
-      | in_default w ↦
-          subst (λ refs. IsListedUpTo (λ item. item.note) entry 0 main (c.loop-cp.cp + 1) [] refs) (sym w.refs-is)
-          (listed_nothing (λ item. item.note) entry 0 main c.loop-cp.cp item [] c.loop-cp.refs c.loop-cp-test.true
-          (note ∙ w.in_default.is) c.loop-cp.invariant)
-    ]
+pub overflow_add-place : goal.overflow_add-place
+overflow_add-place c =
+    let runs : List (Run Beside) = c.besides-run-items.result.now in
+    let run : Run Beside = c.run-item.result in
+    let below : c.loop-run.run-index < length runs = omega arith in
+    let is : slice_get runs c.loop-run.run-index ≡ Some run =
+    slice_get_read runs (length runs) c.loop-run.run-index run refl below c.run-item.is in
+    let alike = run_inside c.args.main.now runs c.loop-run.run-index c.loop-run.place run c.besides-run-items.ensures is
+    c.loop-run.invariant.0 in
+    let within = alike.within in
+    omega (arith, within, c.len-len.ensures.formed.few)
+
+pub add_ref_run-requires : goal.add_ref_run-requires
+add_ref_run-requires c =
+    let runs : List (Run Beside) = c.besides-run-items.result.now in
+    let run : Run Beside = c.run-item.result in
+    let below : c.loop-run.run-index < length runs = omega arith in
+    let is : slice_get runs c.loop-run.run-index ≡ Some run =
+    slice_get_read runs (length runs) c.loop-run.run-index run refl below c.run-item.is in
+    let alike = run_inside c.args.main.now runs c.loop-run.run-index c.loop-run.place run c.besides-run-items.ensures is
+    c.loop-run.invariant.0 in
+    let within = alike.within in
+    omega (arith, within, c.len-len.ensures.formed.few)
+
+pub loop-run-preserved : goal.loop-run-preserved
+loop-run-preserved c =
+    let runs : List (Run Beside) = c.besides-run-items.result.now in
+    let run : Run Beside = c.run-item.result in
+    let below : c.loop-run.run-index < length runs = omega arith in
+    let is : slice_get runs c.loop-run.run-index ≡ Some run =
+    slice_get_read runs (length runs) c.loop-run.run-index run refl below c.run-item.is in
+    let alike = run_inside c.args.main.now runs c.loop-run.run-index c.loop-run.place run c.besides-run-items.ensures is
+    c.loop-run.invariant.0 in (
+      run_after runs c.loop-run.run-index c.loop-run.place run is c.loop-run.invariant.0,
+      c.in_ok-add_ref_run.ensures c.args.main.now alike c.loop-run.invariant.1,
+    )
 
 pub returns : goal.returns
 returns c =
-    listed_all (λ item. item.note) (λ e. record { cp = e.0; auto = is_auto e.1 }) 0 c.args.main.now c.loop-cp.cp []
-    c.loop-cp.refs c.loop-cp-test.false c.loop-cp.invariant
+    listed_all (λ (item : Item). item.note) ref_entry 0 c.args.main.now c.loop-run.place [] c.loop-run.refs
+    (at_end c.args.main.now c.besides-run-items.result.now c.loop-run.run-index c.loop-run.place
+    c.besides-run-items.ensures (omega arith) c.loop-run.invariant.0) c.loop-run.invariant.1

@@ -1,8 +1,10 @@
-use Rattle.std.proofs.Common.{[]}
-use Rattle.plain_doc.specs.Collected.{is_auto}
-use Rattle.full_save.specs.Lists.{IsListedUpTo}
+use Rattle.std.specs.Prelude.{◌≡◌, [], take}
+use Rattle.run_lists.specs.Spread.{extent}
+use Rattle.plain_doc.specs.declared.item.Item.{Item}
+use Rattle.full_save.specs.Lists.{IsListedUpTo, ref_entry}
 use Rattle.full_save.proofs.lists.refs_of.Given as goal
 
-abbrev pub invariant-loop-cp : goal.invariant-loop-cp
-invariant-loop-cp l =
-    IsListedUpTo (λ item. item.note) (λ e. record { cp = e.0; auto = is_auto e.1 }) 0 l.main l.cp [] l.refs
+abbrev pub invariant-loop-run : goal.invariant-loop-run
+invariant-loop-run l =
+    (l.place ≡ extent (take l.run-index l.run-items)) × IsListedUpTo (λ (item : Item). item.note) ref_entry 0 l.fn.main
+    l.place [] l.refs

@@ -16,8 +16,8 @@ use Rattle.full_save.proofs.LayoutLemmas.{layout_are, fits_short, wd_of}
 use Rattle.full_save.proofs.MarkLengths.{fit_parts}
 use Rattle.full_save.proofs.saving.file_of.Goals as goal
 
-pub write_column_table-requires-clause-notes : goal.write_column_table-requires-clause-notes
-write_column_table-requires-clause-notes c =
+pub write_table-requires-clause-notes : goal.write_table-requires-clause-notes
+write_table-requires-clause-notes c =
     let d = c.args.document.now in
     let formed = c.requires.formed in
     let right = c.requires.right in
@@ -25,8 +25,8 @@ write_column_table-requires-clause-notes c =
     let n = few.notes in
     omega arith
 
-pub write_column_table-requires-clause-heads : goal.write_column_table-requires-clause-heads
-write_column_table-requires-clause-heads c =
+pub write_table-requires-clause-heads : goal.write_table-requires-clause-heads
+write_table-requires-clause-heads c =
     let d = c.args.document.now in
     let formed = c.requires.formed in
     let right = c.requires.right in
@@ -34,13 +34,13 @@ write_column_table-requires-clause-heads c =
     let n = few.heads in
     omega arith
 
-pub write_column_table-requires-clause-marks : goal.write_column_table-requires-clause-marks
-write_column_table-requires-clause-marks c =
+pub write_table-requires-clause-marks : goal.write_table-requires-clause-marks
+write_table-requires-clause-marks c =
     fit_parts c.args.document.now c.requires.right
 
-pub write_column_table-requires-clause-small : goal.write_column_table-requires-clause-small
+pub write_table-requires-clause-small : goal.write_table-requires-clause-small
 unfolding table_stream
-write_column_table-requires-clause-small c =
+write_table-requires-clause-small c =
     let d = c.args.document.now in
     let formed = c.requires.formed in
     let right = c.requires.right in

@@ -1,76 +1,52 @@
-use Rattle.std.proofs.Common.{◌≡◌, length, sum, ap, sym, ◌∙◌, arith}
+use Rattle.std.proofs.Common.{◌≡◌, sum, ap, sym, subst, List, ◌∙◌, arith}
+use Rattle.fkp_pages.specs.declared.kind.PageKind.TheVariants.{Chpx, Papx}
+use Rattle.fkp_pages.specs.declared.lists.Run.{Run}
+use Rattle.fkp_pages.specs.Runs.{AreRuns}
 use Rattle.cfb_layout.specs.Counts.{sectors_needed}
 use Rattle.cfb_layout.specs.Layout.{lengths_of}
-use Rattle.full_save.specs.declared.table_text.TableText.{TableText}
-use Rattle.full_save.specs.TableText.{table_entries}
-use Rattle.full_save.specs.TableStream.{entries_bytes}
-use Rattle.full_save.specs.WordDocument.{table_stream, wd_stream}
 use Rattle.plain_doc.specs.declared.document.Document.{Document}
+use Rattle.full_save.specs.WordDocument.{table_stream, wd_stream}
 use Rattle.full_save.specs.Streams.{saved_streams}
 use Rattle.full_save.specs.Layout.{layout_streams}
-use Rattle.full_save.proofs.TextLaidOut.{few_items}
-use Rattle.full_save.proofs.StreamLengths.{short_body, short_table}
-use Rattle.full_save.proofs.LayoutLemmas.{layout_are, total_short, length-wd_stream, body_stream}
-use Rattle.full_save.proofs.MarkLengths.{fit_parts}
+use Rattle.full_save.proofs.TextLaidOut.{few_items, runs_are}
+use Rattle.full_save.proofs.BodyLemmas.{length-units}
+use Rattle.full_save.proofs.LayoutLemmas.{layout_are, total_short}
+use Rattle.full_save.proofs.LengthLemmas.{runs_counted}
 use Rattle.full_save.proofs.saving.sectors_with.Goals as goal
 
-pub column_table_len-requires-clause-sheet : goal.column_table_len-requires-clause-sheet
-column_table_len-requires-clause-sheet c =
-    c.requires.right.writable
+pub of-pages-requires-clause-characters : goal.of-pages-requires-clause-characters
+of-pages-requires-clause-characters c =
+    subst (λ (runs : List Run). AreRuns Chpx runs) (sym c.requires.text.characters)
+    (runs_are Chpx c.args.document.now c.requires.formed c.requires.right).right
 
-pub column_table_len-requires-clause-notes : goal.column_table_len-requires-clause-notes
-column_table_len-requires-clause-notes c =
+pub of-pages-requires-clause-paragraphs : goal.of-pages-requires-clause-paragraphs
+of-pages-requires-clause-paragraphs c =
+    subst (λ (runs : List Run). AreRuns Papx runs) (sym c.requires.text.paragraphs)
+    (runs_are Papx c.args.document.now c.requires.formed c.requires.right).right
+
+pub table_len_with-requires-clause-pages : goal.table_len_with-requires-clause-pages
+table_len_with-requires-clause-pages c =
+    c.of-pages.ensures ∙ runs_counted c.args.document.now c.args.text.now c.requires.text
+
+pub wd_len-wd-requires-clause-pages : goal.wd_len-wd-requires-clause-pages
+wd_len-wd-requires-clause-pages c =
+    c.of-pages.ensures ∙ runs_counted c.args.document.now c.args.text.now c.requires.text
+
+pub wd_len-wd-requires-clause-units : goal.wd_len-wd-requires-clause-units
+wd_len-wd-requires-clause-units c =
+    let few = few_items c.args.document.now c.requires.right in
+    let units = length-units c.args.document.now c.args.text.now c.requires.text in
+    let all = few.all in
+    omega (arith, all, units)
+
+pub sectors_needed-requires : goal.sectors_needed-requires
+unfolding layout_streams
+sectors_needed-requires c =
     let d = c.args.document.now in
     let formed = c.requires.formed in
     let right = c.requires.right in
-    let few = few_items d right in
-    let n = few.notes in
-    omega arith
-
-pub column_table_len-requires-clause-heads : goal.column_table_len-requires-clause-heads
-column_table_len-requires-clause-heads c =
-    let d = c.args.document.now in
-    let formed = c.requires.formed in
-    let right = c.requires.right in
-    let few = few_items d right in
-    let n = few.heads in
-    omega arith
-
-pub column_table_len-requires-clause-marks : goal.column_table_len-requires-clause-marks
-column_table_len-requires-clause-marks c =
-    fit_parts c.args.document.now c.requires.right
-
-pub column_table_len-requires-clause-small : goal.column_table_len-requires-clause-small
-unfolding table_stream
-column_table_len-requires-clause-small c =
-    let d = c.args.document.now in
-    let formed = c.requires.formed in
-    let right = c.requires.right in
-    let table = ap (λ (t : TableText). length (entries_bytes (table_entries d t))) c.requires.body.text in
-    let short = short_table d formed right in
-    omega (arith, short, table)
-
-pub stream_len-requires : goal.stream_len-requires
-stream_len-requires c =
-    let d = c.args.document.now in
-    let formed = c.requires.formed in
-    let right = c.requires.right in
-    let short = short_body d formed right in
-    let same = ap length c.requires.body.bytes in
-    omega arith
-
-pub sectors_needed-sectors-requires : goal.sectors_needed-sectors-requires
-unfolding table_stream layout_streams
-sectors_needed-sectors-requires c =
-    let d = c.args.document.now in
-    let formed = c.requires.formed in
-    let right = c.requires.right in
-    let table = ap (λ (t : TableText). length (entries_bytes (table_entries d t))) c.requires.body.text in
-    let is_table : length (table_stream d) ≡ c.in_ok-table_len.table_len = sym (c.in_ok-table_len.ensures ∙ table) in
-    let is_wd : length (wd_stream d) ≡ c.stream_len.result =
-    length-wd_stream d ∙ sym (c.stream_len.ensures ∙ ap body_stream c.requires.body.bytes) in
     let are : c.in_ok-lengths.lengths.items ≡ lengths_of (layout_streams d) =
-    c.in_ok-lengths.ensures (table_stream d) (wd_stream d) is_table is_wd
+    c.in_ok-lengths.ensures (table_stream d) (wd_stream d) (sym c.in_ok-table.ensures) (sym c.wd_len-wd.ensures)
     ∙ ap (λ (x : Document). lengths_of (saved_streams (table_stream d) (wd_stream d) x.carried.streams))
     c.document.view_is in
     let total = total_short (layout_streams d) (layout_are d formed right).are in
@@ -78,17 +54,11 @@ sectors_needed-sectors-requires c =
     omega arith
 
 pub returns : goal.returns
-unfolding table_stream layout_streams
+unfolding layout_streams
 returns c =
     let d = c.args.document.now in
-    let formed = c.requires.formed in
-    let right = c.requires.right in
-    let table = ap (λ (t : TableText). length (entries_bytes (table_entries d t))) c.requires.body.text in
-    let is_table : length (table_stream d) ≡ c.in_ok-table_len.table_len = sym (c.in_ok-table_len.ensures ∙ table) in
-    let is_wd : length (wd_stream d) ≡ c.stream_len.result =
-    length-wd_stream d ∙ sym (c.stream_len.ensures ∙ ap body_stream c.requires.body.bytes) in
     let are : c.in_ok-lengths.lengths.items ≡ lengths_of (layout_streams d) =
-    c.in_ok-lengths.ensures (table_stream d) (wd_stream d) is_table is_wd
+    c.in_ok-lengths.ensures (table_stream d) (wd_stream d) (sym c.in_ok-table.ensures) (sym c.wd_len-wd.ensures)
     ∙ ap (λ (x : Document). lengths_of (saved_streams (table_stream d) (wd_stream d) x.carried.streams))
     c.document.view_is in
-    c.sectors_needed-sectors.ensures ∙ ap sectors_needed (c.deref.ensures.value ∙ are)
+    c.sectors_needed.ensures ∙ ap sectors_needed (c.deref.ensures.value ∙ are)

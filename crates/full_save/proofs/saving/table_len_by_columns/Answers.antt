@@ -1,60 +1,30 @@
-use Rattle.std.proofs.Common.{length, ap, ◌∙◌, arith}
+use Rattle.std.proofs.Common.{List, sym, subst, ◌∙◌}
+use Rattle.fkp_pages.specs.declared.kind.PageKind.TheVariants.{Chpx, Papx}
+use Rattle.fkp_pages.specs.declared.lists.Run.{Run}
+use Rattle.fkp_pages.specs.Runs.{AreRuns}
 use Rattle.plain_doc.proofs.RightLemmas.{sound_is_right}
-use Rattle.full_save.specs.declared.table_text.TableText.{TableText}
-use Rattle.full_save.specs.TableText.{table_entries}
-use Rattle.full_save.specs.TableStream.{entries_bytes}
-use Rattle.full_save.specs.WordDocument.{table_stream}
-use Rattle.full_save.proofs.TextLaidOut.{few_items}
-use Rattle.full_save.proofs.StreamLengths.{short_table}
-use Rattle.full_save.proofs.MarkLengths.{fit_parts}
+use Rattle.full_save.proofs.TextLaidOut.{few_items, runs_are}
+use Rattle.full_save.proofs.LengthLemmas.{runs_counted}
 use Rattle.full_save.proofs.saving.table_len_by_columns.Goals as goal
 
-pub of-requires-clause-right : goal.of-requires-clause-right
-of-requires-clause-right c =
-    sound_is_right c.args.document.now c.requires
+pub text_of-requires : goal.text_of-requires
+text_of-requires c = (few_items c.args.document.now (sound_is_right c.args.document.now c.requires)).all
 
-pub column_table_len-requires-clause-sheet : goal.column_table_len-requires-clause-sheet
-column_table_len-requires-clause-sheet c =
-    (sound_is_right c.args.document.now c.requires).writable
+pub of-pages-requires-clause-characters : goal.of-pages-requires-clause-characters
+of-pages-requires-clause-characters c =
+    let right = sound_is_right c.args.document.now c.requires in
+    subst (λ (runs : List Run). AreRuns Chpx runs) (sym c.in_ok-text.ensures.characters)
+    (runs_are Chpx c.args.document.now c.columns_are_formed.ensures right).right
 
-pub column_table_len-requires-clause-notes : goal.column_table_len-requires-clause-notes
-column_table_len-requires-clause-notes c =
-    let d = c.args.document.now in
-    let formed = c.columns_are_formed.ensures in
-    let right = sound_is_right d c.requires in
-    let few = few_items d right in
-    let n = few.notes in
-    omega arith
+pub of-pages-requires-clause-paragraphs : goal.of-pages-requires-clause-paragraphs
+of-pages-requires-clause-paragraphs c =
+    let right = sound_is_right c.args.document.now c.requires in
+    subst (λ (runs : List Run). AreRuns Papx runs) (sym c.in_ok-text.ensures.paragraphs)
+    (runs_are Papx c.args.document.now c.columns_are_formed.ensures right).right
 
-pub column_table_len-requires-clause-heads : goal.column_table_len-requires-clause-heads
-column_table_len-requires-clause-heads c =
-    let d = c.args.document.now in
-    let formed = c.columns_are_formed.ensures in
-    let right = sound_is_right d c.requires in
-    let few = few_items d right in
-    let n = few.heads in
-    omega arith
+pub table_len_with-requires-clause-right : goal.table_len_with-requires-clause-right
+table_len_with-requires-clause-right c = sound_is_right c.args.document.now c.requires
 
-pub column_table_len-requires-clause-marks : goal.column_table_len-requires-clause-marks
-column_table_len-requires-clause-marks c =
-    let d = c.args.document.now in
-    fit_parts d (sound_is_right d c.requires)
-
-pub column_table_len-requires-clause-small : goal.column_table_len-requires-clause-small
-unfolding table_stream
-column_table_len-requires-clause-small c =
-    let d = c.args.document.now in
-    let formed = c.columns_are_formed.ensures in
-    let right = sound_is_right d c.requires in
-    let table = ap (λ (t : TableText). length (entries_bytes (table_entries d t))) c.in_ok-body.ensures.text in
-    let short = short_table d formed right in
-    omega (arith, short, table)
-
-pub returns : goal.returns
-unfolding table_stream
-returns c =
-    let d = c.args.document.now in
-    let formed = c.columns_are_formed.ensures in
-    let right = sound_is_right d c.requires in
-    let table = ap (λ (t : TableText). length (entries_bytes (table_entries d t))) c.in_ok-body.ensures.text in
-    c.in_ok-len.ensures ∙ table
+pub table_len_with-requires-clause-pages : goal.table_len_with-requires-clause-pages
+table_len_with-requires-clause-pages c =
+    c.of-pages.ensures ∙ runs_counted c.args.document.now c.in_ok-text.text c.in_ok-text.ensures

@@ -13,7 +13,7 @@ returns c =
     let bytes = units_bytes units in
     let len : length bytes ≡ 2 * length units = omega (arith, length-table 2 units) in
     let fill : ℕ → List ℕ = λ n. replicate ((n + 511) / 512 * 512 - n) 0 in
-    c.in_ok-push_zeros.ensures
+    c.in_ok-push_fill.ensures
     ∙ (ap (λ (front : List ℕ). front ++ fill (2 * length units)) c.in_ok-append_units.ensures.ok
     ∙ (append_assoc c.args.out.now bytes (fill (2 * length units))
     ∙ ap (λ (n : ℕ). c.args.out.now ++ (bytes ++ fill n)) (sym len)))

@@ -1,7 +1,6 @@
-use Rattle.std.proofs.Common.{◌≡◌, ap, sym, ◌∙◌, get_or, Some, arith}
+use Rattle.std.proofs.Common.{◌≡◌, ap, sym, ◌∙◌, Some, arith}
 use Rattle.std.specs.Prelude.{slice_get}
 use Rattle.std.proofs.lemmas.Option.{slice_get-get_or}
-use Rattle.run_lists.specs.Spread.{extent}
 use Rattle.doc_columns.specs.Beside.{beside_of}
 use Rattle.doc_columns.specs.declared.beside.Beside.{Beside}
 use Rattle.full_save.proofs.AlikeLemmas.{alike_of}
@@ -47,7 +46,8 @@ loop-run-preserved c =
     let run = c.run-item.result in
     let here : slice_get c.args.runs.now c.loop-run.run-index ≡ Some run =
     slice_get-get_or c.args.runs.now c.loop-run.run-index run c.loop-run-test.true ∙ ap Some (sym c.run-item.is) in
-    walk_next AreParagraphsSoFar beside_of c.args.runs.now c.args.start c.loop-run.run-index c.loop-run.at run c.args.self.now
+    walk_next AreParagraphsSoFar beside_of c.args.runs.now c.args.start c.loop-run.run-index c.loop-run.at run
+    c.args.self.now
     c.loop-run.self c.push_run.new.self here
     (λ base done text place here alike so. c.in_ok-push_run.ensures base done text place here
     (alike_of beside_of (λ (b : Beside). b.mark) run.value text place run.count alike) so)
@@ -55,5 +55,6 @@ loop-run-preserved c =
 
 pub returns : goal.returns
 returns c =
-    walk_ends AreParagraphsSoFar beside_of c.args.runs.now c.args.start c.loop-run.run-index c.loop-run.at c.args.self.now c.loop-run.self
+    walk_ends AreParagraphsSoFar beside_of c.args.runs.now c.args.start c.loop-run.run-index
+    c.loop-run.at c.args.self.now c.loop-run.self
     c.loop-run-test.false c.loop-run.invariant

@@ -1,4 +1,4 @@
-use Rattle.std.proofs.Common.{◌≤◌, length, [], ap, sym, arith}
+use Rattle.std.proofs.Common.{◌≤◌, [], ap, sym, arith}
 use Rattle.std.specs.Prelude.{nat_lt}
 use Rattle.full_save.specs.Text.{mark_if}
 use Rattle.full_save.proofs.TextLemmas.{goes_on_none, goes_on_by, ltb_false}
@@ -7,8 +7,7 @@ use Rattle.full_save.proofs.text.TextSoFar.mark_behind.Goals as goal
 pub returns-clause-text : goal.returns-clause-text
 returns-clause-text c =
     let text = c.args.self.now in
-    let len = c.len.ensures in
-    let test = c.if-before-len.false in
-    let low : length text.units.items ≤ c.args.before = omega arith in
-    goes_on_by [] (mark_if (nat_lt c.args.before (length text.units.items))) text text
-    (ap mark_if (sym (ltb_false c.args.before (length text.units.items) low))) (goes_on_none text)
+    let test = c.if-before-self.false in
+    let low : text.len ≤ c.args.before = omega arith in
+    goes_on_by [] (mark_if (nat_lt c.args.before (text.len))) text text
+    (ap mark_if (sym (ltb_false c.args.before (text.len) low))) (goes_on_none text)

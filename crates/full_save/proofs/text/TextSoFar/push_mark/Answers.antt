@@ -1,5 +1,5 @@
-use Rattle.std.proofs.Common.{◌≡◌, ◌+◌, ◌*◌, ◌++◌, ◌∙◌, ℕ, List, [], ◌∷◌, Some, length, map, ap, sym, subst, refl, arith}
-use Rattle.std.proofs.lemmas.List.{map-append, length-map, length-append, append-nil}
+use Rattle.std.proofs.Common.{◌≡◌, ◌+◌, ◌*◌, ◌++◌, List, [], ◌∷◌, length, sym, subst, refl, arith}
+use Rattle.std.proofs.lemmas.List.{length-append, append-nil}
 use Rattle.std.specs.FinMap.{empty}
 use Rattle.prop_map.specs.Settings.{Settings}
 use Rattle.plain_doc.specs.declared.item.Item.{Item}
@@ -12,25 +12,20 @@ use Rattle.full_save.proofs.text.TextSoFar.push_mark.Goals as goal
 
 pub returns-clause-text : goal.returns-clause-text
 returns-clause-text c = λ done so.
-    let unit : Item → ℕ = λ item. item.unit in
     let chp : Item → Settings = λ item. item.chp in
-    let units = ap length so.units in
-    let len = c.len.ensures in
-    let end : 1024 + 2 * c.len.result ≡ text_at + 2 * (length done + 0) =
-    omega (arith, len, units, length-map done unit) in
-    let behind : 1024 + 2 * c.len.result + 2 ≡ text_at + 2 * length (done ++ extra_mark ∷ []) =
-    omega (arith, len, units, length-map done unit, length-append done (extra_mark ∷ [])) in
+    let long = so.long in
+    let end : 1024 + 2 * c.args.self.now.len ≡ text_at + 2 * (length done + 0) = omega (arith, long) in
+    let behind : 1024 + 2 * c.args.self.now.len + 2 ≡ text_at + 2 * length (done ++ extra_mark ∷ []) =
+    omega (arith, long, length-append done (extra_mark ∷ [])) in
     let runs = subst
-    (λ (value : Settings). CharactersGoOn value 1 (1024 + 2 * c.len.result) c.args.self.now.characters
+    (λ (value : Settings). CharactersGoOn value 1 (1024 + 2 * c.args.self.now.len) c.args.self.now.characters
     c.push_run.new.self) c.new-none.ensures c.in_ok-push_run.ensures in
     let mark : Mark = record { istd = 0; pap = empty } in
     let ends = subst
-    (λ (pap : Settings). ParagraphEnds (record { istd = 0; pap = pap }) (1024 + 2 * c.len.result + 2)
+    (λ (pap : Settings). ParagraphEnds (record { istd = 0; pap = pap }) (1024 + 2 * c.args.self.now.len + 2)
     c.args.self.now.paragraphs c.close.new.self) c.new-none.ensures c.in_ok-close.ensures in
     record {
-      units =
-          c.in_ok-push.ensures.items
-          ∙ (ap (λ (ns : List ℕ). ns ++ 13 ∷ []) so.units ∙ sym (map-append unit done (extra_mark ∷ [])));
+      long = omega (arith, long, length-append done (extra_mark ∷ []));
       characters =
           runs text_at done (extra_mark ∷ []) 0 end (alike_one chp extra_mark)
           (subst (λ (xs : List Item). AreCharactersSoFar text_at xs c.args.self.now.characters)

@@ -14,18 +14,17 @@ mark_behind-requires c = let small = c.requires in let count = c.in_ok-push_text
 
 -- whether a mark follows
 mark_is : (c : goal.In_ok-mark_behind) →
-    nat_lt c.len-before.result (length c.push_texts.new.self.units.items) ≡ nat_lt 0
+    nat_lt c.args.self.now.len c.push_texts.new.self.len ≡ nat_lt 0
     (length (joined_texts c.args.texts.now))
 mark_is c =
-    let old = length c.args.self.now.units.items in
-    ap (λ (n : ℕ). nat_lt n (length c.push_texts.new.self.units.items)) c.len-before.ensures
-    ∙ (ap (λ (n : ℕ). nat_lt old n) c.in_ok-push_texts.ensures.count
-    ∙ came_behind old (length (joined_texts c.args.texts.now)))
+    let old = c.args.self.now.len in
+    ap (λ (n : ℕ). nat_lt old n) c.in_ok-push_texts.ensures.count
+    ∙ came_behind old (length (joined_texts c.args.texts.now))
 
 pub returns-clause-text : goal.returns-clause-text
 returns-clause-text c =
     let items = joined_texts c.args.texts.now in
-    let mark = mark_if (nat_lt c.len-before.result (length c.push_texts.new.self.units.items)) in
+    let mark = mark_if (nat_lt c.args.self.now.len c.push_texts.new.self.len) in
     let same = ap (λ (b : Bool). items ++ mark_if b) (mark_is c) ∙ sym (with_mark_is items) in
     goes_on_by (items ++ mark) (with_mark items) c.args.self.now c.mark_behind.new.self same
     (goes_on_both items mark c.args.self.now c.push_texts.new.self c.mark_behind.new.self
@@ -34,7 +33,7 @@ returns-clause-text c =
 pub returns-clause-count : goal.returns-clause-count
 returns-clause-count c =
     let items = joined_texts c.args.texts.now in
-    let mark = mark_if (nat_lt c.len-before.result (length c.push_texts.new.self.units.items)) in
+    let mark = mark_if (nat_lt c.args.self.now.len c.push_texts.new.self.len) in
     let same = ap length (ap (λ (b : Bool). items ++ mark_if b) (mark_is c) ∙ sym (with_mark_is items)) in
     let first = c.in_ok-push_texts.ensures.count in
     let second = c.in_ok-mark_behind.ensures.count in
