@@ -3,21 +3,26 @@ use Rattle.std.proofs.Common.{◌≡◌, ◌∙◌, inl, inr, refl, sym, ap, sub
 use Rattle.std.proofs.Common.{cond, not, ◌||◌, List, [], ◌∷◌, ◌++◌, length, take, map, get_or, Some, arith}
 use Rattle.std.proofs.Common.{append_assoc}
 use Rattle.std.proofs.Math.Seq.{take-length}
-use Rattle.std.specs.Prelude.{All, slice_get}
+use Rattle.std.specs.Prelude.{All, slice_get, Result, Ok, Err}
+use Rattle.std.specs.Result.{is_ok}
 use Rattle.std.specs.List.{filter, count_by}
+use Rattle.std.specs.List.Sorted.{IsSorted, IsSearchInRange, IsBinarySearchResult}
+use Rattle.std.specs.Ordering.{nat_cmp, is_eq}
+use Rattle.std.specs.Cmp.Lexicographic.{slice_cmp}
 use Rattle.std.proofs.lemmas.Bool.{cases_lt, cases_Bool}
-use Rattle.std.proofs.lemmas.Bool.Decides.{nat_tests}
 use Rattle.std.proofs.lemmas.List.{take_more, map-append, length-map, append-nil}
 use Rattle.std.proofs.lemmas.List.Elements.{All-append, All-map, All-weaker, All-filter, filter_more}
 use Rattle.std.proofs.lemmas.List.Sums.{count_by-le-length, length-filter, sum_by-cons, sum_by-append}
+use Rattle.std.proofs.lemmas.Cmp.{nat_list_cmp_total}
+use Rattle.std.proofs.lemmas.List.Folds.{list_any_at, list_any_none}
+use Rattle.std.proofs.lemmas.List.Sorted.{searchable_from_sorted}
 use Rattle.std.proofs.lemmas.Option.{get_or_from_slice_get}
 use Rattle.doc_bits.specs.Rules.{Nowhere}
 use Rattle.doc_bits.proofs.ListLemmas.{there_is}
 use Rattle.doc_parts.specs.declared.bookmark_order.Bookmark.{Bookmark}
 use Rattle.doc_parts.specs.Order.{in_order}
-use Rattle.doc_parts.specs.Bookmarks.{bookmark_cmp, IsFormedBookmark, AreFormedBookmarks, end_moved, moved_bookmark}
-use Rattle.doc_parts.specs.Bookmarks.{moved_bookmarks}
-use Rattle.doc_parts.specs.Names.{is_named, AreApart, HasSameName}
+use Rattle.doc_parts.specs.Bookmarks.{bookmark_cmp, IsFormedBookmark, AreFormedBookmarks}
+use Rattle.doc_parts.specs.Names.{name_cmp, is_named, AreApart, HasSameName}
 use Rattle.doc_parts.proofs.BookmarkLemmas.{bookmark_total}
 use Rattle.doc_parts.proofs.OrderLemmas.{in_order_sorted, all_in_order, order_counted}
 use Rattle.doc_parts.proofs.NameLemmas.{named_is, one_named, apart_more, apart_less, apart_nowhere}
@@ -79,20 +84,24 @@ second_same len first second i bookmark old here within =
     sym (second_tested len first second i bookmark true old here within
     ∙ append-nil (bookmarks_from_second len first (take i second)))
 
--- ---- a splice of nothing
+-- ---- a name that is looked for
 
-unmoved_end : (p : ℕ) → end_moved 0 0 0 p ≡ p
-unmoved_end p = grind (arith, nat_tests)
+nobody : Bookmark
+nobody = record { name = []; from = 0; to = 0; flags = 0 }
 
-unmoved : (list : List Bookmark) → map (moved_bookmark 0 0 0) list ≡ list
-unmoved [] = refl
-unmoved (bookmark ∷ list) =
-    let from = unmoved_end bookmark.from in
-    let to = unmoved_end bookmark.to in
-    λ i. record { name = bookmark.name; from = from i; to = to i; flags = bookmark.flags } ∷ unmoved list i
-
-pub put_in_order : (list : List Bookmark) → moved_bookmarks 0 0 0 list ≡ in_order bookmark_cmp list
-put_in_order list = ap (in_order bookmark_cmp) (unmoved list)
+-- where names are in order, halving finds one that is there
+pub found_named : (list : List Bookmark) (name : List ℕ) (found : Result ℕ ℕ) (answer : Bool) → IsSorted name_cmp list →
+    IsSearchInRange found (length list) →
+    IsBinarySearchResult (λ (b : Bookmark). slice_cmp nat_cmp b.name name) list found →
+    answer ≡ is_ok found → answer ≡ has_name list name
+found_named list name (Ok k) answer sorted inside here is =
+    is ∙ sym (list_any_at (is_named name) list k nobody inside (ap is_eq (here nobody)))
+found_named list name (Err k) answer sorted inside here is =
+    let split = here (searchable_from_sorted nat_list_cmp_total (λ (b : Bookmark). b.name) list name sorted) in
+    is ∙ sym (list_any_none (is_named name) list (λ i d within. elim (cases_lt i k) [
+      | inl early ↦ ap is_eq (split.0 i d (omega arith) early)
+      | inr late ↦ ap is_eq (split.1 i d (omega (arith, late)) within)
+    ]))
 
 -- ---- their form
 

@@ -21,7 +21,8 @@ use Rattle.doc_join.specs.Laws.{JoinsKeepEffects}
 use Rattle.doc_join.proofs.PartLemmas.{IsSheetPart, first_part, second_part}
 use Rattle.doc_join.proofs.LayerLemmas.{character_moved, paragraph_moved}
 use Rattle.effective_props.specs.Effective.{IsEffectiveCharacter}
-use Rattle.doc_join.proofs.PlaceLemmas.{StandsIn, mark_stands, renumbered_stands, first_main, first_main_end, second_main}
+use Rattle.doc_join.proofs.PlaceLemmas.{StandsIn, mark_stands, renumbered_stands, first_main, first_main_end}
+use Rattle.doc_join.proofs.PlaceLemmas.{second_main}
 use Rattle.doc_join.proofs.PlaceLemmas.{first_main_stands, second_main_stands, first_text, second_text}
 
 -- ---- what is in effect at a place

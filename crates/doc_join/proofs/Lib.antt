@@ -1,6 +1,7 @@
 pub mod SettingLemmas
 pub mod SheetLemmas
 pub mod TextLemmas
+pub mod ColumnLemmas
 pub mod BookmarkLemmas
 pub mod SoundLemmas
 pub mod PartLemmas

@@ -1,9 +1,11 @@
 -- What two sound documents have that a join asks for.
-use Rattle.std.proofs.Common.{◌≡◌, ◌∙◌, inl, inr, refl, sym, ap, subst, ◌+◌, ◌-◌, ◌<◌, ◌≤◌, List, [], ◌∷◌, length}
+use Rattle.std.proofs.Common.{◌≡◌, ◌∙◌, inl, inr, refl, sym, ap, subst, ℕ, ◌+◌, ◌-◌, ◌^◌, ◌<◌, ◌≤◌, List, [], ◌∷◌}
+use Rattle.std.proofs.Common.{length}
 use Rattle.std.proofs.Common.{map, take}
 use Rattle.std.proofs.Common.{drop, get_or, Some, arith, length-append, length-take, length-drop}
-use Rattle.std.specs.Prelude.{is_some, Result, Ok, Err, MatchResult, IsOk}
+use Rattle.std.specs.Prelude.{All, is_some, Result, Ok, Err, MatchResult, IsOk}
 use Rattle.std.proofs.lemmas.List.{length-map}
+use Rattle.std.proofs.lemmas.List.Elements.{All-weaker}
 use Rattle.std.proofs.lemmas.List.Sums.{count_by-le-length}
 use Rattle.std.proofs.lemmas.Option.{slice_get-get_or, none-some}
 use Rattle.doc_bits.specs.Places.{rank}
@@ -12,7 +14,8 @@ use Rattle.doc_bits.specs.declared.places.Where.TheVariants.{Main, Note, Head}
 use Rattle.style_sheet.proofs.OneChainLemmas.{there}
 use Rattle.plain_doc.specs.declared.item.Item.{Item}
 use Rattle.plain_doc.specs.declared.document.Document.{Document}
-use Rattle.doc_parts.specs.Bookmarks.{AreFormedBookmarks}
+use Rattle.doc_parts.specs.declared.bookmark_order.Bookmark.{Bookmark}
+use Rattle.doc_parts.specs.Bookmarks.{IsFormedBookmark, AreFormedBookmarks}
 use Rattle.plain_doc.specs.Marks.{HasFormedBookmarks}
 use Rattle.plain_doc.specs.RightDocument.{IsRightDocument}
 use Rattle.plain_doc.specs.RulesOfTexts.{text_of, last_unit}
@@ -88,6 +91,27 @@ are_few document sound =
       heads = omega (arith, few, sections, right.heads);
       separators = omega (arith, right.heads);
       bookmarks = right.few_bookmarks;
+    }
+
+-- the bookmarks of a second document may stand behind a first main text
+pub record DoFit (before : ℕ) (list : List Bookmark) : Type 0 where
+  pub starts : All (λ bookmark. bookmark.from + before < 2 ^ 32) list
+  pub ends : All (λ bookmark. bookmark.to + before < 2 ^ 32) list
+
+pub bookmarks_fit : (first second : Document) (before : ℕ) → IsSound first → IsSound second →
+    before ≡ length first.main → DoFit before second.bookmarks
+bookmarks_fit first second before sound next_sound is =
+    let one = (are_few first sound).main in
+    let other = (are_few second next_sound).main in
+    let each = next_sound.bookmarks.each in
+    record {
+      starts =
+          All-weaker (IsFormedBookmark (length second.main)) (λ bookmark. bookmark.from + before < 2 ^ 32)
+          (λ bookmark formed. let low = formed.ordered in let high = formed.within in
+          omega (arith, low, high, one, other, is)) second.bookmarks each;
+      ends =
+          All-weaker (IsFormedBookmark (length second.main)) (λ bookmark. bookmark.to + before < 2 ^ 32)
+          (λ bookmark formed. let high = formed.within in omega (arith, high, one, other, is)) second.bookmarks each;
     }
 
 -- ---- the bookmarks are formed

@@ -1,4 +1,4 @@
--- The texts of a joined document: what their maps may hold, one item more, and the end of the first main text.
+-- The texts of a joined document: what their maps may hold, and one text more.
 use Rattle.std.proofs.Common.{◌≡◌, ◌∙◌, refl, sym, ap, subst, ℕ, suc, ◌+◌, ◌-◌, ◌<◌, ◌≤◌, List, [], ◌∷◌, ◌++◌}
 use Rattle.std.proofs.Common.{length, take, drop, map, get_or, Option, Some, None, option_map, arith, append_assoc}
 use Rattle.std.proofs.Common.{length-drop, is_some}
@@ -54,38 +54,10 @@ pub formed_maps : (numbers : Renumbering) (text : List Item) → IsFormedText te
 formed_maps numbers text formed =
     text_maps numbers text (All-weaker IsFormedItem HasPropertyMaps (λ item is. is.maps) text formed.each)
 
-ended_maps : (item : Item) → HasPropertyMaps item → HasPropertyMaps (ending_section item)
+pub ended_maps : (item : Item) → HasPropertyMaps item → HasPropertyMaps (ending_section item)
 ended_maps item maps = record { chp = maps.chp; pap = maps.pap; sect = maps.sect }
 
-section_maps : (text : List Item) → All HasPropertyMaps text → All HasPropertyMaps (section_ended text)
-section_maps text maps =
-    let last = length text - 1 in
-    All-append HasPropertyMaps (take last text) (map ending_section (drop last text))
-    (All-take HasPropertyMaps last text maps)
-    (All-map HasPropertyMaps ending_section (drop last text)
-    (All-weaker HasPropertyMaps (λ item. HasPropertyMaps (ending_section item)) ended_maps (drop last text)
-    (All-drop HasPropertyMaps last text maps)))
-
-pub main_maps : (ones others : Renumbering) (first second : List Item) → IsFormedText first → IsFormedText second →
-    All HasPropertyMaps (joined_main ones first others second)
-main_maps ones others first second formed next_formed =
-    All-append HasPropertyMaps (section_ended (renumbered_text ones first)) (renumbered_text others second)
-    (section_maps (renumbered_text ones first) (formed_maps ones first formed))
-    (formed_maps others second next_formed)
-
--- ---- one item more, and one text more
-
-pub items_more : (numbers : Renumbering) (items : List Item) (i : ℕ) (item : Item) (front : List Item) →
-    slice_get items i ≡ Some item → i < length items →
-    (front ++ renumbered_text numbers (take i items)) ++ renumbered_item numbers item ∷ []
-    ≡ front ++ renumbered_text numbers (take (i + 1) items)
-items_more numbers items i item front here within =
-    let f = renumbered_item numbers in
-    append_assoc front (map f (take i items)) (f item ∷ [])
-    ∙ ap (λ text. front ++ text)
-    (sym (ap (map f) (take_more items i item within)
-    ∙ (map-append f (take i items) (get_or items i item ∷ [])
-    ∙ ap (λ x. map f (take i items) ++ f x ∷ []) (get_or_from_slice_get items i item item here))))
+-- ---- one text more
 
 -- a range with one entry more
 pub range_more : {A : Type 0} (xs : List A) (from i : ℕ) (x : A) → slice_get xs i ≡ Some x → i < length xs → from ≤ i →

@@ -21,9 +21,9 @@ IsJoinFault first second (Unsound rule place at) =
     × NamesFirstRule (document_rules (document_join first second)) (record { rule = rule; place = place; at = at })
 IsJoinFault first second Memory = ⊤
 
--- the fault is the first rule that the document breaks
+-- the fault is the first rule that the document breaks; want of memory is free
 abbrev pub IsUnsound : Document → JoinFault → Type 0
 IsUnsound document (Styles slots) = ⊥
 IsUnsound document (Unsound rule place at) =
     NamesFirstRule (document_rules document) (record { rule = rule; place = place; at = at })
-IsUnsound document Memory = ⊥
+IsUnsound document Memory = ⊤

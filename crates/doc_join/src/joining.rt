@@ -13,14 +13,59 @@ use crate::renumbering::Renumbering;
 use crate::sheets::join_sheets;
 use crate::texts::{join_main, join_texts};
 use doc_bits::Memory;
+use doc_columns::{ColumnDocument, is_sound};
 use plain_doc::{DocFault, Document, SEPARATORS, check};
 use std::alloc::Global;
 
 /// [MS-DOC] Stshif: the most slots of a sheet.
 const MOST_SLOTS: usize = 4_094;
 
-/// The first document and then the second, where their styles fit one sheet and what they make is sound.
+/// The first document and then the second, where their styles fit one sheet and what they make is sound. Both are put
+/// by columns first.
 pub fn join(alloc: Global, a: &Document, b: &Document) -> Result<Document, JoinFault>
+    requires first { IsSound a.now }
+    requires second { IsSound b.now }
+    ensures { MatchResult result (IsJoined a.now b.now) (IsJoinFault a.now b.now) }
+{
+    let first = ColumnDocument::from_document(alloc, a)?;
+    let made = join_behind(alloc, &first, b);
+    drop(first);
+    made
+}
+
+/// The same where the first is there by columns.
+fn join_behind(alloc: Global, a: &ColumnDocument, b: &Document) -> Result<Document, JoinFault>
+    requires first { IsSound a.now }
+    requires second { IsSound b.now }
+    ensures { MatchResult result (IsJoined a.now b.now) (IsJoinFault a.now b.now) }
+{
+    let second = ColumnDocument::from_document(alloc, b)?;
+    let made = joined_items(alloc, a, &second);
+    drop(second);
+    made
+}
+
+/// The same where both are.
+fn joined_items(
+    alloc: Global,
+    a: &ColumnDocument,
+    b: &ColumnDocument,
+) -> Result<Document, JoinFault>
+    requires first { IsSound a.now }
+    requires second { IsSound b.now }
+    ensures { MatchResult result (IsJoined a.now b.now) (IsJoinFault a.now b.now) }
+{
+    let made = columns_join(alloc, a, b)?;
+    let items = made.expand(alloc)?;
+    Ok(items)
+}
+
+/// The same of documents by columns.
+pub fn columns_join(
+    alloc: Global,
+    a: &ColumnDocument,
+    b: &ColumnDocument,
+) -> Result<ColumnDocument, JoinFault>
     requires first { IsSound a.now }
     requires second { IsSound b.now }
     ensures { MatchResult result (IsJoined a.now b.now) (IsJoinFault a.now b.now) }
@@ -32,12 +77,12 @@ pub fn join(alloc: Global, a: &Document, b: &Document) -> Result<Document, JoinF
         });
     }
     let made = joined(alloc, a, b)?;
-    let verdict = judged(&made);
+    let verdict = judged(alloc, &made);
     where_right(made, verdict)
 }
 
 /// The joined document, sound or not.
-fn joined(alloc: Global, a: &Document, b: &Document) -> Result<Document, Memory>
+fn joined(alloc: Global, a: &ColumnDocument, b: &ColumnDocument) -> Result<ColumnDocument, Memory>
     requires first { IsSound a.now }
     requires second { IsSound b.now }
     requires fits { slots_together a.now b.now ≤ most_slots }
@@ -58,7 +103,7 @@ fn joined(alloc: Global, a: &Document, b: &Document) -> Result<Document, Memory>
             slots: b.sheet.slots() as u16,
         },
     );
-    Ok(Document {
+    Ok(ColumnDocument {
         main: join_main(alloc, &a.main, &mut ones, &b.main, &mut others)?,
         notes: join_texts(alloc, 0, &a.notes, &mut ones, &b.notes, &mut others)?,
         heads: join_texts(
@@ -71,18 +116,24 @@ fn joined(alloc: Global, a: &Document, b: &Document) -> Result<Document, Memory>
         )?,
         sheet: join_sheets(alloc, &a.sheet, &mut ones, &b.sheet, &mut others)?,
         carried: a.carried.copy(alloc)?,
-        bookmarks: join_bookmarks(
-            alloc,
-            &a.bookmarks,
-            a.main.len(),
-            &b.bookmarks,
-            b.main.len(),
-        )?,
+        bookmarks: join_bookmarks(alloc, &a.bookmarks, a.main.len(), &b.bookmarks)?,
     })
 }
 
-/// Whether a document is sound, or its first broken rule.
-fn judged(made: &Document) -> Result<(), JoinFault>
+/// Whether a document is sound, or its first broken rule. Where its columns do not tell, its items are put one by one.
+fn judged(alloc: Global, made: &ColumnDocument) -> Result<(), JoinFault>
+    requires { HasFormedBookmarks made.now }
+    ensures { MatchResult result (λ _. IsSound made.now) (IsUnsound made.now) }
+{
+    if is_sound(alloc, made)? {
+        return Ok(());
+    }
+    let items = made.expand(alloc)?;
+    judged_by_items(&items)
+}
+
+/// The same of a document item by item.
+fn judged_by_items(made: &Document) -> Result<(), JoinFault>
     requires { HasFormedBookmarks made.now }
     ensures { MatchResult result (λ _. IsSound made.now) (IsUnsound made.now) }
 {

@@ -1,58 +1,85 @@
 // The bookmarks of a joined document.
-ghost use Rattle.std.specs.Prelude.{◌≡◌, ◌+◌, ◌^◌, ◌<◌, ◌≤◌, length, All, IfOk, OnOk};
-ghost use Rattle.doc_parts.specs.Bookmarks.{IsFormedBookmark};
+ghost use Rattle.std.specs.Prelude.{◌≡◌, ◌+◌, ◌^◌, ◌<◌, length, All, IfOk};
+ghost use Rattle.std.specs.Cmp.Lexicographic.{slice_cmp};
+ghost use Rattle.std.specs.List.Sorted.{IsSorted, IsPermutation};
+ghost use Rattle.std.specs.Ordering.{nat_cmp};
+ghost use Rattle.doc_parts.specs.Names.{name_cmp};
 ghost use Rattle.doc_join.specs.Bookmarks.{bookmark_behind, has_name, joined_bookmarks};
 
-use doc_bits::{Memory, Units};
-use doc_parts::{Bookmark, Bookmarks};
+use doc_bits::Memory;
+use doc_parts::{Bookmark, Bookmarks, sort_names};
 use std::alloc::Global;
+use std::cmp::Ordering;
 
-/// The bookmarks of a main text of `before` items, and those with other names of the text of `len` items behind it.
+/// The bookmarks of a main text of `before` items, and those with other names of the text behind it.
 pub(crate) fn join_bookmarks(
     alloc: Global,
     first: &Bookmarks,
     before: usize,
     second: &Bookmarks,
-    len: usize,
 ) -> Result<Bookmarks, Memory>
     requires few { length first.now + length second.now < 2 ^ 32 }
-    requires short { before + len < 2 ^ 32 }
-    requires of_first { All (IsFormedBookmark before) first.now }
-    requires of_second { All (IsFormedBookmark len) second.now }
+    requires starts { All (λ bookmark. bookmark.from + before < 2 ^ 32) second.now }
+    requires ends { All (λ bookmark. bookmark.to + before < 2 ^ 32) second.now }
     ensures { IfOk result (λ made. made ≡ joined_bookmarks before first.now second.now) }
 {
+    let names = by_name(alloc, first)?;
     let mut made = first.copy(alloc, 0, first.len())?;
+    // A list that does not know its names takes each bookmark in one step.
+    made.splice(0, 0, Bookmarks::new(alloc))?;
     for i in 0..second.len() {
         let bookmark = second.get(i);
-        if !has_name(first, bookmark.name.as_slice()) {
-            made.add(moved(alloc, bookmark, before)?)?;
+        if !has_name(&names, bookmark.name.as_slice()) {
+            made.add(moved(bookmark, before)?)?;
         }
     }
-    // Where no item goes and none comes, no end moves: the list is put in order.
-    made.follow(0, 0, 0, before + len);
+    made.arrange();
     Ok(made)
 }
 
-/// Whether a bookmark has this name.
-fn has_name(list: &Bookmarks, name: &[u16]) -> bool
-    ensures { result ≡ has_name list.now name.now }
+/// The bookmarks in the order of their names. The names are shared.
+fn by_name(alloc: Global, list: &Bookmarks) -> Result<Vec<Bookmark>, Memory>
+    ensures moved { IfOk result (λ named. IsPermutation list.now named.items) }
+    ensures sorted { IfOk result (λ named. IsSorted name_cmp named.items) }
 {
+    let mut named = copies(alloc, list)?;
+    sort_names(&mut named);
+    Ok(named)
+}
+
+/// The bookmarks of a list.
+fn copies(alloc: Global, list: &Bookmarks) -> Result<Vec<Bookmark>, Memory>
+    ensures { IfOk result (λ copies. copies.items ≡ list.now) }
+{
+    let mut items = Vec::with_capacity(alloc, list.len())?;
     for i in 0..list.len() {
-        if list.get(i).is_named(name) {
-            return true;
-        }
+        items.push(list.get(i).copy()?)?;
     }
-    false
+    Ok(items)
+}
+
+/// Whether one of the bookmarks, which are in the order of their names, has this one. They are halved until it is
+/// found.
+fn has_name(named: &[Bookmark], name: &[u16]) -> bool
+    requires { IsSorted name_cmp named.now }
+    ensures { result ≡ has_name named.now name.now }
+{
+    let found = named.binary_search_by(
+        |bookmark: &Bookmark| -> Ordering
+            ensures { result ≡ slice_cmp nat_cmp bookmark.now.name name.entry.now }
+        { bookmark.name.as_slice().cmp(name) },
+    );
+    found.is_ok()
 }
 
 /// A bookmark of a text that stands behind so many items.
-fn moved(alloc: Global, bookmark: &Bookmark, before: usize) -> Result<Bookmark, Memory>
+fn moved(bookmark: &Bookmark, before: usize) -> Result<Bookmark, Memory>
     requires from { bookmark.now.from + before < 2 ^ 32 }
     requires to { bookmark.now.to + before < 2 ^ 32 }
     ensures { IfOk result (λ made. made ≡ bookmark_behind before bookmark.now) }
 {
     Ok(Bookmark {
-        name: Units::from_slice(alloc, bookmark.name.as_slice())?,
+        name: bookmark.name.copy()?,
         from: bookmark.from + before as u32,
         to: bookmark.to + before as u32,
         flags: bookmark.flags,

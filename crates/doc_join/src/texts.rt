@@ -1,26 +1,31 @@
-// The texts of a joined document.
-ghost use Rattle.std.specs.Prelude.{◌≡◌, ◌+◌, ◌^◌, ◌<◌, ◌≤◌, ◌++◌, length, drop, All, option_map, IfOk, OnOk};
-ghost use Rattle.plain_doc.specs.Document.{HasPropertyMaps};
-ghost use Rattle.doc_join.specs.Texts.{renumbered_mark, renumbered_item, renumbered_text, renumbered_texts};
-ghost use Rattle.doc_join.specs.Texts.{section_ended, joined_main, joined_texts};
-ghost use Rattle.doc_join.specs.Texts.{HasOwnStyle, HaveOwnStyles, AllHaveOwnStyles};
+// The texts of a joined document, run by run.
+ghost use Rattle.std.specs.Prelude.{◌≡◌, ◌+◌, ◌^◌, ◌<◌, ◌≤◌, ◌++◌, length, map, replicate, drop, All, option_map};
+ghost use Rattle.std.specs.Prelude.{IfOk, OnOk};
 ghost use Rattle.std.specs.Option.{ForSome};
+ghost use Rattle.prop_map.specs.Formed.{IsPropertyMap, character_groups};
+ghost use Rattle.run_lists.specs.Spread.{spread, extent};
+ghost use Rattle.doc_join.specs.Settings.{renumbered};
+ghost use Rattle.doc_join.specs.Texts.{renumbered_mark, renumbered_text, renumbered_texts};
+ghost use Rattle.doc_join.specs.Texts.{section_ended, joined_main, joined_texts, HaveOwnStyles, AllHaveOwnStyles};
+ghost use Rattle.doc_join.specs.Columns.{renumbered_beside, HasOwnMark};
 
 use crate::kept_maps::KeptMaps;
 use doc_bits::Memory;
-use plain_doc::{Item, Items, Mark, Texts};
+use doc_columns::{Beside, ColumnTexts, Columns};
+use plain_doc::Mark;
 use prop_map::PropMap;
+use run_lists::{Run, Runs};
 use std::alloc::Global;
 use text_codes::SECTION_MARK;
 
 /// The main texts one behind the other. The first one's last section ends as one that is not the last.
 pub(crate) fn join_main(
     alloc: Global,
-    first: &Items,
+    first: &Columns,
     ones: &mut KeptMaps,
-    second: &Items,
+    second: &Columns,
     others: &mut KeptMaps,
-) -> Result<Items, Memory>
+) -> Result<Columns, Memory>
     requires some { 0 < length first.now }
     requires few { length first.now + length second.now < 2 ^ 32 }
     requires of_first { HaveOwnStyles ones.old.numbers first.now }
@@ -30,31 +35,36 @@ pub(crate) fn join_main(
     ensures ones { ones.new.numbers ≡ ones.old.numbers }
     ensures others { others.new.numbers ≡ others.old.numbers }
 {
-    let mut items = Vec::with_capacity(alloc, first.len() + second.len())?;
-    ones.add_items(first.as_slice(), &mut items)?;
-    end_section(&mut items);
-    others.add_items(second.as_slice(), &mut items)?;
-    Ok(Items::from_vec(items))
+    let front = ones.text(first)?;
+    let ended = end_section(alloc, front)?;
+    let back = others.text(second)?;
+    let len = ended.len();
+    let made = ended.splice(alloc, len, len, back)?;
+    Ok(made)
 }
 
 /// Makes the last item end a section that is not the last one.
-fn end_section(items: &mut Vec<Item>)
-    requires { 0 < length items.old.items }
-    ensures { items.new.items ≡ section_ended items.old.items }
+fn end_section(alloc: Global, text: Columns) -> Result<Columns, Memory>
+    requires { 0 < length text }
+    ensures { IfOk result (λ made. made ≡ section_ended text) }
 {
-    let last = items.len() - 1;
-    items[last].unit = SECTION_MARK;
+    let last = text.len() - 1;
+    let mut item = text.item(alloc, last)?;
+    item.unit = SECTION_MARK;
+    let end = Columns::new(alloc).add(item)?;
+    let made = text.splice(alloc, last, last + 1, end)?;
+    Ok(made)
 }
 
 /// The texts of the first document, and then those of the second from a number on.
 pub(crate) fn join_texts(
     alloc: Global,
     from: usize,
-    first: &Texts,
+    first: &ColumnTexts,
     ones: &mut KeptMaps,
-    second: &Texts,
+    second: &ColumnTexts,
     others: &mut KeptMaps,
-) -> Result<Texts, Memory>
+) -> Result<ColumnTexts, Memory>
     requires few { length first.now + length second.now < 2 ^ 32 }
     requires from { from ≤ length second.now }
     requires of_first { AllHaveOwnStyles ones.old.numbers first.now }
@@ -64,7 +74,7 @@ pub(crate) fn join_texts(
     ensures ones { ones.new.numbers ≡ ones.old.numbers }
     ensures others { others.new.numbers ≡ others.old.numbers }
 {
-    let mut made = Texts::new(alloc);
+    let mut made = ColumnTexts::new(alloc);
     ones.add_texts(first, 0, &mut made)?;
     others.add_texts(second, from, &mut made)?;
     Ok(made)
@@ -72,52 +82,105 @@ pub(crate) fn join_texts(
 
 impl KeptMaps {
     /// Puts the texts from a number on behind others, with their styles renumbered.
-    fn add_texts(&mut self, texts: &Texts, from: usize, made: &mut Texts) -> Result<(), Memory>
+    fn add_texts(
+        &mut self,
+        texts: &ColumnTexts,
+        from: usize,
+        made: &mut ColumnTexts,
+    ) -> Result<(), Memory>
         requires few { length made.old + length texts.now < 2 ^ 32 }
         requires from { from ≤ length texts.now }
         requires styles { AllHaveOwnStyles self.old.numbers texts.now }
         ensures made { OnOk result (made.new ≡ made.old ++ renumbered_texts self.old.numbers (drop from texts.now)) }
         ensures numbers { self.new.numbers ≡ self.old.numbers }
     {
-        let alloc = self.alloc;
         for i in from..texts.len() {
-            let text = texts.get(i);
-            let mut items = Vec::with_capacity(alloc, text.len())?;
-            self.add_items(text.as_slice(), &mut items)?;
-            made.add(Items::from_vec(items))?;
+            made.add(self.text(texts.get(i))?)?;
         }
         Ok(())
     }
 
-    /// Puts items behind others, with their styles renumbered.
-    fn add_items(&mut self, items: &[Item], made: &mut Vec<Item>) -> Result<(), Memory>
-        requires maps { All HasPropertyMaps items.now }
-        requires styles { HaveOwnStyles self.old.numbers items.now }
+    /// The same text, with its styles renumbered. It goes over the runs, and its units are copied.
+    fn text(&mut self, text: &Columns) -> Result<Columns, Memory>
+        requires { HaveOwnStyles self.old.numbers text.now }
+        ensures made { IfOk result (λ made. made ≡ renumbered_text self.old.numbers text.now) }
+        ensures numbers { self.new.numbers ≡ self.old.numbers }
+    {
+        let _len = text.len();
+        let units = Vec::from_slice(self.alloc, text.units())?;
+        let chp_runs = text.chps();
+        let chps = self.chps(chp_runs)?;
+        let beside_runs = text.besides();
+        let besides = self.besides(beside_runs)?;
+        Ok(Columns::from_parts(units, chps, besides))
+    }
+
+    /// The settings of characters, with the styles renumbered that they name.
+    fn chps(&mut self, runs: &[Run<PropMap>]) -> Result<Runs<PropMap>, Memory>
+        requires few { extent runs.now < 2 ^ 32 }
+        requires maps { All (IsPropertyMap character_groups) (spread runs.now) }
+        ensures made { IfOk result (λ made. made ≡ map (renumbered self.old.numbers) (spread runs.now)) }
+        ensures numbers { self.new.numbers ≡ self.old.numbers }
+    {
+        let mut made = Runs::new(self.alloc);
+        for run in runs {
+            self.add_chps(run, &mut made)?;
+        }
+        Ok(made)
+    }
+
+    /// The same of one run.
+    fn add_chps(&mut self, run: &Run<PropMap>, made: &mut Runs<PropMap>) -> Result<(), Memory>
+        requires few { length made.old + run.now.count < 2 ^ 32 }
+        requires map { 0 < run.now.count → IsPropertyMap character_groups run.now.value }
         ensures made { OnOk result
-            (made.new.items ≡ made.old.items ++ renumbered_text self.old.numbers items.now) }
+            (made.new ≡ made.old ++ replicate run.now.count (renumbered self.old.numbers run.now.value)) }
         ensures numbers { self.new.numbers ≡ self.old.numbers }
     {
-        for item in items {
-            made.push(self.item(item)?)?;
+        if run.count == 0 {
+            return Ok(());
         }
+        made.add(run.count, self.map(&run.value)?)?;
         Ok(())
     }
 
-    /// The same item, with its styles renumbered.
-    fn item(&mut self, item: &Item) -> Result<Item, Memory>
-        requires maps { HasPropertyMaps item.now }
-        requires style { HasOwnStyle self.old.numbers item.now }
-        ensures made { IfOk result (λ made. made ≡ renumbered_item self.old.numbers item.now) }
-        ensures numbers { self.new.numbers ≡ self.old.numbers }
+    /// What stands beside units, with the styles of marks renumbered.
+    fn besides(&self, runs: &[Run<Beside>]) -> Result<Runs<Beside>, Memory>
+        requires few { extent runs.now < 2 ^ 32 }
+        requires styles { All (HasOwnMark self.now.numbers) (spread runs.now) }
+        ensures { IfOk result (λ made. made ≡ map (renumbered_beside self.now.numbers) (spread runs.now)) }
     {
-        let alloc = self.alloc;
-        Ok(Item {
-            unit: item.unit,
-            fld: item.fld,
-            note: item.note,
-            chp: self.map(&item.chp)?,
-            mark: self.mark(&item.mark)?,
-            sect: copy_section(alloc, &item.sect)?,
+        let mut made = Runs::new(self.alloc);
+        for run in runs {
+            self.add_besides(run, &mut made)?;
+        }
+        Ok(made)
+    }
+
+    /// The same of one run.
+    fn add_besides(&self, run: &Run<Beside>, made: &mut Runs<Beside>) -> Result<(), Memory>
+        requires few { length made.old + run.now.count < 2 ^ 32 }
+        requires style { 0 < run.now.count → HasOwnMark self.now.numbers run.now.value }
+        ensures { OnOk result
+            (made.new ≡ made.old ++ replicate run.now.count (renumbered_beside self.now.numbers run.now.value)) }
+    {
+        if run.count == 0 {
+            return Ok(());
+        }
+        made.add(run.count, self.beside(&run.value)?)?;
+        Ok(())
+    }
+
+    /// What stands beside a unit, with the style of its mark renumbered.
+    fn beside(&self, beside: &Beside) -> Result<Beside, Memory>
+        requires { HasOwnMark self.now.numbers beside.now }
+        ensures { IfOk result (λ made. made ≡ renumbered_beside self.now.numbers beside.now) }
+    {
+        Ok(Beside {
+            fld: beside.fld,
+            note: beside.note,
+            mark: self.mark(&beside.mark)?,
+            sect: copy_section(self.alloc, &beside.sect)?,
         })
     }
 

@@ -7,6 +7,7 @@ use Rattle.std.specs.List.{flat_map}
 use Rattle.std.proofs.Math.Seq.{take-append_seam, drop-append_seam}
 use Rattle.std.proofs.lemmas.List.{length-map, get_or-map}
 use Rattle.std.proofs.lemmas.List.Elements.{All-append}
+use Rattle.std.proofs.lemmas.Grind.{flat_map-append}
 use Rattle.std.proofs.lemmas.Option.{same_Some, get_or_from_slice_get}
 use Rattle.doc_bits.proofs.ListLemmas.{slice_get_before}
 use Rattle.serde_json.specs.Data.{Data, null, array, item}
@@ -19,32 +20,18 @@ use Rattle.plain_doc.proofs.LawLemmas.{cut_into_stretches}
 use Rattle.json_values.specs.Plain.{ItemsHaveKeysInOrder}
 use Rattle.json_doc.specs.declared.pieces.Piece.{Piece}
 use Rattle.json_doc.specs.Pieces.{is_one_piece, piece_from, piece_json, stretch_json, text_json}
-use Rattle.json_doc.specs.PieceReading.{piece_of, piece_items, IsFormedPiece, IsPieceAdded, IsNoPiece}
+use Rattle.json_doc.specs.PieceReading.{piece_of, piece_items, IsFormedPiece, IsPieceAdded, IsNoPiece, MayFollow}
 use Rattle.json_doc.proofs.PieceReadLemmas.{pieces_one, piece_spelt}
 use Rattle.json_doc.proofs.ReadLemmas.{All-cons, same_items}
 use Rattle.json_doc.proofs.TextReadLemmas.{from_items, formed_from, items_joined, units_again, formed_items}
+use Rattle.json_doc.proofs.TextReadLemmas.{behind_list, over_behind}
 
 -- ---- lists of items
 
 abbrev pub flat : List (List Item) → List Item
 flat parts = flat_map (λ part. part) parts
 
--- what stands behind a list
-behind_list : {A : Type 0} (xs ys : List A) (k : ℕ) → slice_get (xs ++ ys) (length xs + k) ≡ slice_get ys k
-behind_list [] ys k = let e : 0 + k ≡ k = omega arith in ap (slice_get ys) e
-behind_list (x ∷ xs) ys k =
-    let e : suc (length xs) + k ≡ suc (length xs + k) = omega arith in
-    ap (slice_get (x ∷ (xs ++ ys))) e ∙ behind_list xs ys k
-
--- the last of two lists is the last of the second, and the first is that of the first
-over_behind : (xs ys zs : List Item) → 0 < length ys →
-    goes_over is_one_piece (xs ++ ys) zs ≡ goes_over is_one_piece ys zs
-over_behind xs ys zs some =
-    let len = length-append xs ys in
-    let last : length (xs ++ ys) - 1 ≡ length xs + (length ys - 1) = omega (arith, len, some) in
-    ap (λ o. joins_next is_one_piece o (slice_get zs 0))
-    (ap (slice_get (xs ++ ys)) last ∙ behind_list xs ys (length ys - 1))
-
+-- the first of two lists is that of the first
 over_front : (xs ys rest : List Item) → 0 < length ys →
     goes_over is_one_piece xs (ys ++ rest) ≡ goes_over is_one_piece xs ys
 over_front xs ys rest some =
@@ -327,24 +314,24 @@ text_unread ds i items within taken none x formed e =
     let apart : goes_over is_one_piece items (piece_items made.piece) ≡ false =
     (λ k. goes_over is_one_piece (items_are k) (made.items k))
     ∙ cut_before (take i parts) split.part (drop (i + 1) parts) good_split cut_split in
+    let whole : x ≡ flat (take i parts) ++ (split.part ++ flat (drop (i + 1) parts)) =
+    sym are.whole ∙ ap flat split.is ∙ flat_map-append (λ p. p) (take i parts) (split.part ∷ drop (i + 1) parts) in
+    let few = formed.few in
+    let room : length items + length made.piece.units < 2 ^ 32 =
+    omega (
+      arith,
+      ap length whole,
+      length-append (flat (take i parts)) (split.part ++ flat (drop (i + 1) parts)),
+      length-append split.part (flat (drop (i + 1) parts)),
+      ap length items_are,
+      ap length made.items,
+      length-map {B = Item} made.piece.units,
+      few,
+    ) in
     let value : get_or ds i null ≡ stretch_json split.part =
     ap (λ l. get_or l i null) same ∙ get_or-map stretch_json parts i split.part null (omega (arith, within, count))
     ∙ ap stretch_json (get_or_from_slice_get parts i split.part split.part split.here) in
-    none made.piece made.formed apart (value ∙ made.json)
-
--- and no formed text is so long
-pub text_too_long : (ds : List Data) (items : List Item) → AreTaken ds items → 2 ^ 32 ≤ length items →
-    (x : List Item) → IsFormedText x → array (items_of ds) ≢ text_json x
-text_too_long ds items taken long x formed e =
-    let parts = stretches is_one_piece x in
-    let are = cut_into_stretches is_one_piece x in
-    let good = good_by parts are.some are.joined (subst (All IsFormedItem) (sym are.whole) formed.each) in
-    let same = same_items ds (map stretch_json parts) e in
-    let all = same_parts ds taken.pieces parts taken.found good same in
-    let is : items ≡ x = taken.whole ∙ ap flat all ∙ are.whole in
-    let count = ap length is in
-    let few = formed.few in
-    omega (arith, long, count, few)
+    none made.piece made.formed (record { apart = apart; room = room }) (value ∙ made.json)
 
 -- the stretches of a formed text are good
 pub good_stretches : (x : List Item) → IsFormedText x → AreGood (stretches is_one_piece x)

@@ -171,31 +171,6 @@ marks_unread value six main len e read text told is shape none d whole same =
       numbers = whole.parts.bookmarks;
     }) (ap (λ (s : SixValues). s.bookmarks) six_are)
 
--- ---- what comes of a document that was read
-
-pub read_told : (bytes : List ℕ) (value : Data) (d : Document) (r : Result Document JsonFault) → IsJson bytes value →
-    HasFormedBookmarks d → (HasKeysInOrder value → value ≡ json_value d) → IsFormed d →
-    MatchResult r
-    (λ sound. (sound ≡ d) × IsSound d)
-    (λ fault. (rule : ℕ) × ((place : Where) × ((at : ℕ) × ((fault ≡ Unsound rule place at)
-    × NamesFirstRule (document_rules d) (record { rule = rule; place = place; at = at }))))) →
-    MatchResult r (IsReadAs bytes) (IsJsonFault bytes)
-read_told bytes value d (Ok sound) json marks told formed m =
-    let is = told (keys_ascend bytes value json.1) in
-    subst (IsReadAs bytes) (sym m.0) (record {
-      formed = formed;
-      sound = m.1;
-      json = subst (IsJson bytes) is json;
-    })
-read_told bytes value d (Err fault) json marks told formed m =
-    let is = told (keys_ascend bytes value json.1) in
-    subst (IsJsonFault bytes) (sym m.1.1.1.0) (record {
-      document = d;
-      whole = record { parts = formed; bookmarks = marks };
-      json = subst (IsJson bytes) is json;
-      first = m.1.1.1.1;
-    })
-
 -- ---- documents with the same value
 
 map_same : {A : Type 0} (json : A → Data) (Is : A → Type 0) →

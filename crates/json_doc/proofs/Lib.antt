@@ -16,4 +16,5 @@ pub mod MarkLemmas
 pub mod GoodLemmas
 pub mod GoodParts
 pub mod DocumentLemmas
+pub mod JudgedLemmas
 pub mod LawLemmas

@@ -1,10 +1,8 @@
 -- A text is read from its stretches, and from no other pieces.
 use Rattle.std.proofs.Common.{◌≡◌, ◌+◌, ◌-◌, ◌<◌, ◌≤◌, ◌^◌, ℕ, zero, suc, Bool, true, false, not, ◌&&◌, ◌||◌}
 use Rattle.std.proofs.Common.{List, [], ◌∷◌, ◌++◌, Option, Some, None, is_some, length, map, get_or, slice_get}
+use Rattle.std.proofs.Common.{length-append}
 use Rattle.std.proofs.Common.{refl, sym, ap, ◌∙◌, subst, arith, All}
-use Rattle.std.specs.Prelude.{⊤, MatchResult, Result, Ok, Err}
-use Rattle.edit_script.specs.declared.faults.Misfit.{Misfit}
-use Rattle.edit_script.specs.declared.faults.Misfit.TheVariants.{Shape}
 use Rattle.std.proofs.Common.{inl, inr, slice_index}
 use Rattle.std.proofs.lemmas.Bool.{cases_Bool}
 use Rattle.std.proofs.lemmas.List.{length-map, get_or-map}
@@ -12,20 +10,25 @@ use Rattle.std.proofs.lemmas.Option.{same_Some, slice_get_read}
 use Rattle.serde_json.specs.Data.{Data}
 use Rattle.prop_map.specs.Settings.{Settings}
 use Rattle.plain_doc.specs.declared.item.Item.{Item}
-use Rattle.plain_doc.specs.Document.{IsFormedItem}
+use Rattle.plain_doc.specs.Document.{HasPropertyMaps, IsFormedItem}
 use Rattle.plain_doc.specs.Settings.{same_settings}
 use Rattle.plain_doc.specs.Stretches.{joins_next, joins_at, IsJoined, goes_over}
 use Rattle.plain_doc.proofs.SettingsLemmas.{same_settings-Decides}
 use Rattle.bare_items.specs.Specials.{is_special}
+use Rattle.doc_columns.specs.Beside.{nothing}
+use Rattle.doc_columns.specs.Columns.{item_of, bare_items}
 use Rattle.json_doc.specs.declared.pieces.Piece.{Piece}
 use Rattle.json_doc.specs.Pieces.{is_one_piece, piece_from, piece_json, stretch_json}
 use Rattle.json_doc.specs.PieceReading.{piece_of, piece_items, item_with, is_special_piece, IsRightPiece}
 use Rattle.json_doc.specs.PieceReading.{IsFormedPiece}
-use Rattle.json_doc.specs.PieceReading.{IsPieceAdded, IsNoPiece}
-use Rattle.json_doc.proofs.PieceLemmas.{units_of}
+use Rattle.json_doc.specs.PieceReading.{IsNoPiece, MayFollow, EndsBy, are_joined, goes_on_in}
 use Rattle.json_doc.proofs.PieceReadLemmas.{pieces_one, piece_spelt}
 
 -- ---- items that join
+
+-- the units of items
+abbrev pub units_of : List Item → List ℕ
+units_of items = map (λ item. item.unit) items
 
 -- the item with another unit
 abbrev with_unit : Item → ℕ → Item
@@ -125,6 +128,22 @@ from_items item more j = ap (λ rest. item ∷ rest) (stretch_same item more j)
 
 -- ---- a piece behind items
 
+-- what stands behind a list
+pub behind_list : {A : Type 0} (xs ys : List A) (k : ℕ) → slice_get (xs ++ ys) (length xs + k) ≡ slice_get ys k
+behind_list [] ys k = let e : 0 + k ≡ k = omega arith in ap (slice_get ys) e
+behind_list (x ∷ xs) ys k =
+    let e : suc (length xs) + k ≡ suc (length xs + k) = omega arith in
+    ap (slice_get (x ∷ (xs ++ ys))) e ∙ behind_list xs ys k
+
+-- the last of two lists is the last of the second
+pub over_behind : (xs ys zs : List Item) → 0 < length ys →
+    goes_over is_one_piece (xs ++ ys) zs ≡ goes_over is_one_piece ys zs
+over_behind xs ys zs some =
+    let len = length-append xs ys in
+    let last : length (xs ++ ys) - 1 ≡ length xs + (length ys - 1) = omega (arith, len, some) in
+    ap (λ o. joins_next is_one_piece o (slice_get zs 0))
+    (ap (slice_get (xs ++ ys)) last ∙ behind_list xs ys (length ys - 1))
+
 first_with : (piece : Piece) (units : List ℕ) → 1 ≤ length units →
     (unit : ℕ) × (slice_get (map (item_with piece) units) 0 ≡ Some (item_with piece unit))
 first_with piece [] some = absurd (omega (arith, some))
@@ -138,25 +157,71 @@ goes_over_is items last piece b some is units test =
     let here = slice_get_read items (length items) (length items - 1) last refl (omega (arith, some)) is in
     test first.0 ∙ (λ i. joins_next is_one_piece (sym here i) (sym first.1 i))
 
--- what comes of a piece that was read
-pub added_of : (value : Data) (old new : List Item) (piece : Piece) (r : Result ⊤ Misfit) →
-    piece_of value ≡ Some piece →
-    IsFormedPiece piece →
-    MatchResult r
-    (λ _. (goes_over is_one_piece old (piece_items piece) ≡ false) × (new ≡ old ++ piece_items piece))
-    (λ fault. fault ≡ Shape → goes_over is_one_piece old (piece_items piece) ≡ true) →
-    MatchResult r (λ _. IsPieceAdded value old new) (λ fault. fault ≡ Shape → IsNoPiece value old)
-added_of value old new piece (Ok t) read formed m = record {
-  piece = piece;
-  read = read;
-  formed = formed;
-  apart = m.0;
-  grown = m.1;
-}
-added_of value old new piece (Err fault) read formed m = λ shape other right apart e.
+-- a text goes on in a piece where its last one does
+pub over_end : (front : List Item) (last piece : Piece) → 1 ≤ length last.units → 1 ≤ length piece.units →
+    goes_over is_one_piece (front ++ piece_items last) (piece_items piece) ≡ are_joined last piece
+over_end front last piece filled units =
+    let items = piece_items last in
+    let count = length-map {B = Item} last.units in
+    let some : 0 < length items = omega (arith, filled, count) in
+    let place : length items - 1 < length last.units = omega (arith, filled, count) in
+    let unit = get_or last.units (length items - 1) 0 in
+    let own : item_with last unit ≡ get_or items (length items - 1) (item_with last unit) =
+    sym (get_or-map (item_with last) last.units (length items - 1) 0 (item_with last unit) place) in
+    over_behind front items (piece_items piece) some
+    ∙ sym (goes_over_is items (item_with last unit) piece (are_joined last piece) some own units (λ other. refl))
+
+-- the text of no items goes on in none
+pub none_over : (text : List Item) → text ≡ [] → EndsBy text None
+none_over text is piece units = ap (λ xs. goes_over is_one_piece xs (piece_items piece)) is
+
+-- a piece that was read and may not follow is no piece that may
+pub not_put : (value : Data) (old : List Item) (piece : Piece) → piece_of value ≡ Some piece →
+    (MayFollow old piece → ⊥) → IsNoPiece value old
+not_put value old piece read not_there other right may e =
     let same : other ≡ piece = same_Some other piece (sym (pieces_one.back other (piece_spelt other right))
     ∙ ap piece_of (sym e) ∙ read) in
-    cc (subst (λ p. goes_over is_one_piece old (piece_items p) ≡ false) same apart, m shape)
+    not_there (subst (MayFollow old) same may)
+
+-- the items of a piece that has nothing beside its settings
+pub bare_piece : (piece : Piece) (units : List ℕ) → is_special_piece piece ≡ false →
+    bare_items piece.chp units ≡ map (item_with piece) units
+bare_piece piece [] e = refl
+bare_piece piece (u ∷ us) e =
+    let b = bare (item_with piece u) e in
+    let first : item_of u piece.chp nothing ≡ item_with piece u =
+    λ i. record {
+      unit = u;
+      fld = sym b.fld i;
+      note = sym b.note i;
+      chp = piece.chp;
+      mark = sym b.mark i;
+      sect = sym b.sect i;
+    } in
+    let rest = bare_piece piece us e in
+    λ i. first i ∷ rest i
+
+-- that of a special piece
+one_item : (piece : Piece) (units : List ℕ) → length units ≡ 1 →
+    item_with piece (get_or units 0 0) ∷ [] ≡ map (item_with piece) units
+one_item piece [] one = absurd (omega (arith, one))
+one_item piece (u ∷ []) one = refl
+one_item piece (u ∷ v ∷ more) one = absurd (omega (arith, one))
+
+pub special_piece : (piece : Piece) → IsFormedPiece piece → is_special_piece piece ≡ true →
+    item_with piece (get_or piece.units 0 0) ∷ [] ≡ piece_items piece
+special_piece piece formed special =
+    let some = formed.0.some in
+    let alone = formed.0.alone special in
+    one_item piece piece.units (omega (arith, some, alone))
+
+pub piece_maps : (piece : Piece) (unit : ℕ) → IsFormedPiece piece → HasPropertyMaps (item_with piece unit)
+piece_maps piece unit formed = record { chp = formed.0.chp; pap = formed.0.pap; sect = formed.0.sect }
+
+-- a text may not be followed by a piece that it goes on in
+pub may_not : (text : List Item) (last : Option Piece) (piece : Piece) → EndsBy text last → 1 ≤ length piece.units →
+    goes_on_in last piece ≡ true → MayFollow text piece → ⊥
+may_not text last piece ends some over may = cc (sym over ∙ (sym (ends piece some) ∙ may.apart))
 
 -- ---- formed items and formed pieces
 

@@ -1,5 +1,6 @@
 -- What the values of a text are read as: its pieces, and the items of these.
-use Rattle.std.specs.Prelude.{◌≡◌, ◌≢◌, ℕ, ◌≤◌, ◌<◌, ◌^◌, ◌||◌, Bool, true, false, List, ◌++◌, length, map, codes}
+use Rattle.std.specs.Prelude.{◌≡◌, ◌≢◌, ℕ, ◌+◌, ◌≤◌, ◌<◌, ◌^◌, ◌||◌, Bool, true, false, List, ◌++◌, length, map}
+use Rattle.std.specs.Prelude.{codes, not, ◌&&◌}
 use Rattle.std.specs.Prelude.{bytes_eq}
 use Rattle.std.specs.Prelude.{Option, Some, None, is_some, if◌then◌else◌}
 use Rattle.std.specs.Option.{ForSome}
@@ -12,6 +13,7 @@ use Rattle.plain_doc.specs.declared.item.Item.{Item}
 use Rattle.plain_doc.specs.declared.item.Mark.{Mark}
 use Rattle.plain_doc.specs.declared.item.NoteKind.{NoteKind}
 use Rattle.plain_doc.specs.declared.item.NoteKind.TheVariants.{Auto, Custom}
+use Rattle.plain_doc.specs.Settings.{same_settings}
 use Rattle.plain_doc.specs.Stretches.{goes_over}
 use Rattle.json_values.specs.Digits.{hex_units_of, AreUnits}
 use Rattle.json_values.specs.Rows.{need, may, ended}
@@ -91,8 +93,28 @@ pub record IsPieceAdded (value : Data) (old new : List Item) : Type 0 where
   pub apart : goes_over is_one_piece old (piece_items piece) ≡ false
   pub grown : new ≡ old ++ piece_items piece
 
+-- the items of a piece may follow these
+pub record MayFollow (old : List Item) (piece : Piece) : Type 0 where
+  pub apart : goes_over is_one_piece old (piece_items piece) ≡ false
+  pub room : length old + length piece.units < 2 ^ 32
+
 -- no formed piece that may follow these items has the value
 abbrev pub IsNoPiece : Data → List Item → Type 0
 IsNoPiece value old =
-    (piece : Piece) → IsFormedPiece piece → goes_over is_one_piece old (piece_items piece) ≡ false →
-    value ≢ piece_json piece
+    (piece : Piece) → IsFormedPiece piece → MayFollow old piece → value ≢ piece_json piece
+
+-- the items of a piece join those of another
+abbrev pub are_joined : Piece → Piece → Bool
+are_joined piece next =
+    not (is_special_piece piece) && (not (is_special_piece next) && same_settings piece.chp next.chp)
+
+-- those of the last piece, where there is one
+abbrev pub goes_on_in : Option Piece → Piece → Bool
+goes_on_in None next = false
+goes_on_in (Some last) next = are_joined last next
+
+-- the last piece tells whether these items go on in another one
+abbrev pub EndsBy : List Item → Option Piece → Type 0
+EndsBy text last =
+    (piece : Piece) → 1 ≤ length piece.units →
+    goes_over is_one_piece text (piece_items piece) ≡ goes_on_in last piece

@@ -44,6 +44,14 @@ IsJsonFault bytes Shape = HasWrongShape bytes
 IsJsonFault bytes (Unsound rule place at) = IsUnsound bytes (record { rule = rule; place = place; at = at })
 IsJsonFault bytes Memory = ⊤
 
+-- the fault is the first rule that the document breaks; want of memory is free
+abbrev pub IsFirstFault : Document → JsonFault → Type 0
+IsFirstFault document Json = ⊥
+IsFirstFault document Shape = ⊥
+IsFirstFault document (Unsound rule place at) =
+    NamesFirstRule (document_rules document) (record { rule = rule; place = place; at = at })
+IsFirstFault document Memory = ⊤
+
 -- this text is counted, and it is what is kept where it has at most so many bytes
 pub record IsOutput (most : ℕ) (text : List ℕ) (out : Output) : Type 0 where
   pub most_is : out.most ≡ most

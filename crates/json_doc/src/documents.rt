@@ -6,16 +6,17 @@ ghost use Rattle.json_doc.specs.Documents.{bookmark_json, bookmarks_json, json_v
 ghost use Rattle.json_doc.specs.Reading.{IsOutput};
 
 use crate::carried_parts::write_carried;
-use crate::leaves::{write_name, write_place, write_short};
+use crate::leaves::{write_place, write_short};
 use crate::pieces::{write_text, write_texts};
 use crate::styles::write_sheet;
 use doc_bits::{Memory, Text};
+use doc_columns::ColumnDocument;
 use doc_parts::{Bookmark, Bookmarks};
-use json_values::{JsonOut, push_comma};
+use json_values::{JsonOut, push_comma, write_units};
 use plain_doc::Document;
 use std::alloc::Global;
 
-/// The text of a document.
+/// The text of a document, which is put by columns first.
 pub fn to_json(alloc: Global, document: &Document) -> Result<Text, Memory>
     ensures { IfOk result (λ text. text ≡ json_text document.now) }
 {
@@ -23,8 +24,22 @@ pub fn to_json(alloc: Global, document: &Document) -> Result<Text, Memory>
     Ok(out.into_text())
 }
 
-/// The text of a document: all of it is counted, and it is kept while it has at most `most` bytes.
+/// The text of a document: all of it is counted, and it is kept while it has at most `most` bytes. The document is put
+/// by columns first.
 pub fn json_out(alloc: Global, document: &Document, most: u64) -> Result<JsonOut, Memory>
+    ensures { IfOk result (IsOutput most (json_text document.now)) }
+{
+    let columns = ColumnDocument::from_document(alloc, document)?;
+    let out = columns_json_out(alloc, &columns, most)?;
+    Ok(out)
+}
+
+/// The same of a document by columns.
+pub fn columns_json_out(
+    alloc: Global,
+    document: &ColumnDocument,
+    most: u64,
+) -> Result<JsonOut, Memory>
     ensures { IfOk result (IsOutput most (json_text document.now)) }
 {
     let mut out = JsonOut::new(alloc, most);
@@ -33,7 +48,7 @@ pub fn json_out(alloc: Global, document: &Document, most: u64) -> Result<JsonOut
 }
 
 /// Writes a document as an object of six keys.
-fn write_document(alloc: Global, out: &mut JsonOut, document: &Document) -> Result<(), Memory>
+fn write_document(alloc: Global, out: &mut JsonOut, document: &ColumnDocument) -> Result<(), Memory>
     ensures { OnOk result (Adds out.old out.new (compact_text (json_value document.now))) }
 {
     out.push("{\"bookmarks\":")?;
@@ -68,7 +83,7 @@ fn write_bookmark(alloc: Global, out: &mut JsonOut, bookmark: &Bookmark) -> Resu
     ensures { OnOk result (Adds out.old out.new (compact_text (bookmark_json bookmark.now))) }
 {
     out.push("[")?;
-    write_name(out, &bookmark.name)?;
+    write_units(out, bookmark.name.as_slice())?;
     out.push(",")?;
     write_place(alloc, out, bookmark.from)?;
     out.push(",")?;

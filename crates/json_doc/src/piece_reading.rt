@@ -1,6 +1,6 @@
 // Texts as they are read from the values of their pieces.
-ghost use Rattle.std.specs.Prelude.{◌≡◌, ◌++◌, ◌∷◌, [], ◌↔◌, ◌<◌, ◌≤◌, ◌^◌, length, map, IsTrue, IfOk, OnOk, Some};
-ghost use Rattle.std.specs.Prelude.{MatchResult, ℕ, true, false};
+ghost use Rattle.std.specs.Prelude.{◌≡◌, ◌++◌, ◌+◌, ◌↔◌, ◌<◌, ◌≤◌, ◌^◌, length, IsTrue, IfOk, Some};
+ghost use Rattle.std.specs.Prelude.{MatchResult, ℕ, true};
 ghost use Rattle.std.specs.Option.{ForSome};
 ghost use Rattle.serde_json.specs.Data.{array};
 ghost use Rattle.serde_json.specs.View.{view, items_view, members_view};
@@ -14,14 +14,15 @@ ghost use Rattle.json_doc.specs.Pieces.{is_one_piece, piece_json, text_json, tex
 ghost use Rattle.json_doc.specs.PieceReading.{mark_of, note_with_name, note_of, piece_of, piece_items};
 ghost use Rattle.json_doc.specs.PieceReading.{is_special_piece};
 ghost use Rattle.json_doc.specs.PieceReading.{item_with, IsRightPiece, IsFormedPiece, HasPieceNumbers, IsPieceAdded};
-ghost use Rattle.json_doc.specs.PieceReading.{IsNoPiece};
+ghost use Rattle.json_doc.specs.PieceReading.{IsNoPiece, MayFollow, EndsBy, are_joined, goes_on_in};
 ghost use Rattle.json_doc.specs.ReadValues.{Reads};
 
-use crate::pieces::{Piece, has_same_settings, is_bare};
+use crate::pieces::{Piece, has_same_settings};
 use doc_bits::Memory;
+use doc_columns::{ColumnTexts, Columns};
 use edit_script::{Misfit, settings_in, short_in};
 use json_values::Row;
-use plain_doc::{Item, Items, Mark, NoteKind, Texts};
+use plain_doc::{Item, Mark, NoteKind};
 use prop_map::{CHARACTER_GROUPS, PARAGRAPH_GROUPS, PropMap, SECTION_GROUPS};
 use serde_json::Value;
 use std::alloc::Global;
@@ -207,22 +208,47 @@ fn right_piece_in(alloc: Global, value: &Value) -> Result<Piece, Misfit>
     Ok(piece)
 }
 
-/// Whether the last of some items joins the first of a piece.
-fn goes_on(items: &[Item], piece: &Piece) -> bool
-    requires { 1 ≤ length piece.now.units }
-    ensures { result ≡ goes_over is_one_piece items.now (piece_items piece.now) }
+/// Whether the items of a piece join those of the next one.
+fn are_joined(piece: &Piece, next: &Piece) -> bool
+    ensures { result ≡ are_joined piece.now next.now }
 {
-    if items.is_empty() {
-        return false;
-    }
-    joins_piece(&items[items.len() - 1], piece)
+    !is_special(piece) && !is_special(next) && has_same_settings(&piece.chp, &next.chp)
 }
 
-/// Whether an item joins the items of a piece.
-fn joins_piece(item: &Item, piece: &Piece) -> bool
-    ensures { (unit : ℕ) → result ≡ is_one_piece item.now (item_with piece.now unit) }
+/// A text that grows by pieces, and the last of these.
+#[derive(Drop)]
+struct GrowingText {
+    text: Columns,
+    last: Option<Piece>,
+}
+
+/// Whether the last piece goes on in the next one.
+fn goes_on(last: &Option<Piece>, next: &Piece) -> bool
+    ensures { result ≡ goes_on_in last.now next.now }
 {
-    is_bare(item) && !is_special(piece) && has_same_settings(&item.chp, &piece.chp)
+    match last {
+        None => false,
+        Some(last) => are_joined(last, next),
+    }
+}
+
+/// Whether a text has room for the units of a piece.
+fn has_room(text: &Columns, piece: &Piece) -> bool
+    ensures { IsTrue result ↔ length text.now + length piece.now.units < 2 ^ 32 }
+{
+    text.len() as u64 + (piece.units.as_slice().len() as u64) < 1 << 32
+}
+
+/// Whether a text does not go on in a piece, and has room for it.
+fn may_follow(text: &GrowingText, piece: &Piece) -> bool
+    requires ends { EndsBy text.now.text text.now.last }
+    requires some { 1 ≤ length piece.now.units }
+    ensures { IsTrue result ↔ MayFollow text.now.text piece.now }
+{
+    if goes_on(&text.last, piece) {
+        return false;
+    }
+    has_room(&text.text, piece)
 }
 
 /// The item of a unit of a piece. Its maps are shared.
@@ -259,45 +285,53 @@ fn copy_section(alloc: Global, sect: &Option<PropMap>) -> Result<Option<PropMap>
     }
 }
 
-/// Puts the items of a piece behind others.
-fn push_piece(alloc: Global, items: &mut Vec<Item>, piece: &Piece) -> Result<(), Memory>
-    ensures { OnOk result (items.new.items ≡ items.old.items ++ piece_items piece.now) }
+/// The text with the items of a piece behind it. They are one run, and their maps are shared.
+fn with_piece(alloc: Global, text: Columns, piece: &Piece) -> Result<Columns, Memory>
+    requires room { length text + length piece.now.units < 2 ^ 32 }
+    requires formed { IsFormedPiece piece.now }
+    ensures { IfOk result (λ made. made ≡ text ++ piece_items piece.now) }
 {
-    for unit in piece.units.as_slice() {
-        items.push(item_of(alloc, piece, *unit)?)?;
+    let units = piece.units.as_slice();
+    if is_special(piece) {
+        let made = text.add(item_of(alloc, piece, units[0])?)?;
+        return Ok(made);
     }
-    Ok(())
+    let made = text.add_units(units, piece.chp.copy(alloc)?)?;
+    Ok(made)
 }
 
-/// Puts the items of a value's piece behind others, which do not go on in it.
-fn add_piece(alloc: Global, items: &mut Vec<Item>, value: &Value) -> Result<(), Misfit>
+/// Puts a piece behind a text that does not go on in it and has room.
+fn put_piece(alloc: Global, text: GrowingText, piece: Piece) -> Result<GrowingText, Memory>
+    requires room { length text.text + length piece.units < 2 ^ 32 }
+    requires formed { IsFormedPiece piece }
+    ensures put { IfOk result (λ made. made.text ≡ text.text ++ piece_items piece) }
+    ensures ends { IfOk result (λ made. EndsBy made.text made.last) }
+{
+    let GrowingText { text, last: _ } = text;
+    let text = with_piece(alloc, text, &piece)?;
+    Ok(GrowingText {
+        text,
+        last: Some(piece),
+    })
+}
+
+/// Puts the items of a value's piece behind a text, which does not go on in it.
+fn add_piece(alloc: Global, text: GrowingText, value: &Value) -> Result<GrowingText, Misfit>
+    requires { EndsBy text.text text.last }
     ensures { MatchResult result
-        (λ _. IsPieceAdded (view value.now) items.old.items items.new.items)
-        (λ fault. fault ≡ Misfit.Shape → IsNoPiece (view value.now) items.old.items) }
+        (λ made. IsPieceAdded (view value.now) text.text made.text × EndsBy made.text made.last)
+        (λ fault. fault ≡ Misfit.Shape → IsNoPiece (view value.now) text.text) }
 {
     let piece = right_piece_in(alloc, value)?;
-    let added = push_apart(alloc, items, &piece);
-    drop(piece);
-    added
-}
-
-/// Puts the items of a piece behind others, which do not go on in it.
-fn push_apart(alloc: Global, items: &mut Vec<Item>, piece: &Piece) -> Result<(), Misfit>
-    requires { 1 ≤ length piece.now.units }
-    ensures { MatchResult result
-        (λ _. (goes_over is_one_piece items.old.items (piece_items piece.now) ≡ false)
-        × (items.new.items ≡ items.old.items ++ piece_items piece.now))
-        (λ fault. fault ≡ Misfit.Shape → goes_over is_one_piece items.old.items (piece_items piece.now) ≡ true) }
-{
-    if goes_on(items.as_slice(), piece) {
+    if !may_follow(&text, &piece) {
         return Err(Misfit::Shape);
     }
-    push_piece(alloc, items, piece)?;
-    Ok(())
+    let made = put_piece(alloc, text, piece)?;
+    Ok(made)
 }
 
 /// A text: an array of pieces, of which none goes on in the next one.
-pub(crate) fn text_in(alloc: Global, value: &Value) -> Result<Items, Misfit>
+pub(crate) fn text_in(alloc: Global, value: &Value) -> Result<Columns, Misfit>
     ensures { Reads text_json IsFormedText (view value.now) result }
 {
     match value.as_array() {
@@ -307,21 +341,22 @@ pub(crate) fn text_in(alloc: Global, value: &Value) -> Result<Items, Misfit>
 }
 
 /// The items of the pieces of an array.
-fn items_in(alloc: Global, values: &[Value]) -> Result<Items, Misfit>
+fn items_in(alloc: Global, values: &[Value]) -> Result<Columns, Misfit>
     ensures { Reads text_json IsFormedText (array (items_view values.now)) result }
 {
-    let mut items: Vec<Item> = Vec::new(alloc);
+    let mut grown = GrowingText {
+        text: Columns::new(alloc),
+        last: None,
+    };
     for value in values {
-        add_piece(alloc, &mut items, value)?;
+        grown = add_piece(alloc, grown, value)?;
     }
-    if items.len() >= 1 << 32 {
-        return Err(Misfit::Shape);
-    }
-    Ok(Items::from_vec(items))
+    let _len = grown.text.len();
+    Ok(grown.text)
 }
 
 /// Texts: an array of them.
-pub(crate) fn texts_in(alloc: Global, value: &Value) -> Result<Texts, Misfit>
+pub(crate) fn texts_in(alloc: Global, value: &Value) -> Result<ColumnTexts, Misfit>
     ensures { Reads texts_json AreFormedTexts (view value.now) result }
 {
     match value.as_array() {
@@ -331,10 +366,10 @@ pub(crate) fn texts_in(alloc: Global, value: &Value) -> Result<Texts, Misfit>
 }
 
 /// The texts of an array.
-fn all_texts(alloc: Global, values: &[Value]) -> Result<Texts, Misfit>
+fn all_texts(alloc: Global, values: &[Value]) -> Result<ColumnTexts, Misfit>
     ensures { Reads texts_json AreFormedTexts (array (items_view values.now)) result }
 {
-    let mut texts = Texts::new(alloc);
+    let mut texts = ColumnTexts::new(alloc);
     if values.len() >= 1 << 32 {
         return Err(Misfit::Shape);
     }

@@ -1,20 +1,23 @@
-// Texts as pieces, and how they are written.
-ghost use Rattle.std.specs.Prelude.{◌≡◌, ◌<◌, length, map, not, codes, Some, OnOk, option_map};
+// Texts as pieces, and how they are written, run by run.
+ghost use Rattle.std.specs.Prelude.{◌≡◌, ℕ, ◌+◌, ◌-◌, ◌<◌, ◌≤◌, ◌&&◌, length, not, codes, true, false, Some, OnOk};
+ghost use Rattle.std.specs.Prelude.{slice_get, option_map};
 ghost use Rattle.serde_json.specs.Written.{compact_text};
+ghost use Rattle.plain_doc.specs.declared.item.Item.{Item};
 ghost use Rattle.plain_doc.specs.Settings.{same_settings};
-ghost use Rattle.plain_doc.specs.Stretches.{BeginsStretch};
-ghost use Rattle.bare_items.specs.Specials.{is_special};
+ghost use Rattle.doc_columns.specs.Beside.{beside_of, has_something};
+ghost use Rattle.doc_columns.specs.Walks.{items_in, AreParts, IsWalk};
 ghost use Rattle.json_values.specs.Digits.{units_json};
 ghost use Rattle.json_values.specs.Out.{Adds};
 ghost use Rattle.json_values.specs.Rows.{number_json};
 ghost use Rattle.json_values.specs.Settings.{settings_json};
-ghost use Rattle.json_doc.specs.Frames.{later_text};
-ghost use Rattle.json_doc.specs.Pieces.{is_one_piece, mark_json, note_json, stretch_json, text_json, texts_json};
+ghost use Rattle.json_doc.specs.Frames.{later_text, piece_with};
+ghost use Rattle.json_doc.specs.Pieces.{is_one_piece, mark_json, note_json, piece_json, text_json, texts_json};
 
 use crate::leaves::{write_byte, write_short};
 use doc_bits::{Memory, Units};
-use json_values::{JsonOut, push_comma, push_word, write_settings};
-use plain_doc::{Item, Items, Mark, NoteKind, Texts};
+use doc_columns::{Alike, ColumnTexts, Columns, Parts, Walk, alike_from};
+use json_values::{JsonOut, push_comma, write_settings, write_units};
+use plain_doc::{Mark, NoteKind};
 use prop_map::PropMap;
 use std::alloc::Global;
 
@@ -32,7 +35,11 @@ pub struct Piece {
 }
 
 /// Writes texts as an array.
-pub(crate) fn write_texts(alloc: Global, out: &mut JsonOut, texts: &Texts) -> Result<(), Memory>
+pub(crate) fn write_texts(
+    alloc: Global,
+    out: &mut JsonOut,
+    texts: &ColumnTexts,
+) -> Result<(), Memory>
     ensures { OnOk result (Adds out.old out.new (compact_text (texts_json texts.now))) }
 {
     out.push("[")?;
@@ -43,53 +50,70 @@ pub(crate) fn write_texts(alloc: Global, out: &mut JsonOut, texts: &Texts) -> Re
     out.push("]")
 }
 
-/// Writes a text as an array of its pieces.
-pub(crate) fn write_text(alloc: Global, out: &mut JsonOut, text: &Items) -> Result<(), Memory>
+/// Writes a text as an array of its pieces. It is linear in the units and the runs.
+pub(crate) fn write_text(alloc: Global, out: &mut JsonOut, text: &Columns) -> Result<(), Memory>
     ensures { OnOk result (Adds out.old out.new (compact_text (text_json text.now))) }
 {
-    write_items(alloc, out, text.as_slice())
+    write_pieces(alloc, out, &text.parts())
 }
 
-/// Writes items as an array of their pieces.
-fn write_items(alloc: Global, out: &mut JsonOut, text: &[Item]) -> Result<(), Memory>
-    ensures { OnOk result (Adds out.old out.new (compact_text (text_json text.now))) }
+/// Writes the pieces of columns as an array.
+fn write_pieces(alloc: Global, out: &mut JsonOut, parts: &Parts<'_>) -> Result<(), Memory>
+    requires { AreParts parts.now }
+    ensures { OnOk result (Adds out.old out.new (compact_text (text_json (items_in parts.now)))) }
 {
     out.push("[")?;
+    let mut walk = Walk::new();
     let mut at = 0;
-    while at < text.len() {
-        let len = piece_len(&text[at..]);
+    while at < parts.units.len() {
+        let first = alike_from(parts, &mut walk, at);
+        let end = piece_end(parts, &mut walk, &first, at);
         push_comma(out, at > 0)?;
-        write_stretch(alloc, out, &text[at..at + len])?;
-        at += len;
+        write_piece(alloc, out, &first, &parts.units[at..end])?;
+        at = end;
     }
     out.push("]")
 }
 
-/// The number of items of the first piece.
-fn piece_len(items: &[Item]) -> usize
-    requires { 0 < length items.now }
-    ensures { BeginsStretch is_one_piece items.now result }
+/// Where the piece of a place ends, which begins with items that have this in common.
+fn piece_end(parts: &Parts<'_>, walk: &mut Walk, first: &Alike<'_>, place: usize) -> usize
+    requires parts { AreParts parts.now }
+    requires walk { IsWalk parts.now walk.old place }
+    requires some { place < first.now.end }
+    requires within { first.now.end ≤ length parts.now.units.now }
+    requires chps { (k : ℕ) (item : Item) → place ≤ k → k < first.now.end
+        → slice_get (items_in parts.now) k ≡ Some item → item.chp ≡ first.now.chp.now }
+    requires besides { (k : ℕ) (item : Item) → place ≤ k → k < first.now.end
+        → slice_get (items_in parts.now) k ≡ Some item → beside_of item ≡ first.now.beside.now }
+    ensures walk { IsWalk parts.now walk.new result }
+    ensures some { place < result }
+    ensures within { result ≤ length parts.now.units.now }
+    ensures joined { (k : ℕ) (item next : Item) → place ≤ k → k + 1 < result
+        → slice_get (items_in parts.now) k ≡ Some item → slice_get (items_in parts.now) (k + 1) ≡ Some next
+        → is_one_piece item next ≡ true }
+    ensures ends { result < length parts.now.units.now → (item next : Item)
+        → slice_get (items_in parts.now) (result - 1) ≡ Some item → slice_get (items_in parts.now) result ≡ Some next
+        → is_one_piece item next ≡ false }
 {
-    for i in 1..items.len() {
-        if !joins(&items[i - 1], &items[i]) {
-            return i;
-        }
+    if first.beside.is_something() {
+        return place + 1;
     }
-    items.len()
+    let mut until = first.end;
+    while until < parts.units.len() {
+        let next = alike_from(parts, walk, until);
+        if !goes_on(first, &next) {
+            return until;
+        }
+        until = next.end;
+    }
+    until
 }
 
-/// Whether two items are of one piece.
-fn joins(item: &Item, next: &Item) -> bool
-    ensures { result ≡ is_one_piece item.now next.now }
+/// Whether a piece goes on with what others have in common.
+fn goes_on(first: &Alike<'_>, next: &Alike<'_>) -> bool
+    ensures { result ≡ (not (has_something next.now.beside.now) && same_settings first.now.chp.now next.now.chp.now) }
 {
-    is_bare(item) && is_bare(next) && has_same_settings(&item.chp, &next.chp)
-}
-
-/// Whether an item has nothing beside its settings.
-pub(crate) fn is_bare(item: &Item) -> bool
-    ensures { result ≡ not (is_special item.now) }
-{
-    !(item.mark.is_some() || item.sect.is_some() || item.fld.is_some() || item.note.is_some())
+    !next.beside.is_something() && has_same_settings(first.chp, next.chp)
 }
 
 /// Whether two maps have the same codes and values.
@@ -99,19 +123,23 @@ pub(crate) fn has_same_settings(one: &PropMap, other: &PropMap) -> bool
     one.equal(other)
 }
 
-/// Writes a piece.
-fn write_stretch(alloc: Global, out: &mut JsonOut, items: &[Item]) -> Result<(), Memory>
-    requires { 0 < length items.now }
-    ensures { OnOk result (Adds out.old out.new (compact_text (stretch_json items.now))) }
+/// Writes a piece: what its items have in common, and their units.
+fn write_piece(
+    alloc: Global,
+    out: &mut JsonOut,
+    first: &Alike<'_>,
+    units: &[u16],
+) -> Result<(), Memory>
+    ensures { OnOk result (Adds out.old out.new
+        (compact_text (piece_json (piece_with first.now.chp.now first.now.beside.now units.now)))) }
 {
-    let first = &items[0];
     out.push("{\"c\":")?;
-    write_settings(out, &first.chp)?;
-    write_field(alloc, out, &first.fld)?;
-    write_mark(alloc, out, &first.mark)?;
-    write_note(out, &first.note)?;
-    write_units_of(out, items)?;
-    write_section(out, &first.sect)?;
+    write_settings(out, first.chp)?;
+    write_field(alloc, out, &first.beside.fld)?;
+    write_mark(alloc, out, &first.beside.mark)?;
+    write_note(out, &first.beside.note)?;
+    write_units_of(out, units)?;
+    write_section(out, &first.beside.sect)?;
     out.push("}")
 }
 
@@ -154,25 +182,13 @@ fn write_note(out: &mut JsonOut, note: &Option<NoteKind>) -> Result<(), Memory>
     }
 }
 
-/// Writes the units of items.
+/// Writes the units of a piece.
 #[tactic(auto, unfolding(json::specs::Print::escape_byte))]
-fn write_units_of(out: &mut JsonOut, items: &[Item]) -> Result<(), Memory>
-    ensures { OnOk result
-        (Adds out.old out.new (later_text (codes "t") (Some (units_json (map (λ i. i.unit) items.now))))) }
+fn write_units_of(out: &mut JsonOut, units: &[u16]) -> Result<(), Memory>
+    ensures { OnOk result (Adds out.old out.new (later_text (codes "t") (Some (units_json units.now)))) }
 {
     out.push(",\"t\":")?;
-    write_digits_of(out, items)
-}
-
-/// Writes the units of items as one text of digits.
-fn write_digits_of(out: &mut JsonOut, items: &[Item]) -> Result<(), Memory>
-    ensures { OnOk result (Adds out.old out.new (compact_text (units_json (map (λ i. i.unit) items.now)))) }
-{
-    out.push("\"")?;
-    for item in items {
-        push_word(out, item.unit)?;
-    }
-    out.push("\"")
+    write_units(out, units)
 }
 
 /// Writes the settings of a section, where there are some.

@@ -1,34 +1,44 @@
 // Bytes read as a document.
-ghost use Rattle.std.specs.Prelude.{◌≡◌, ◌≢◌, ◌⊎◌, ℕ, MatchResult, Some, None};
+ghost use Rattle.std.specs.Prelude.{◌≡◌, ◌≢◌, ◌⊎◌, MatchResult, Err, Some, None};
+ghost use Rattle.std.specs.Result.{IsOk};
 ghost use Rattle.serde_json.specs.View.{view, items_view};
 ghost use Rattle.serde_json.specs.Errors.{IsMemory};
-ghost use Rattle.doc_bits.specs.declared.places.Where.{Where};
 ghost use Rattle.edit_script.specs.Json.{IsJson, Gives};
 ghost use Rattle.plain_doc.specs.declared.document.Document.{Document};
 ghost use Rattle.plain_doc.specs.Marks.{HasFormedBookmarks};
-ghost use Rattle.plain_doc.specs.Sound.{IsSound, NamesFirstRule, document_rules};
+ghost use Rattle.plain_doc.specs.Sound.{IsSound};
 ghost use Rattle.json_values.specs.Plain.{HasKeysInOrder};
 ghost use Rattle.json_doc.specs.Documents.{bookmarks_json, json_value};
 ghost use Rattle.json_doc.specs.DocumentReading.{bookmark_of, bookmark_of_items, AreMarks, document_values};
 ghost use Rattle.json_doc.specs.ReadValues.{Reads};
-ghost use Rattle.json_doc.specs.Reading.{IsWhole, IsReadAs, IsJsonFault};
+ghost use Rattle.json_doc.specs.Reading.{IsWhole, IsReadAs, IsJsonFault, IsFirstFault};
 ghost use Rattle.json_doc.specs.StyleReading.{list_as};
 
 use crate::JsonFault;
 use crate::carried_reading::carried_in;
 use crate::piece_reading::{text_in, texts_in};
 use crate::style_reading::sheet_in;
-use doc_parts::{Bookmark, Bookmarks};
+use doc_columns::{ColumnDocument, columns_are_formed, is_sound};
+use doc_parts::{Bookmark, Bookmarks, Name};
 use edit_script::{Misfit, position_in, short_in};
 use json_values::{Row, hex_units_in};
-use plain_doc::{Document, check, documents_are_formed};
+use plain_doc::{Document, check};
 use serde_json::{Error, Value};
 use std::alloc::Global;
 
 /// Reads a document: the JSON that its text is, in any order of keys and with any spaces. `Json` comes where the bytes
 /// are no JSON, else `Shape` where no well-formed document has their value, else `Unsound` where that document is not
-/// sound.
+/// sound. It is read by columns, and put item by item.
 pub fn from_json(alloc: Global, bytes: &[u8]) -> Result<Document, JsonFault>
+    ensures { MatchResult result (IsReadAs bytes.now) (IsJsonFault bytes.now) }
+{
+    let columns = columns_from_json(alloc, bytes)?;
+    let document = columns.expand(alloc)?;
+    Ok(document)
+}
+
+/// The same document by columns.
+pub fn columns_from_json(alloc: Global, bytes: &[u8]) -> Result<ColumnDocument, JsonFault>
     ensures { MatchResult result (IsReadAs bytes.now) (IsJsonFault bytes.now) }
 {
     let value = json_of(alloc, bytes)?;
@@ -37,8 +47,8 @@ pub fn from_json(alloc: Global, bytes: &[u8]) -> Result<Document, JsonFault>
     drop(value);
     match read {
         Ok(document) => {
-            documents_are_formed(&document);
-            judged(document)
+            columns_are_formed(&document);
+            judged(alloc, document)
         }
         Err(Misfit::Shape) => Err(JsonFault::Shape),
         Err(Misfit::Memory) => Err(JsonFault::Memory),
@@ -68,20 +78,50 @@ fn fault_of(error: &Error) -> JsonFault
 }
 
 /// A document that is judged.
-fn judged(document: Document) -> Result<Document, JsonFault>
+fn judged(alloc: Global, document: ColumnDocument) -> Result<ColumnDocument, JsonFault>
     requires { HasFormedBookmarks document }
-    ensures { MatchResult result
-        (λ sound. (sound ≡ document) × IsSound document)
-        (λ fault. (rule : ℕ) × ((place : Where) × ((at : ℕ) × ((fault ≡ JsonFault.Unsound rule place at)
-        × NamesFirstRule (document_rules document) (record { rule = rule; place = place; at = at }))))) }
+    ensures { MatchResult result (λ sound. (sound ≡ document) × IsSound document) (IsFirstFault document) }
 {
-    match check(&document) {
-        Ok(()) => Ok(document),
+    let verdict = verdict_on(alloc, &document);
+    where_right(document, verdict)
+}
+
+/// Whether a document is sound. Where its columns do not tell, its items are put one by one.
+fn verdict_on(alloc: Global, document: &ColumnDocument) -> Result<(), JsonFault>
+    requires { HasFormedBookmarks document.now }
+    ensures { MatchResult result (λ _. IsSound document.now) (IsFirstFault document.now) }
+{
+    if is_sound(alloc, document)? {
+        return Ok(());
+    }
+    let items = document.expand(alloc)?;
+    verdict_by_items(&items)
+}
+
+/// The same of a document item by item.
+fn verdict_by_items(document: &Document) -> Result<(), JsonFault>
+    requires { HasFormedBookmarks document.now }
+    ensures { MatchResult result (λ _. IsSound document.now) (IsFirstFault document.now) }
+{
+    match check(document) {
+        Ok(()) => Ok(()),
         Err(fault) => Err(JsonFault::Unsound {
             rule: fault.rule,
             place: fault.place,
             at: fault.at,
         }),
+    }
+}
+
+/// What was read, where nothing is said against it.
+fn where_right<T: Drop, E: Drop>(read: T, verdict: Result<(), E>) -> Result<T, E>
+    ensures { MatchResult result
+        (λ given. (given ≡ read) × IsOk verdict)
+        (λ fault. verdict ≡ Err fault) }
+{
+    match verdict {
+        Ok(()) => Ok(read),
+        Err(fault) => Err(fault),
     }
 }
 
@@ -143,12 +183,12 @@ fn bookmark_from(alloc: Global, values: &[Value]) -> Result<Bookmark, Misfit>
 {
     match values {
         [name, from, to, flags] => {
-            let name = hex_units_in(alloc, name)?;
+            let units = hex_units_in(alloc, name)?;
             let from = position_in(from)?;
             let to = position_in(to)?;
             let flags = short_in(flags)?;
             Ok(Bookmark {
-                name,
+                name: Name::from_slice(alloc, units.as_slice())?,
                 from,
                 to,
                 flags,
@@ -170,7 +210,7 @@ fn bookmarks_in(alloc: Global, value: &Value) -> Result<Bookmarks, Misfit>
         return Err(Misfit::Memory);
     }
     let mut bookmarks = Bookmarks::new(alloc);
-    // A list that does not know its names takes each in one step.
+    // A list that does not know its names takes each bookmark in one step.
     bookmarks.splice(0, 0, Bookmarks::new(alloc))?;
     for value in values.iter() {
         bookmarks.add(bookmark_in(alloc, value)?)?;
@@ -182,16 +222,18 @@ fn bookmarks_in(alloc: Global, value: &Value) -> Result<Bookmarks, Misfit>
 fn marks_in(alloc: Global, value: &Value, len: usize) -> Result<Bookmarks, Misfit>
     ensures { Reads bookmarks_json (AreMarks len) (view value.now) result }
 {
-    let bookmarks = bookmarks_in(alloc, value)?;
+    let mut bookmarks = bookmarks_in(alloc, value)?;
     let _ = bookmarks.len();
     if !bookmarks.are_formed(len) {
         return Err(Misfit::Shape);
     }
+    // They are in order already: whether their names differ is found out.
+    bookmarks.arrange();
     Ok(bookmarks)
 }
 
 /// The document that a value stands for.
-fn document_in(alloc: Global, value: &Value) -> Result<Document, Misfit>
+fn document_in(alloc: Global, value: &Value) -> Result<ColumnDocument, Misfit>
     ensures { MatchResult result
         (λ document. HasFormedBookmarks document
         × (HasKeysInOrder (view value.now) → view value.now ≡ json_value document))
@@ -205,7 +247,7 @@ fn document_in(alloc: Global, value: &Value) -> Result<Document, Misfit>
     let heads = texts_in(alloc, parts.heads)?;
     let sheet = sheet_in(alloc, parts.sheet)?;
     let carried = carried_in(alloc, parts.carried)?;
-    Ok(Document {
+    Ok(ColumnDocument {
         main,
         notes,
         heads,

@@ -4,6 +4,9 @@ use Rattle.std.proofs.Common.{[], ◌∷◌, ◌++◌, length, get_or, take, dro
 use Rattle.std.proofs.Common.{None, refl, sym, ap, ◌∙◌, arith, append_assoc, ◌-◌, inl, inr}
 use Rattle.std.proofs.Common.{append-nil}
 use Rattle.std.specs.Prelude.{flat_map}
+use Rattle.std.specs.Str.{IsUtf8}
+use Rattle.std.proofs.lemmas.Str.Ascii.{IsAscii-cons, IsAscii-nil}
+use Rattle.std.proofs.lemmas.Str.{IsUtf8-from_ascii}
 use Rattle.std.specs.Option.{option_map}
 use Rattle.std.proofs.lemmas.Bool.{ne_eqb, le-ltb, cases_lt}
 use Rattle.std.proofs.lemmas.List.{drop_more, drop_all, take_more, take_all}
@@ -56,10 +59,12 @@ pub all_digits : (digits : ℕ → List ℕ) (items : List ℕ) (i : ℕ) → le
     (34 ∷ escape (flat_map digits (take i items))) ++ 34 ∷ [] ≡ quoted (flat_map digits items)
 all_digits digits items i all = ap (λ front. quoted (flat_map digits front)) (take_all i items all)
 
--- the digits of two bytes
-pub word_escaped : (word : ℕ) →
-    escape (byte_text (word / 256)) ++ escape (byte_text (word % 256)) ≡ escape (word_text word)
-word_escaped word = sym (flat_map-append escape_byte (byte_text (word / 256)) (byte_text (word % 256)))
+-- four bytes below 128 are a text
+pub four_are_utf8 : (a b c d : ℕ) → a < 128 → b < 128 → c < 128 → d < 128 → IsUtf8 (a ∷ b ∷ c ∷ d ∷ [])
+four_are_utf8 a b c d la lb lc ld =
+    IsUtf8-from_ascii (a ∷ b ∷ c ∷ d ∷ [])
+    (IsAscii-cons a (b ∷ c ∷ d ∷ []) la (IsAscii-cons b (c ∷ d ∷ []) lb
+    (IsAscii-cons c (d ∷ []) lc (IsAscii-cons d [] ld IsAscii-nil))))
 
 -- ---- units of bytes
 

@@ -74,8 +74,15 @@ pub fn write_units(out: &mut JsonOut, units: &[u16]) -> Result<(), Memory>
 pub fn push_word(out: &mut JsonOut, word: u16) -> Result<(), Memory>
     ensures { OnOk result (Adds out.old out.new (escape (word_text word))) }
 {
-    push_byte(out, (word / 256) as u8)?;
-    push_byte(out, (word % 256) as u8)
+    let high = (word / 256) as u8;
+    let low = (word % 256) as u8;
+    let digits = [
+        digit(high / 16),
+        digit(high % 16),
+        digit(low / 16),
+        digit(low % 16),
+    ];
+    out.push(str::from_utf8(&digits).unwrap())
 }
 
 /// Writes the two digits of a byte.

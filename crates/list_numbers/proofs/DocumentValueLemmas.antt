@@ -22,6 +22,10 @@ use Rattle.list_numbers.specs.Numbers.{AreDocumentValues}
 use Rattle.list_numbers.proofs.ParagraphLemmas.{BeginsParagraph, first_begins, next_begins, paragraph_there, none_left}
 use Rattle.list_numbers.proofs.ParagraphLemmas.{paragraph_from, last_of_paragraph, few_paragraphs}
 
+-- the document that its columns are seen as is sound
+pub sound_seen : (seen document : Document) → seen ≡ document → IsSound document → IsSound seen
+sound_seen seen document is sound = subst (λ (d : Document). IsSound d) (sym is) sound
+
 -- no style was met
 pub none_known : (sheet : Sheet) (count : ℕ) → AreKnownValues sheet (replicate count None)
 none_known sheet count istd values there =

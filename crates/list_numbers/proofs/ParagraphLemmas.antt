@@ -1,14 +1,15 @@
 -- The paragraphs of a text, one after the other.
 use Rattle.std.proofs.Common.{◌≡◌, inl, inr, ℕ, ◌+◌, ◌-◌, ◌<◌, ◌≤◌, true, false, not, List, [], ◌∷◌, length}
-use Rattle.std.proofs.Common.{take, drop, get_or, Option, Some, None, refl, sym, ap, ◌∙◌, subst, arith}
+use Rattle.std.proofs.Common.{take, drop, get_or, Option, Some, None, refl, sym, ap, ◌∙◌, subst, arith, Bor}
 use Rattle.std.proofs.Common.{length-drop, get_or-take, get_or-drop}
-use Rattle.std.specs.Prelude.{slice_get, is_some, IsSome}
+use Rattle.std.specs.Prelude.{slice_get, slice_range, is_some, IsSome, map}
 use Rattle.std.specs.Option.{MatchOption}
 use Rattle.std.proofs.lemmas.Bool.{cases_lt}
-use Rattle.std.proofs.lemmas.List.{drop-drop, drop_all, length-take-le}
+use Rattle.std.proofs.lemmas.List.{drop-drop, drop_all, length-take-le, take-take, take-map, drop-map}
 use Rattle.std.proofs.lemmas.Option.{slice_get_within, slice_get-get_or, get_or_from_slice_get}
 use Rattle.doc_bits.proofs.TogetherLemmas.{got_drop}
 use Rattle.plain_doc.specs.declared.item.Item.{Item}
+use Rattle.plain_doc.specs.declared.item.Mark.{Mark}
 use Rattle.plain_doc.specs.declared.document.Document.{Document}
 use Rattle.plain_doc.specs.Paragraphs.{IsParagraphEnd, HasNoParagraphEnd}
 use Rattle.plain_doc.specs.Settings.{is_inside}
@@ -17,15 +18,32 @@ use Rattle.plain_doc.specs.Stretches.{stretches, joins_next, joins_at, BeginsStr
 use Rattle.plain_doc.proofs.MainLemmas.{some_end}
 use Rattle.plain_doc.proofs.RightLemmas.{sound_is_right}
 use Rattle.plain_doc.proofs.StretchLemmas.{one_more, stretches-first, stretches-nil}
-use Rattle.list_numbers.specs.Places.{paragraphs}
+use Rattle.list_numbers.specs.Places.{paragraphs, EndsBefore}
+use Rattle.list_numbers.specs.Outline.{bare_units}
 
--- a paragraph of the main text of a sound document ends
-pub end_there : (document : Document) (items : List Item) (at : ℕ) (found : Option ℕ) → IsSound document →
+-- a paragraph of the main text of a sound document ends with a mark
+pub mark_there : (document : Document) (items : List Item) (at end : ℕ) (found : Option (Bor Mark)) → IsSound document →
     items ≡ document.main → at < length document.main →
-    MatchOption found (HasNoParagraphEnd items at) (IsParagraphEnd items at) → IsSome found
-end_there document items at None sound same low m =
+    MatchOption found (HasNoParagraphEnd items at) (λ mark. EndsBefore items at end mark.now) → IsSome found
+mark_there document items at end None sound same low m =
     absurd (some_end document at (sound_is_right document sound) low (subst (λ is. HasNoParagraphEnd is at) same m))
-end_there document items at (Some end) sound same low m = refl
+mark_there document items at end (Some mark) sound same low m = refl
+
+pub mark_taken : (items : List Item) (at end : ℕ) (found : Option (Bor Mark)) (mark : Bor Mark) → found ≡ Some mark →
+    MatchOption found (HasNoParagraphEnd items at) (λ mark. EndsBefore items at end mark.now) →
+    EndsBefore items at end mark.now
+mark_taken items at end found mark is m =
+    subst (λ o. MatchOption o (HasNoParagraphEnd items at) (λ mark. EndsBefore items at end mark.now)) is m
+
+-- so its paragraph ends there
+pub end_there : (document : Document) (items : List Item) (at end : ℕ) (found : Option (Bor Mark)) → IsSound document →
+    items ≡ document.main → at < length document.main →
+    MatchOption found (HasNoParagraphEnd items at) (λ mark. EndsBefore items at end mark.now) →
+    IsParagraphEnd document.main at (end - 1)
+end_there document items at end None sound same low m =
+    absurd (some_end document at (sound_is_right document sound) low (subst (λ is. HasNoParagraphEnd is at) same m))
+end_there document items at end (Some mark) sound same low m =
+    subst (λ is. IsParagraphEnd is at (end - 1)) same m.is_end
 
 -- ---- a paragraph is a stretch
 
@@ -169,3 +187,19 @@ last_of_paragraph items at end item after there =
     ∙ ap Some (get_or-take (end + 1 - at) (drop at items) (end - at) item (omega arith)
     ∙ (get_or-drop at items (end - at) item ∙ (ap (λ n. get_or items n item) back
     ∙ get_or_from_slice_get items end item item there))))
+
+-- ---- the units of a paragraph before its mark
+
+pub bare_units_from : (items : List Item) (at end : ℕ) → at ≤ end → end < length items →
+    bare_units (paragraph_from items at end) ≡ slice_range (map (λ item. item.unit) items) at end
+bare_units_from items at end after within =
+    let unit : Item → ℕ = λ (item : Item). item.unit in
+    let rest : List Item = drop at items in
+    let long : length (paragraph_from items at end) ≡ end + 1 - at =
+    length-take-le (end + 1 - at) rest (omega (arith, length-drop at items)) in
+    let last : length (paragraph_from items at end) - 1 ≡ end - at = omega arith in
+    let part : take (length (paragraph_from items at end) - 1) (paragraph_from items at end) ≡ take (end - at) rest =
+    ap (λ n. take n (paragraph_from items at end)) last ∙ take-take (end - at) (end + 1 - at) rest (omega arith) in
+    ap (map unit) part
+    ∙ sym (take-map unit (end - at) rest)
+    ∙ ap (take (end - at)) (sym (drop-map unit at items))

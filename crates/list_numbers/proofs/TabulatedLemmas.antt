@@ -45,3 +45,6 @@ slice_get-tabulate f (suc n) i low =
           subst (λ k. slice_get (tabulate f n ++ f n ∷ []) k ≡ Some (f i)) here (slice_get_push (tabulate f n) (f n)
           ∙ ap (λ k. Some (f k)) (sym e))
     ]
+
+-- both ends of a tabulated list
+pub ruleset tabulate_steps = (tabulate_zero, tabulate_more)

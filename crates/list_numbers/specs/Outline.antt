@@ -27,11 +27,14 @@ number_word (Some units) = shown false units
 abbrev pub bare_units : List Item → List ℕ
 bare_units paragraph = map (λ item. item.unit) (take (length paragraph - 1) paragraph)
 
--- the index, the level in the outline, the number, the text
-abbrev pub outline_line : ℕ → Option ℕ → Option (List ℕ) → List Item → List ℕ
-outline_line index level number paragraph =
+-- the index, the level in the outline, the number, the text of these units
+abbrev pub units_line : ℕ → Option ℕ → Option (List ℕ) → List ℕ → List ℕ
+units_line index level number units =
     if is_some level || is_some number then decimal index ++ (codes " " ++ (level_word level ++ (codes " "
-    ++ (number_word number ++ (codes " | " ++ (shown false (bare_units paragraph) ++ codes "\n")))))) else []
+    ++ (number_word number ++ (codes " | " ++ (shown false units ++ codes "\n")))))) else []
+
+abbrev pub outline_line : ℕ → Option ℕ → Option (List ℕ) → List Item → List ℕ
+outline_line index level number paragraph = units_line index level number (bare_units paragraph)
 
 abbrev pub level_at_entry : Option MarkValues → Option ℕ
 level_at_entry None = None

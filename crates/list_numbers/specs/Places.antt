@@ -7,6 +7,7 @@ use Rattle.std.specs.BTreeMap.{BTreeMap, get}
 use Rattle.plain_doc.specs.declared.item.Item.{Item}
 use Rattle.plain_doc.specs.declared.item.Mark.{Mark}
 use Rattle.plain_doc.specs.declared.document.Document.{Document}
+use Rattle.plain_doc.specs.Paragraphs.{IsParagraphEnd}
 use Rattle.plain_doc.specs.Stretches.{stretches}
 use Rattle.plain_doc.specs.Settings.{is_inside}
 use Rattle.list_numbers.specs.declared.list_format.ListFormat.{ListFormat}
@@ -74,6 +75,11 @@ pub record IsMarkAt (items : List Item) (at : ℕ) (mark : Mark) : Type 0 where
   pub item : Item
   pub here : slice_get items at ≡ Some item
   pub has : item.mark ≡ Some mark
+
+-- the paragraph of an item ends before a place, with this mark
+pub record EndsBefore (items : List Item) (from end : ℕ) (mark : Mark) : Type 0 where
+  pub is_end : IsParagraphEnd items from (end - 1)
+  pub marked : IsMarkAt items (end - 1) mark
 
 -- the values in effect of a paragraph's mark
 pub record AreParagraphValues (document : Document) (paragraph : List Item) (values : MarkValues) : Type 0 where

@@ -8,11 +8,21 @@ use crate::numbers_list::Numbers;
 use crate::numbers_of_places::numbers_at;
 use crate::paragraphs::document_values;
 use doc_bits::Memory;
+use doc_columns::ColumnDocument;
 use plain_doc::Document;
 use std::alloc::Global;
 
-/// The numbers of the main paragraphs of a sound document, in their order.
+/// The numbers of the main paragraphs of a sound document, in their order. The document is put by columns first.
 pub fn numbers(alloc: Global, document: &Document) -> Result<Numbers, Memory>
+    requires { IsSound document.now }
+    ensures { IfOk result (AreNumbers document.now) }
+{
+    let columns = ColumnDocument::from_document(alloc, document)?;
+    columns_numbers(alloc, &columns)
+}
+
+/// The same of a document by columns.
+pub fn columns_numbers(alloc: Global, document: &ColumnDocument) -> Result<Numbers, Memory>
     requires { IsSound document.now }
     ensures { IfOk result (AreNumbers document.now) }
 {

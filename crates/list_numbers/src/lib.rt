@@ -26,8 +26,8 @@ mod reading;
 mod roman;
 mod style_values;
 
-pub use document_numbers::numbers;
+pub use document_numbers::{columns_numbers, numbers};
 pub use laws::{numbers_are_one, outline_lines_are_one, roman_numerals_are_read_back};
 pub use numbers_list::Numbers;
 pub use numeral::number_text;
-pub use outline::outline_lines;
+pub use outline::{columns_outline_lines, outline_lines};

@@ -12,14 +12,25 @@ use crate::list_place::ListPlace;
 use crate::mark_values::MarkValues;
 use crate::numbering::next_number;
 use crate::outline_line::push_line;
-use crate::paragraphs::{document_values, end_of_paragraph};
+use crate::paragraphs::{document_values, mark_of};
 use doc_bits::{Memory, Text};
+use doc_columns::ColumnDocument;
 use plain_doc::Document;
+use run_lists::Cursor;
 use std::alloc::Global;
 
 /// The lines of the main paragraphs of a sound document that have a number, or a level in the outline: the index of the
-/// paragraph, the level, the number and the text.
+/// paragraph, the level, the number and the text. The document is put by columns first.
 pub fn outline_lines(alloc: Global, document: &Document) -> Result<Text, Memory>
+    requires { IsSound document.now }
+    ensures { IfOk result (AreOutlineLines document.now) }
+{
+    let columns = ColumnDocument::from_document(alloc, document)?;
+    columns_outline_lines(alloc, &columns)
+}
+
+/// The same of a document by columns.
+pub fn columns_outline_lines(alloc: Global, document: &ColumnDocument) -> Result<Text, Memory>
     requires { IsSound document.now }
     ensures { IfOk result (AreOutlineLines document.now) }
 {
@@ -33,7 +44,7 @@ pub fn outline_lines(alloc: Global, document: &Document) -> Result<Text, Memory>
 /// The lines of the main paragraphs that have these values and places.
 fn lines_of(
     alloc: Global,
-    document: &Document,
+    document: &ColumnDocument,
     lists: &ListFormats,
     values: &[MarkValues],
     places: &[Option<ListPlace>],
@@ -46,12 +57,15 @@ fn lines_of(
     ensures { IfOk result (λ text. text
         ≡ outline_of (paragraphs document.now.main) values.now (numbers_at lists.now places.now)) }
 {
-    let items = document.main.as_slice();
+    let len = document.main.len();
+    let units = document.main.units();
+    let besides = document.main.besides();
     let mut counts = new_counters(alloc, lists.len())?;
     let mut text = Text::new(alloc);
+    let mut marks = Cursor::new();
     let mut at = 0;
     for i in 0..places.len() {
-        let end = end_of_paragraph(document, at);
+        let (_mark, end) = mark_of(besides, &mut marks, at, len);
         let number = next_number(alloc, lists, &mut counts, places[i])?;
         push_line(
             alloc,
@@ -59,9 +73,9 @@ fn lines_of(
             i,
             values[i].outline,
             &number,
-            &items[at..end + 1],
+            &units[at..end - 1],
         )?;
-        at = end + 1;
+        at = end;
     }
     Ok(text)
 }

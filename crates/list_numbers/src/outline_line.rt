@@ -1,41 +1,55 @@
 // A line of an outline.
-ghost use Rattle.std.specs.Prelude.{◌≡◌, ◌<◌, ◌++◌, ◌||◌, false, is_some, length, map, OnOk, IfOk};
+ghost use Rattle.std.specs.Prelude.{◌≡◌, ◌++◌, ◌||◌, false, is_some, codes, OnOk};
+ghost use Rattle.std.specs.Fmt.{decimal};
 ghost use Rattle.text_codes.specs.Shown.{shown};
-ghost use Rattle.list_numbers.specs.Outline.{outline_level, outline_line, level_word, number_word};
+ghost use Rattle.list_numbers.specs.Outline.{outline_level, units_line, level_word, number_word};
 
 use doc_bits::{Memory, Text, Units};
-use plain_doc::Item;
 use std::alloc::Global;
-use text_codes::{ShownText, show_units};
+use text_codes::show_units;
 
 /// The highest level of an outline.
 const LAST_LEVEL: u8 = 8;
 
-/// Appends the line of a paragraph, where it has a number or a level. After want of memory a part of it may be there.
+/// Appends the line of a paragraph of these units, where it has a number or a level. After want of memory a part of it
+/// may be there.
 pub(crate) fn push_line(
     alloc: Global,
     text: &mut Text,
     index: usize,
     outline: Option<u8>,
     number: &Option<Units>,
-    paragraph: &[Item],
+    units: &[u16],
 ) -> Result<(), Memory>
-    requires { 0 < length paragraph.now }
     ensures { OnOk result
-        (text.new ≡ text.old ++ outline_line index (outline_level outline) number.now paragraph.now) }
+        (text.new ≡ text.old ++ units_line index (outline_level outline) number.now units.now) }
 {
     let level = outline_level(outline);
     if !is_listed(level, number) {
         return Ok(());
     }
+    push_places(alloc, text, index, level, number)?;
+    text.push_all(" | ")?;
+    push_units(alloc, text, units)?;
+    text.push_all("\n")
+}
+
+/// Appends the index of a paragraph, its level and its number.
+fn push_places(
+    alloc: Global,
+    text: &mut Text,
+    index: usize,
+    level: Option<u8>,
+    number: &Option<Units>,
+) -> Result<(), Memory>
+    ensures { OnOk result (text.new ≡ text.old
+        ++ (decimal index ++ (codes " " ++ (level_word level ++ (codes " " ++ number_word number.now))))) }
+{
     let start = format!(in alloc; "{index} ")?;
     text.push_all(start.as_str())?;
     push_level(alloc, text, level)?;
     text.push_all(" ")?;
-    push_number(alloc, text, number)?;
-    text.push_all(" | ")?;
-    push_units(alloc, text, &paragraph[..paragraph.len() - 1])?;
-    text.push_all("\n")
+    push_number(alloc, text, number)
 }
 
 /// Whether a paragraph has a line.
@@ -79,21 +93,10 @@ fn push_number(alloc: Global, text: &mut Text, number: &Option<Units>) -> Result
     text.push_all(word.as_str())
 }
 
-/// Appends the units of items as they are shown.
-fn push_units(alloc: Global, text: &mut Text, items: &[Item]) -> Result<(), Memory>
-    ensures { OnOk result (text.new ≡ text.old ++ shown false (map (λ item. item.unit) items.now)) }
+/// Appends units as they are shown.
+fn push_units(alloc: Global, text: &mut Text, units: &[u16]) -> Result<(), Memory>
+    ensures { OnOk result (text.new ≡ text.old ++ shown false units.now) }
 {
-    let word = shown_units(alloc, items)?;
+    let word = show_units(alloc, units)?;
     text.push_all(word.as_str())
-}
-
-/// The shown text of the units of items.
-fn shown_units(alloc: Global, items: &[Item]) -> Result<Text, Memory>
-    ensures { IfOk result (λ text. text ≡ shown false (map (λ item. item.unit) items.now)) }
-{
-    let mut text = ShownText::new(alloc, false);
-    for item in items {
-        text.push(item.unit)?;
-    }
-    text.finish()
 }

@@ -1,30 +1,42 @@
 // The main paragraphs of a document, and the values of their marks.
-ghost use Rattle.std.specs.Prelude.{◌≡◌, ◌<◌, IfOk, length, replicate, None};
-ghost use Rattle.plain_doc.specs.Paragraphs.{IsParagraphEnd, EndsParagraph};
+ghost use Rattle.std.specs.Prelude.{◌≡◌, ◌^◌, ◌<◌, ◌≤◌, List, IfOk, MatchOption, map, replicate, None};
+ghost use Rattle.run_lists.specs.Spread.{spread, extent};
+ghost use Rattle.run_lists.specs.Places.{IsAt};
+ghost use Rattle.plain_doc.specs.declared.item.Item.{Item};
+ghost use Rattle.plain_doc.specs.Paragraphs.{HasNoParagraphEnd};
 ghost use Rattle.plain_doc.specs.Sound.{IsSound};
+ghost use Rattle.doc_columns.specs.Beside.{beside_of};
 ghost use Rattle.list_numbers.specs.Numbers.{AreDocumentValues};
-ghost use Rattle.list_numbers.specs.Places.{IsMarkAt};
+ghost use Rattle.list_numbers.specs.Places.{EndsBefore};
 
 use crate::mark_values::MarkValues;
 use crate::style_values::values_of_mark;
 use doc_bits::Memory;
-use plain_doc::{Document, Item, Mark, paragraph_end};
+use doc_columns::{Beside, ColumnDocument, paragraph_end};
+use plain_doc::Mark;
+use run_lists::{Cursor, Run, seek};
 use std::alloc::Global;
 
-/// The values in effect of the main paragraphs, in their order.
-pub(crate) fn document_values(alloc: Global, document: &Document) -> Result<Vec<MarkValues>, Memory>
+/// The values in effect of the main paragraphs, in their order. It goes over the runs of marks once.
+pub(crate) fn document_values(
+    alloc: Global,
+    document: &ColumnDocument,
+) -> Result<Vec<MarkValues>, Memory>
     requires { IsSound document.now }
     ensures { IfOk result (λ values. AreDocumentValues document.now values.items) }
 {
-    let mut known = no_values(alloc, document.sheet.slots())?;
+    let sheet = &document.sheet;
+    let len = document.main.len();
+    let besides = document.main.besides();
+    let mut known = no_values(alloc, sheet.slots())?;
     let mut values = Vec::new(alloc);
+    let mut marks = Cursor::new();
     let mut at = 0;
-    while at < document.main.len() {
-        let end = end_of_paragraph(document, at);
-        let mark = mark_at(document.main.as_slice(), end);
-        let own = values_of_mark(alloc, &document.sheet, &mut known, mark)?;
+    while at < len {
+        let (found, end) = mark_of(besides, &mut marks, at, len);
+        let own = values_of_mark(alloc, sheet, &mut known, found.unwrap())?;
         values.push(own)?;
-        at = end + 1;
+        at = end;
     }
     Ok(values)
 }
@@ -40,20 +52,27 @@ fn no_values(alloc: Global, count: usize) -> Result<Vec<Option<MarkValues>>, Mem
     Ok(known)
 }
 
-/// The index of the item that ends the paragraph of an item of the main text.
-pub(crate) fn end_of_paragraph(document: &Document, at: usize) -> usize
-    requires sound { IsSound document.now }
-    requires within { at < length document.now.main }
-    ensures ends { IsParagraphEnd document.now.main at result }
-    ensures within { result < length document.now.main }
+/// The mark that ends the paragraph of a place, where there is one, and where the paragraph ends: behind the mark, or
+/// at the end of the text, which has `len` units. The cursor is not behind the place, and goes to the mark.
+pub(crate) fn mark_of<'a>(
+    besides: &'a [Run<Beside>],
+    marks: &mut Cursor,
+    at: usize,
+    len: usize,
+) -> (Option<&'a Mark>, usize)
+    requires long { extent besides.now ≡ len }
+    requires few { len < 2 ^ 32 }
+    requires cursor { IsAt besides.now marks.old }
+    requires ahead { marks.old.begin ≤ at }
+    requires within { at < len }
+    ensures cursor { IsAt besides.now marks.new }
+    ensures ahead { marks.new.begin ≤ result.1 }
+    ensures some { at < result.1 }
+    ensures within { result.1 ≤ len }
+    ensures found { (text : List Item) → spread besides.now ≡ map beside_of text → MatchOption result.0
+        (HasNoParagraphEnd text at) (λ mark. EndsBefore text at result.1 mark.now) }
 {
-    paragraph_end(document.main.as_slice(), at).unwrap()
-}
-
-/// The mark of an item that ends a paragraph.
-fn mark_at(items: &[Item], end: usize) -> &Mark
-    requires { EndsParagraph items.now end }
-    ensures { IsMarkAt items.now end result.now }
-{
-    items[end].mark.as_ref().unwrap()
+    let end = paragraph_end(besides, marks, at, len);
+    let last = seek(besides, marks, end - 1);
+    (last.mark.as_ref(), end)
 }

@@ -140,7 +140,7 @@ fn level_end(bytes: &[u8], at: usize) -> usize
 }
 
 /// Reads units behind their count.
-#[tactic(auto, using(crate::proofs::TabulatedLemmas::tabulate_zero, crate::proofs::TabulatedLemmas::tabulate_more))]
+#[tactic(auto, using(crate::proofs::TabulatedLemmas::tabulate_steps))]
 fn read_units(alloc: Global, bytes: &[u8], at: usize) -> Result<Units, Memory>
     requires { at + 2 + 2 * u16_at bytes.now at ≤ length bytes.now }
     ensures { IfOk result (λ units. units ≡ counted_units bytes.now at) }
@@ -153,7 +153,7 @@ fn read_units(alloc: Global, bytes: &[u8], at: usize) -> Result<Units, Memory>
 }
 
 /// The numbers of the lists that are used, by use.
-#[tactic(auto, using(crate::proofs::TabulatedLemmas::tabulate_zero, crate::proofs::TabulatedLemmas::tabulate_more), unfolding(crate::specs::Lists::list_uses))]
+#[tactic(auto, using(crate::proofs::TabulatedLemmas::tabulate_steps), unfolding(crate::specs::Lists::list_uses))]
 pub(crate) fn uses_of(alloc: Global, lfo: &[u8]) -> Result<Vec<u32>, Memory>
     ensures { IfOk result (λ uses. uses.items ≡ list_uses lfo.now) }
 {

@@ -1,61 +1,80 @@
-use Rattle.std.proofs.Common.{◌∙◌, ap, arith}
+use Rattle.std.proofs.Common.{◌∙◌, ap, sym, subst, arith}
+use Rattle.plain_doc.specs.declared.document.Document.{Document}
+use Rattle.plain_doc.specs.Sound.{IsSound}
 use Rattle.doc_join.specs.declared.renumbering.Renumbering.{Renumbering}
-use Rattle.doc_join.proofs.SoundLemmas.{main_styles, note_styles, head_styles, are_few}
+use Rattle.doc_join.proofs.SoundLemmas.{main_styles, note_styles, head_styles, are_few, bookmarks_fit}
 use Rattle.doc_join.proofs.joining.joined.Goals as goal
 
 pub join_main-requires-clause-some : goal.join_main-requires-clause-some
-join_main-requires-clause-some c = (are_few c.args.a.now c.requires.first).some
+join_main-requires-clause-some c = (are_few _ (subst IsSound (sym c.a.view_is) c.requires.first)).some
 
 pub join_main-requires-clause-of_first : goal.join_main-requires-clause-of_first
 join_main-requires-clause-of_first c =
-    main_styles c.args.a.now c.new-ones.result.numbers c.requires.first
+    main_styles _ c.new-ones.result.numbers (subst IsSound (sym c.a.view_is) c.requires.first)
     (ap (λ (n : Renumbering). n.slots) c.new-ones.ensures ∙ c.slots-before.ensures.count)
 
 pub join_main-requires-clause-of_second : goal.join_main-requires-clause-of_second
 join_main-requires-clause-of_second c =
-    main_styles c.args.b.now c.new-others.result.numbers c.requires.second
+    main_styles _ c.new-others.result.numbers (subst IsSound (sym c.b.view_is) c.requires.second)
     (ap (λ (n : Renumbering). n.slots) c.new-others.ensures ∙ c.slots.ensures.count)
 
 pub join_texts-requires-clause-few : goal.join_texts-requires-clause-few
 join_texts-requires-clause-few c =
-    let one = (are_few c.args.a.now c.requires.first).notes in
-    let other = (are_few c.args.b.now c.requires.second).notes in
+    let one = (are_few _ (subst IsSound (sym c.a.view_is) c.requires.first)).notes in
+    let other = (are_few _ (subst IsSound (sym c.b.view_is) c.requires.second)).notes in
     omega (arith, one, other)
 
 pub join_texts-requires-clause-of_first : goal.join_texts-requires-clause-of_first
 join_texts-requires-clause-of_first c =
-    note_styles c.args.a.now c.join_main.new.ones.numbers c.requires.first
+    note_styles _ c.join_main.new.ones.numbers (subst IsSound (sym c.a.view_is) c.requires.first)
     (ap (λ (n : Renumbering). n.slots) (c.in_ok-join_main.ensures.ones ∙ c.new-ones.ensures)
     ∙ c.slots-before.ensures.count)
 
 pub join_texts-requires-clause-of_second : goal.join_texts-requires-clause-of_second
 join_texts-requires-clause-of_second c =
-    note_styles c.args.b.now c.join_main.new.others.numbers c.requires.second
+    note_styles _ c.join_main.new.others.numbers (subst IsSound (sym c.b.view_is) c.requires.second)
     (ap (λ (n : Renumbering). n.slots) (c.in_ok-join_main.ensures.others ∙ c.new-others.ensures)
     ∙ c.slots.ensures.count)
 
 pub join_texts-requires-2-clause-few : goal.join_texts-requires-2-clause-few
 join_texts-requires-2-clause-few c =
-    let one = (are_few c.args.a.now c.requires.first).heads in
-    let other = (are_few c.args.b.now c.requires.second).heads in
+    let one = (are_few _ (subst IsSound (sym c.a.view_is) c.requires.first)).heads in
+    let other = (are_few _ (subst IsSound (sym c.b.view_is) c.requires.second)).heads in
     omega (arith, one, other)
 
 pub join_texts-requires-2-clause-of_first : goal.join_texts-requires-2-clause-of_first
 join_texts-requires-2-clause-of_first c =
-    head_styles c.args.a.now c.join_texts.new.ones.numbers c.requires.first
+    head_styles _ c.join_texts.new.ones.numbers (subst IsSound (sym c.a.view_is) c.requires.first)
     (ap (λ (n : Renumbering). n.slots)
     (c.in_ok-join_texts.ensures.ones ∙ (c.in_ok-join_main.ensures.ones ∙ c.new-ones.ensures))
     ∙ c.slots-before.ensures.count)
 
 pub join_texts-requires-2-clause-of_second : goal.join_texts-requires-2-clause-of_second
 join_texts-requires-2-clause-of_second c =
-    head_styles c.args.b.now c.join_texts.new.others.numbers c.requires.second
+    head_styles _ c.join_texts.new.others.numbers (subst IsSound (sym c.b.view_is) c.requires.second)
     (ap (λ (n : Renumbering). n.slots)
     (c.in_ok-join_texts.ensures.others ∙ (c.in_ok-join_main.ensures.others ∙ c.new-others.ensures))
     ∙ c.slots.ensures.count)
 
 pub join_bookmarks-requires-clause-few : goal.join_bookmarks-requires-clause-few
 join_bookmarks-requires-clause-few c =
-    let one = (are_few c.args.a.now c.requires.first).bookmarks in
-    let other = (are_few c.args.b.now c.requires.second).bookmarks in
+    let one = (are_few _ (subst IsSound (sym c.a.view_is) c.requires.first)).bookmarks in
+    let other = (are_few _ (subst IsSound (sym c.b.view_is) c.requires.second)).bookmarks in
     omega (arith, one, other)
+
+pub join_texts-requires-2-clause-from : goal.join_texts-requires-2-clause-from
+join_texts-requires-2-clause-from c =
+    let few = (are_few _ (subst IsSound (sym c.b.view_is) c.requires.second)).separators in
+    omega (arith, few)
+
+pub join_bookmarks-requires-clause-starts : goal.join_bookmarks-requires-clause-starts
+join_bookmarks-requires-clause-starts c =
+    let first = subst IsSound (sym c.a.view_is) c.requires.first in
+    let second = subst IsSound (sym c.b.view_is) c.requires.second in
+    (bookmarks_fit _ _ c.len.result first second c.len.ensures.len).starts
+
+pub join_bookmarks-requires-clause-ends : goal.join_bookmarks-requires-clause-ends
+join_bookmarks-requires-clause-ends c =
+    let first = subst IsSound (sym c.a.view_is) c.requires.first in
+    let second = subst IsSound (sym c.b.view_is) c.requires.second in
+    (bookmarks_fit _ _ c.len.result first second c.len.ensures.len).ends

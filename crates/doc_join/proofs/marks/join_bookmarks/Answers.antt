@@ -1,14 +1,24 @@
-use Rattle.std.proofs.Common.{◌∙◌, ◌++◌, ◌∷◌, ◌+◌, ◌≤◌, [], List, length, take, sym, ap, subst, arith, length-append}
-use Rattle.std.proofs.Common.{length-take}
-use Rattle.std.specs.Prelude.{All}
-use Rattle.std.proofs.lemmas.List.{take_all}
-use Rattle.std.proofs.lemmas.List.Elements.{All-weaker, All-take}
+use Rattle.std.proofs.Common.{◌∙◌, ◌++◌, ◌∷◌, ◌+◌, ◌-◌, ◌^◌, ◌<◌, [], List, length, take, sym, ap, subst, arith}
+use Rattle.std.proofs.Common.{length-append, length-take}
+use Rattle.std.proofs.lemmas.List.{take_all, append-nil}
+use Rattle.std.proofs.lemmas.List.Sorted.{list_any-IsPermutation}
+use Rattle.std.proofs.lemmas.Option.{get_or_from_slice_get, slice_get_within}
 use Rattle.doc_parts.specs.declared.bookmark_order.Bookmark.{Bookmark}
-use Rattle.doc_parts.specs.Bookmarks.{IsFormedBookmark, moved_bookmarks}
+use Rattle.doc_parts.specs.Order.{in_order}
+use Rattle.doc_parts.specs.Bookmarks.{bookmark_cmp}
+use Rattle.doc_parts.specs.Names.{is_named}
 use Rattle.doc_join.specs.Bookmarks.{bookmarks_from_second, has_name}
-use Rattle.doc_join.proofs.BookmarkLemmas.{length-second, second_more, second_same, both_fit, put_in_order}
+use Rattle.doc_join.proofs.BookmarkLemmas.{length-second, second_more, second_same}
 use Rattle.doc_join.proofs.marks.join_bookmarks.Goals as goal
 use Rattle.doc_join.proofs.marks.join_bookmarks.Goals.{then-not-has_name+in_ok-moved+in_ok-add, else-not-has_name}
+
+pub loop-i-init : goal.loop-i-init
+loop-i-init c =
+    let first = c.args.first.now in
+    c.in_ok-splice.ensures.ok
+    ∙ (ap (λ (fresh : List Bookmark). fresh ++ c.in_ok-made.made) c.new.ensures
+    ∙ (c.in_ok-made.ensures
+    ∙ (take_all (c.len.result - 0) first (omega (arith, c.len.ensures.len)) ∙ sym (append-nil first))))
 
 pub add-requires : goal.add-requires
 add-requires c =
@@ -25,7 +35,11 @@ loop-i-preserved c =
     let first = c.args.first.now in
     let second = c.args.second.now in
     let bookmark = c.get-bookmark.result.now in
-    let named = sym (c.has_name.ensures ∙ ap (has_name first) c.as_slice.ensures) in
+    let name = c.as_slice.result.now in
+    let named = sym (c.has_name.ensures
+    ∙ (ap (λ (list : List Bookmark). has_name list name) c.deref.ensures.value
+    ∙ (sym (list_any-IsPermutation (is_named name) first c.in_ok-names.names.items c.in_ok-names.ensures.moved)
+    ∙ ap (has_name first) c.as_slice.ensures))) in
     elim c.if-not-has_name.branch [
       | then-not-has_name+in_ok-moved+in_ok-add w ↦
           w.made-is
@@ -46,27 +60,25 @@ loop-i-preserved c =
           (omega arith)))
     ]
 
-pub follow-requires-clause-starts : goal.follow-requires-clause-starts
-follow-requires-clause-starts c =
-    let len = c.args.before + c.args.len in
-    All-weaker (IsFormedBookmark len) (λ b. b.from ≤ len)
-    (λ b formed. let up = formed.ordered in let low = formed.within in omega (arith, up, low)) c.loop-i.made
-    (subst (All (IsFormedBookmark len)) (sym c.loop-i.invariant)
-    (both_fit c.args.before c.args.len c.args.first.now (take c.loop-i.i c.args.second.now) c.requires.of_first
-    (All-take (IsFormedBookmark c.args.len) c.loop-i.i c.args.second.now c.requires.of_second)))
+pub moved-requires-clause-from : goal.moved-requires-clause-from
+moved-requires-clause-from c =
+    let second = c.args.second.now in
+    let bookmark = c.get-bookmark.result.now in
+    let here = get_or_from_slice_get second c.loop-i.i bookmark bookmark c.get-bookmark.ensures in
+    subst (λ (b : Bookmark). b.from + c.args.before < 2 ^ 32) here
+    (c.requires.starts c.loop-i.i bookmark (slice_get_within second c.loop-i.i bookmark c.get-bookmark.ensures))
 
-pub follow-requires-clause-ends : goal.follow-requires-clause-ends
-follow-requires-clause-ends c =
-    let len = c.args.before + c.args.len in
-    All-weaker (IsFormedBookmark len) (λ b. b.to ≤ len) (λ b formed. formed.within) c.loop-i.made
-    (subst (All (IsFormedBookmark len)) (sym c.loop-i.invariant)
-    (both_fit c.args.before c.args.len c.args.first.now (take c.loop-i.i c.args.second.now) c.requires.of_first
-    (All-take (IsFormedBookmark c.args.len) c.loop-i.i c.args.second.now c.requires.of_second)))
+pub moved-requires-clause-to : goal.moved-requires-clause-to
+moved-requires-clause-to c =
+    let second = c.args.second.now in
+    let bookmark = c.get-bookmark.result.now in
+    let here = get_or_from_slice_get second c.loop-i.i bookmark bookmark c.get-bookmark.ensures in
+    subst (λ (b : Bookmark). b.to + c.args.before < 2 ^ 32) here
+    (c.requires.ends c.loop-i.i bookmark (slice_get_within second c.loop-i.i bookmark c.get-bookmark.ensures))
 
 pub returns : goal.returns
 returns c =
-    c.follow.ensures
-    ∙ (ap (moved_bookmarks 0 0 0) (c.loop-i.invariant
+    c.arrange.ensures
+    ∙ ap (in_order bookmark_cmp) (c.loop-i.invariant
     ∙ ap (λ list. c.args.first.now ++ bookmarks_from_second c.args.before c.args.first.now list)
-    (take_all c.loop-i.i c.args.second.now (omega arith)))
-    ∙ put_in_order (c.args.first.now ++ bookmarks_from_second c.args.before c.args.first.now c.args.second.now))
+    (take_all c.loop-i.i c.args.second.now (omega (arith, c.len-i-end.ensures.len))))

@@ -1,13 +1,22 @@
-use Rattle.std.proofs.Common.{◌≡◌, ◌∙◌, ◌-◌, ap, length, get_or, arith}
-use Rattle.std.specs.Prelude.{slice_set}
+use Rattle.std.proofs.Common.{◌∙◌, ◌++◌, ◌∷◌, ◌+◌, ◌-◌, [], List, ap, arith, length}
+use Rattle.std.specs.List.{splice}
+use Rattle.plain_doc.specs.declared.item.Item.{Item}
 use Rattle.doc_join.specs.Texts.{ending_section}
-use Rattle.doc_join.proofs.TextLemmas.{end_is}
+use Rattle.doc_join.proofs.TextLemmas.{ended_maps}
+use Rattle.doc_join.proofs.ColumnLemmas.{maps_at, ended_splice}
 use Rattle.doc_join.proofs.texts.end_section.Goals as goal
+
+pub add-requires-clause-maps : goal.add-requires-clause-maps
+add-requires-clause-maps c =
+    ended_maps c.in_ok-item.item
+    (maps_at c.args.text _ c.in_ok-item.item c.len-last.ensures.formed c.in_ok-item.ensures)
 
 pub returns : goal.returns
 returns c =
-    let text = c.args.items.now.items in
-    let item = c.index_mut.result.now in
-    let len : c.len-last.result ≡ length text = omega (arith, c.len-last.ensures, c.args.items.now.ok) in
-    ap (λ n. slice_set text (n - 1) (ending_section item)) len
-    ∙ end_is text item c.requires (c.index_mut.ensures.value ∙ ap (λ n. get_or text (n - 1) item) len)
+    let last = c.len-last.result - 1 in
+    let item = c.in_ok-item.item in
+    let long = c.len-last.ensures.len in
+    c.in_ok-made.ensures
+    ∙ (ap (λ (fresh : List Item). splice c.args.text last (last + 1) fresh)
+    (c.in_ok-end.ensures ∙ ap (λ (front : List Item). front ++ ending_section item ∷ []) c.new.ensures)
+    ∙ ended_splice c.args.text last item c.requires (omega (arith, long)) c.in_ok-item.ensures)

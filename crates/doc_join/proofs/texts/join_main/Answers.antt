@@ -1,26 +1,43 @@
-use Rattle.std.proofs.Common.{◌≡◌, ◌∙◌, ◌++◌, List, sym, ap, subst}
-use Rattle.std.specs.Prelude.{All}
+use Rattle.std.proofs.Common.{◌∙◌, ◌++◌, ◌≡◌, ◌<◌, length, List, ap, sym, arith, subst}
+use Rattle.std.proofs.lemmas.List.{length-map}
 use Rattle.plain_doc.specs.declared.item.Item.{Item}
-use Rattle.plain_doc.specs.Document.{HasPropertyMaps}
-use Rattle.doc_join.specs.Texts.{renumbered_text, section_ended, joined_main}
-use Rattle.doc_join.proofs.TextLemmas.{main_maps}
+use Rattle.doc_join.specs.Texts.{renumbered_item, renumbered_text, section_ended, joined_main}
+use Rattle.doc_join.proofs.ColumnLemmas.{splice_end}
+use Rattle.doc_join.proofs.SoundLemmas.{length-ended}
 use Rattle.doc_join.proofs.texts.join_main.Goals as goal
 
-pub from_vec-requires-clause-maps : goal.from_vec-requires-clause-maps
-from_vec-requires-clause-maps c =
+pub end_section-requires : goal.end_section-requires
+end_section-requires c =
+    let some = c.requires.some in
+    omega (
+      arith,
+      some,
+      ap length c.in_ok-front.ensures.made,
+      length-map c.args.first.now (renumbered_item c.args.ones.now.numbers),
+    )
+
+pub splice-requires-clause-few : goal.splice-requires-clause-few
+splice-requires-clause-few c =
+    let few = c.requires.few in
+    let front = c.in_ok-front.front in
+    omega (
+      arith,
+      few,
+      ap length c.in_ok-ended.ensures,
+      length-ended front,
+      ap length c.in_ok-front.ensures.made,
+      ap length c.in_ok-back.ensures.made,
+      length-map c.args.first.now (renumbered_item c.args.ones.now.numbers),
+      length-map c.args.second.now (renumbered_item c.args.others.now.numbers),
+    )
+
+pub returns-clause-made : goal.returns-clause-made
+returns-clause-made c =
     let ones = c.args.ones.now.numbers in
     let others = c.args.others.now.numbers in
-    let first = c.args.first.now in
-    let second = c.args.second.now in
-    let made : c.add_items-2.new.made.items ≡ joined_main ones first others second =
-    c.in_ok-add_items-2.ensures.made
-    ∙ (ap (λ (items : List Item). items ++ renumbered_text others c.as_slice-2.result.now)
-    (c.end_section.ensures
-    ∙ ap section_ended
-    (c.in_ok-add_items.ensures.made
-    ∙ (ap (λ (items : List Item). items ++ renumbered_text ones c.as_slice.result.now) c.in_ok-items.ensures.items
-    ∙ ap (renumbered_text ones) c.as_slice.ensures.items)))
-    ∙ ap (λ (text : List Item). section_ended (renumbered_text ones first) ++ renumbered_text others text)
-    c.as_slice-2.ensures.items) in
-    subst (All HasPropertyMaps) (sym made) (main_maps ones others first second c.as_slice.ensures.formed
-    c.as_slice-2.ensures.formed)
+    c.in_ok-made.ensures
+    ∙ (splice_end c.in_ok-ended.ended c.in_ok-back.back c.len-len.result c.len-len.ensures.len
+    ∙ (ap (λ (front : List Item). front ++ c.in_ok-back.back)
+    (c.in_ok-ended.ensures ∙ ap section_ended c.in_ok-front.ensures.made)
+    ∙ ap (λ (back : List Item). section_ended (renumbered_text ones c.args.first.now) ++ back)
+    c.in_ok-back.ensures.made))

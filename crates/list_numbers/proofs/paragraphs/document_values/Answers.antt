@@ -1,34 +1,89 @@
-use Rattle.std.proofs.Common.{arith}
+use Rattle.std.proofs.Common.{◌≡◌, ◌+◌, ◌<◌, ◌-◌, length, ap, subst, refl, arith}
+use Rattle.plain_doc.specs.declared.document.Document.{Document}
 use Rattle.plain_doc.proofs.RightLemmas.{sound_is_right}
-use Rattle.list_numbers.specs.MarkValues.{AreKnownValues}
-use Rattle.list_numbers.proofs.DocumentValueLemmas.{none_known, style_of_mark, no_values, more_values, all_values}
+use Rattle.doc_columns.specs.Beside.{beside_of}
+use Rattle.doc_columns.proofs.CollectLemmas.{start_at}
+use Rattle.doc_columns.proofs.EqualityLemmas.{column_long, begins_at_start}
+use Rattle.list_numbers.specs.MarkValues.{AreKnownValues, AreMarkValues}
+use Rattle.list_numbers.specs.Places.{EndsBefore}
+use Rattle.list_numbers.proofs.DocumentValueLemmas.{HaveValues, sound_seen, none_known, style_of_mark, no_values}
+use Rattle.list_numbers.proofs.DocumentValueLemmas.{more_values, all_values}
+use Rattle.list_numbers.proofs.ParagraphLemmas.{mark_there, mark_taken}
 use Rattle.list_numbers.proofs.paragraphs.document_values.Goals as goal
 
 pub loop-at-init : goal.loop-at-init
 loop-at-init c =
-    let none : AreKnownValues c.args.document.now.sheet c.in_ok-known.known.items = rw c.in_ok-known.ensures
-    (none_known c.args.document.now.sheet c.slots.result) in
-    record { values = rw c.new-values.ensures.items (no_values c.args.document.now); known = none }
+    let none : AreKnownValues c.document.inside.sheet c.in_ok-known.known.items =
+    rw c.in_ok-known.ensures (none_known c.document.inside.sheet c.slots.result) in
+    record {
+      values = rw c.new-values.ensures.items (no_values c.args.document.now);
+      known = none;
+      cursor = start_at c.besides-besides.result.now c.new-marks.result c.new-marks.ensures;
+      ahead = begins_at_start c.new-marks.result c.new-marks.ensures;
+    }
+
+pub mark_of-end-requires-clause-long : goal.mark_of-end-requires-clause-long
+mark_of-end-requires-clause-long c =
+    column_long c.besides-besides.result.now c.document.inside.main beside_of c.len-len.result
+    c.besides-besides.ensures c.len-len.ensures.len
+
+pub mark_of-end-requires-clause-cursor : goal.mark_of-end-requires-clause-cursor
+mark_of-end-requires-clause-cursor c = c.loop-at.invariant.cursor
+
+pub mark_of-end-requires-clause-ahead : goal.mark_of-end-requires-clause-ahead
+mark_of-end-requires-clause-ahead c = c.loop-at.invariant.ahead
+
+pub unwrap-requires : goal.unwrap-requires
+unwrap-requires c =
+    let main = c.document.inside.main in
+    let low : c.loop-at.at < length main = omega (arith, c.loop-at-test.true, c.len-len.ensures.len) in
+    mark_there _ c.document.inside.main c.loop-at.at c.mark_of-end.result.1 c.mark_of-end.result.0
+    (sound_seen _ _ c.document.view_is c.requires) refl low
+    (c.mark_of-end.ensures.found c.document.inside.main c.besides-besides.ensures)
 
 pub values_of_mark-requires-clause-bases : goal.values_of_mark-requires-clause-bases
-values_of_mark-requires-clause-bases c = (sound_is_right c.args.document.now c.requires).bases
+values_of_mark-requires-clause-bases c = (sound_is_right _ (sound_seen _ _ c.document.view_is c.requires)).bases
 
 pub values_of_mark-requires-clause-style : goal.values_of_mark-requires-clause-style
 values_of_mark-requires-clause-style c =
-    style_of_mark c.args.document.now c.end_of_paragraph-end.result c.mark_at-mark.result.now c.requires
-    (rw c.as_slice.ensures.items at c.mark_at-mark.ensures)
+    let end = c.mark_of-end.result.1 in
+    let ended =
+    mark_taken c.document.inside.main c.loop-at.at end c.mark_of-end.result.0 c.unwrap.result c.unwrap.ensures
+    (c.mark_of-end.ensures.found c.document.inside.main c.besides-besides.ensures) in
+    style_of_mark _ (end - 1) c.unwrap.result.now (sound_seen _ _ c.document.view_is c.requires) ended.marked
+
+pub values_of_mark-requires-clause-known : goal.values_of_mark-requires-clause-known
+values_of_mark-requires-clause-known c = c.loop-at.invariant.known
 
 pub loop-at-preserved : goal.loop-at-preserved
-loop-at-preserved c = record {
-  values =
-      rw c.in_ok-push.ensures.items (more_values c.args.document.now c.loop-at.values.items c.loop-at.at
-      c.end_of_paragraph-end.result c.mark_at-mark.result.now c.in_ok-own.own c.loop-at.invariant.values
-      c.end_of_paragraph-end.ensures.ends (rw c.as_slice.ensures.items at c.mark_at-mark.ensures)
-      c.in_ok-own.ensures.values);
-  known = c.in_ok-own.ensures.known;
-}
+loop-at-preserved c =
+    let document = c.args.document.now in
+    let at = c.loop-at.at in
+    let found = c.mark_of-end in
+    let end = found.result.1 in
+    let mark = c.unwrap.result.now in
+    let seen =
+    mark_taken c.document.inside.main at end found.result.0 c.unwrap.result c.unwrap.ensures
+    (found.ensures.found c.document.inside.main c.besides-besides.ensures) in
+    let ended : EndsBefore document.main at end mark =
+    subst (λ (d : Document). EndsBefore d.main at end mark) c.document.view_is seen in
+    let own = c.in_ok-own.own in
+    let are : AreMarkValues document.sheet mark own =
+    subst (λ (d : Document). AreMarkValues d.sheet mark own) c.document.view_is c.in_ok-own.ensures.values in
+    let next : end - 1 + 1 ≡ end = omega (arith, found.ensures.some) in
+    record {
+      values =
+          rw c.in_ok-push.ensures.items (subst (HaveValues document _) next
+          (more_values document c.loop-at.values.items at (end - 1) mark own c.loop-at.invariant.values
+          ended.is_end ended.marked are));
+      known = c.in_ok-own.ensures.known;
+      cursor = found.ensures.cursor;
+      ahead = found.ensures.ahead;
+    }
 
 pub returns : goal.returns
 returns c =
+    let main : length c.document.inside.main ≡ length c.args.document.now.main =
+    ap (λ (d : Document). length d.main) c.document.view_is in
     all_values c.args.document.now c.loop-at.values.items c.loop-at.at c.loop-at.invariant.values
-    (omega (arith, c.loop-at-test.false, c.len.ensures.len))
+    (omega (arith, c.loop-at-test.false, c.len-len.ensures.len, main))

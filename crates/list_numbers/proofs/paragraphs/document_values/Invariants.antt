@@ -1,4 +1,5 @@
-use Rattle.std.proofs.Common.{◌-◌, length}
+use Rattle.std.proofs.Common.{◌-◌, ◌≤◌}
+use Rattle.run_lists.specs.Places.{IsAt}
 use Rattle.list_numbers.specs.MarkValues.{AreKnownValues}
 use Rattle.list_numbers.proofs.DocumentValueLemmas.{HaveValues}
 use Rattle.list_numbers.proofs.paragraphs.document_values.Given as goal
@@ -6,8 +7,10 @@ use Rattle.list_numbers.proofs.paragraphs.document_values.Given as goal
 abbrev pub invariant-loop-at : goal.invariant-loop-at
 invariant-loop-at l = record {
   values : HaveValues l.document l.values.items l.at;
-  known : AreKnownValues l.document.sheet l.known.items;
+  known : AreKnownValues l.sheet l.known.items;
+  cursor : IsAt l.besides l.marks;
+  ahead : l.marks.begin ≤ l.at;
 }
 
 abbrev pub decreases-loop-at : goal.decreases-loop-at
-decreases-loop-at l = length l.document.main - l.at
+decreases-loop-at l = l.len - l.at
