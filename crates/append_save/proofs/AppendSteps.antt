@@ -1,28 +1,34 @@
 -- What the calls of a save make, as the layout says it.
-use Rattle.std.proofs.Common.{◌≡◌, ◌∙◌, ap, ℕ, ◌+◌, ◌<◌, ◌^◌, true, List, [], ◌++◌, length, map, drop, arith}
+use Rattle.std.specs.Prelude.{replicate}
+use Rattle.std.proofs.Common.{◌≡◌, ◌∙◌, ap, ℕ, ◌+◌, ◌-◌, ◌<◌, ◌^◌, true, List, [], ◌++◌, length, map, drop, arith}
 use Rattle.std.proofs.Common.{length-append}
 use Rattle.cfb_layout.specs.Sectors.{filled, padded}
-use Rattle.fib_form.specs.Fib.{form_size}
 use Rattle.fib_form.specs.FibFields.{FibFields}
 use Rattle.fib_form.specs.FibBytes.{written_fib}
 use Rattle.fkp_pages.specs.declared.kind.PageKind.TheVariants.{Chpx, Papx}
 use Rattle.fkp_pages.specs.Packed.{pages_of}
+use Rattle.plain_doc.specs.declared.document.Document.{Document}
 use Rattle.plain_doc.specs.declared.item.Item.{Item}
 use Rattle.plain_doc.specs.Collected.{sections_of}
 use Rattle.full_save.specs.Runs.{text_runs}
 use Rattle.full_save.specs.TableStream.{entries_pairs}
 use Rattle.full_save.specs.WordDocument.{units_bytes}
 use Rattle.save_laws.specs.Slots.{story_counts}
-use Rattle.append_save.specs.Saves.{FastSave}
+use Rattle.append_save.specs.declared.saving.EditedText.{EditedText}
+use Rattle.append_save.specs.declared.saving.SavedFile.{SavedFile}
+use Rattle.append_save.specs.declared.writing.NewParts.{NewParts}
+use Rattle.append_save.specs.Saves.{FastSave, save_of}
+use Rattle.append_save.specs.Kept.{CanBeAppended}
+use Rattle.append_save.specs.Bodies.{AreNewParts, streams_by, change_by}
 use Rattle.append_save.specs.MarkRuns.{mark_runs}
 use Rattle.append_save.specs.PlannedSections.{planned_sepxes}
 use Rattle.append_save.specs.RenewedStreams.{renewed_streams}
 use Rattle.append_save.specs.Appended.{table_name_of, old_wd, old_bins, added_bytes, fast_entries, fast_table, fast_fib}
-use Rattle.append_save.specs.Appended.{fast_wd, fast_streams}
+use Rattle.append_save.specs.Appended.{fast_wd, fast_streams, change_of}
 use Rattle.append_save.proofs.PlannedLemmas.{length-planned}
 use Rattle.append_save.proofs.ReadyLemmas.{Ready, is_right}
 use Rattle.append_save.proofs.BodyLemmas.{text_part, text_and_pages, body_is, body_short}
-use Rattle.append_save.proofs.WrittenLemmas.{sections_fit, length-collected}
+use Rattle.append_save.proofs.WrittenLemmas.{sections_fit, length-collected, made_of, sizes}
 
 -- the units and the pages, part by part
 pub pages_made : (save : FastSave) (items : List Item) (old none first second third : List ℕ) → items ≡ save.added →
@@ -73,17 +79,29 @@ fib_made save clx fib mac counts pairs is mac_is counts_is pairs_is = is ∙ (λ
   pairs = pairs_is i;
 })
 
-pub wd_made : (save : FastSave) (clx : List ℕ) (fib : FibFields) (old added wd : List ℕ) → fib ≡ fast_fib save clx →
-    old ≡ old_wd save → added ≡ added_bytes save →
-    wd ≡ filled save.base 0 (written_fib fib ++ drop (form_size fib.form) old) ++ added → wd ≡ fast_wd save clx
-unfolding fast_wd fast_fib
-wd_made save clx fib old added wd fib_is old_is added_is is =
-    is
-    ∙ (λ i. filled save.base 0 (written_fib (fib_is i) ++ drop (form_size (fib_is i).form) (old_is i)) ++ added_is i)
+-- the streams that are laid out, and what is changed where the file keeps its own sectors
+pub streams_made : (old : SavedFile) (document : Document) (text : EditedText) (parts : NewParts)
+    (can : CanBeAppended (save_of old document text)) (are : AreNewParts (save_of old document text) parts) →
+    streams_by old text.base parts ≡ fast_streams (save_of old document text) are.clx
+unfolding fast_streams fast_wd
+streams_made old document text parts can are =
+    let save = save_of old document text in
+    let m = made_of save parts can are in
+    let wd = old_wd save in
+    let name = table_name_of save in
+    let fib = written_fib (fast_fib save are.clx) in
+    (λ i. renewed_streams name (filled save.base 0 (are.fib i ++ drop (length (are.fib i)) wd) ++ are.added i)
+    (are.table i) save.contents.streams)
+    ∙ ap (λ (n : ℕ). renewed_streams name (filled save.base 0 (fib ++ drop n wd) ++ added_bytes save) (fast_table save
+    are.clx) save.contents.streams) (sizes m).fib
 
-pub streams_made : (save : FastSave) (clx name wd table : List ℕ) → name ≡ table_name_of save →
-    wd ≡ fast_wd save clx → table ≡ fast_table save clx →
-    renewed_streams name wd table save.contents.streams ≡ fast_streams save clx
-unfolding fast_streams
-streams_made save clx name wd table name_is wd_is table_is =
-    (λ i. renewed_streams (name_is i) (wd_is i) (table_is i) save.contents.streams)
+pub change_made : (old : SavedFile) (document : Document) (text : EditedText) (parts : NewParts)
+    (are : AreNewParts (save_of old document text) parts) →
+    change_by old text.base parts ≡ change_of (save_of old document text) are.clx
+change_made old document text parts are =
+    let save = save_of old document text in
+    λ i. record {
+      fib = are.fib i;
+      tail = replicate (save.base - length (old_wd save)) 0 ++ are.added i;
+      table = are.table i;
+    }

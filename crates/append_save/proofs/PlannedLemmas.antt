@@ -11,92 +11,77 @@ use Rattle.doc_parts.specs.declared.lists.Sed.{Sed}
 use Rattle.plain_doc.specs.declared.item.Item.{Item}
 use Rattle.plain_doc.specs.Collected.{collected, entry_before, sections_of}
 use Rattle.plain_doc.specs.TextLists.{starts_from}
-use Rattle.full_save.specs.Sections.{sepx_bytes, fc_sepx, seds_from}
+use Rattle.full_save.specs.Sections.{sepx_bytes, fc_sepx, seds_from, left_from}
 use Rattle.full_save.proofs.ListLemmas.{drop_here}
 use Rattle.prop_map.specs.Printing.{printed_list}
 use Rattle.full_save.proofs.StreamLengths.{length-sepx}
-use Rattle.full_save.proofs.SectionLemmas.{SectionsSoFar}
 use Rattle.save_laws.specs.Saves.{HasSettingsAt}
 use Rattle.save_laws.proofs.FullSections.{FitsSepx, sections_saved}
 use Rattle.append_save.specs.PlannedSections.{new_sepx, planned_fc, planned_sepxes, planned_seds}
+use Rattle.append_save.specs.PlannedSections.{PlannedSections, ArePlannedUpTo}
 
 -- ---- item by item
 
-abbrev left : List Item → ℕ → List (ℕ × Settings)
-left main cp = collected (λ item. item.sect) cp (drop cp main)
-
--- so many sections that end before a CP are done, and those that are left go on from here
-pub record ArePlannedUpTo
-    (main : List Item) (places : List (Option ℕ)) (base : ℕ) (old : List ℕ) (cp number : ℕ) (so : SectionsSoFar) :
-    Type 0 where
-  pub bytes :
-      so.out ++ planned_sepxes (drop number places) (left main cp) ≡ old ++ planned_sepxes places (sections_of main)
-  pub seds :
-      so.seds ++ planned_seds so.start (base + length so.out) (drop number places) (left main cp)
-      ≡ planned_seds 0 (base + length old) places (sections_of main)
-  pub few : length so.out ≤ length old + 504 * cp
-  pub count : number + length (left main cp) ≡ length places
-
 left_here : (main : List Item) (cp : ℕ) (d : Item) → cp < length main →
-    left main cp ≡ entry_before (get_or main cp d).sect cp (left main (cp + 1))
+    left_from main cp ≡ entry_before (get_or main cp d).sect cp (left_from main (cp + 1))
 unfolding collected
 left_here main cp d h = ap (λ (rest : List Item). collected (λ item. item.sect) cp rest) (drop_here main cp d h)
 
-left_some : (main : List Item) (cp : ℕ) (d : Item) (settings : Settings) → cp < length main →
-    (get_or main cp d).sect ≡ Some settings → left main cp ≡ (cp, settings) ∷ left main (cp + 1)
+pub left_some : (main : List Item) (cp : ℕ) (d : Item) (settings : Settings) → cp < length main →
+    (get_or main cp d).sect ≡ Some settings → left_from main cp ≡ (cp, settings) ∷ left_from main (cp + 1)
 left_some main cp d settings h has =
-    left_here main cp d h ∙ ap (λ (o : Option Settings). entry_before o cp (left main (cp + 1))) has
+    left_here main cp d h ∙ ap (λ (o : Option Settings). entry_before o cp (left_from main (cp + 1))) has
 
 left_none : (main : List Item) (cp : ℕ) (d : Item) → cp < length main →
-    (get_or main cp d).sect ≡ None → left main cp ≡ left main (cp + 1)
+    (get_or main cp d).sect ≡ None → left_from main cp ≡ left_from main (cp + 1)
 left_none main cp d h none =
-    left_here main cp d h ∙ ap (λ (o : Option Settings). entry_before o cp (left main (cp + 1))) none
+    left_here main cp d h ∙ ap (λ (o : Option Settings). entry_before o cp (left_from main (cp + 1))) none
 
-pub planned_skip : (main : List Item) (places : List (Option ℕ)) (base : ℕ) (old : List ℕ) (cp number : ℕ) (d : Item)
-    (so : SectionsSoFar) → cp < length main → (get_or main cp d).sect ≡ None →
-    ArePlannedUpTo main places base old cp number so → ArePlannedUpTo main places base old (cp + 1) number so
-planned_skip main places base old cp number d so h none are =
+pub planned_skip : (main : List Item) (places : List (Option ℕ)) (base : ℕ) (old : List ℕ) (cp : ℕ) (d : Item)
+    (so : PlannedSections) → cp < length main → (get_or main cp d).sect ≡ None →
+    ArePlannedUpTo main places base old cp so → ArePlannedUpTo main places base old (cp + 1) so
+planned_skip main places base old cp d so h none are =
     let same = left_none main cp d h none in
     let few = are.few in
     let count = are.count in
     let len = ap length same in
     record {
       bytes =
-          ap (λ (rest : List (ℕ × Settings)). so.out ++ planned_sepxes (drop number places) rest) (sym same) ∙
+          ap (λ (rest : List (ℕ × Settings)). so.out ++ planned_sepxes (drop so.number places) rest) (sym same) ∙
           are.bytes;
       seds =
           ap (λ (rest : List (ℕ × Settings)).
-          so.seds ++ planned_seds so.start (base + length so.out) (drop number places) rest) (sym same)
+          so.seds ++ planned_seds so.start (base + length so.out) (drop so.number places) rest) (sym same)
           ∙ are.seds;
       few = omega (arith, few);
       count = omega (arith, count, len);
     }
 
 -- there is a place for a section that ends here
-pub place_within : (main : List Item) (places : List (Option ℕ)) (base : ℕ) (old : List ℕ) (cp number : ℕ) (d : Item)
-    (settings : Settings) (so : SectionsSoFar) → cp < length main → (get_or main cp d).sect ≡ Some settings →
-    ArePlannedUpTo main places base old cp number so → number < length places
-place_within main places base old cp number d settings so h has are =
+pub place_within : (main : List Item) (places : List (Option ℕ)) (base : ℕ) (old : List ℕ) (cp : ℕ) (d : Item)
+    (settings : Settings) (so : PlannedSections) → cp < length main → (get_or main cp d).sect ≡ Some settings →
+    ArePlannedUpTo main places base old cp so → so.number < length places
+place_within main places base old cp d settings so h has are =
     let count = are.count in
     let len = ap length (left_some main cp d settings h has) in
     omega (arith, count, len)
 
-pub planned_more : (main : List Item) (places : List (Option ℕ)) (base : ℕ) (old : List ℕ) (cp number : ℕ) (d : Item)
-    (settings : Settings) (place : Option ℕ) (so new : SectionsSoFar) → cp < length main →
-    (get_or main cp d).sect ≡ Some settings → slice_get places number ≡ Some place →
+pub planned_more : (main : List Item) (places : List (Option ℕ)) (base : ℕ) (old : List ℕ) (cp : ℕ) (d : Item)
+    (settings : Settings) (place : Option ℕ) (so new : PlannedSections) → cp < length main →
+    (get_or main cp d).sect ≡ Some settings → slice_get places so.number ≡ Some place →
     length (new_sepx place settings) ≤ 503 → new.out ≡ so.out ++ new_sepx place settings →
     new.seds ≡ so.seds ++ (record { start = so.start; sepx = planned_fc (base + length so.out) place settings }) ∷ [] →
-    new.start ≡ cp + 1 → ArePlannedUpTo main places base old cp number so →
-    ArePlannedUpTo main places base old (cp + 1) (number + 1) new
+    new.start ≡ cp + 1 → new.number ≡ so.number + 1 → ArePlannedUpTo main places base old cp so →
+    ArePlannedUpTo main places base old (cp + 1) new
 unfolding planned_sepxes planned_seds
-planned_more main places base old cp number d settings place so new h has at short out seds start are =
-    let rest = left main (cp + 1) in
-    let others = drop (number + 1) places in
+planned_more main places base old cp d settings place so new h has at short out seds start number are =
+    let rest = left_from main (cp + 1) in
+    let others = drop new.number places in
     let mine = left_some main cp d settings h has in
-    let within = place_within main places base old cp number d settings so h has are in
-    let here : drop number places ≡ place ∷ others =
-    drop_here places number place within
-    ∙ ap (λ (p : Option ℕ). p ∷ others) (get_or_from_slice_get places number place place at) in
+    let within = place_within main places base old cp d settings so h has are in
+    let here : drop so.number places ≡ place ∷ others =
+    drop_here places so.number place within
+    ∙ ((λ i. get_or_from_slice_get places so.number place place at i ∷ drop (sym number i) places)) in
     let sed : Sed = record { start = so.start; sepx = planned_fc (base + length so.out) place settings } in
     let bytes = new_sepx place settings in
     let few = are.few in
@@ -104,9 +89,9 @@ planned_more main places base old cp number d settings place so new h has at sho
     let len = ap length mine in
     let grown = ap length out ∙ length-append so.out bytes in
     let at_end : base + length new.out ≡ base + length so.out + length bytes = omega (arith, grown) in
-    let both : planned_sepxes (drop number places) (left main cp) ≡ bytes ++ planned_sepxes others rest =
+    let both : planned_sepxes (drop so.number places) (left_from main cp) ≡ bytes ++ planned_sepxes others rest =
     (λ i. planned_sepxes (here i) (mine i)) in
-    let listed : planned_seds so.start (base + length so.out) (drop number places) (left main cp)
+    let listed : planned_seds so.start (base + length so.out) (drop so.number places) (left_from main cp)
     ≡ sed ∷ planned_seds (cp + 1) (base + length so.out + length bytes) others rest =
     (λ i. planned_seds so.start (base + length so.out) (here i) (mine i)) in
     record {
@@ -121,7 +106,7 @@ planned_more main places base old cp number d settings place so new h has at sho
           ∙ (ap (λ (n : ℕ). so.seds ++ (sed ∷ planned_seds (cp + 1) n others rest)) at_end
           ∙ (ap (λ (list : List Sed). so.seds ++ list) (sym listed) ∙ are.seds))));
       few = omega (arith, few, grown, short);
-      count = omega (arith, count, len);
+      count = omega (arith, count, len, number);
     }
 
 none_planned : (places : List (Option ℕ)) → planned_sepxes places [] ≡ []
@@ -134,17 +119,17 @@ unfolding planned_seds
 no_seds start at [] = refl
 no_seds start at (place ∷ places) = refl
 
-pub planned_all : (main : List Item) (places : List (Option ℕ)) (base : ℕ) (old : List ℕ) (cp number : ℕ)
-    (so : SectionsSoFar) → length main ≤ cp → ArePlannedUpTo main places base old cp number so →
+pub planned_all : (main : List Item) (places : List (Option ℕ)) (base : ℕ) (old : List ℕ) (cp : ℕ)
+    (so : PlannedSections) → length main ≤ cp → ArePlannedUpTo main places base old cp so →
     (so.out ≡ old ++ planned_sepxes places (sections_of main))
     × (so.seds ≡ planned_seds 0 (base + length old) places (sections_of main))
 unfolding collected
-planned_all main places base old cp number so h are =
+planned_all main places base old cp so h are =
     let none : drop cp main ≡ [] = drop_all cp main h in
-    let nothing : left main cp ≡ [] = ap (λ (items : List Item). collected (λ item. item.sect) cp items) none in
-    let rest = drop number places in
-    let bytes : planned_sepxes rest (left main cp) ≡ [] = ap (planned_sepxes rest) nothing ∙ none_planned rest in
-    let seds : planned_seds so.start (base + length so.out) rest (left main cp) ≡ [] =
+    let nothing : left_from main cp ≡ [] = ap (λ (items : List Item). collected (λ item. item.sect) cp items) none in
+    let rest = drop so.number places in
+    let bytes : planned_sepxes rest (left_from main cp) ≡ [] = ap (planned_sepxes rest) nothing ∙ none_planned rest in
+    let seds : planned_seds so.start (base + length so.out) rest (left_from main cp) ≡ [] =
     ap (planned_seds so.start (base + length so.out) rest) nothing ∙ no_seds so.start (base + length so.out) rest in (
       sym (append-nil so.out) ∙ (ap (λ (b : List ℕ). so.out ++ b) (sym bytes) ∙ are.bytes),
       sym (append-nil so.seds) ∙ (ap (λ (s : List Sed). so.seds ++ s) (sym seds) ∙ are.seds),

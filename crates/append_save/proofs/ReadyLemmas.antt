@@ -75,14 +75,14 @@ is_right r = sound_is_right r.save.document r.can.sound
 abbrev pub the_text : Ready → FileText
 the_text r = r.can.held.parts.text
 
-rules_held : (r : Ready) → AreHeld r.can.file r.can.held.parts
-rules_held r = held_rules r.can.file r.can.held.parts r.can.held.rules r.can.held.has_parts
+rules_held : (r : Ready) → AreHeld r.save.file r.can.held.parts
+rules_held r = held_rules r.save.file r.can.held.parts r.can.held.rules r.can.held.has_parts
 
 pub wd_is : (r : Ready) → old_wd r.save ≡ (the_text r).wd
 wd_is r =
     let has = r.can.held.has_parts in
     ap (λ (c : Contents). bytes_named c.streams wd_name) r.can.contents
-    ∙ named_is r.can.file r.can.held.parts.contents wd_name (the_text r).wd has.has_contents has.has_text.has_wd
+    ∙ named_is r.save.file r.can.held.parts.contents wd_name (the_text r).wd has.has_contents has.has_text.has_wd
 
 pub table_is : (r : Ready) → old_table r.save ≡ (the_text r).table
 table_is r =
@@ -90,7 +90,7 @@ table_is r =
     let start : old_table r.save ≡ bytes_named r.can.held.parts.contents.streams (table_stream_name (the_text r).wd) =
     (λ i. bytes_named (r.can.contents i).streams (table_name (r.can.fib i).which_table)) in
     start
-    ∙ named_is r.can.file r.can.held.parts.contents (table_stream_name (the_text r).wd) (the_text r).table
+    ∙ named_is r.save.file r.can.held.parts.contents (table_stream_name (the_text r).wd) (the_text r).table
     has.has_contents has.has_text.has_table
 
 pub stream_is : (r : Ready) → old_stream r.save ≡ stream_of (source_of (the_text r))
@@ -103,7 +103,7 @@ stream_is r = λ i. record {
 tables_hold : (r : Ready) → Hold (table_rules (the_text r).wd (the_text r).table)
 tables_hold r =
     let has = r.can.held.has_parts in
-    text_held r.can.file r.can.held.parts.contents (the_text r) (rules_held r).loading has.has_contents has.has_text
+    text_held r.save.file r.can.held.parts.contents (the_text r) (rules_held r).loading has.has_contents has.has_text
 
 bins_are : (r : Ready) → IsBinTable (part_bytes (source_of (the_text r)) PlcfBteChpx)
     × IsBinTable (part_bytes (source_of (the_text r)) PlcfBtePapx)
@@ -128,7 +128,7 @@ long_wd r =
     let has = r.can.held.has_parts in
     let h = (rules_held r).loading in
     let wd : h.1.0 ≡ (the_text r).wd =
-    named_one r.can.file r.can.held.parts.contents wd_name h.1.0 (the_text r).wd has.has_contents h.1.1.0
+    named_one r.save.file r.can.held.parts.contents wd_name h.1.0 (the_text r).wd has.has_contents h.1.1.0
     has.has_text.has_wd in
     let held : Hold (wd_rules r.can.held.parts.contents (the_text r).wd) =
     subst (λ w. Hold (wd_rules r.can.held.parts.contents w)) wd h.1.1.1 in

@@ -1,7 +1,7 @@
 -- What is written behind an old stream is a fast save of the document, and the file holds its streams.
 use Rattle.std.specs.Prelude.{slice_get, slice_index, take}
 use Rattle.std.proofs.Common.{◌≡◌, ◌∙◌, refl, sym, ap, subst, inl, inr, ℕ, ◌+◌, ◌<◌, ◌≤◌, ◌^◌, cond}
-use Rattle.std.proofs.Common.{[], ◌++◌, length, map, Some, Bool, true, false, eqb, arith}
+use Rattle.std.proofs.Common.{List, [], ◌++◌, length, map, Some, Bool, true, false, eqb, arith}
 use Rattle.std.proofs.lemmas.List.{length-map}
 use Rattle.std.proofs.lemmas.Option.{slice_get_within}
 use Rattle.doc_bits.proofs.ListLemmas.{All_at, All-from_slice_get, there_is}
@@ -37,6 +37,7 @@ use Rattle.save_laws.specs.Slots.{Slot, shown, loose, last, IsPlaced, whole_text
 use Rattle.save_laws.specs.Saves.{saved_entries, KeepsFields, IsFileOf}
 use Rattle.save_laws.specs.FastSaves.{StandsInEither, IsGivenBy, IsFastSaved}
 use Rattle.append_save.specs.Saves.{plan_of}
+use Rattle.append_save.specs.Answers.{IsAppended}
 use Rattle.append_save.specs.PlannedSections.{planned_seds}
 use Rattle.append_save.specs.Appended.{table_name_of, old_wd, old_stream, pages_end, fast_seds}
 use Rattle.append_save.specs.Appended.{fast_entries, fast_table, fast_fib, fast_streams, fast_contents}
@@ -45,6 +46,7 @@ use Rattle.append_save.proofs.StreamLemmas.{renewed_wd, renewed_table, renewed_c
 use Rattle.append_save.proofs.StreamLemmas.{length-renewed, renewed_units, contents_clsid}
 use Rattle.append_save.proofs.PlannedLemmas.{planned_starts, planned_saved, HasPlanned, StandsInOne}
 use Rattle.append_save.proofs.ReadyLemmas.{Ready, the_text, wd_is, base_is, have_room}
+use Rattle.append_save.proofs.FilledTable.{part_in_table}
 use Rattle.append_save.proofs.TableLemmas.{text_stands, has_ranges}
 use Rattle.append_save.proofs.WrittenLemmas.{Made, the_save, new_wd, parts_of, wd_parts, parts_cut, places}
 use Rattle.append_save.proofs.WrittenLemmas.{table_small, short_added, length-new_wd, fib_read, kept_of, kept_is}
@@ -129,14 +131,15 @@ numbered m = table_numbered (the_save m).document (fast_text (the_save m) m.clx)
 part_there : (m : Made) (k : ℕ) (part : TableEntry) →
     slice_get (saved_entries (the_save m).document (fast_saved_text (the_save m) m.clx)) k ≡ Some part →
     IsPartAt (fast_table (the_save m) m.clx) (fib_pair (new_wd m) part.number) part
-unfolding fast_table fast_fib
+unfolding fast_fib
 part_there m k part here =
     let entries = fast_entries (the_save m) m.clx in
     let stands = entry_stands entries k part (numbered m) here in
     let pairs : pair_at (entries_pairs entries) part.number ≡ fib_pair (new_wd m) part.number =
     ap (λ (fib : FibFields). pair_at fib.pairs part.number) (sym (fib_read m).fields)
     ∙ pair_at-fib_pairs (new_wd m) part.number stands.below in
-    subst (λ pair. IsPartAt (entries_bytes entries) pair part) pairs stands.there
+    part_in_table (the_save m) m.clx (fib_pair (new_wd m) part.number) part
+    (subst (λ pair. IsPartAt (entries_bytes entries) pair part) pairs stands.there)
 
 -- ---- the sections
 
@@ -145,7 +148,7 @@ sections_stand r =
     subst (λ wd. AreTogether (HasPlanned wd) r.save.places (sections_of r.save.document.main)) (sym (wd_is r))
     r.can.sections
 
-small_wd : (m : Made) → length (new_wd m) < 2 ^ 30
+pub small_wd : (m : Made) → length (new_wd m) < 2 ^ 30
 small_wd m =
     let len = length-new_wd m in
     let short = short_added m in
@@ -169,26 +172,26 @@ sections_there m =
 
 -- ---- the container
 
-bounds : (r : Ready) → AreWithinBounds r.save.contents
+pub bounds : (r : Ready) → AreWithinBounds r.save.contents
 bounds r =
     subst AreWithinBounds (sym r.can.contents)
-    (contents-bounded r.can.file r.can.held.parts.contents (hold_out File (container_rules r.can.file)
+    (contents-bounded r.save.file r.can.held.parts.contents (hold_out File (container_rules r.save.file)
     r.can.held.rules.0)
     r.can.held.has_parts.has_contents)
 
-has_contents : (r : Ready) → HasContents r.can.file r.save.contents
-has_contents r = subst (HasContents r.can.file) (sym r.can.contents) r.can.held.has_parts.has_contents
+pub has_contents : (r : Ready) → HasContents r.save.file r.save.contents
+has_contents r = subst (HasContents r.save.file) (sym r.can.contents) r.can.held.has_parts.has_contents
 
-name_six : (which : ℕ) → length (table_name which) ≡ 6
+pub name_six : (which : ℕ) → length (table_name which) ≡ 6
 name_six which =
     elim (eqb which 1) as (λ b. length (cond b second_table_name first_table_name) ≡ 6) [ true ↦ refl | false ↦ refl ]
 
-old_has_wd : (r : Ready) → HasNamed r.save.contents.streams wd_name (the_text r).wd
+pub old_has_wd : (r : Ready) → HasNamed r.save.contents.streams wd_name (the_text r).wd
 old_has_wd r =
     subst (λ (c : Contents). HasNamed c.streams wd_name (the_text r).wd) (sym r.can.contents)
     r.can.held.has_parts.has_text.has_wd
 
-old_has_table : (r : Ready) → HasNamed r.save.contents.streams (table_name_of r.save) (the_text r).table
+pub old_has_table : (r : Ready) → HasNamed r.save.contents.streams (table_name_of r.save) (the_text r).table
 old_has_table r =
     subst (λ (c : Contents). HasNamed c.streams (table_name_of r.save) (the_text r).table) (sym r.can.contents)
     (subst (λ (fib : FibFields). HasNamed r.can.held.parts.contents.streams (table_name fib.which_table)
@@ -196,11 +199,12 @@ old_has_table r =
     (sym r.can.fib) r.can.held.has_parts.has_text.has_table)
 
 pub streams_are : (m : Made) → AreStreams (fast_streams (the_save m) m.clx)
-unfolding fast_streams fast_table
+unfolding fast_streams
 streams_are m =
     let small = small_wd m in
+    let table = table_small m in
     renewed_are_streams (table_name_of (the_save m)) (new_wd m) (fast_table (the_save m) m.clx) (the_save m).contents
-    (bounds m.ready) (omega (arith, small)) (table_small m)
+    (bounds m.ready) (omega (arith, small)) (omega (arith, table))
 
 pub streams_few : (m : Made) → length (fast_streams (the_save m) m.clx) ≤ 1023
 unfolding fast_streams
@@ -237,16 +241,22 @@ carried_are r =
     ap (λ (c : Carried). c.streams) r.can.carried
     ∙ (r.can.held.document_is.carried.streams ∙ ap (λ (c : Contents). carried_streams c.streams) (sym r.can.contents))
 
-pub fast_saved : (m : Made) →
+-- what a file holds that has the streams of the save
+pub record HasSavedStreams (m : Made) (contents : Contents) : Type 0 where
+  pub has_wd : HasNamed contents.streams wd_name (new_wd m)
+  pub has_table : HasNamed contents.streams (table_name_of (the_save m)) (fast_table (the_save m) m.clx)
+  pub clsid : contents.clsid ≡ (the_save m).contents.clsid
+  pub carried : carried_streams contents.streams ≡ carried_streams (the_save m).contents.streams
+
+pub fast_saved : (m : Made) (contents : Contents) → HasSavedStreams m contents →
     IsFastSaved (the_save m).document (old_stream (the_save m)) (plan_of (the_save m))
-    (fast_saved_text (the_save m) m.clx) (fast_table (the_save m) m.clx) (fast_contents (the_save m) m.clx)
-unfolding fast_fib fast_streams
-fast_saved m =
+    (fast_saved_text (the_save m) m.clx) (fast_table (the_save m) m.clx) contents
+unfolding fast_fib
+fast_saved m contents has =
     let r = m.ready in
     let save = the_save m in
     let read = fib_read m in
     let small = small_wd m in
-    let name = table_name_of save in
     let table = fast_table save m.clx in
     record {
       text = text_stands r;
@@ -264,18 +274,31 @@ fast_saved m =
       kept = keeps_fields m;
       parts = part_there m;
       wd_small = omega (arith, small);
-      has_wd = renewed_wd name (new_wd m) table save.contents.streams save.contents.clsid (the_text r).wd
-          (old_has_wd r);
+      has_wd = has.has_wd;
       has_table =
-          subst (λ (which : ℕ). HasNamed (fast_contents save m.clx).streams (table_name which) table)
-          (sym (new_which m))
-          (renewed_table name (new_wd m) table save.contents.streams save.contents.clsid (the_text r).table
-          (name_six save.fib.which_table) (old_has_table r));
-      clsid = clsid_is r ∙ sym (contents_clsid (fast_streams save m.clx) save.contents.clsid);
-      streams =
-          carried_are r
-          ∙ sym (renewed_carried (eqb save.fib.which_table 1) (new_wd m) table save.contents.streams
-          save.contents.clsid);
+          subst (λ (which : ℕ). HasNamed contents.streams (table_name which) table) (sym (new_which m)) has.has_table;
+      clsid = clsid_is r ∙ sym has.clsid;
+      streams = carried_are r ∙ sym has.carried;
+    }
+
+-- ---- the file that is laid out anew
+
+streams_anew : (m : Made) → HasSavedStreams m (fast_contents (the_save m) m.clx)
+unfolding fast_streams
+streams_anew m =
+    let r = m.ready in
+    let save = the_save m in
+    let name = table_name_of save in
+    let table = fast_table save m.clx in
+    let streams = save.contents.streams in
+    let clsid = save.contents.clsid in
+    record {
+      has_wd = renewed_wd name (new_wd m) table streams clsid (the_text r).wd (old_has_wd r);
+      has_table =
+          renewed_table name (new_wd m) table streams clsid (the_text r).table (name_six save.fib.which_table)
+          (old_has_table r);
+      clsid = contents_clsid (fast_streams save m.clx) clsid;
+      carried = renewed_carried (eqb save.fib.which_table 1) (new_wd m) table streams clsid;
     }
 
 names_small : (m : Made) (i : ℕ) (stream : NamedBytes) →
@@ -283,10 +306,10 @@ names_small : (m : Made) (i : ℕ) (stream : NamedBytes) →
 unfolding fast_streams
 names_small m =
     let save = the_save m in
-    renewed_units m.ready.can.file (table_name_of save) (new_wd m) (fast_table save m.clx) save.contents
+    renewed_units m.ready.save.file (table_name_of save) (new_wd m) (fast_table save m.clx) save.contents
     m.ready.can.bytes (has_contents m.ready)
 
-layout_is : (m : Made) → Fits (lengths_of (fast_streams (the_save m) m.clx)) →
+pub layout_is : (m : Made) → Fits (lengths_of (fast_streams (the_save m) m.clx)) →
     IsLayout (fast_streams (the_save m) m.clx) (the_save m).contents.clsid
 layout_is m fits =
     let save = the_save m in
@@ -299,8 +322,7 @@ layout_is m fits =
       names = names_small m;
     }
 
--- the file holds the streams
-pub file_is : (m : Made) → Fits (lengths_of (fast_streams (the_save m) m.clx)) →
+file_is : (m : Made) → Fits (lengths_of (fast_streams (the_save m) m.clx)) →
     IsFileOf (compound_file (fast_streams (the_save m) m.clx) (the_save m).contents.clsid)
     (fast_contents (the_save m) m.clx)
 file_is m fits =
@@ -310,3 +332,18 @@ file_is m fits =
       rules = file_holds streams clsid (streams_are m) (layout_is m fits);
       has_contents = file_contents streams clsid (streams_are m) (layout_is m fits);
     }
+
+-- a save whose file was laid out anew
+pub appended_anew : (m : Made) (file : List ℕ) → length (old_wd (the_save m)) < 4096 →
+    Fits (lengths_of (fast_streams (the_save m) m.clx)) →
+    file ≡ compound_file (fast_streams (the_save m) m.clx) (the_save m).contents.clsid → IsAppended (the_save m) file
+appended_anew m file short fits is = record {
+  clx = m.clx;
+  printed = m.printed;
+  contents = fast_contents (the_save m) m.clx;
+  written = inl (record { short = short; file_is = is; fits = fits; contents_are = refl });
+  few_saves = m.few_saves;
+  fib = (fib_read m).fields;
+  saved = fast_saved m (fast_contents (the_save m) m.clx) (streams_anew m);
+  container = subst (λ (f : List ℕ). IsFileOf f (fast_contents (the_save m) m.clx)) (sym is) (file_is m fits);
+}

@@ -1,9 +1,10 @@
 -- The streams of a save are short, and its file has few sectors, by what is counted.
-use Rattle.std.proofs.Common.{◌≡◌, ◌∙◌, refl, ap, ℕ, ◌<◌, ◌≤◌, List, length, arith}
+use Rattle.std.proofs.Common.{◌≡◌, ◌∙◌, refl, ap, inl, inr, ℕ, ◌<◌, ◌≤◌, List, length, arith}
+use Rattle.std.proofs.lemmas.Bool.{cases_lt}
 use Rattle.cfb_sectors.specs.Header.{sector_count}
+use Rattle.cfb_streams.specs.Names.{wd_name}
 use Rattle.cfb_layout.specs.Counts.{sectors_needed}
 use Rattle.cfb_layout.specs.Layout.{lengths_of}
-use Rattle.cfb_layout.specs.Laws.{IsLayout}
 use Rattle.cfb_layout.proofs.ShorterLemmas.{no_file_shorter}
 use Rattle.fib_form.specs.Fib.{fib_pair, kept_pairs}
 use Rattle.fib_form.specs.FibFields.{fib_fields}
@@ -17,43 +18,71 @@ use Rattle.piece_table.specs.Printing.{IsPrintedClx}
 use Rattle.save_bounds.specs.SectorCounts.{lengths_in, lengths_of_two}
 use Rattle.save_bounds.specs.FastSizes.{SaveCounts, reckoned_sectors}
 use Rattle.save_bounds.specs.FastFiles.{FitCounts}
+use Rattle.save_bounds.specs.FilesBehind.{AreBehind}
 use Rattle.save_bounds.proofs.RenewedLemmas.{named_streams_are_renewed}
 use Rattle.save_bounds.proofs.SizeLemmas.{counts_bound_streams}
 use Rattle.save_bounds.proofs.FileLemmas.{fast_saves_fit, fast_streams_fit}
+use Rattle.save_bounds.proofs.BehindLemmas.{saves_behind_are_few}
 use Rattle.append_save.specs.Saves.{FastSave}
 use Rattle.append_save.specs.OldParts.{named_pair}
-use Rattle.append_save.specs.Appended.{table_name_of, fast_bin_table, fast_table, fast_wd, fast_streams}
-use Rattle.append_save.specs.Answers.{IsAppended, sectors_of}
+use Rattle.append_save.specs.RenewedStreams.{chain_named}
+use Rattle.append_save.specs.Appended.{old_wd, fast_bin_table, fast_table, fast_wd, fast_streams}
+use Rattle.append_save.specs.Answers.{IsAppended, sectors_anew, sectors_in_place, sectors_of}
 use Rattle.append_save.specs.AppendedLengths.{IsCounted}
 use Rattle.append_save.specs.AppendedLengths.{AppendedSavesAreShort, AppendedFilesAreShort, CountedSavesFit}
-use Rattle.append_save.proofs.StreamLemmas.{renewed_units, contents_clsid}
+use Rattle.append_save.proofs.FilledTable.{table_within}
+use Rattle.append_save.proofs.InPlaceLemmas.{chain_holds}
 use Rattle.append_save.proofs.WrittenLemmas.{Made}
-use Rattle.append_save.proofs.SavedLemmas.{streams_are, streams_few}
-use Rattle.append_save.proofs.StreamLengths.{ready_of, are_fast_streams}
+use Rattle.append_save.proofs.SavedLemmas.{streams_are, layout_is}
+use Rattle.append_save.proofs.SavedInPlace.{anew_needs, in_place_needs, sectors_kept}
+use Rattle.append_save.proofs.StreamLengths.{ready_of, written_of, is_counted, streams_before, streams_after, file_of}
+use Rattle.append_save.proofs.StreamLengths.{has_wd, are_appended, are_fast_streams}
 
 -- ---- the sectors that are needed
 
-sectors_are_few : (counts : SaveCounts) (save : FastSave) (clx : List ℕ) → IsCounted counts save →
-    IsPrintedClx save.pieces clx → sectors_of save clx ≤ reckoned_sectors counts
-sectors_are_few counts save clx is printed =
-    let fast = are_fast_streams counts save clx is printed in
+few_anew : (counts : SaveCounts) (save : FastSave) (clx : List ℕ) → IsCounted counts save →
+    IsPrintedClx save.pieces clx → length (old_wd save) < 4096 → sectors_anew save clx ≤ reckoned_sectors counts
+few_anew counts save clx is printed short =
+    let fast = are_fast_streams counts save clx is printed short in
     let streams = fast_streams save clx in
-    let renewed = named_streams_are_renewed is.can.file save.contents streams fast.file_of.has_contents fast.anew in
+    let renewed = named_streams_are_renewed save.file save.contents streams fast.file_of.has_contents fast.anew in
     let least : sectors_needed (lengths_in save.contents) ≤ counts.sectors =
-    omega (arith, no_file_shorter is.can.file save.contents fast.file_of.rules fast.file_of.has_contents, fast.few) in
+    omega (arith, no_file_shorter save.file save.contents fast.file_of.rules fast.file_of.has_contents, fast.few) in
     let fits : FitCounts counts (lengths_of streams) =
     fast_saves_fit counts fast.written (lengths_of_two fast.anew.before) (lengths_of_two fast.anew.after)
     (lengths_in save.contents) (lengths_of streams) fast.counted fast.appended renewed least in
     fits.few
 
+few_in_place : (counts : SaveCounts) (save : FastSave) (clx : List ℕ) → IsCounted counts save →
+    IsPrintedClx save.pieces clx → 4096 ≤ length (old_wd save) → sectors_in_place save clx ≤ reckoned_sectors counts
+few_in_place counts save clx is printed long =
+    let r = ready_of counts save is in
+    let chain = length (chain_named save.contents.streams wd_name) in
+    let behind : AreBehind chain (length (fast_table save clx)) (lengths_of_two (streams_before r)) (lengths_of_two
+    (streams_after r clx)) = record {
+      holds = chain_holds save.file save.contents (old_wd save) (file_of r).has_contents (has_wd r) long;
+      filled = table_within save clx;
+    } in
+    saves_behind_are_few save.file chain (length (fast_table save clx)) counts (written_of r clx)
+    (lengths_of_two (streams_before r)) (lengths_of_two (streams_after r clx)) (is_counted counts save clx is printed)
+    (are_appended counts save clx is) behind is.sectors
+
+sectors_are_few : (counts : SaveCounts) (save : FastSave) (clx : List ℕ) → IsCounted counts save →
+    IsPrintedClx save.pieces clx → sectors_of save clx ≤ reckoned_sectors counts
+sectors_are_few counts save clx is printed = elim (cases_lt (length (old_wd save)) 4096) [
+  | inl short ↦ omega (arith, anew_needs save clx short, few_anew counts save clx is printed short)
+  | inr long ↦ omega (arith, in_place_needs save clx long, few_in_place counts save clx is printed long)
+]
+
 pub appended_saves_are_short : AppendedSavesAreShort
 appended_saves_are_short counts save clx is printed =
-    let fast = are_fast_streams counts save clx is printed in
-    let bounded = counts_bound_streams counts fast.written (lengths_of_two fast.anew.before)
-    (lengths_of_two fast.anew.after) fast.counted fast.appended in
+    let r = ready_of counts save is in
+    let bounded = counts_bound_streams counts (written_of r clx) (lengths_of_two (streams_before r))
+    (lengths_of_two (streams_after r clx)) (is_counted counts save clx is printed) (are_appended counts save clx is) in
+    let table = bounded.table_is in
     record {
       wd = bounded.wd_is;
-      table = bounded.table_is;
+      table = omega (arith, table, table_within save clx);
       bins = bounded.bins;
       sectors = sectors_are_few counts save clx is printed;
     }
@@ -76,21 +105,23 @@ made_of counts save file is made = record {
   few_saves = made.few_saves;
 }
 
-layout_of : (counts : SaveCounts) (save : FastSave) (file : List ℕ) → IsCounted counts save →
-    (made : IsAppended save file) → IsLayout (fast_streams save made.clx) save.contents.clsid
-unfolding fast_streams
-layout_of counts save file is made =
+few_written : (counts : SaveCounts) (save : FastSave) (file : List ℕ) (is : IsCounted counts save)
+    (made : IsAppended save file) → sector_count file ≤ reckoned_sectors counts
+few_written counts save file is made =
     let m = made_of counts save file is made in
-    let clsid = ap length (made.saved.clsid ∙ contents_clsid (fast_streams save made.clx) save.contents.clsid) in
-    let sixteen = is.formed.carried.clsid in
-    let fast = are_fast_streams counts save made.clx is made.printed in
-    record {
-      few = streams_few m;
-      fits = made.fits;
-      clsid_len = omega (arith, clsid, sixteen);
-      names = renewed_units is.can.file (table_name_of save) (fast_wd save made.clx) (fast_table save made.clx)
-          save.contents is.can.bytes fast.file_of.has_contents;
-    }
+    let clx = made.clx in
+    let streams = fast_streams save clx in
+    elim made.written [
+      | inl anew ↦
+          let fit = fast_streams_fit save.file save.contents counts streams
+          (are_fast_streams counts save clx is made.printed anew.short) in
+          let few = fit.few save.contents.clsid (streams_are m) (layout_is m anew.fits) in
+          omega (arith, few, ap sector_count anew.file_is)
+      | inr kept ↦
+          let few = few_in_place counts save clx is made.printed kept.long in
+          let after = sectors_kept m file kept.in_place in
+          omega (arith, few, after)
+    ]
 
 -- the pair of a part has the length of its bytes
 pair_length : (save : FastSave) (file : List ℕ) (made : IsAppended save file) (part : TablePart) (bytes : List ℕ) →
@@ -102,19 +133,13 @@ pair_length save file made part bytes below is =
 
 pub appended_files_are_short : AppendedFilesAreShort
 appended_files_are_short counts save file is made =
-    let m = made_of counts save file is made in
-    let clx = made.clx in
-    let streams = fast_streams save clx in
-    let short = appended_saves_are_short counts save clx is made.printed in
-    let fit = fast_streams_fit is.can.file save.contents counts streams
-    (are_fast_streams counts save clx is made.printed) in
-    let few = fit.few save.contents.clsid (streams_are m) (layout_of counts save file is made) in
+    let short = appended_saves_are_short counts save made.clx is made.printed in
     let chp = pair_length save file made PlcfBteChpx (fast_bin_table Chpx save) (omega arith)
     (made.saved.parts 5 (entry 12 (fast_bin_table Chpx save)) refl) in
     let pap = pair_length save file made PlcfBtePapx (fast_bin_table Papx save) (omega arith)
     (made.saved.parts 6 (entry 13 (fast_bin_table Papx save)) refl) in
     let bins = short.bins in
     record {
-      sectors = omega (arith, few, ap sector_count made.file_is);
+      sectors = few_written counts save file is made;
       bins = omega (arith, bins, chp, pap);
     }

@@ -1,6 +1,6 @@
 -- How long the streams are that are written, and that they are those of the file with two of them longer.
-use Rattle.std.proofs.Common.{◌≡◌, ◌∙◌, refl, sym, ap, subst, inl, inr, ℕ, suc, ◌+◌, ◌*◌, ◌/◌, ◌≤◌, Bool, true, false}
-use Rattle.std.proofs.Common.{cond}
+use Rattle.std.proofs.Common.{◌≡◌, ◌∙◌, refl, sym, ap, subst, inl, inr, ℕ, suc, ◌+◌, ◌*◌, ◌/◌, ◌<◌, ◌≤◌, Bool, true}
+use Rattle.std.proofs.Common.{false, cond}
 use Rattle.std.proofs.Common.{List, [], ◌∷◌, ◌++◌, length, drop, Option, arith, eqb, length-append}
 use Rattle.std.proofs.lemmas.Bool.{cases_Bool}
 use Rattle.std.proofs.lemmas.List.{length-map, length-drop}
@@ -47,6 +47,7 @@ use Rattle.append_save.specs.Appended.{page_count, pages_end, added_bytes, fast_
 use Rattle.append_save.specs.Appended.{fast_table, fast_fib, fast_wd, fast_streams}
 use Rattle.append_save.specs.KeptBins.{kept_bins}
 use Rattle.append_save.specs.AppendedLengths.{bin_bytes_of, IsCounted}
+use Rattle.append_save.proofs.FilledTable.{table_parts, table_bare}
 use Rattle.append_save.proofs.KeptBinLemmas.{kept_are_first}
 use Rattle.append_save.proofs.ReadyLemmas.{Ready, ready, the_text, wd_is, table_is, old_table_is, base_is}
 use Rattle.append_save.proofs.ReadyLemmas.{characters_within, paragraphs_within, characters_named, paragraphs_named}
@@ -142,8 +143,7 @@ length-seds start at (place ∷ places) (section ∷ sections) same =
     ap suc (length-seds (section.0 + 1) (at + length (new_sepx place section.1)) places sections (omega (arith, same)))
 
 table_short : (r : Ready) (clx : List ℕ) →
-    length (fast_table r.save clx) ≤ length (table_stream r.save.document) + new_bin_bytes r + length clx
-unfolding fast_table
+    length (table_parts r.save clx) ≤ length (table_stream r.save.document) + new_bin_bytes r + length clx
 table_short r clx =
     let save = r.save in
     let seds = length-seds 0 (pages_end save) save.places (sections_of save.document.main) r.can.sections.len in
@@ -188,13 +188,14 @@ is_counted counts save clx is printed =
 abbrev pub streams_before : Ready → TwoStreams
 streams_before r = record { wd = old_wd r.save; table = old_table r.save }
 
+-- those of the save, before zeros are put behind the table stream
 abbrev pub streams_after : Ready → List ℕ → TwoStreams
-streams_after r clx = record { wd = fast_wd r.save clx; table = fast_table r.save clx }
+streams_after r clx = record { wd = fast_wd r.save clx; table = table_parts r.save clx }
 
-pub file_of : (r : Ready) → IsFileOf r.can.file r.save.contents
+pub file_of : (r : Ready) → IsFileOf r.save.file r.save.contents
 file_of r = record {
-  rules = hold_out File (container_rules r.can.file) r.can.held.rules.0;
-  has_contents = subst (HasContents r.can.file) (sym r.can.contents) r.can.held.has_parts.has_contents;
+  rules = hold_out File (container_rules r.save.file) r.can.held.rules.0;
+  has_contents = subst (HasContents r.save.file) (sym r.can.contents) r.can.held.has_parts.has_contents;
 }
 
 pub has_wd : (r : Ready) → HasNamed r.save.contents.streams wd_name (old_wd r.save)
@@ -237,32 +238,37 @@ bytes_anew which two old new is =
           ∙ (ap by_wd (no_name old.name wd_name no_wd) ∙ ap by_table (no_name old.name name no_table));
     }
 
-pub have_bytes : (r : Ready) (clx : List ℕ) →
+-- where none are put there the streams are laid out anew
+pub have_bytes : (r : Ready) (clx : List ℕ) → length (old_wd r.save) < 4096 →
     AreTogether (HasBytesAnew r.save.fib.which_table (streams_after r clx)) r.save.contents.streams
     (fast_streams r.save clx)
 unfolding fast_streams renewed_streams
-have_bytes r clx =
+have_bytes r clx short =
     let which = r.save.fib.which_table in
     let streams = r.save.contents.streams in
-    let two = streams_after r clx in
+    let two : TwoStreams = record { wd = fast_wd r.save clx; table = fast_table r.save clx } in
     let renewed : Stream → NamedBytes =
     λ stream. record { name = stream.name; bytes = renewed_bytes (table_name which) two.wd two.table stream } in
-    record {
+    subst
+    (λ (table : List ℕ). AreTogether (HasBytesAnew which (record { wd = fast_wd r.save clx; table = table })) streams
+    (fast_streams r.save clx)) (table_bare r.save clx short)
+    (record {
       len = sym (length-map streams renewed);
       each = λ k old new here there.
           let found = from_map renewed streams k new there in
           let own : found.0 ≡ old = same_Some found.0 old (sym found.1.0 ∙ here) in
           bytes_anew which two old new
           (ap (λ (s : Stream). (renewed s).bytes) (sym own) ∙ ap (λ (n : NamedBytes). n.bytes) found.1.1);
-    }
+    })
 
-abbrev pub are_anew : (r : Ready) (clx : List ℕ) → AreAnew r.save.contents.streams (fast_streams r.save clx)
-are_anew r clx = record {
+abbrev pub are_anew : (r : Ready) (clx : List ℕ) → length (old_wd r.save) < 4096 →
+    AreAnew r.save.contents.streams (fast_streams r.save clx)
+are_anew r clx short = record {
   which = r.save.fib.which_table;
   before = streams_before r;
   after = streams_after r clx;
   have = record { has_wd = has_wd r; has_table = has_table r };
-  bytes = have_bytes r clx;
+  bytes = have_bytes r clx short;
 }
 
 pub are_appended : (counts : SaveCounts) (save : FastSave) (clx : List ℕ) (is : IsCounted counts save) →
@@ -280,13 +286,14 @@ are_appended counts save clx is =
     }
 
 abbrev pub are_fast_streams : (counts : SaveCounts) (save : FastSave) (clx : List ℕ) (is : IsCounted counts save) →
-    IsPrintedClx save.pieces clx → AreFastStreams is.can.file save.contents counts (fast_streams save clx)
-are_fast_streams counts save clx is printed =
+    IsPrintedClx save.pieces clx → length (old_wd save) < 4096 →
+    AreFastStreams save.file save.contents counts (fast_streams save clx)
+are_fast_streams counts save clx is printed short =
     let r = ready_of counts save is in
     record {
       written = written_of r clx;
       file_of = file_of r;
-      anew = are_anew r clx;
+      anew = are_anew r clx short;
       few = is.sectors;
       counted = is_counted counts save clx is printed;
       appended = are_appended counts save clx is;

@@ -11,7 +11,6 @@ use Rattle.doc_bits.proofs.ListLemmas.{All_at, get-map, from_map}
 use Rattle.doc_bits.proofs.NumberLemmas.{number_at-after, number_at-before}
 use Rattle.doc_bits.specs.Number.{u16_at}
 use Rattle.doc_bits.specs.Rules.{Hold}
-use Rattle.cfb_streams.specs.Contents.{NamedBytes}
 use Rattle.cfb_layout.specs.Sectors.{units_for, filled, padded}
 use Rattle.cfb_layout.proofs.BytesLemmas.{length-filled, entry_at, filled_at}
 use Rattle.fib_form.specs.Fib.{kept_pairs, form_size, fib_form, fib_size}
@@ -42,7 +41,6 @@ use Rattle.save_laws.proofs.FullSections.{FitsSepx}
 use Rattle.plain_doc.proofs.MainLemmas.{main_ends}
 use Rattle.std.proofs.lemmas.List.Concat.{length-flat_map}
 use Rattle.full_save.specs.WordDocument.{units_bytes}
-use Rattle.full_save.specs.TableStream.{entries_bytes}
 use Rattle.full_save.proofs.StretchRuns.{IsWritableItem, character_run, paragraph_run}
 use Rattle.full_save.proofs.EntriesFound.{AreAllowed, entries_are_pairs, entries_are_wide}
 use Rattle.full_save.proofs.TableNumbers.{table_allowed}
@@ -54,12 +52,14 @@ use Rattle.save_laws.proofs.SlotLemmas.{length-story_slots, length-loose_if}
 use Rattle.append_save.specs.Saves.{FastSave, plan_of}
 use Rattle.append_save.specs.KeptBins.{kept_bins}
 use Rattle.append_save.specs.Kept.{CanBeAppended}
-use Rattle.append_save.specs.Bodies.{AreNewStreams}
+use Rattle.append_save.specs.Bodies.{AreNewParts}
+use Rattle.append_save.specs.declared.writing.NewParts.{NewParts}
 use Rattle.append_save.specs.PlannedSections.{planned_sepxes}
 use Rattle.append_save.specs.Appended.{old_wd, old_bins, old_stream, runs_begin, bins_end, added_runs}
 use Rattle.append_save.specs.Appended.{added_pages, first_page}
 use Rattle.append_save.specs.Appended.{pages_end, added_bytes, fast_bin_table, fast_text, fast_entries, fast_table}
 use Rattle.append_save.specs.Appended.{fast_fib, fast_wd, fast_saved_text}
+use Rattle.append_save.proofs.FilledTable.{table_parts, parts_within}
 use Rattle.append_save.proofs.PlannedLemmas.{length-planned}
 use Rattle.append_save.proofs.KeptBinLemmas.{first_are_before}
 use Rattle.append_save.proofs.ReadyLemmas.{Ready, ready, is_right, base_is, the_text, items_writable, added_are}
@@ -76,10 +76,9 @@ pub record Made : Type 0 where
   pub printed : IsPrintedClx ready.save.pieces clx
   pub few_saves : ready.save.fib.quick_saves < 15
 
--- that of new streams
-abbrev pub made_of : (save : FastSave) (streams : List NamedBytes) → CanBeAppended save → AreNewStreams save streams →
-    Made
-made_of save streams can is = record {
+-- that of new parts
+abbrev pub made_of : (save : FastSave) (parts : NewParts) → CanBeAppended save → AreNewParts save parts → Made
+made_of save parts can is = record {
   ready = ready save can is.formed is.items;
   clx = is.clx;
   printed = is.printed;
@@ -142,9 +141,11 @@ parts_cut p = (simp (append_assoc) refl, (simp (append_assoc) refl, simp (append
 pub allowed : (m : Made) → AreAllowed (fast_entries (the_save m) m.clx)
 allowed m = table_allowed (the_save m).document (fast_text (the_save m) m.clx)
 
-pub table_small : (m : Made) → length (entries_bytes (fast_entries (the_save m) m.clx)) < 2 ^ 32
-unfolding fast_table
+pub table_small : (m : Made) → length (fast_table (the_save m) m.clx) < 2 ^ 31
 table_small m = m.ready.can.table m.clx m.printed
+
+parts_small : (m : Made) → length (table_parts (the_save m) m.clx) < 2 ^ 32
+parts_small m = omega (arith, table_small m, parts_within (the_save m) m.clx)
 
 pub counts_by : (r : Ready) → AreCounts (story_counts r.save.document r.save.ends)
 counts_by r =
@@ -327,7 +328,7 @@ is_fib m =
       cb_mac = omega (arith, short);
       counts = counts_are m;
       pairs = entries_are_pairs (fast_entries save m.clx) (allowed m);
-      wide = entries_are_wide (fast_entries save m.clx) (table_small m);
+      wide = entries_are_wide (fast_entries save m.clx) (parts_small m);
     }
 
 pub record IsFibRead (m : Made) : Type 0 where

@@ -1,10 +1,12 @@
 -- The streams of a save behind an old stream, as functions of what it is made of and of the Clx of its pieces. Each
 -- number is a length; nothing is gone through.
-use Rattle.std.specs.Prelude.{ℕ, ◌+◌, ◌*◌, true, List, ◌++◌, length, map, drop}
+use Rattle.std.specs.Prelude.{ℕ, ◌+◌, ◌-◌, ◌*◌, nat_lt, true, List, ◌++◌, length, map, drop, replicate}
+use Rattle.std.specs.Prelude.{if◌then◌else◌}
 use Rattle.cfb_streams.specs.Contents.{NamedBytes, Contents}
 use Rattle.cfb_streams.specs.Names.{wd_name, table_name}
 use Rattle.cfb_layout.specs.Sectors.{units_for, filled, padded}
 use Rattle.cfb_layout.specs.Layout.{contents_of}
+use Rattle.cfb_append.specs.Change.{StreamChange}
 use Rattle.fib_form.specs.Fib.{form_size, table_part}
 use Rattle.fib_form.specs.FibFields.{FibFields}
 use Rattle.fib_form.specs.FibBytes.{written_fib}
@@ -125,8 +127,14 @@ fast_text save clx = record {
 abbrev pub fast_entries : FastSave → List ℕ → List TableEntry
 fast_entries save clx = table_entries save.document (fast_text save clx)
 
+-- the least length of the table stream beside an old WordDocument of so many bytes: both have sectors of their own, or
+-- neither need
+abbrev pub least_beside : ℕ → ℕ
+least_beside len = if nat_lt len 4096 then 0 else 4096
+
+-- its parts, and zeros up to that length
 unfoldable pub fast_table : FastSave → List ℕ → List ℕ
-fast_table save clx = entries_bytes (fast_entries save clx)
+fast_table save clx = filled (least_beside (length (old_wd save))) 0 (entries_bytes (fast_entries save clx))
 
 -- ---- WordDocument
 
@@ -151,6 +159,15 @@ fast_wd save clx =
 
 -- ---- the file
 
+-- what is changed where the file keeps its own sectors: the FIB, what comes behind the old stream, and the table stream
+abbrev pub change_of : FastSave → List ℕ → StreamChange
+change_of save clx = record {
+  fib = written_fib (fast_fib save clx);
+  tail = replicate (save.base - length (old_wd save)) 0 ++ added_bytes save;
+  table = fast_table save clx;
+}
+
+-- else the streams are laid out anew
 unfoldable pub fast_streams : FastSave → List ℕ → List NamedBytes
 fast_streams save clx =
     renewed_streams (table_name_of save) (fast_wd save clx) (fast_table save clx) save.contents.streams

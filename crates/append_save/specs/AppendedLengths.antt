@@ -44,7 +44,7 @@ pub record IsCounted (counts : SaveCounts) (save : FastSave) : Type 0 where
   pub prcs : HaveShortPrcs counts.prc_bytes save.pieces
   pub table : length (table_stream save.document) ≤ counts.table_bytes
   pub bins : bin_bytes_of save.fib ≤ counts.bin_bytes
-  pub sectors : sector_count can.file ≤ counts.sectors
+  pub sectors : sector_count save.file ≤ counts.sectors
 
 -- ---- the bounds
 

@@ -25,10 +25,9 @@ use Rattle.append_save.specs.Appended.{page_count, fast_table}
 -- or in the added text, which begins at the next page; the settings of each section stand there or are to be written;
 -- and nothing is too large for the places in a file
 pub record CanBeAppended (save : FastSave) : Type 0 where
-  pub file : List ℕ
   pub saved : Document
-  pub bytes : AreBytes file
-  pub held : HoldsDocument file saved
+  pub bytes : AreBytes save.file
+  pub held : HoldsDocument save.file saved
   pub contents : save.contents ≡ held.parts.contents
   pub fib : save.fib ≡ fib_fields held.parts.text.wd
   pub carried : save.document.carried ≡ saved.carried
@@ -45,4 +44,4 @@ pub record CanBeAppended (save : FastSave) : Type 0 where
   pub few : length save.pieces ≤ 16384
   pub few_added : length save.added ≤ 3600000
   pub room : save.base + 2 * length save.added + 512 * page_count save ≤ 2 ^ 28
-  pub table : (clx : List ℕ) → IsPrintedClx save.pieces clx → length (fast_table save clx) < 2 ^ 32
+  pub table : (clx : List ℕ) → IsPrintedClx save.pieces clx → length (fast_table save clx) < 2 ^ 31

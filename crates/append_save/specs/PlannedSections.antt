@@ -1,8 +1,15 @@
 -- Sections of which some have their settings in the old stream, and the others are given a Sepx of their own.
-use Rattle.std.specs.Prelude.{ℕ, ◌+◌, List, [], ◌∷◌, ◌++◌, length, Option, Some, None}
+use Rattle.std.specs.Prelude.{◌≡◌, ◌≤◌, ℕ, ◌+◌, ◌*◌, List, [], ◌∷◌, ◌++◌, length, drop, Option, Some, None}
 use Rattle.prop_map.specs.Settings.{Settings}
 use Rattle.doc_parts.specs.declared.lists.Sed.{Sed}
-use Rattle.full_save.specs.Sections.{sepx_bytes, fc_sepx}
+use Rattle.run_lists.specs.declared.runs.Run.{Run}
+use Rattle.plain_doc.specs.declared.item.Item.{Item}
+use Rattle.plain_doc.specs.Collected.{sections_of}
+use Rattle.doc_columns.specs.declared.beside.Beside.{Beside}
+use Rattle.doc_columns.specs.Beside.{beside_of}
+use Rattle.full_save.specs.Alike.{HaveAlike}
+use Rattle.full_save.specs.Sections.{sepx_bytes, fc_sepx, left_from}
+use Rattle.append_save.specs.declared.sections.SectionPlaces.{SectionPlaces}
 
 -- the Sepx that is written for a section
 abbrev pub new_sepx : Option ℕ → Settings → List ℕ
@@ -27,3 +34,30 @@ planned_seds start at (place ∷ places) [] = []
 planned_seds start at (place ∷ places) (section ∷ sections) =
     record { start = start; sepx = planned_fc at place section.1 }
     ∷ planned_seds (section.0 + 1) (at + length (new_sepx place section.1)) places sections
+
+-- how many sections are done, where the next one begins, the bytes with their Sepxes, and the Seds
+pub record PlannedSections : Type 0 where
+  pub number : ℕ
+  pub start : ℕ
+  pub out : List ℕ
+  pub seds : List Sed
+
+-- the sections that end before a CP are done, and those that are left go on from here
+pub record ArePlannedUpTo
+    (main : List Item) (places : List (Option ℕ)) (base : ℕ) (old : List ℕ) (cp : ℕ) (so : PlannedSections) : Type 0
+  where
+    pub bytes :
+        so.out ++ planned_sepxes (drop so.number places) (left_from main cp)
+        ≡ old ++ planned_sepxes places (sections_of main)
+    pub seds :
+        so.seds ++ planned_seds so.start (base + length so.out) (drop so.number places) (left_from main cp)
+        ≡ planned_seds 0 (base + length old) places (sections_of main)
+    pub few : length so.out ≤ length old + 504 * cp
+    pub count : so.number + length (left_from main cp) ≡ length places
+
+-- the sections go on by those that end in a run, which begins at a place
+abbrev pub PlannedGoOn : Run Beside → ℕ → SectionPlaces → PlannedSections → PlannedSections → Type 0
+PlannedGoOn run place old before after =
+    (main : List Item) (bytes : List ℕ) → HaveAlike beside_of run.value main place run.count →
+    ArePlannedUpTo main old.places.now old.base bytes place before →
+    ArePlannedUpTo main old.places.now old.base bytes (place + run.count) after

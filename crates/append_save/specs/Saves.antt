@@ -12,10 +12,11 @@ use Rattle.save_laws.specs.Ends.{ends_of}
 use Rattle.append_save.specs.declared.saving.SavedFile.{SavedFile}
 use Rattle.append_save.specs.declared.saving.EditedText.{EditedText}
 
--- the FIB and the streams of the file that is there; the document; the pieces of its text, and whether marks stand
+-- the file that is there, its FIB and its streams; the document; the pieces of its text, and whether marks stand
 -- behind stories; the items whose units are added from a byte on; and for each section the place of its settings, where
 -- they stand in the old stream
 pub record FastSave : Type 0 where
+  pub file : List ℕ
   pub fib : FibFields
   pub contents : Contents
   pub document : Document
@@ -27,6 +28,7 @@ pub record FastSave : Type 0 where
 
 abbrev pub save_of : SavedFile → Document → EditedText → FastSave
 save_of old document text = record {
+  file = old.bytes.now;
   fib = old.fib.now;
   contents = old.container.now;
   document = document;

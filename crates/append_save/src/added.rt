@@ -1,5 +1,5 @@
 // `WordDocument` from the added text on, and what the table stream says of the text.
-ghost use Rattle.std.specs.Prelude.{◌≡◌, ◌+◌, ◌*◌, ◌^◌, ◌<◌, ◌≤◌, [], ◌∷◌, ◌++◌, length, map, OnOk, IfOk};
+ghost use Rattle.std.specs.Prelude.{◌≡◌, ◌+◌, ◌*◌, ◌^◌, ◌<◌, ◌≤◌, ◌++◌, length, map, OnOk, IfOk};
 ghost use Rattle.fkp_pages.specs.declared.kind.PageKind.{PageKind};
 ghost use Rattle.fkp_pages.specs.Bin.{IsBinTable, ArePrintableBins, printed_bin};
 ghost use Rattle.fkp_pages.specs.Runs.{AreRuns};
@@ -20,14 +20,16 @@ ghost use Rattle.append_save.specs.Bodies.{IsAddedBody};
 
 use crate::kept_bins::{keep_bins, kept_end};
 use crate::old_streams::old_part;
-use crate::runs::{UNIT_LEN, character_runs, end_of, paragraph_runs};
+use crate::runs::{UNIT_LEN, end_of, paragraph_runs};
 use crate::saving::{EditedText, SavedFile};
-use crate::sections::append_sections;
+use crate::sections::{SectionPlaces, append_sections};
 use doc_bits::{Bytes, Memory};
+use doc_columns::{ColumnDocument, ColumnTexts, Columns};
 use fib_form::TablePart;
 use fkp_pages::{Bins, write_bin};
-use full_save::{TableText, append_chpx_pages, append_papx_pages, append_text, pages_for};
-use plain_doc::{Document, Item, Texts};
+use full_save::{
+    TableText, append_chpx_pages, append_papx_pages, append_text, character_runs, pages_for,
+};
 use save_laws::Ends;
 use std::alloc::Global;
 
@@ -43,29 +45,28 @@ impl AddedBody {
     pub(crate) fn of(
         alloc: Global,
         old: &SavedFile<'_>,
-        document: &Document,
+        document: &ColumnDocument,
         text: &EditedText<'_>,
     ) -> Result<AddedBody, Memory>
         requires formed { IsFormed document.now }
         requires kept { CanBeAppended (save_of old.now document.now text.now) }
         ensures { IfOk result (IsAddedBody (save_of old.now document.now text.now)) }
     {
-        let items = text.added.as_slice();
+        let items = text.added;
         let base = text.base;
+        let len = items.len() as u32;
         let mut bytes = Bytes::new(alloc);
-        add_text(alloc, &mut bytes, items)?;
-        let first = pages_for(base + UNIT_LEN * items.len() as u32);
+        add_text(&mut bytes, items)?;
+        let first = pages_for(base + UNIT_LEN * len);
         let table = old_part(old, TablePart::PlcfBteChpx);
         let characters = add_characters(alloc, &mut bytes, table, items, base, first)?;
         let table = old_part(old, TablePart::PlcfBtePapx);
         let paragraphs = add_paragraphs(alloc, &mut bytes, table, items, base, characters.next)?;
-        let seds = append_sections(
-            alloc,
-            &mut bytes,
-            document.main.as_slice(),
-            text.sections,
+        let plan = SectionPlaces {
+            places: text.sections,
             base,
-        )?;
+        };
+        let seds = append_sections(alloc, &mut bytes, &document.main, &plan)?;
         let text = TableText {
             counts: counts_of(document, text.ends),
             seds,
@@ -90,7 +91,7 @@ fn add_characters(
     alloc: Global,
     out: &mut Bytes,
     old: &[u8],
-    items: &[Item],
+    items: &Columns,
     base: u32,
     number: u32,
 ) -> Result<BinTable, Memory>
@@ -123,7 +124,7 @@ fn add_paragraphs(
     alloc: Global,
     out: &mut Bytes,
     old: &[u8],
-    items: &[Item],
+    items: &Columns,
     base: u32,
     number: u32,
 ) -> Result<BinTable, Memory>
@@ -150,28 +151,16 @@ fn add_paragraphs(
 }
 
 /// Appends the units of items, and zeros up to a page.
-fn add_text(alloc: Global, out: &mut Bytes, items: &[Item]) -> Result<(), Memory>
+fn add_text(out: &mut Bytes, items: &Columns) -> Result<(), Memory>
     requires { length items.now < 2 ^ 31 }
     ensures { OnOk result (out.new ≡ out.old ++ padded 512 0 (units_bytes (map (λ item. item.unit) items.now))) }
 {
-    let units = units_of(alloc, items)?;
-    append_text(out, &units)?;
+    append_text(out, items.units())?;
     Ok(())
 }
 
-/// The units of items.
-fn units_of(alloc: Global, items: &[Item]) -> Result<Vec<u16>, Memory>
-    ensures { IfOk result (λ units. units.items ≡ map (λ item. item.unit) items.now) }
-{
-    let mut units = Vec::new(alloc);
-    for item in items {
-        units.push(item.unit)?;
-    }
-    Ok(units)
-}
-
 /// The counts of the main text, the notes and the header texts, with the marks behind stories.
-fn counts_of(document: &Document, ends: Ends) -> [u32; 3]
+fn counts_of(document: &ColumnDocument, ends: Ends) -> [u32; 3]
     requires main { length document.now.main < 2 ^ 31 }
     requires notes { length (joined_texts document.now.notes) < 2 ^ 31 }
     requires heads { length (joined_texts document.now.heads) < 2 ^ 31 }
@@ -185,7 +174,7 @@ fn counts_of(document: &Document, ends: Ends) -> [u32; 3]
 }
 
 /// The number of items of texts.
-fn items_of(texts: &Texts) -> u32
+fn items_of(texts: &ColumnTexts) -> u32
     requires { length (joined_texts texts.now) < 2 ^ 31 }
     ensures { result ≡ length (joined_texts texts.now) }
 {

@@ -10,12 +10,13 @@ ghost use Rattle.append_save.specs.AddedPages.{HasParagraphBins, HavePages, para
 
 use crate::kept_bins::kept_end;
 use crate::old_streams::old_part;
-use crate::runs::{character_runs, paragraph_runs};
+use crate::runs::paragraph_runs;
 use crate::saving::{EditedText, SavedFile};
 use doc_bits::Memory;
+use doc_columns::Columns;
 use fib_form::TablePart;
 use fkp_pages::{write_chpx_pages, write_papx_pages};
-use plain_doc::Item;
+use full_save::character_runs;
 use std::alloc::Global;
 
 /// How many pages of both kinds a save of the text behind the file writes. They are packed as for the save.
@@ -25,7 +26,8 @@ pub fn added_pages(alloc: Global, old: &SavedFile<'_>, text: &EditedText<'_>) ->
     ensures { IfOk result (λ pages. pages ≡ pages_behind (paragraph_bins old.now.fib.now old.now.container.now)
         text.now.base text.now.added.now) }
 {
-    let items = text.added.as_slice();
+    let items = text.added;
+    let _len = items.len();
     let table = old_part(old, TablePart::PlcfBtePapx);
     let characters = character_pages(alloc, items, text.base)?;
     let paragraphs = paragraph_pages(alloc, table, items, text.base)?;
@@ -33,7 +35,7 @@ pub fn added_pages(alloc: Global, old: &SavedFile<'_>, text: &EditedText<'_>) ->
 }
 
 /// How many pages the runs of characters of items take, whose units stand from `base` on.
-fn character_pages(alloc: Global, items: &[Item], base: u32) -> Result<u64, Memory>
+fn character_pages(alloc: Global, items: &Columns, base: u32) -> Result<u64, Memory>
     requires small { base + 2 * length items.now < 2 ^ 32 }
     requires runs { AreRuns PageKind.Chpx (text_runs PageKind.Chpx base items.now) }
     ensures count { IfOk result (λ pages. pages ≡ pages_taken PageKind.Chpx (text_runs PageKind.Chpx base items.now)) }
@@ -45,7 +47,7 @@ fn character_pages(alloc: Global, items: &[Item], base: u32) -> Result<u64, Memo
 }
 
 /// The same of the runs of paragraphs, behind the ranges of a bin table.
-fn paragraph_pages(alloc: Global, table: &[u8], items: &[Item], base: u32) -> Result<u64, Memory>
+fn paragraph_pages(alloc: Global, table: &[u8], items: &Columns, base: u32) -> Result<u64, Memory>
     requires table { IsBinTable table.now }
     requires small { base + 2 * length items.now + 2 < 2 ^ 32 }
     requires runs { AreRuns PageKind.Papx (mark_runs table.now base items.now) }

@@ -12,6 +12,7 @@ mod runs;
 mod saving;
 mod sections;
 mod word_document;
+mod writing;
 
 pub use counted::added_pages;
 pub use fault::AppendFault;

@@ -1,38 +1,28 @@
 // The runs of items whose units stand one after the other.
-ghost use Rattle.std.specs.Prelude.{◌≡◌, ◌+◌, ◌*◌, ◌^◌, ◌<◌, ℕ, List, [], ◌∷◌, ◌++◌, length, OnOk, IfOk};
+ghost use Rattle.std.specs.Prelude.{◌≡◌, ◌+◌, ◌*◌, ◌^◌, ◌<◌, ℕ, List, [], ◌∷◌, ◌++◌, length, Some, OnOk, IfOk};
 ghost use Rattle.fkp_pages.specs.declared.kind.PageKind.{PageKind};
 ghost use Rattle.plain_doc.specs.declared.item.Item.{Item as TextItem};
 ghost use Rattle.full_save.specs.Runs.{text_runs};
 ghost use Rattle.append_save.specs.MarkRuns.{reached, begun, begin_after, runs_end};
-ghost use Rattle.append_save.specs.RunsSoFar.{AreMarksSoFar};
+ghost use Rattle.append_save.specs.RunsSoFar.{AreMarksSoFar, MarkEnds, MarksGoOn, MarksGoOnBy};
+ghost use Rattle.run_lists.specs.Spread.{extent};
 
 use doc_bits::Memory;
-use fkp_pages::{ChpRuns, PapRuns};
-use full_save::CharacterRuns;
-use plain_doc::Item;
+use doc_columns::{Beside, Columns};
+use fkp_pages::PapRuns;
+use plain_doc::Mark;
 use prop_map::PropMap;
+use run_lists::Run;
 use std::alloc::Global;
 
 /// The bytes of a unit.
 pub(crate) const UNIT_LEN: u32 = 2;
 
-/// The runs of characters of items whose units stand from a byte on: the maximal ranges of equal settings.
-pub(crate) fn character_runs(alloc: Global, items: &[Item], base: u32) -> Result<ChpRuns, Memory>
-    requires { base + 2 * length items.now < 2 ^ 32 }
-    ensures { IfOk result (λ runs. runs ≡ text_runs PageKind.Chpx base items.now) }
-{
-    let mut runs = CharacterRuns::new(alloc, base);
-    for (i, item) in items.iter().enumerate() {
-        runs.push(alloc, item, base + UNIT_LEN * i as u32)?;
-    }
-    runs.finish(base + UNIT_LEN * items.len() as u32)
-}
-
 /// The runs of paragraphs of items whose units stand from a byte on, of which the first one begins at `start`. What no
 /// mark ends is a run without a style or settings, and reaches one unit further.
 pub(crate) fn paragraph_runs(
     alloc: Global,
-    items: &[Item],
+    items: &Columns,
     base: u32,
     start: u32,
 ) -> Result<PapRuns, Memory>
@@ -40,11 +30,10 @@ pub(crate) fn paragraph_runs(
     ensures { IfOk result (λ runs.
         runs ≡ begun start (reached items.now (text_runs PageKind.Papx base items.now))) }
 {
+    let end = base + UNIT_LEN * items.len() as u32;
     let mut runs = ParagraphRuns::new(alloc, base, start);
-    for (i, item) in items.iter().enumerate() {
-        runs.push(alloc, item, base + UNIT_LEN * (i as u32 + 1))?;
-    }
-    runs.finish(alloc, base + UNIT_LEN * items.len() as u32)
+    runs.push_runs(alloc, items.besides(), base)?;
+    runs.finish(alloc, end)
 }
 
 /// Where runs end that begin at `start`.
@@ -92,22 +81,63 @@ impl ParagraphRuns {
         self.from
     }
 
-    /// Goes on by an item, whose unit stands before `end`.
-    fn push(&mut self, alloc: Global, item: &Item, end: u32) -> Result<(), Memory>
-        ensures now { OnOk result ((at : ℕ) (done : List TextItem) → end ≡ at + 2 * length (done ++ item.now ∷ []) →
-            AreMarksSoFar at done self.old → AreMarksSoFar at (done ++ item.now ∷ []) self.new) }
+    /// Goes on by an item that has a mark, and whose unit stands before `end`.
+    fn close(&mut self, alloc: Global, mark: &Mark, end: u32) -> Result<(), Memory>
+        ensures now { OnOk result (MarkEnds mark.now end self.old self.new) }
         ensures start { OnOk result (self.new.start ≡ self.old.start) }
     {
-        match &item.mark {
+        let pap = mark.pap.copy(alloc)?;
+        let begin = self.begin();
+        self.closed.add(begin, end, mark.istd, pap)?;
+        self.from = end;
+        Ok(())
+    }
+
+    /// Goes on by `count` items with this mark each, the first of which has its unit at `at`.
+    fn push_marks(&mut self, alloc: Global, mark: &Mark, count: u32, at: u32) -> Result<(), Memory>
+        requires { at + 2 * count < 2 ^ 32 }
+        ensures now { OnOk result (MarksGoOn (Some mark.now) count at self.old self.new) }
+        ensures start { OnOk result (self.new.start ≡ self.old.start) }
+    {
+        for i in 0..count {
+            self.close(alloc, mark, at + UNIT_LEN * (i + 1))?;
+        }
+        Ok(())
+    }
+
+    /// Goes on by `count` items with this mark each, or without one.
+    fn push_run(
+        &mut self,
+        alloc: Global,
+        mark: &Option<Mark>,
+        count: u32,
+        at: u32,
+    ) -> Result<(), Memory>
+        requires { at + 2 * count < 2 ^ 32 }
+        ensures now { OnOk result (MarksGoOn mark.now count at self.old self.new) }
+        ensures start { OnOk result (self.new.start ≡ self.old.start) }
+    {
+        match mark {
             None => Ok(()),
             Some(mark) => {
-                let pap = mark.pap.copy(alloc)?;
-                let begin = self.begin();
-                self.closed.add(begin, end, mark.istd, pap)?;
-                self.from = end;
+                self.push_marks(alloc, mark, count, at)?;
                 Ok(())
             }
         }
+    }
+
+    /// Goes on by the items of these runs of what stands beside them, the first of which has its unit at `begin`.
+    fn push_runs(&mut self, alloc: Global, runs: &[Run<Beside>], begin: u32) -> Result<(), Memory>
+        requires { begin + 2 * extent runs.now < 2 ^ 32 }
+        ensures now { OnOk result (MarksGoOnBy runs.now begin self.old self.new) }
+        ensures start { OnOk result (self.new.start ≡ self.old.start) }
+    {
+        let mut at = begin;
+        for run in runs {
+            self.push_run(alloc, &run.value.mark, run.count, at)?;
+            at += UNIT_LEN * run.count;
+        }
+        Ok(())
     }
 
     /// All runs of a text that ends at `end`.

@@ -4,29 +4,29 @@ ghost use Rattle.fib_form.specs.FibFields.{AreCounts, ArePairs};
 ghost use Rattle.append_save.specs.declared.fault.AppendFault.TheVariants.{Sixteenth};
 ghost use Rattle.append_save.specs.Saves.{save_of};
 ghost use Rattle.append_save.specs.Kept.{CanBeAppended};
-ghost use Rattle.append_save.specs.Bodies.{AreNewStreams};
+ghost use Rattle.append_save.specs.Bodies.{AreNewParts};
 ghost use Rattle.append_save.specs.Answers.{IsAppended, IsAppendFault};
 
 use crate::AppendFault;
 use crate::added::AddedBody;
-use crate::old_streams::bytes_named;
-use crate::renewed::renewed_streams;
-use crate::word_document::appended;
-use cfb_layout::{LayoutFault, whole};
-use cfb_streams::{Container, Streams, table_name, word_document};
+use crate::word_document::written;
+use crate::writing::{NewParts, filled_table, saved_by};
+use cfb_layout::LayoutFault;
+use cfb_streams::Container;
 use doc_bits::Bytes;
+use doc_columns::{ColumnDocument, Columns, columns_are_formed};
 use fib_form::{Fib, Pairs};
 use full_save::write_table;
 use piece_table::PieceList;
-use plain_doc::{Document, Items, documents_are_formed};
 use save_laws::Ends;
 use std::alloc::Global;
 
-/// The file that is there: the FIB of its `WordDocument`, and its streams.
+/// The file that is there: the FIB of its `WordDocument`, its streams, and its bytes.
 #[derive(Drop)]
 pub struct SavedFile<'a> {
     pub fib: &'a Fib,
     pub container: &'a Container,
+    pub bytes: &'a [u8],
 }
 
 /// The text of a document that was edited: its pieces, in the `WordDocument` that is there and in added text; whether
@@ -37,7 +37,7 @@ pub struct EditedText<'a> {
     pub pieces: &'a PieceList,
     pub ends: Ends,
     pub base: u32,
-    pub added: &'a Items,
+    pub added: &'a Columns,
     pub sections: &'a [Option<u32>],
 }
 
@@ -61,41 +61,40 @@ fn raised(fib: &Fib, cb_mac: u32, counts: [u32; 3], pairs: &Pairs) -> Result<Fib
     }
 }
 
-/// The streams of the file that is there, where `WordDocument` and the table stream have new bytes.
-fn new_streams(
+/// What a save writes: the FIB, the added text with its pages, and the table stream.
+fn new_parts(
     alloc: Global,
     old: &SavedFile<'_>,
-    document: &Document,
+    document: &ColumnDocument,
     text: &EditedText<'_>,
-) -> Result<Streams, AppendFault>
+) -> Result<NewParts, AppendFault>
     requires { CanBeAppended (save_of old.now document.now text.now) }
     ensures { MatchResult result
-        (AreNewStreams (save_of old.now document.now text.now))
+        (AreNewParts (save_of old.now document.now text.now))
         (IsAppendFault (save_of old.now document.now text.now)) }
 {
-    documents_are_formed(document);
+    columns_are_formed(document);
     let body = AddedBody::of(alloc, old, document, text)?;
-    let table = write_table(alloc, document, &body.text)?;
+    let made = write_table(alloc, document, &body.text)?;
     let cb_mac = text.base + body.bytes.as_slice().len() as u32;
-    let fib = raised(old.fib, cb_mac, body.text.counts, &table.pairs)?;
-    let wd = bytes_named(old.container, word_document());
-    let wd = appended(alloc, wd, &fib, text.base, body.bytes.as_slice())?;
-    let streams = renewed_streams(
-        alloc,
-        old.container,
-        table_name(old.fib.which_table()),
-        wd.as_slice(),
-        table.bytes.as_slice(),
-    )?;
-    Ok(streams)
+    let next = raised(old.fib, cb_mac, body.text.counts, &made.pairs)?;
+    let fib = written(alloc, &next)?;
+    let table = filled_table(old.container, made.bytes)?;
+    Ok(NewParts {
+        fib,
+        added: body.bytes,
+        table,
+    })
 }
 
 /// The file of a document that is saved behind the `WordDocument` of a file: its bytes from the FIB on stay, what was
-/// added since stands behind them, and the FIB keeps its form and counts one more quick save.
+/// added since stands behind them, and the FIB keeps its form and counts one more quick save. Where that stream has
+/// sectors of its own the file keeps them: each old sector stays but for those of the FIB, of the tables and of the
+/// directory.
 pub fn append(
     alloc: Global,
     old: &SavedFile<'_>,
-    document: &Document,
+    document: &ColumnDocument,
     text: &EditedText<'_>,
 ) -> Result<Bytes, AppendFault>
     requires { CanBeAppended (save_of old.now document.now text.now) }
@@ -103,8 +102,8 @@ pub fn append(
         (IsAppended (save_of old.now document.now text.now))
         (IsAppendFault (save_of old.now document.now text.now)) }
 {
-    let streams = new_streams(alloc, old, document, text)?;
-    match whole(alloc, &streams, old.container.clsid()) {
+    let parts = new_parts(alloc, old, document, text)?;
+    match saved_by(alloc, old, text.base, parts) {
         Ok(file) => Ok(file),
         Err(LayoutFault::TooLarge { sectors }) => Err(AppendFault::TooLarge { sectors }),
         Err(LayoutFault::Memory) => Err(AppendFault::Memory),

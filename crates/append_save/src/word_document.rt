@@ -13,26 +13,26 @@ use std::alloc::Global;
 const MOST_FIB_LEN: usize = 1024;
 
 /// A `WordDocument` with another FIB of its form, zeros up to a byte, and what is added there.
-pub(crate) fn appended(
+pub(crate) fn renewed_wd(
     alloc: Global,
     old: &[u8],
-    fib: &Fib,
+    fib: &[u8],
     base: u32,
     added: &[u8],
 ) -> Result<Bytes, Memory>
-    requires { form_size fib.now.form ≤ length old.now }
+    requires { length fib.now ≤ length old.now }
     ensures { IfOk result (λ wd. wd
-        ≡ filled base 0 (written_fib fib.now ++ drop (form_size fib.now.form) old.now) ++ added.now) }
+        ≡ filled base 0 (fib.now ++ drop (length fib.now) old.now) ++ added.now) }
 {
-    let mut wd = written(alloc, fib)?;
-    wd.push_all(&old[fib.size() as usize..])?;
+    let mut wd = Bytes::from_slice(alloc, fib)?;
+    wd.push_all(&old[fib.len()..])?;
     push_zeros(&mut wd, (base as usize).saturating_sub(old.len()))?;
     wd.push_all(added)?;
     Ok(wd)
 }
 
 /// The bytes of a FIB.
-fn written(alloc: Global, fib: &Fib) -> Result<Bytes, Memory>
+pub(crate) fn written(alloc: Global, fib: &Fib) -> Result<Bytes, Memory>
     ensures bytes { IfOk result (λ bytes. bytes ≡ written_fib fib.now) }
     ensures len { IfOk result (λ bytes. length bytes ≡ form_size fib.now.form) }
 {

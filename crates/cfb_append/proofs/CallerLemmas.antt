@@ -13,7 +13,8 @@ use Rattle.cfb_append.proofs.PlaceLemmas.{named_once}
 use Rattle.cfb_append.proofs.ContentsAgain.{save_stays, grown_bytes_are}
 
 -- a stream by its name
-pub is_named : (contents : Contents) (name bytes : List ℕ) (has : HasNamed contents.streams name bytes) → IsNamed contents
+pub is_named : (contents : Contents) (name bytes : List ℕ) (has : HasNamed contents.streams name bytes) →
+    IsNamed contents
     has.index name
 is_named contents name bytes has = record { stream = has.stream; here = has.here; named = has.named }
 
@@ -40,7 +41,8 @@ named_bytes file contents name bytes i has named is =
     ap (λ (s : Stream). s.bytes) (same_stream contents.streams i is.stream named.stream is.here here) ∙ sym named.same
 
 -- a change of these lengths may be put into a file that has the two streams
-pub can_append : (file : List ℕ) (contents : Contents) (change : StreamChange) (name wd table : List ℕ) → HasContents file
+pub can_append : (file : List ℕ) (contents : Contents) (change : StreamChange) (name wd table : List ℕ) →
+    HasContents file
     contents → HasNamed contents.streams wd_name wd → HasNamed contents.streams name table → length name ≢ length
     wd_name → 4096 ≤ length wd → length change.fib ≤ 4096 → 4096 ≤ length change.table → length (grown_bytes change wd)
     < 2 ^ 31 → length change.table < 2 ^ 31 → CanBeAppended contents change name
@@ -66,7 +68,8 @@ can_append file contents change name wd table has one other apart long fib least
 }
 
 -- the stream with the FIB stays in its place
-pub stays_in_place : (old new : List ℕ) (contents : Contents) (change : StreamChange) (name wd : List ℕ) → IsSavedInPlace
+pub stays_in_place : (old new : List ℕ) (contents : Contents) (change : StreamChange) (name wd : List ℕ) →
+    IsSavedInPlace
     old new contents change name → HasNamed contents.streams wd_name wd → StaysInPlace wd_name (length change.fib) old
     new wd
 stays_in_place old new contents change name wd is one =

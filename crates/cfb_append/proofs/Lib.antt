@@ -19,6 +19,11 @@ pub mod SourceLemmas
 pub mod NamedLemmas
 pub mod AfterLemmas
 pub mod ReadyLemmas
+pub mod SliceLemmas
+pub mod TablesMade
+pub mod DirectoryMade
+pub mod StreamsMade
+pub mod HeaderMade
 pub mod WrittenLemmas
 pub mod InPlaceLemmas
 pub mod AllowedLemmas

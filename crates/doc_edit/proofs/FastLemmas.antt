@@ -53,6 +53,7 @@ step_grown session made save =
       grown = omega (arith, grown);
       count = save.count ∙ sym save.quick_saves;
       complex = save.behind.complex;
+      in_place = save.in_place;
     }
 
 file_saved : (state : RunState) (session made : SessionView) (policies : List Policy) → IsAt state session policies →

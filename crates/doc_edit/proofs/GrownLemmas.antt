@@ -1,9 +1,14 @@
 -- How a file grows by fast saves.
 use Rattle.std.proofs.Common.{◌≡◌, ◌∙◌, sym, ap, subst, ℕ, zero, suc, ◌+◌, ◌<◌, ◌≤◌, List, length, arith}
+use Rattle.cfb_streams.specs.Names.{wd_name}
+use Rattle.cfb_append.specs.InPlace.{StaysInPlace}
+use Rattle.cfb_append.proofs.PlaceLemmas.{long_one, twice_in_place}
 use Rattle.fib_form.specs.Fib.{form_size}
 use Rattle.doc_read.specs.Holds.{FileParts}
 use Rattle.doc_read.proofs.PartsOfOneFile.{file_parts_one}
 use Rattle.save_laws.specs.KeptPages.{KeepsBytes}
+use Rattle.save_laws.specs.Places.{fib_end}
+use Rattle.fast_save.specs.Fast.{KeepsSectors}
 use Rattle.doc_edit.specs.Files.{IsWordDocumentOf, HasGrownFrom, HasGrownBy}
 
 -- a file has one WordDocument
@@ -25,6 +30,21 @@ keeps_on old middle new first second =
       form = second.form ∙ first.form;
     }
 
+-- a stream that stays in its sectors over each of two saves stays over both
+stays_on : (file bytes made old middle later : List ℕ) → KeepsBytes old middle → KeepsSectors file bytes old →
+    KeepsSectors bytes made later → middle ≡ later → KeepsSectors file made old
+stays_on file bytes made old middle later kept first second same long =
+    let longer = kept.longer in
+    let len = ap length same in
+    let front = ap fib_end same in
+    let form = ap form_size kept.form in
+    let one = first long in
+    let next = second (omega (arith, long, longer, len)) in
+    let bytes_are = (long_one bytes wd_name one.bytes_after one.sectors_after later next.sectors one.is next.was).0 in
+    twice_in_place wd_name (fib_end old) (fib_end later) file bytes made old one
+    (subst (λ (wd : List ℕ). StaysInPlace wd_name (fib_end later) bytes made wd) (sym bytes_are) next)
+    (omega (arith, front, form))
+
 -- no longer than it may be
 pub grown_more : (file : List ℕ) (most more quick_saves : ℕ) (bytes : List ℕ) → most ≤ more → HasGrownFrom file most
     quick_saves bytes → HasGrownFrom file more quick_saves bytes
@@ -39,6 +59,7 @@ grown_more file most more quick_saves bytes less grown =
       grown = omega (arith, len, less);
       count = grown.count;
       complex = grown.complex;
+      in_place = grown.in_place;
     }
 
 grown_on : (file bytes made : List ℕ) (most more quick_saves then_saves : ℕ) → HasGrownFrom file most quick_saves
@@ -58,6 +79,7 @@ grown_on file bytes made most more quick_saves then_saves first second =
       grown = omega (arith, len, then_len, middle);
       count = second.count;
       complex = second.complex;
+      in_place = stays_on file bytes made first.old first.new second.old first.kept first.in_place second.in_place same;
     }
 
 -- one fast save more

@@ -11,3 +11,4 @@ pub mod RunLemmas
 pub mod GeneratedStartLemmas
 pub mod GeneratedImageLemmas
 pub mod SaveLemmas
+pub mod MarkCountLemmas

@@ -5,6 +5,7 @@ use Rattle.fib_form.specs.FibFields.{fib_fields}
 use Rattle.doc_read.specs.Holds.{FileParts, HasFileParts}
 use Rattle.save_laws.specs.KeptPages.{KeepsBytes}
 use Rattle.fast_save.specs.Edited.{bytes_added}
+use Rattle.fast_save.specs.Fast.{KeepsSectors}
 use Rattle.doc_edit.specs.States.{RunState, most_grown}
 
 -- WordDocument of a file
@@ -13,9 +14,8 @@ pub record IsWordDocumentOf (file wd : List ℕ) : Type 0 where
   pub has : HasFileParts file parts
   pub is : parts.text.wd ≡ wd
 
--- WordDocument of the second file has each byte of the first one behind the FIB, and so many bytes more at most; its
--- FIB
--- counts so many fast saves in a row
+-- WordDocument of the second file has each byte of the first one behind the FIB, and so many bytes more at most; it
+-- stays in its sectors; its FIB counts so many fast saves in a row
 pub record HasGrownFrom (file : List ℕ) (most quick_saves : ℕ) (bytes : List ℕ) : Type 0 where
   pub old : List ℕ
   pub was : IsWordDocumentOf file old
@@ -25,6 +25,7 @@ pub record HasGrownFrom (file : List ℕ) (most quick_saves : ℕ) (bytes : List
   pub grown : length new ≤ length old + most
   pub count : (fib_fields new).quick_saves ≡ quick_saves
   pub complex : (fib_fields new).complex ≡ true
+  pub in_place : KeepsSectors file bytes old
 
 -- after so many fast saves
 abbrev pub HasGrownBy : ℕ → List ℕ → ℕ → ℕ → List ℕ → Type 0

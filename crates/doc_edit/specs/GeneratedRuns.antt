@@ -2,6 +2,7 @@
 use Rattle.std.specs.Prelude.{◌≡◌, ℕ, ◌≤◌, true, false, List, [], map, is_some}
 use Rattle.std.specs.List.{count_by, filter_map, range_with_len}
 use Rattle.plain_doc.specs.declared.item.Item.{Item}
+use Rattle.doc_columns.specs.declared.beside.Beside.{Beside}
 use Rattle.plain_doc.specs.Blank.{blank_document}
 use Rattle.plain_doc.specs.RulesOfSheet.{item_count}
 use Rattle.full_save.specs.Layout.{full_save_image}
@@ -37,6 +38,10 @@ IsGeneratedRun seed session =
 -- the marks of a text
 abbrev pub mark_count : List Item → ℕ
 mark_count text = count_by (λ item. is_some item.mark) text
+
+-- the marks of what stands beside items
+abbrev pub marks_beside : List Beside → ℕ
+marks_beside besides = count_by (λ beside. is_some beside.mark) besides
 
 -- all commands from the seed are made. These are the bytes of the last save; from 0 there is none, and they are the
 -- full save

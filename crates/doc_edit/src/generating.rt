@@ -1,5 +1,6 @@
 // A run of the generator.
-ghost use Rattle.std.specs.Prelude.{◌≡◌, ◌≤◌, IfOk, OnOk, true, false};
+ghost use Rattle.std.specs.Prelude.{◌≡◌, ◌^◌, ◌<◌, ◌≤◌, IfOk, OnOk, true, false, replicate};
+ghost use Rattle.run_lists.specs.Spread.{spread, extent};
 ghost use Rattle.plain_doc.specs.Blank.{blank_document};
 ghost use Rattle.full_save.specs.Layout.{full_save_image};
 ghost use Rattle.fast_save.specs.Started.{IsStarted};
@@ -7,18 +8,20 @@ ghost use Rattle.doc_edit.specs.States.{session_in_full};
 ghost use Rattle.doc_edit.specs.Saves.{save_count};
 ghost use Rattle.doc_edit.specs.Generated.{generated};
 ghost use Rattle.doc_edit.specs.GeneratedRuns.{IsGeneratedRun, IsGeneratedBy};
-ghost use Rattle.doc_edit.specs.GeneratedRuns.{most_seed, generator_start, commands_run, mark_count};
+ghost use Rattle.doc_edit.specs.GeneratedRuns.{most_seed, generator_start, commands_run, mark_count, marks_beside};
 
 use crate::generated::Generator;
 use crate::running::run_all;
 use crate::{RunFault, SaveCounts};
 use doc_bits::{Bytes, Memory};
+use doc_columns::{Beside, Columns, all_items};
 use doc_read::ReadFault;
 use edit_generator::{SAVES_IN_TURN, generated_count};
 use edit_guards::Guard;
 use fast_save::Session;
 use full_save::{SaveFault, full};
-use plain_doc::{Document, Item, all_items, blank};
+use plain_doc::{Document, blank};
+use run_lists::Run;
 use std::alloc::Global;
 
 /// What the generator leaves.
@@ -69,10 +72,9 @@ fn left_by(alloc: Global, seed: u32, session: &Session) -> Result<Generated, Mem
     requires run { IsGeneratedRun seed session.now }
     ensures { IfOk result (λ made. IsGeneratedBy seed made) }
 {
-    let document = session.document()?;
-    let units = all_items(&document);
-    let paragraphs = marks_in(document.main.as_slice());
-    drop(document);
+    let document = session.columns();
+    let units = all_items(document);
+    let paragraphs = marks_in(&document.main);
     Ok(Generated {
         image: Bytes::from_slice(alloc, session.bytes())?,
         units,
@@ -127,17 +129,35 @@ fn save_blank(session: &mut Session) -> Result<(), Memory>
     }
 }
 
-/// How many items have a mark.
-fn marks_in(text: &[Item]) -> usize
+/// How many items have a mark. It goes over the runs of what stands beside them.
+fn marks_in(text: &Columns) -> usize
     ensures { result ≡ mark_count text.now }
 {
+    let _len = text.len();
+    count_marks(text.besides())
+}
+
+/// How many marks there are in runs of what stands beside items.
+fn count_marks(besides: &[Run<Beside>]) -> usize
+    requires { extent besides.now < 2 ^ 32 }
+    ensures { result ≡ marks_beside (spread besides.now) }
+{
     let mut count = 0;
-    for item in text {
-        if item.mark.is_some() {
-            count += 1;
-        }
+    for run in besides {
+        count += marks_of(run);
     }
     count
+}
+
+/// How many marks a run has.
+fn marks_of(run: &Run<Beside>) -> usize
+    ensures { result ≡ marks_beside (replicate run.now.count run.now.value) }
+{
+    if run.value.mark.is_some() {
+        run.count as usize
+    } else {
+        0
+    }
 }
 
 /// The saves among the commands from a seed: each eighth is full.

@@ -448,7 +448,3 @@ put_edit document changes old new pieces added splices put same before have base
     ∙ ap (λ p. all_places_after (flat_pieces p) splices) before))
     (omega (arith, count, ap length before, ap (sum_by pieces_cut) same))
     (ends ∙ ap (ends_after_all old.ends) same)
-
-pub same_added : (old new : Added) → new.base ≡ old.base → new.items ≡ old.items → new ≡ old
-same_added old new base items =
-    ap (λ n. record { base = n; items = new.items }) base ∙ ap (λ l. record { base = old.base; items = l }) items

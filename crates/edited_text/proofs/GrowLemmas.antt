@@ -45,14 +45,12 @@ use Rattle.edited_text.specs.declared.steps.TextStep.{TextStep}
 use Rattle.edited_text.specs.AddedText.{added_piece, marked_block}
 use Rattle.edited_text.specs.TextSteps.{AreStories, HasNewStory, IsTextStep}
 use Rattle.edited_text.specs.EditSteps.{KeepsNamed, IsPutStep, ArePutSteps, NamesEmptyStory, items_put}
-use Rattle.edited_text.specs.Puts.{ends_after_all, Put, IsPut, ArePuts, HavePuts, KeepsAdded}
+use Rattle.edited_text.specs.Puts.{ends_after_all, Put, IsPut, ArePuts, HavePuts}
 use Rattle.edited_text.proofs.MarkLemmas.{one_text_splices, texts_splice}
 use Rattle.edited_text.proofs.ModifyLemmas.{put_text}
 use Rattle.edited_text.proofs.StepLemmas.{spliced_count}
 use Rattle.edited_text.proofs.TextChangeLemmas.{is_there}
 use Rattle.edited_text.proofs.PutLemmas.{changes_of_puts, splices_of_puts, blocks_of_puts, puts_snoc, length-marked}
-use Rattle.std.proofs.Math.Seq.{take-append_seam}
-use Rattle.std.proofs.lemmas.List.{take-append-le}
 
 -- ---- how many items there are
 
@@ -243,17 +241,6 @@ have_grown document ends changes old k added stories splices grown all = record 
   items = grown.items;
   short = grown.short;
 }
-
--- what was added is still there
-pub still_added : (document : Document) (ends : Ends) (changes : List Change) (old : Added) (k : ℕ) (added : Added)
-    (stories : Stories) (splices : List TextSplice) → Grown document ends changes old k added stories splices →
-    KeepsAdded old added
-still_added document ends changes old k added stories splices grown =
-    let more = joined_texts (blocks_of_puts grown.puts) in
-    record {
-      longer = omega (arith, ap length grown.items, length-append old.items more);
-      same = ap (take (length old.items)) grown.items ∙ take-append_seam old.items more;
-    }
 
 -- ---- one change more
 
@@ -460,23 +447,3 @@ step_room document ends changes old k added stories splices change step grown th
     let items_few = fits.items_few in
     let so_far = grown.room in
     omega (arith, grown.base, so_far, items_few, is.few, ap length items, below, room)
-
--- what was added is there where more is put behind it
-pub added_more : (old added new : Added) (more : List Item) → KeepsAdded old added → new.items ≡ added.items ++ more →
-    KeepsAdded old new
-added_more old added new more keeps is =
-    let longer = keeps.longer in
-    record {
-      longer = omega (arith, longer, ap length is, length-append added.items more);
-      same =
-          ap (take (length old.items)) is
-          ∙ (take-append-le (length old.items) added.items more longer ∙ keeps.same);
-    }
-
-pub added_same : (old added new : Added) → KeepsAdded old added → new.items ≡ added.items → KeepsAdded old new
-added_same old added new keeps is = record {
-  longer =
-      let longer = keeps.longer in
-      omega (arith, longer, ap length is);
-  same = ap (take (length old.items)) is ∙ keeps.same;
-}

@@ -13,5 +13,7 @@ pub mod EditLemmas
 pub mod PlanLemmas
 pub mod CommandLemmas
 pub mod StartLemmas
+pub mod GatherLemmas
+pub mod PickLemmas
 pub mod WritingLemmas
 pub mod OldLemmas

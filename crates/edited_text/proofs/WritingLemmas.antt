@@ -1,19 +1,17 @@
 -- Pieces that are written again stand for the slots that they stood for.
-use Rattle.std.specs.Prelude.{slice_get, slice_range, List, ℕ, ◌↔◌, IsTrue, MatchOption}
+use Rattle.std.specs.Prelude.{slice_range, is_some, List, ℕ, ◌↔◌, IsTrue, MatchOption}
 use Rattle.std.specs.Option.{option_map}
 use Rattle.std.specs.List.{All}
-use Rattle.std.proofs.Common.{◌≡◌, ◌∙◌, ◌⊎◌, ◌++◌, ◌∷◌, ◌+◌, ◌-◌, ◌*◌, ◌<◌, ◌≤◌, ◌^◌, [], refl, sym, ap}
+use Rattle.std.proofs.Common.{◌≡◌, ◌∙◌, ◌++◌, ◌∷◌, ◌+◌, ◌-◌, ◌*◌, ◌<◌, ◌≤◌, ◌^◌, [], refl, sym, ap}
 use Rattle.std.proofs.Common.{subst, zero, suc}
 use Rattle.std.proofs.Common.{inl, inr, Bool, true, false, Option, Some, None, length, map, take, drop, arith}
-use Rattle.std.proofs.Common.{get_or, append_assoc}
-use Rattle.std.proofs.Math.ListN.{get_or-append, get_or-map}
-use Rattle.std.proofs.lemmas.List.{get_or-append_right, get_or_past, map-append}
+use Rattle.std.proofs.Common.{get_or}
 use Rattle.std.proofs.lemmas.Bool.{cases_lt}
 use Rattle.std.proofs.lemmas.List.{append-nil, length-append, length-map, take_all, length-take, length-drop}
 use Rattle.std.proofs.lemmas.List.{take-append-drop, take-take}
 use Rattle.std.specs.List.{take-map, drop-map}
 use Rattle.std.proofs.lemmas.Slice.{between_is}
-use Rattle.std.proofs.lemmas.List.Elements.{All-append, All-nil, All-cons, All-map}
+use Rattle.std.proofs.lemmas.List.Elements.{All-append, All-nil, All-map}
 use Rattle.std.proofs.lemmas.List.Sums.{sum_by-cons, sum_by-append}
 use Rattle.std.proofs.lemmas.Option.{same_Some, none-some, slice_get_within, get_or_from_slice_get}
 use Rattle.doc_bits.specs.Together.{AreTogether}
@@ -33,32 +31,28 @@ use Rattle.piece_table.proofs.PieceLemmas.{length-unit_places, length-flat_piece
 use Rattle.piece_table.proofs.PieceLemmas.{flat_pieces-push}
 use Rattle.plain_doc.specs.declared.item.Item.{Item}
 use Rattle.plain_doc.specs.declared.document.Document.{Document}
-use Rattle.plain_doc.specs.Document.{HasPropertyMaps, IsFormedItem, IsFormedText}
-use Rattle.plain_doc.specs.Collected.{joined_texts}
 use Rattle.plain_doc.specs.RulesOfItems.{HasShortSettings}
 use Rattle.plain_doc.specs.RulesOfTexts.{text_of}
 use Rattle.plain_doc.specs.Sound.{IsSound}
 use Rattle.plain_doc.proofs.RightLemmas.{sound_is_right}
 use Rattle.plain_doc.proofs.TextListLemmas.{joined_all}
-use Rattle.full_save.specs.Text.{extra_mark}
 use Rattle.save_laws.specs.Places.{PagedStream, Given}
 use Rattle.save_laws.specs.Plans.{Plan}
-use Rattle.save_laws.specs.Slots.{Slot, shown, loose, last, IsPlaced, StoryEnds, whole_text, loose_if}
-use Rattle.save_laws.specs.Slots.{last_slots, note_slots, head_slots}
+use Rattle.save_laws.specs.Slots.{Slot, shown, loose, last, IsPlaced, StoryEnds, whole_text}
 use Rattle.save_laws.specs.Ends.{ends_of}
 use Rattle.save_laws.specs.FastSaves.{StandsInEither, IsGivenBy}
 use Rattle.save_laws.specs.Sessions.{StandInSession}
-use Rattle.save_laws.proofs.SlotLemmas.{IsShownAs, all_shown, main_slot, note_slot, head_slot, story_item}
-use Rattle.save_laws.proofs.SlotLemmas.{length-story_slots}
+use Rattle.save_laws.proofs.SlotLemmas.{IsShownAs, all_shown}
 use Rattle.edited_text.specs.declared.added.Added.{Added}
 use Rattle.edited_text.specs.declared.session_text.SessionText.{SessionText}
 use Rattle.edited_text.specs.AddedText.{plan_of, IsAddedFor, added_piece}
 use Rattle.piece_table.specs.Renewals.{renewed_piece, renewed_pieces, HasRoomAt}
-use Rattle.edited_text.specs.WrittenAgain.{SetsMarks, IsRewritten, IsChosen, renewed_units, slot_item, place_for}
-use Rattle.edited_text.specs.WrittenAgain.{items_for}
-use Rattle.edited_text.specs.WrittenAgain.{AreWritten, IsWrittenAgain}
+use Rattle.edited_text.specs.WrittenAgain.{SetsMarks, IsRewritten, IsChosen, renewed_units, slot_item, place_at, len_for}
+use Rattle.edited_text.specs.WrittenAgain.{values_for}
+use Rattle.edited_text.specs.WrittenAgain.{AreWritten, AreChosen, IsWrittenAgain, renewed_values}
 use Rattle.edited_text.specs.SessionText.{HaveFitModifiers, HaveNoModifiers, HaveModifiersWithin}
 use Rattle.edited_text.proofs.BlockLemmas.{blocks_stand}
+use Rattle.edited_text.proofs.PickLemmas.{renewed_values-push}
 use Rattle.edited_text.proofs.EditLemmas.{grown_stands, one_together}
 use Rattle.edited_text.specs.OldUnits.{IsOldBounded}
 use Rattle.edited_text.proofs.OldLemmas.{new_units}
@@ -212,25 +206,25 @@ units_few (Some at ∷ places) (piece ∷ pieces) =
 
 -- a piece that is written again has as many units at its new place, and no other has any
 units_for : (base number : ℕ) (again : Bool) (piece : TextPiece) (slots : List Slot) → length slots ≡ piece.len →
-    length (items_for again (map slot_item slots)) ≡ renewed_units (place_for base number again ∷ []) (piece ∷ [])
+    length (values_for again (map slot_item slots)) ≡ renewed_units (place_at again (base + 2 * number) ∷ []) (piece ∷ [])
 units_for base number true piece slots len = omega (arith, length-map slots slot_item, len)
 units_for base number false piece slots len = refl
 
 chosen_for : (base number : ℕ) (marks again : Bool) (piece : TextPiece) → IsTrue again ↔ IsRewritten base marks piece →
-    IsChosen base marks (place_for base number again) piece
+    IsChosen base marks (place_at again (base + 2 * number)) piece
 chosen_for base number marks true piece is = (λ some. is.0 refl, λ rewritten. refl)
 chosen_for base number marks false piece is =
     (λ some. absurd (grind (arith, some)), λ rewritten. absurd (grind (arith, is.1 rewritten)))
 
 room_for : (base number : ℕ) (again : Bool) (piece : TextPiece) → base + 2 * (number + piece.len) < 2 ^ 32 →
-    HasRoomAt (place_for base number again) piece
+    HasRoomAt (place_at again (base + 2 * number)) piece
 room_for base number true piece room place is =
     let at : base + 2 * number ≡ place = same_Some (base + 2 * number) place is in
     omega (arith, at, room)
 room_for base number false piece room place is = absurd (none-some place is)
 
 short_for : (again : Bool) (items : List Item) → All HasShortSettings items →
-    All HasShortSettings (items_for again items)
+    All HasShortSettings (values_for again items)
 short_for true items short = short
 short_for false items short = All-nil HasShortSettings
 
@@ -247,19 +241,19 @@ piece_stands : (stream : PagedStream) (added : Added) (items : List Item) (marks
     (slots : List Slot) → IsTrue again ↔ IsRewritten added.base marks piece →
     StandInSession stream (plan_of added) (unit_places piece) slots →
     StandInSession stream
-    (plan_of (record { base = added.base; items = items ++ items_for again (map slot_item slots) }))
-    (unit_places (renewed_piece (place_for added.base (length items) again) piece)) slots
+    (plan_of (record { base = added.base; items = items ++ values_for again (map slot_item slots) }))
+    (unit_places (renewed_piece (place_at again (added.base + 2 * length items)) piece)) slots
 piece_stands stream added items marks true piece slots is stand =
     fresh_stand stream added.base items piece slots (omega (arith, stand.len, length-unit_places piece))
 piece_stands stream added items marks false piece slots is stand =
     kept_stand stream (plan_of added)
-    (plan_of (record { base = added.base; items = items ++ items_for false (map slot_item slots) })) (unit_places piece)
+    (plan_of (record { base = added.base; items = items ++ values_for false (map slot_item slots) })) (unit_places piece)
     slots (old_units piece added.base (kept_end added.base marks piece is)) stand
 
 -- the units of a piece, which are bounded where they are old, at its new place or where it was
 old_for : (stream : PagedStream) (base number : ℕ) (again : Bool) (piece : TextPiece) (slots : List Slot) →
     piece.len ≡ length slots → AreTogether (IsOldBounded stream base) (unit_places piece) slots →
-    AreTogether (IsOldBounded stream base) (unit_places (renewed_piece (place_for base number again) piece)) slots
+    AreTogether (IsOldBounded stream base) (unit_places (renewed_piece (place_at again (base + 2 * number)) piece)) slots
 old_for stream base number true piece slots len old =
     new_units stream base (renewed_piece (Some (base + 2 * number)) piece) slots (omega arith) len
 old_for stream base number false piece slots len old = old
@@ -282,14 +276,14 @@ pub written_more : (marks again : Bool) (old : SessionText) (slots : List Slot) 
     old.added.base + 2 * total_length old.pieces.pieces < 2 ^ 32 → All HasShortSettings (map slot_item slots) →
     IsTrue again ↔ IsRewritten old.added.base marks piece → AreWritten marks old slots before items places →
     AreWritten marks old slots (before ++ piece ∷ [])
-    (items ++ items_for again (slice_range (map slot_item slots) (total_length before)
+    (items ++ values_for again (slice_range (map slot_item slots) (total_length before)
     (total_length before + piece.len)))
-    (places ++ place_for old.added.base (length items) again ∷ [])
+    (places ++ place_at again (old.added.base + 2 * length items) ∷ [])
 written_more marks again old slots before behind piece items places pieces_are counted room short is written =
     let base : ℕ = old.added.base in
     let cp : ℕ = total_length before in
     let end : ℕ = cp + piece.len in
-    let place : Option ℕ = place_for base (length items) again in
+    let place : Option ℕ = place_at again (base + 2 * length items) in
     let range : List Slot = slice_range slots cp end in
     let one : Added = record { base = base; items = items } in
     let mapped : slice_range (map slot_item slots) cp end ≡ map slot_item range =
@@ -313,12 +307,12 @@ written_more marks again old slots before behind piece items places pieces_are c
           omega (
             arith,
             units,
-            length-append items (items_for again (map slot_item range)),
+            length-append items (values_for again (map slot_item range)),
             units_for base (length items) again piece range long,
             renewed_units-push places before place piece len,
           );
       short =
-          All-append HasShortSettings items (items_for again (map slot_item range)) written.short
+          All-append HasShortSettings items (values_for again (map slot_item range)) written.short
           (short_for again (map slot_item range)
           (subst (All HasShortSettings) mapped
           (All-front HasShortSettings (end - cp) (drop cp (map slot_item slots))
@@ -338,14 +332,14 @@ written_more marks again old slots before behind piece items places pieces_are c
           (renewed_piece place piece)) l) (sym (ap (λ n. take n slots) (total_more before piece)
           ∙ next_slots slots cp end (omega arith) within)) both);
       stands = λ stream below stand.
-          let all : Added = record { base = base; items = items ++ items_for again (map slot_item range) } in
+          let all : Added = record { base = base; items = items ++ values_for again (map slot_item range) } in
           let here : StandInSession stream (plan_of old.added) (unit_places piece) range =
           subst (λ l. StandInSession stream (plan_of old.added) l range)
           (piece_in old.pieces.pieces before behind piece pieces_are)
           (together_range (IsPlaced (StandsInEither stream (plan_of old.added)) (IsGivenBy stream (plan_of old.added)))
           (flat_pieces old.pieces.pieces) slots cp end stand) in
           let front : StandInSession stream (plan_of all) (flat_pieces (renewed_pieces places before)) (take cp slots) =
-          grown_stands stream one all (items_for again (map slot_item range)) (flat_pieces (renewed_pieces places
+          grown_stands stream one all (values_for again (map slot_item range)) (flat_pieces (renewed_pieces places
           before)) (take cp slots) refl refl (written.stands stream below stand) in
           let back : StandInSession stream (plan_of all) (unit_places (renewed_piece place piece)) range =
           piece_stands stream old.added items marks again piece range is here in
@@ -363,34 +357,6 @@ written_more marks again old slots before behind piece items places pieces_are c
           (subst (λ l. StandInSession stream (plan_of all) (flat_pieces (renewed_pieces places before) ++ unit_places
           (renewed_piece place piece)) l) (sym slots_are) both);
     })
-
--- the next piece, of which a part is known
-pub record IsNextPiece (pieces : List TextPiece) (number : ℕ) (bare : Piece) : Type 0 where
-  pub piece : TextPiece
-  pub here : slice_get pieces number ≡ Some piece
-  pub whole : pieces ≡ take number pieces ++ (piece ∷ drop (suc number) pieces)
-  pub next : take (suc number) pieces ≡ take number pieces ++ piece ∷ []
-  pub len : piece.len ≡ bare.len
-
-pub next_piece : (pieces : List TextPiece) (number : ℕ) (bare : Piece) →
-    option_map bare_piece (slice_get pieces number) ≡ Some bare → IsNextPiece pieces number bare
-next_piece [] number bare is = absurd (none-some bare is)
-next_piece (piece ∷ pieces) zero bare is = record {
-  piece = piece;
-  here = refl;
-  whole = refl;
-  next = refl;
-  len = ap (λ (p : Piece). p.len) (same_Some (bare_piece piece) bare is);
-}
-next_piece (first ∷ pieces) (suc number) bare is =
-    let found = next_piece pieces number bare is in
-    record {
-      piece = found.piece;
-      here = found.here;
-      whole = ap (λ l. first ∷ l) found.whole;
-      next = ap (λ l. first ∷ l) found.next;
-      len = found.len;
-    }
 
 -- what is told of a piece that may be there
 pub told : {A : Type 0} (o : Option A) (P : A → Type 0) (x : A) → o ≡ Some x → MatchOption o ⊥ P → P x
@@ -415,8 +381,44 @@ judged_piece (Some piece) base marks set bare modifier is has end on sets =
 
 -- ---- all pieces
 
-pub nothing_written : (marks : Bool) (old : SessionText) (slots : List Slot) → AreWritten marks old slots [] [] []
-nothing_written marks old slots = record {
+-- a piece more has its units behind the others
+pub units_more : (places : List (Option ℕ)) (pieces : List TextPiece) (again : Bool) (at : ℕ) (piece : TextPiece) →
+    length places ≡ length pieces → renewed_units (places ++ place_at again at ∷ []) (pieces ++ piece ∷ []) ≡
+    renewed_units places pieces + len_for again piece.len
+units_more places pieces true at piece len = omega (arith, renewed_units-push places pieces (Some at) piece len)
+units_more places pieces false at piece len = omega (arith, renewed_units-push places pieces None piece len)
+
+some_place : (again : Bool) (at : ℕ) → is_some (place_at again at) ≡ again
+some_place true at = refl
+some_place false at = refl
+
+-- a piece more is at its place, where it is written again
+pub chosen_more : (marks again : Bool) (old : SessionText) (before behind : List TextPiece) (piece : TextPiece)
+    (places : List (Option ℕ)) (at : ℕ) → old.pieces.pieces ≡ before ++ (piece ∷ behind) →
+    old.added.base + 2 * total_length old.pieces.pieces < 2 ^ 32 →
+    IsTrue again ↔ IsRewritten old.added.base marks piece → at ≡ old.added.base + 2 * renewed_units places before →
+    length places ≡ length before → AreChosen marks old before places →
+    AreChosen marks old (before ++ piece ∷ []) (places ++ place_at again at ∷ [])
+chosen_more marks again old before behind piece places at pieces_are room is at_is len chosen slots counted short =
+    let all : List Item = map slot_item slots in
+    let items : List Item = renewed_values places before all in
+    let written = chosen slots counted short in
+    let units = written.units in
+    let begin : ℕ = old.added.base + 2 * length items in
+    let same : begin ≡ at = omega (arith, at_is, units) in
+    let end : ℕ = total_length before + piece.len in
+    let values : renewed_values (places ++ place_at again at ∷ []) (before ++ piece ∷ []) all
+    ≡ items ++ values_for again (slice_range all (total_length before) end) =
+    renewed_values-push places before (place_at again at) piece all len
+    ∙ ap (λ b. items ++ values_for b (slice_range all (total_length before) end)) (some_place again at) in
+    let more = written_more marks again old slots before behind piece items places pieces_are counted room short is
+    written in
+    subst (λ l. AreWritten marks old slots (before ++ piece ∷ []) l (places ++ place_at again at ∷ [])) (sym values)
+    (subst (λ n. AreWritten marks old slots (before ++ piece ∷ []) (items ++ values_for again (slice_range all
+    (total_length before) end)) (places ++ place_at again n ∷ [])) same more)
+
+pub nothing_written : (marks : Bool) (old : SessionText) → AreChosen marks old [] []
+nothing_written marks old slots counted short = record {
   chosen = record { len = refl; each = λ k place piece here there. absurd (none-some piece there) };
   room = record { len = refl; each = λ k place piece here there. absurd (none-some piece there) };
   units = refl;
@@ -511,111 +513,3 @@ whole_short document ends sound =
     (joined_all HasShortSettings document.heads (λ k items there. text (Head k) items there)) in
     All-map HasShortSettings slot_item (whole_text document ends)
     (λ k d below. judged_short (get_or (whole_text document ends) k d) (all k d below))
-
--- ---- the items of a whole text
-
-found_item : (slots : List Slot) (cp : ℕ) (item : Item) → slice_get slots cp ≡ Some (shown item) →
-    get_or (map slot_item slots) cp extra_mark ≡ item
-found_item slots cp item here =
-    get_or_from_slice_get (map slot_item slots) cp item extra_mark (get-map slot_item slots cp (shown item) here)
-
-pub main_item : (document : Document) (ends : StoryEnds) (cp : ℕ) (item : Item) →
-    slice_get document.main cp ≡ Some item → item ≡ get_or (map slot_item (whole_text document ends)) cp extra_mark
-main_item document ends cp item here =
-    sym (found_item (whole_text document ends) cp item (main_slot document ends cp item here))
-
-pub note_item : (document : Document) (ends : StoryEnds) (cp i : ℕ) (item : Item) →
-    slice_get (joined_texts document.notes) i ≡ Some item → cp ≡ length document.main + i →
-    item ≡ get_or (map slot_item (whole_text document ends)) cp extra_mark
-note_item document ends cp i item here at =
-    sym (found_item (whole_text document ends) cp item
-    (ap (slice_get (whole_text document ends)) at ∙ note_slot document
-    ends i (shown item) (story_item document.notes ends.notes i item here)))
-
-pub head_item : (document : Document) (ends : StoryEnds) (cp i : ℕ) (item : Item) →
-    slice_get (joined_texts document.heads) i ≡ Some item →
-    cp ≡ length document.main + (length (joined_texts document.notes) + length (loose_if ends.notes)) + i →
-    item ≡ get_or (map slot_item (whole_text document ends)) cp extra_mark
-head_item document ends cp i item here at =
-    let long = length-story_slots document.notes ends.notes in
-    let there : cp ≡ length document.main + length (note_slots document ends) + i = omega (arith, at, long) in
-    sym (found_item (whole_text document ends) cp item
-    (ap (slice_get (whole_text document ends)) there ∙ head_slot document
-    ends i (shown item) (story_item document.heads ends.heads i item here)))
-
--- behind the first slots
-item_past : (xs ys : List Slot) (cp : ℕ) → length xs ≤ cp →
-    get_or (map slot_item (xs ++ ys)) cp extra_mark ≡ get_or (map slot_item ys) (cp - length xs) extra_mark
-item_past xs ys cp past =
-    ap (λ l. get_or l cp extra_mark) (map-append slot_item xs ys)
-    ∙ get_or-append_right (map slot_item xs) (map slot_item ys) (length xs) cp extra_mark (length-map xs slot_item) past
-
-item_within : (xs ys : List Slot) (cp : ℕ) → cp < length xs →
-    get_or (map slot_item (xs ++ ys)) cp extra_mark ≡ get_or (map slot_item xs) cp extra_mark
-item_within xs ys cp low =
-    ap (λ l. get_or l cp extra_mark) (map-append slot_item xs ys)
-    ∙ get_or-append (map slot_item xs) (map slot_item ys) extra_mark cp (omega (arith, low, length-map xs slot_item))
-
--- marks, and no CP that shows an item
-abbrev IsMark : Slot → Type 0
-IsMark slot = slot_item slot ≡ extra_mark
-
-mark_there : (slots : List Slot) (cp : ℕ) → All IsMark slots → get_or (map slot_item slots) cp extra_mark ≡ extra_mark
-mark_there slots cp marks = elim (cases_lt cp (length slots)) [
-  | inl low ↦ get_or-map slot_item slots cp last ∙ marks cp last low
-  | inr high ↦ get_or_past (map slot_item slots) cp extra_mark (omega (arith, high, length-map slots slot_item))
-]
-
-loose_marks : (end : Bool) → All IsMark (loose_if end)
-loose_marks true = All-cons IsMark loose [] refl (All-nil IsMark)
-loose_marks false = All-nil IsMark
-
-last_marks : (slots : List Slot) → All IsMark (last_slots slots)
-last_marks [] = All-nil IsMark
-last_marks (slot ∷ slots) = All-cons IsMark last [] refl (All-nil IsMark)
-
--- a CP behind the notes and before the header texts, or behind these, shows none
-pub mark_item : (document : Document) (ends : StoryEnds) (cp : ℕ) →
-    length document.main + length (joined_texts document.notes) ≤ cp →
-    (cp < length document.main + (length (joined_texts document.notes) + length (loose_if ends.notes)))
-    ⊎ (length document.main + (length (joined_texts document.notes) + length (loose_if ends.notes))
-    + length (joined_texts document.heads) ≤ cp) →
-    get_or (map slot_item (whole_text document ends)) cp extra_mark ≡ extra_mark
-unfolding whole_text
-mark_item document ends cp past (inl before) =
-    let main = map shown document.main in
-    let items = map shown (joined_texts document.notes) in
-    let notes = note_slots document ends in
-    let heads = head_slots document ends in
-    let rest = last_slots (notes ++ heads) in
-    let a = length-map document.main shown in
-    let b = length-map (joined_texts document.notes) shown in
-    let long = length-story_slots document.notes ends.notes in
-    let i : ℕ = cp - length main in
-    item_past main (notes ++ (heads ++ rest)) cp (omega (arith, a, past))
-    ∙ (item_within notes (heads ++ rest) i (omega (arith, a, long, before, past))
-    ∙ (item_past items (loose_if ends.notes) i (omega (arith, a, b, past))
-    ∙ mark_there (loose_if ends.notes) (i - length items) (loose_marks ends.notes)))
-mark_item document ends cp past (inr behind) =
-    let main = map shown document.main in
-    let items = map shown (joined_texts document.heads) in
-    let notes = note_slots document ends in
-    let heads = head_slots document ends in
-    let rest = last_slots (notes ++ heads) in
-    let a = length-map document.main shown in
-    let b = length-map (joined_texts document.heads) shown in
-    let long = length-story_slots document.notes ends.notes in
-    let i : ℕ = cp - length main in
-    let j : ℕ = i - length notes in
-    item_past main (notes ++ (heads ++ rest)) cp (omega (arith, a, past))
-    ∙ (item_past notes (heads ++ rest) i (omega (arith, a, long, behind))
-    ∙ (ap (λ l. get_or (map slot_item l) j extra_mark) (append_assoc items (loose_if ends.heads) rest)
-    ∙ (item_past items (loose_if ends.heads ++ rest) j (omega (arith, a, b, long, behind))
-    ∙ mark_there (loose_if ends.heads ++ rest) (j - length items)
-    (All-append IsMark (loose_if ends.heads) rest (loose_marks ends.heads) (last_marks (notes ++ heads))))))
-
--- the items of a well-formed text have maps that they may have
-pub maps_at : (text : List Item) (i : ℕ) (item copy : Item) → IsFormedText text → slice_get text i ≡ Some item →
-    copy ≡ item → HasPropertyMaps copy
-maps_at text i item copy formed here is =
-    subst HasPropertyMaps (sym is) (All_at IsFormedItem text i item formed.each here).maps

@@ -10,4 +10,5 @@ pub mod Starts
 pub mod OldUnits
 pub mod TextEdits
 pub mod WrittenAgain
+pub mod Picked
 pub mod SectionPlans

@@ -1,6 +1,6 @@
 -- The changes of a command as splices of pieces: a range of CPs each, the block of added text that is put there, and
 -- the marks behind the stories after it.
-use Rattle.std.specs.Prelude.{◌≡◌, ℕ, ◌+◌, ◌*◌, ◌-◌, ◌≤◌, List, [], ◌∷◌, ◌++◌, length, map, take, MatchOption}
+use Rattle.std.specs.Prelude.{◌≡◌, ℕ, ◌+◌, ◌*◌, ◌-◌, ◌≤◌, List, [], ◌∷◌, ◌++◌, length, map, MatchOption}
 use Rattle.std.specs.Prelude.{option_to_list, All, ⊤}
 use Rattle.std.specs.List.{splice, fold}
 use Rattle.doc_bits.specs.Together.{AreTogether}
@@ -88,8 +88,3 @@ pub record HavePuts
   pub each : ArePuts document old.base old.items document ends puts
   pub items : new.items ≡ old.items ++ joined_texts (map (λ put. put.block) puts)
   pub short : All HasShortSettings old.items → All HasShortSettings new.items
-
--- what was added is still there
-pub record KeepsAdded (old new : Added) : Type 0 where
-  pub longer : length old.items ≤ length new.items
-  pub same : take (length old.items) new.items ≡ old.items

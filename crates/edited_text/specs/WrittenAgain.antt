@@ -1,8 +1,8 @@
 -- A text that is written again before it is saved: pieces in added text, and old ones that give marks a style or
 -- settings, get fresh added units, in the order of the text and with the settings that the document has now. No piece
 -- is cut and none is joined.
-use Rattle.std.specs.Prelude.{◌≡◌, ◌≢◌, ◌⊎◌, ◌↔◌, ℕ, ◌+◌, ◌*◌, ◌<◌, ◌≤◌, List, [], ◌∷◌, length, map, take, All, Bool}
-use Rattle.std.specs.Prelude.{Option, Some, None, IsSome, IsTrue, if◌then◌else◌}
+use Rattle.std.specs.Prelude.{◌≡◌, ◌≢◌, ◌⊎◌, ◌↔◌, ℕ, ◌+◌, ◌<◌, ◌≤◌, List, [], ◌∷◌, length, map, take, All, Bool}
+use Rattle.std.specs.Prelude.{◌++◌, drop, is_some, Option, Some, None, IsSome, IsTrue, if◌then◌else◌}
 use Rattle.std.specs.FinMap.{empty}
 use Rattle.doc_bits.specs.Together.{AreTogether}
 use Rattle.prop_map.specs.declared.modifiers.Modifier.{Modifier}
@@ -10,19 +10,15 @@ use Rattle.piece_table.specs.Piece.{TextPiece, bare_piece, piece_end, flat_piece
 use Rattle.piece_table.specs.Renewals.{renewed_pieces, AreNewPlaces}
 use Rattle.plain_doc.specs.declared.item.Item.{Item}
 use Rattle.plain_doc.specs.declared.document.Document.{Document}
-use Rattle.plain_doc.specs.Collected.{joined_texts}
 use Rattle.plain_doc.specs.RulesOfItems.{HasShortSettings}
 use Rattle.full_save.specs.Text.{extra_mark}
 use Rattle.save_laws.specs.Places.{PagedStream}
-use Rattle.save_laws.specs.Slots.{Slot, shown, loose, last, StoryEnds, whole_text}
-use Rattle.save_laws.specs.Ends.{ends_of}
+use Rattle.save_laws.specs.Slots.{Slot, shown, loose, last}
 use Rattle.save_laws.specs.Sessions.{StandInSession}
 use Rattle.edited_text.specs.AddedText.{plan_of}
 use Rattle.edited_text.specs.SessionText.{IsSessionText, HaveFitModifiers, HaveNoModifiers, HaveModifiersWithin}
 use Rattle.edited_text.specs.OldUnits.{IsOldBounded, OldUnitsAreBounded}
-use Rattle.edited_text.specs.declared.added.Added.{Added}
 use Rattle.edited_text.specs.declared.session_text.SessionText.{SessionText}
-use Rattle.edited_text.specs.declared.writing.WholeText.{WholeText}
 
 -- ---- what is written
 
@@ -79,21 +75,22 @@ slot_item (shown item) = item
 slot_item loose = extra_mark
 slot_item last = extra_mark
 
--- those of a whole text, one a CP
-abbrev pub whole_items : WholeText → List Item
-whole_items whole = map slot_item (whole_text whole.document.now (ends_of whole.ends))
+-- the place of a piece that may be written again at a byte, the units that it has there, and what is written of it
+abbrev pub place_at : Bool → ℕ → Option ℕ
+place_at again at = if again then Some at else None
 
--- the notes and the header texts are those of the document, one after the other
-pub record HasStories (whole : WholeText) : Type 0 where
-  pub notes : whole.notes.now ≡ joined_texts whole.document.now.notes
-  pub heads : whole.heads.now ≡ joined_texts whole.document.now.heads
+abbrev pub len_for : Bool → ℕ → ℕ
+len_for again len = if again then len else 0
 
--- the place of a piece behind so many added units, and its items, if it is written again
-abbrev pub place_for : ℕ → ℕ → Bool → Option ℕ
-place_for base number again = if again then Some (base + 2 * number) else None
+abbrev pub values_for : {A : Type 0} → Bool → List A → List A
+values_for again values = if again then values else []
 
-abbrev pub items_for : Bool → List Item → List Item
-items_for again items = if again then items else []
+-- the values of the pieces at new places, of those of all CPs
+abbrev pub renewed_values : {A : Type 0} → List (Option ℕ) → List TextPiece → List A → List A
+renewed_values [] pieces values = []
+renewed_values (place ∷ places) [] values = []
+renewed_values (place ∷ places) (piece ∷ pieces) values =
+    values_for (is_some place) (take piece.len values) ++ renewed_values places pieces (drop piece.len values)
 
 -- the first pieces are written again where they are to be, and stand for the slots that they stood for
 pub record AreWritten
@@ -113,3 +110,9 @@ pub record AreWritten
       StandInSession stream (plan_of old.added) (flat_pieces old.pieces.pieces) slots →
       StandInSession stream (plan_of (record { base = old.added.base; items = items }))
       (flat_pieces (renewed_pieces places pieces)) (take (total_length pieces) slots)
+
+-- whatever text the pieces are of, its items at their new places are written so
+abbrev pub AreChosen : Bool → SessionText → List TextPiece → List (Option ℕ) → Type 0
+AreChosen marks old pieces places =
+    (slots : List Slot) → length slots ≡ total_length old.pieces.pieces → All HasShortSettings (map slot_item slots) →
+    AreWritten marks old slots pieces (renewed_values places pieces (map slot_item slots)) places

@@ -1,8 +1,8 @@
 // The blocks of added text that the changes of a command put.
-ghost use Rattle.std.specs.Prelude.{◌≡◌, ◌+◌, ◌*◌, ◌^◌, ◌<◌, ◌≤◌, length, IfOk, OnErr};
+ghost use Rattle.std.specs.Prelude.{◌≡◌, ◌+◌, ◌*◌, ◌^◌, ◌<◌, ◌≤◌, length, IfOk};
 ghost use Rattle.plain_doc.specs.Sound.{IsSound};
 ghost use Rattle.edited_text.specs.EditSteps.{ArePutSteps};
-ghost use Rattle.edited_text.specs.Puts.{HavePuts, KeepsAdded};
+ghost use Rattle.edited_text.specs.Puts.{HavePuts};
 
 use crate::added::Added;
 use crate::session_text::TextSplice;
@@ -14,28 +14,35 @@ use edit_changes::Changes;
 use save_laws::Ends;
 use std::alloc::Global;
 
-/// Appends the blocks of changes that are no modifiers. Answers the splices that they are.
-pub(crate) fn put_blocks(
+/// The splices that changes are, and the added text with their blocks.
+#[derive(Drop)]
+pub(crate) struct Blocks {
+    pub(crate) splices: Vec<TextSplice>,
+    pub(crate) added: Added,
+}
+
+/// The blocks of changes that are no modifiers, behind added text.
+pub(crate) fn blocks_of(
     alloc: Global,
-    added: &mut Added,
+    added: &Added,
     document: &ColumnDocument,
     ends: Ends,
     changes: &Changes,
-) -> Result<Vec<TextSplice>, Memory>
+) -> Result<Blocks, Memory>
     requires sound { IsSound document.now }
     requires steps { ArePutSteps document.now document.now changes.now }
     requires few { length changes.now ≤ 3 }
-    requires room { added.old.base + (2 * length added.old.items + 3000000) < 2 ^ 32 }
-    ensures puts { IfOk result (λ splices.
-        HavePuts document.now ends changes.now added.old added.new splices.items) }
-    ensures base { added.new.base ≡ added.old.base }
-    ensures err { OnErr result (KeepsAdded added.old added.new) }
+    requires room { added.now.base + (2 * length added.now.items + 3000000) < 2 ^ 32 }
+    ensures puts { IfOk result (λ blocks.
+        HavePuts document.now ends changes.now added.now blocks.added blocks.splices.items) }
+    ensures base { IfOk result (λ blocks. blocks.added.base ≡ added.now.base) }
 {
+    let mut grown = added.copy(alloc)?;
     let mut splices = Vec::new(alloc);
     let mut stories = Stories::of(document, ends);
     for k in 0..changes.len() {
         let step = step_of(alloc, document, stories, changes.get(k))?;
-        let block = added.append(alloc, step.items, step.marks)?;
+        let block = grown.append(alloc, step.items, step.marks)?;
         splices.push(TextSplice {
             from: step.from,
             to: step.to,
@@ -44,5 +51,8 @@ pub(crate) fn put_blocks(
         })?;
         stories = step.after;
     }
-    Ok(splices)
+    Ok(Blocks {
+        splices,
+        added: grown,
+    })
 }

@@ -4,6 +4,8 @@
 
 mod added;
 mod blocks;
+mod gathered;
+mod picked;
 mod sections;
 mod session_laws;
 mod session_text;

@@ -15,15 +15,14 @@ ghost use Rattle.edited_text.specs.Puts.{CanPut, CanPutAll, places_after, all_pl
 ghost use Rattle.edited_text.specs.Puts.{pieces_cut};
 
 use crate::added::Added;
-use crate::blocks::put_blocks;
+use crate::blocks::{Blocks, blocks_of};
 use crate::sections::sections_after;
 use crate::stories::Stories;
 use crate::text_changes::range_in_whole;
 use doc_bits::{Memory, Story};
-use doc_columns::ColumnDocument;
+use doc_columns::{ColumnDocument, Columns};
 use edit_changes::{Change, Changes};
 use piece_table::{Piece, PieceList};
-use plain_doc::Items;
 use prop_map::Modifier;
 use save_laws::Ends;
 use std::alloc::Global;
@@ -64,7 +63,7 @@ impl SessionText {
           sections = sections;
         } }
     {
-        let items = Items::new(alloc);
+        let items = Columns::new(alloc);
         SessionText {
             pieces,
             added: Added { base, items },
@@ -138,18 +137,17 @@ impl SessionText {
         ensures sections { self.new.sections ≡ self.old.sections }
         ensures err { OnErr result (IsSameText self.old self.new) }
     {
-        let begin = self.added.items.len();
+        let Blocks { splices, added } = blocks_of(
+            alloc,
+            &self.added,
+            document,
+            self.ends,
+            changes,
+        )?;
         self.pieces.reserve(3 * changes.len())?;
-        match put_blocks(alloc, &mut self.added, document, self.ends, changes) {
-            Ok(splices) => {
-                self.put_all(&splices);
-                Ok(())
-            }
-            Err(fault) => {
-                self.added.truncate(begin);
-                Err(fault)
-            }
-        }
+        self.added = added;
+        self.put_all(&splices);
+        Ok(())
     }
 
     /// Makes splices one after another. It takes no memory.

@@ -7,7 +7,7 @@ ghost use Rattle.edited_text.specs.StoryMarks.{AreSplicedTexts};
 ghost use Rattle.edited_text.specs.TextSteps.{AreStories, IsTextStep};
 
 use crate::stories::{Stories, StoryPlace, slots_of};
-use plain_doc::Items;
+use doc_columns::Columns;
 use save_laws::Ends;
 use std::alloc::Global;
 
@@ -16,7 +16,7 @@ use std::alloc::Global;
 pub(crate) struct TextStep {
     pub(crate) from: u32,
     pub(crate) to: u32,
-    pub(crate) items: Items,
+    pub(crate) items: Columns,
     pub(crate) marks: usize,
     pub(crate) after: Stories,
 }
@@ -28,14 +28,14 @@ pub(crate) fn no_step(alloc: Global, stories: Stories) -> TextStep
     TextStep {
         from: 0,
         to: 0,
-        items: Items::new(alloc),
+        items: Columns::new(alloc),
         marks: 0,
         after: stories,
     }
 }
 
 /// The step of a splice of the main text.
-pub(crate) fn main_step(stories: Stories, from: usize, to: usize, fresh: Items) -> TextStep
+pub(crate) fn main_step(stories: Stories, from: usize, to: usize, fresh: Columns) -> TextStep
     requires order { from ≤ to }
     requires within { to ≤ stories.main }
     requires few { stories.main + length fresh < 2 ^ 32 }
@@ -57,7 +57,7 @@ pub(crate) fn main_step(stories: Stories, from: usize, to: usize, fresh: Items) 
 }
 
 /// The step of a splice of the items of the notes, one note after the other.
-pub(crate) fn note_step(stories: Stories, from: usize, to: usize, fresh: Items) -> TextStep
+pub(crate) fn note_step(stories: Stories, from: usize, to: usize, fresh: Columns) -> TextStep
     requires order { from ≤ to }
     requires within { to ≤ stories.notes }
     requires few { stories.main + (stories.notes + (stories.heads + (length fresh + 3))) < 2 ^ 32 }
@@ -92,7 +92,7 @@ pub(crate) fn note_step(stories: Stories, from: usize, to: usize, fresh: Items) 
 }
 
 /// The step of a splice of the items of the header texts, one text after the other.
-pub(crate) fn head_step(stories: Stories, from: usize, to: usize, fresh: Items) -> TextStep
+pub(crate) fn head_step(stories: Stories, from: usize, to: usize, fresh: Columns) -> TextStep
     requires order { from ≤ to }
     requires within { to ≤ stories.heads }
     requires few { stories.main + (stories.notes + (stories.heads + (length fresh + 3))) < 2 ^ 32 }

@@ -10,13 +10,12 @@ ghost use Rattle.edited_text.specs.SessionChanges.{text_begin as begin_in_whole}
 ghost use Rattle.edited_text.specs.EditSteps.{KeepsNamed, items_put};
 ghost use Rattle.edited_text.specs.TextSteps.{AreStories, IsTextStep, IsRangeOf, HasRangeOf, CanStep};
 
-use crate::added::joined_columns;
+use crate::gathered::joined;
 use crate::steps::{TextStep, head_step, main_step, no_step, note_step};
 use crate::stories::{Stories, begin_of_text, slots_of};
 use doc_bits::{Memory, Story};
-use doc_columns::{ColumnDocument, ColumnTexts};
+use doc_columns::{ColumnDocument, ColumnTexts, Columns};
 use edit_changes::Change;
-use plain_doc::Items;
 use std::alloc::Global;
 
 /// The step of a change that is no modifier. The texts that it names are those of the document; the stories are those
@@ -35,16 +34,16 @@ pub(crate) fn step_of(
 {
     match change {
         Change::SpliceText(story, from, to, fresh) => {
-            let items = fresh.expand(alloc)?;
+            let items = copied(alloc, fresh)?;
             Ok(splice_text(document, stories, *story, (*from, *to), items))
         }
         Change::SpliceNotes(from, to, fresh) => {
-            let items = joined_columns(alloc, fresh)?;
+            let items = joined(alloc, fresh)?;
             let range = range_of_texts(&document.notes, *from, *to);
             Ok(note_step(stories, range.0, range.1, items))
         }
         Change::SpliceHeads(from, to, fresh) => {
-            let items = joined_columns(alloc, fresh)?;
+            let items = joined(alloc, fresh)?;
             let range = range_of_texts(&document.heads, *from, *to);
             Ok(head_step(stories, range.0, range.1, items))
         }
@@ -56,13 +55,21 @@ pub(crate) fn step_of(
     }
 }
 
+/// The same text. Its maps are shared.
+fn copied(alloc: Global, text: &Columns) -> Result<Columns, Memory>
+    ensures { IfOk result (λ copy. copy ≡ text.now) }
+{
+    let copy = text.copy(alloc, 0, text.len())?;
+    Ok(copy)
+}
+
 /// The step of a splice of a text.
 fn splice_text(
     document: &ColumnDocument,
     stories: Stories,
     story: Story,
     range: (usize, usize),
-    fresh: Items,
+    fresh: Columns,
 ) -> TextStep
     requires can { CanStep document.now stories (SpliceText story range.0 range.1 fresh) }
     requires few { stories.main + (stories.notes + (stories.heads + (length fresh + 3))) < 2 ^ 32 }

@@ -1,112 +1,35 @@
 // A text that is written again: the items of its pieces, in the order of the text, in fresh added text.
-ghost use Rattle.std.specs.Prelude.{◌≡◌, ◌↔◌, ◌+◌, ◌-◌, ◌*◌, ◌^◌, ◌<◌, ◌≤◌, ◌++◌, ◌∷◌, [], length, get_or, slice_range};
-ghost use Rattle.std.specs.Prelude.{IsTrue, MatchOption, slice_get, IfOk, OnOk};
+ghost use Rattle.std.specs.Prelude.{◌≡◌, ◌↔◌, ◌+◌, ◌*◌, ◌^◌, ◌<◌, ◌≤◌, ◌++◌, length, map, IsTrue, MatchOption};
+ghost use Rattle.std.specs.Prelude.{slice_get, IfOk};
 ghost use Rattle.prop_map.specs.declared.modifiers.Modifier.{Modifier as ModifierValue};
 ghost use Rattle.piece_table.specs.Piece.{total_length};
-ghost use Rattle.plain_doc.specs.Document.{HasPropertyMaps};
 ghost use Rattle.plain_doc.specs.Sound.{IsSound};
-ghost use Rattle.full_save.specs.Text.{extra_mark as mark_behind};
-ghost use Rattle.save_laws.specs.Slots.{loose_if, whole_text};
+ghost use Rattle.save_laws.specs.Slots.{whole_text};
 ghost use Rattle.save_laws.specs.Ends.{ends_of};
-ghost use Rattle.edited_text.specs.WrittenAgain.{SetsMarks, IsRewritten, IsWrittenAgain, whole_items, HasStories};
-ghost use Rattle.edited_text.specs.WrittenAgain.{place_for, items_for, AreWritten};
+ghost use Rattle.edited_text.specs.WrittenAgain.{SetsMarks, IsRewritten, IsWrittenAgain, AreChosen, slot_item};
+ghost use Rattle.edited_text.specs.WrittenAgain.{place_at, len_for};
 
-use crate::added::{Added, extra_mark, joined};
+use crate::added::Added;
+use crate::gathered::Gathered;
+use crate::picked::{NewPlaces, WholeText};
 use crate::session_text::SessionText;
 use doc_bits::Memory;
-use plain_doc::{Document, Item, Items};
+use doc_columns::{ColumnDocument, Columns};
+use piece_table::PieceWalk;
 use prop_map::Modifier;
 use save_laws::Ends;
 use std::alloc::Global;
 
-/// A document, its notes and its header texts each one after the other, and the marks behind these.
-#[derive(Clone, Copy)]
-pub(crate) struct WholeText<'a> {
-    pub(crate) document: &'a Document,
-    pub(crate) notes: &'a Items,
-    pub(crate) heads: &'a Items,
-    pub(crate) ends: Ends,
-}
-
-impl WholeText<'_> {
-    /// The item of a CP. Where the CP shows none it is a mark.
-    fn item(&self, alloc: Global, cp: usize) -> Result<Item, Memory>
-        requires { HasStories self.now }
-        ensures item { IfOk result (λ item. item ≡ get_or (whole_items self.now) cp mark_behind) }
-        ensures maps { IfOk result HasPropertyMaps }
-    {
-        let notes = self.document.main.len();
-        if cp < notes {
-            return self.document.main.get(cp).copy(alloc);
-        }
-        let behind = notes + self.notes.len();
-        if cp < behind {
-            return self.notes.get(cp - notes).copy(alloc);
-        }
-        let heads = behind + marks_behind(self.ends.notes);
-        if cp < heads || heads + self.heads.len() <= cp {
-            return Ok(extra_mark(alloc));
-        }
-        self.heads.get(cp - heads).copy(alloc)
-    }
-
-    /// Puts the items of a range of CPs last.
-    fn put(&self, alloc: Global, out: &mut Items, from: u32, to: u32) -> Result<(), Memory>
-        requires stories { HasStories self.now }
-        requires order { from ≤ to }
-        requires within { to ≤ length (whole_items self.now) }
-        requires few { length out.old + (to - from) < 2 ^ 32 }
-        ensures { OnOk result (out.new ≡ out.old ++ slice_range (whole_items self.now) from to) }
-    {
-        for cp in from..to {
-            out.add(self.item(alloc, cp as usize)?)?;
-        }
-        Ok(())
-    }
-}
-
-/// The number of marks behind a story.
-fn marks_behind(end: bool) -> usize
-    ensures count { result ≡ length (loose_if end) }
-    ensures few { result ≤ 1 }
+/// The text behind the main text of a document: the notes and the header texts with the marks behind these.
+fn behind_main(alloc: Global, document: &ColumnDocument, ends: Ends) -> Result<Columns, Memory>
+    requires { length (whole_text document.now (ends_of ends)) < 2 ^ 31 }
+    ensures { IfOk result (λ behind.
+        document.now.main ++ behind ≡ map slot_item (whole_text document.now (ends_of ends))) }
 {
-    if end { 1 } else { 0 }
-}
-
-/// Fresh added text, and beside each piece its place there, where it is written again.
-#[derive(Drop)]
-pub(crate) struct Written {
-    pub(crate) added: Added,
-    pub(crate) places: Vec<Option<u32>>,
-}
-
-impl Written {
-    /// Writes the piece of a range of CPs again, where it is to be.
-    fn add(
-        &mut self,
-        alloc: Global,
-        whole: &WholeText<'_>,
-        range: (u32, u32),
-        again: bool,
-    ) -> Result<(), Memory>
-        requires stories { HasStories whole.now }
-        requires order { range.0 ≤ range.1 }
-        requires within { range.1 ≤ length (whole_items whole.now) }
-        requires room { self.old.added.base + 2 * (length self.old.added.items + (range.1 - range.0)) < 2 ^ 32 }
-        ensures base { self.new.added.base ≡ self.old.added.base }
-        ensures places { OnOk result (self.new.places.items ≡ self.old.places.items
-            ++ place_for self.old.added.base (length self.old.added.items) again ∷ []) }
-        ensures items { OnOk result (self.new.added.items ≡ self.old.added.items
-            ++ items_for again (slice_range (whole_items whole.now) range.0 range.1)) }
-    {
-        if !again {
-            self.places.push(None)?;
-            return Ok(());
-        }
-        let at = self.added.base + 2 * self.added.items.len() as u32;
-        self.places.push(Some(at))?;
-        whole.put(alloc, &mut self.added.items, range.0, range.1)
-    }
+    let notes = Gathered::new(alloc).with_story(alloc, &document.notes, ends.notes)?;
+    let both = notes.with_story(alloc, &document.heads, ends.heads)?;
+    let all = both.with_last(alloc)?;
+    Ok(all.finish())
 }
 
 /// Whether a modifier gives marks a style or settings.
@@ -116,47 +39,47 @@ fn sets_marks(modifier: &Modifier) -> bool
     modifier.istd.is_some() || !modifier.pap.is_empty()
 }
 
-/// Whether a piece is written again: it ends in added text, or, with marks, its modifier sets marks.
-fn is_rewritten(text: &SessionText, number: usize, marks: bool) -> bool
-    requires { number < length text.now.pieces.pieces }
-    ensures { MatchOption (slice_get text.now.pieces.pieces number) ⊥
-        (λ piece. IsTrue result ↔ IsRewritten text.now.added.base marks piece) }
+/// Whether a piece is written again: it ends in added text, from a byte on, or, with marks, its modifier sets marks.
+fn is_rewritten(walk: &mut PieceWalk<'_>, number: usize, base: u32, marks: bool) -> bool
+    requires { number < length walk.old }
+    ensures again { MatchOption (slice_get walk.old number) ⊥
+        (λ piece. IsTrue result ↔ IsRewritten base marks piece) }
+    ensures walk { walk.new ≡ walk.old }
 {
-    let piece = text.pieces.piece(number);
-    piece.end() > text.added.base as u64 || marks && sets_marks(text.pieces.modifier(number))
+    let piece = walk.piece(number);
+    let modifier = walk.modifier(number);
+    piece.end() > base as u64 || marks && sets_marks(modifier)
 }
 
-/// Writes the pieces of a text again that are to be.
-fn write_pieces(
-    alloc: Global,
-    text: &SessionText,
-    whole: &WholeText<'_>,
-    marks: bool,
-) -> Result<Written, Memory>
-    requires sound { IsSound whole.now.document.now }
-    requires stories { HasStories whole.now }
-    requires count { total_length text.now.pieces.pieces
-        ≡ length (whole_text whole.now.document.now (ends_of whole.now.ends)) }
-    requires room { text.now.added.base + 2 * total_length text.now.pieces.pieces < 2 ^ 32 }
-    ensures base { IfOk result (λ written. written.added.base ≡ text.now.added.base) }
-    ensures written { IfOk result (λ written. AreWritten marks text.now
-        (whole_text whole.now.document.now (ends_of whole.now.ends)) text.now.pieces.pieces written.added.items
-        written.places.items) }
+/// Beside each piece of a text its place in fresh added text, where it is written again.
+fn new_places(alloc: Global, text: &SessionText, marks: bool) -> Result<Vec<Option<u32>>, Memory>
+    requires { text.now.added.base + 2 * total_length text.now.pieces.pieces < 2 ^ 32 }
+    ensures { IfOk result (λ places. AreChosen marks text.now text.now.pieces.pieces places.items) }
 {
-    let base = text.added.base;
-    let items = Items::new(alloc);
-    let mut written = Written {
-        added: Added { base, items },
-        places: Vec::new(alloc),
-    };
-    let mut cp = 0;
+    let mut places = Vec::new(alloc);
+    let mut walk = text.pieces.walk();
+    let mut at = text.added.base;
     for number in 0..text.pieces.len() {
-        let end = cp + text.pieces.piece(number).len;
-        let again = is_rewritten(text, number, marks);
-        written.add(alloc, whole, (cp, end), again)?;
-        cp = end;
+        let piece = walk.piece(number);
+        let again = is_rewritten(&mut walk, number, text.added.base, marks);
+        let (place, end) = place_for(again, at, piece.len);
+        places.push(place)?;
+        at = end;
     }
-    Ok(written)
+    Ok(places)
+}
+
+/// The place of a piece at a byte, where it is written again, and the byte behind it.
+fn place_for(again: bool, at: u32, len: u32) -> (Option<u32>, u32)
+    requires { at + 2 * len < 2 ^ 32 }
+    ensures place { result.0 ≡ place_at again at }
+    ensures end { result.1 ≡ at + 2 * len_for again len }
+{
+    if again {
+        (Some(at), at + 2 * len)
+    } else {
+        (None, at)
+    }
 }
 
 impl SessionText {
@@ -166,7 +89,7 @@ impl SessionText {
     pub fn written_again(
         &self,
         alloc: Global,
-        document: &Document,
+        document: &ColumnDocument,
         marks: bool,
     ) -> Result<SessionText, Memory>
         requires sound { IsSound document.now }
@@ -175,21 +98,26 @@ impl SessionText {
         requires room { self.now.added.base + 2 * total_length self.now.pieces.pieces < 2 ^ 32 }
         ensures { IfOk result (λ text. IsWrittenAgain document.now marks self.now text) }
     {
-        let notes = joined(alloc, &document.notes)?;
-        let heads = joined(alloc, &document.heads)?;
+        let behind = behind_main(alloc, document, self.ends)?;
         let whole = WholeText {
-            document,
-            notes: &notes,
-            heads: &heads,
-            ends: self.ends,
+            main: &document.main,
+            behind: &behind,
         };
-        let Written { added, places } = write_pieces(alloc, self, &whole, marks)?;
+        let places = new_places(alloc, self, marks)?;
+        let placed = NewPlaces {
+            pieces: &self.pieces,
+            places: &places,
+        };
+        let items = whole.picked(alloc, &placed)?;
         let pieces = self.pieces.renewed(alloc, &places)?;
         let mut sections = Vec::new(alloc);
         sections.extend_from_slice(&self.sections)?;
         Ok(SessionText {
             pieces,
-            added,
+            added: Added {
+                base: self.added.base,
+                items,
+            },
             ends: self.ends,
             sections,
         })

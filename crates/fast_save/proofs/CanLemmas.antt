@@ -46,6 +46,7 @@ use Rattle.append_save.specs.Kept.{CanBeAppended}
 use Rattle.append_save.specs.KeptBins.{bin_of, bins_of, kept_bins}
 use Rattle.append_save.specs.RenewedStreams.{bytes_named}
 use Rattle.append_save.specs.Saves.{FastSave}
+use Rattle.append_save.proofs.FilledTable.{table_within}
 use Rattle.append_save.proofs.RunLengths.{pages_are_few}
 use Rattle.append_save.proofs.StreamLemmas.{named_is}
 use Rattle.append_save.proofs.StreamLengths.{length-seds}
@@ -123,9 +124,9 @@ range_short xs from to = omega (arith, length-take (to - from) (drop from xs), l
 
 -- the text as it was added: what is counted of a session is what a save needs
 pub counted_as_added : (file : List ℕ) (document : Document) (parts : SessionParts) (counts : Counts) →
-    IsCounted file parts counts → IsCountedText file document parts counts
+    IsCounted file parts counts → IsCountedText file parts counts
 counted_as_added file document parts counts is =
-    let few = pages_are_few (save_in document parts) in
+    let few = pages_are_few (save_in file document parts) in
     record {
       pieces = is.pieces;
       modified = is.modified;
@@ -138,17 +139,18 @@ counted_as_added file document parts counts is =
       unwritten = is.unwritten;
     }
 
-module _ (document : Document) (parts : SessionParts) (can : CanSaveFast document parts) (formed : IsFormed document)
-    (items : IsFormedText parts.text.added.items) (pieces : ArePieces parts.text.pieces.pieces) where
+module _ {old : List ℕ} (document : Document) (parts : SessionParts) (can : CanSaveFast old document parts)
+    (formed : IsFormed document) (items : IsFormedText parts.text.added.items)
+    (pieces : ArePieces parts.text.pieces.pieces) where
   abbrev pub the_save : FastSave
-  the_save = save_in document parts
+  the_save = save_in old document parts
 
   abbrev full_table : ℕ
   full_table = length (table_stream document)
 
   abbrev pub old_file : IsReadFile can.session.held.parts.contents (fib_fields can.session.held.parts.text.wd)
   old_file = record {
-    file = can.file;
+    file = old;
     rules = can.session.held.rules;
     parts = can.session.held.parts;
     has = can.session.held.has_parts;
@@ -171,7 +173,7 @@ module _ (document : Document) (parts : SessionParts) (can : CanSaveFast documen
       let start : old_table the_save ≡ bytes_named held.parts.contents.streams (table_stream_name held.parts.text.wd) =
       (λ i. bytes_named (can.session.contents i).streams (table_name (can.session.fib i).which_table)) in
       start
-      ∙ named_is can.file held.parts.contents (table_stream_name held.parts.text.wd) held.parts.text.table
+      ∙ named_is old held.parts.contents (table_stream_name held.parts.text.wd) held.parts.text.table
       has.has_contents
       has.has_text.has_table
 
@@ -182,7 +184,7 @@ module _ (document : Document) (parts : SessionParts) (can : CanSaveFast documen
       let start : old_wd the_save ≡ bytes_named held.parts.contents.streams wd_name =
       (λ i. bytes_named (can.session.contents i).streams wd_name) in
       start
-      ∙ named_is can.file held.parts.contents wd_name held.parts.text.wd has.has_contents has.has_text.has_wd
+      ∙ named_is old held.parts.contents wd_name held.parts.text.wd has.has_contents has.has_text.has_wd
 
   pub old_stream_is : old_stream the_save ≡ saved_stream can.session.held
   old_stream_is = λ i. record {
@@ -213,18 +215,18 @@ module _ (document : Document) (parts : SessionParts) (can : CanSaveFast documen
       length (fast_bin_table kind the_save) ≤ 60000000
   unfolding fast_bin_table
   bin_table_short kind few =
-      let old = old_bins kind the_save in
-      let kept = few_left (λ bin. nat_lt bin.first parts.text.added.base) (bins_of old) in
+      let bins_there = old_bins kind the_save in
+      let kept = few_left (λ bin. nat_lt bin.first parts.text.added.base) (bins_of bins_there) in
       let starts = (added_pages kind the_save).starts in
       let bins = numbered_bins (first_page kind the_save) starts in
       omega (
         arith,
         few,
         kept,
-        few_ranges old,
+        few_ranges bins_there,
         bins_short kind,
         length-printed_bin (fast_bins kind the_save) (bins_end kind the_save),
-        length-append (kept_bins old parts.text.added.base) bins,
+        length-append (kept_bins bins_there parts.text.added.base) bins,
         length-numbered_bins (first_page kind the_save) starts,
       )
 
@@ -256,8 +258,7 @@ module _ (document : Document) (parts : SessionParts) (can : CanSaveFast documen
       }
 
   pub table_small : (clx : List ℕ) → IsPrintedClx parts.text.pieces.pieces clx → length (fast_table the_save clx) < 2
-      ^ 32
-  unfolding fast_table
+      ^ 31
   table_small clx printed =
       let seds = length-seds 0 (pages_end the_save) parts.text.sections.items (sections_of document.main)
       settings_of.len in
@@ -266,11 +267,11 @@ module _ (document : Document) (parts : SessionParts) (can : CanSaveFast documen
       let pages = can.counted.text in
       let characters = bin_table_short Chpx (omega (arith, text, pages)) in
       let paragraphs = bin_table_short Papx (omega (arith, text, pages)) in
-      omega (arith, short, characters, paragraphs, clx_small clx printed, small.table)
+      let within = table_within the_save clx in
+      omega (arith, within, short, characters, paragraphs, clx_small clx printed, small.table)
 
   pub can_append : CanBeAppended the_save
   can_append = record {
-    file = can.file;
     saved = can.session.saved;
     bytes = can.session.bytes;
     held = can.session.held;

@@ -3,6 +3,8 @@ use Rattle.std.specs.Prelude.{ℕ, List, min}
 use Rattle.std.proofs.Common.{◌≡◌, ◌∙◌, ◌+◌, ◌-◌, ◌*◌, ◌/◌, ◌^◌, ◌≤◌, [], refl, sym, ap, subst, true, length}
 use Rattle.std.proofs.Common.{arith}
 use Rattle.cfb_sectors.specs.Header.{sector_count}
+use Rattle.cfb_streams.specs.Names.{wd_name}
+use Rattle.cfb_append.specs.InPlace.{StaysInPlace}
 use Rattle.fib_form.specs.FibFields.{FibFields, fib_fields}
 use Rattle.fib_form.specs.declared.table_parts.TablePart.TheVariants.{PlcfBteChpx, PlcfBtePapx}
 use Rattle.fkp_pages.specs.declared.kind.PageKind.TheVariants.{Chpx, Papx}
@@ -19,7 +21,7 @@ use Rattle.save_laws.specs.Ends.{ends_of}
 use Rattle.save_laws.specs.ByRuns.{IsBounded, AreBounded, text_ends}
 use Rattle.save_laws.specs.GivenFiles.{stream_of}
 use Rattle.save_laws.specs.KeptPages.{KeepsBytes}
-use Rattle.save_laws.specs.Places.{PagedStream}
+use Rattle.save_laws.specs.Places.{PagedStream, fib_end}
 use Rattle.save_laws.specs.Slots.{StoryEnds, whole_text}
 use Rattle.save_laws.specs.Laws.{IsSavedIn}
 use Rattle.save_laws.proofs.FastLemmas.{fast_saves_are_saves}
@@ -29,11 +31,13 @@ use Rattle.save_laws.proofs.SavedLemmas.{Save as SavedCopy, part_is}
 use Rattle.save_bounds.specs.SharedPages.{page_bound}
 use Rattle.append_save.specs.declared.fault.AppendFault.TheVariants.{Sixteenth, TooLarge}
 use Rattle.append_save.specs.Saves.{FastSave, plan_of}
-use Rattle.append_save.specs.Appended.{old_wd, old_stream, fast_fib, fast_wd, fast_table, fast_contents}
+use Rattle.append_save.specs.Appended.{old_wd, old_stream, fast_fib, fast_wd, fast_table}
 use Rattle.append_save.specs.Appended.{fast_bin_table, fast_saved_text}
 use Rattle.append_save.specs.FastByRuns.{AreBoundedBefore}
 use Rattle.append_save.specs.Answers.{IsAppended, IsAppendFault}
 use Rattle.append_save.proofs.FastByRuns.{fast_saves_are_bounded}
+use Rattle.append_save.proofs.ReadyLemmas.{Ready}
+use Rattle.append_save.proofs.SavedInPlace.{stays}
 use Rattle.append_save.proofs.ShortLemmas.{appended_saves_are_short, appended_files_are_short, counted_saves_fit}
 use Rattle.edited_text.specs.SessionText.{HaveNoModifiers, HaveModifiersWithin, unwritten_count}
 use Rattle.fast_save.specs.declared.fast_parts.FastParts.{FastParts}
@@ -43,7 +47,7 @@ use Rattle.fast_save.specs.Ledgers.{modifier_bytes, sector_bound, after_fast}
 use Rattle.fast_save.specs.Session.{IsBoundedFile, IsSession, IsCounted, saved_stream, bin_length}
 use Rattle.fast_save.specs.Started.{IsOpenFile}
 use Rattle.fast_save.specs.Fast.{CanSaveFast, IsFastFile, AreFastParts, IsSavedFast, IsBehind, IsWithin, counts_over}
-use Rattle.fast_save.specs.Fast.{save_in, save_counts}
+use Rattle.fast_save.specs.Fast.{KeepsSectors, save_in, save_counts}
 use Rattle.fast_save.proofs.BoundedLemmas.{same_ends}
 use Rattle.fast_save.proofs.CanLemmas.{small, wd_is, old_stream_is, can_append, counted}
 use Rattle.fast_save.proofs.CountLemmas.{no_pages}
@@ -71,30 +75,30 @@ bytes_beside counts table_bytes =
     2 * counts.units + 528 * counts.runs + 512 * counts.sections + (12 + modifier_bytes counts) * counts.pieces
     + table_bytes
 
-module _ (document : Document) (parts : SessionParts) (can : CanSaveFast document parts) (formed : IsFormed document)
-    (items : IsFormedText parts.text.added.items) (pieces : ArePieces parts.text.pieces.pieces) where
+module _ {old : List ℕ} (document : Document) (parts : SessionParts) (can : CanSaveFast old document parts)
+    (formed : IsFormed document) (items : IsFormedText parts.text.added.items)
+    (pieces : ArePieces parts.text.pieces.pieces) where
   abbrev save : FastSave
-  save = save_in document parts
+  save = save_in old document parts
 
   abbrev full_table : ℕ
   full_table = length (table_stream document)
 
   -- the counts over the old file are no more than the counts
   abbrev own : Counts
-  own = counts_over can.file can.session.held.parts.text.wd can.counts
+  own = counts_over old can.session.held.parts.text.wd can.counts
 
   own_bins : bin_length parts.fib ≡ bin_length (fib_fields can.session.held.parts.text.wd)
   own_bins = ap bin_length can.session.fib
 
   own_bound : sector_bound own full_table ≤ sector_bound can.counts full_table
   own_bound =
-      bound_grows (sector_count can.file) can.counts.sectors (bytes_beside can.counts full_table)
+      bound_grows (sector_count old) can.counts.sectors (bytes_beside can.counts full_table)
       (bin_length (fib_fields can.session.held.parts.text.wd)) can.counts.bin_bytes can.counted.sectors
       (omega (arith, own_bins, can.counted.bins))
 
-  can_own : CanSaveFast document parts
+  can_own : CanSaveFast old document parts
   can_own = record {
-    file = can.file;
     counts = own;
     session = can.session;
     counted = record {
@@ -125,14 +129,12 @@ module _ (document : Document) (parts : SessionParts) (can : CanSaveFast documen
       (omega (arith, (small document parts can formed items pieces).exact, can.judged.sectors))
 
   module _ (file : List ℕ) (made : IsAppended save file) where
-    read : IsSavedIn file document (fast_saved_text save made.clx) (fast_table save made.clx) (fast_contents save
-        made.clx)
+    read : IsSavedIn file document (fast_saved_text save made.clx) (fast_table save made.clx) made.contents
     read =
-        files_hold file document (fast_saved_text save made.clx) (fast_table save made.clx) (fast_contents save
-        made.clx)
-        formed can.session.sound
+        files_hold file document (fast_saved_text save made.clx) (fast_table save made.clx) made.contents formed
+        can.session.sound
         (fast_saves_are_saves document (old_stream save) (plan_of save) (fast_saved_text save made.clx)
-        (fast_table save made.clx) (fast_contents save made.clx) made.saved)
+        (fast_table save made.clx) made.contents made.saved)
         made.container
 
     new_wd : read.holds.parts.text.wd ≡ fast_wd save made.clx
@@ -140,16 +142,16 @@ module _ (document : Document) (parts : SessionParts) (can : CanSaveFast documen
 
     behind : IsBehind can.counts can.session.held.parts.text.wd read.holds.parts.text.wd
     behind =
-        let old = wd_is document parts can formed items pieces in
+        let wd_was = wd_is document parts can formed items pieces in
         let short =
         appended_saves_are_short (save_counts can.counts (length (table_stream document))) save made.clx
         (counted document parts can formed items pieces) made.printed in
         let wd = short.wd in
         record {
           keeps =
-              subst (λ (w : List ℕ). KeepsBytes w read.holds.parts.text.wd) old
+              subst (λ (w : List ℕ). KeepsBytes w read.holds.parts.text.wd) wd_was
               (subst (KeepsBytes (old_wd save)) (sym new_wd) made.saved.keeps.bytes);
-          grown = omega (arith, wd, ap length old, ap length new_wd);
+          grown = omega (arith, wd, ap length wd_was, ap length new_wd);
           complex =
               ap (λ (w : List ℕ). (fib_fields w).complex) new_wd
               ∙ (ap (λ (f : FibFields). f.complex) made.fib ∙ fast_complex save made.clx);
@@ -180,22 +182,22 @@ module _ (document : Document) (parts : SessionParts) (can : CanSaveFast documen
     -- the old units are bounded in the old stream
     before_bounded : IsBoundedFile can.session.held → AreBoundedBefore save
     before_bounded old_file k place end here there low =
-        let old = can.session.bounded old_file in
+        let units = can.session.bounded old_file in
         let slot = slot_there document (ends_of parts.text.ends) k end there in
         subst (λ (s : PagedStream). IsBounded s place.at place.wide end)
         (sym (old_stream_is document parts can formed items pieces))
-        (old.each k place slot.slot here slot.here low end slot.is)
+        (units.each k place slot.slot here slot.here low end slot.is)
 
     abbrev saved_as : SavedCopy
     saved_as = record {
       document = document;
       saved = fast_saved_text save made.clx;
       table = fast_table save made.clx;
-      contents = fast_contents save made.clx;
+      contents = made.contents;
       formed = formed;
       right = sound_is_right document can.session.sound;
       is = fast_saves_are_saves document (old_stream save) (plan_of save) (fast_saved_text save made.clx)
-          (fast_table save made.clx) (fast_contents save made.clx) made.saved;
+          (fast_table save made.clx) made.contents made.saved;
     }
 
     new_stream_is : saved_stream read.holds ≡ (fast_saved_text save made.clx).stream
@@ -225,6 +227,19 @@ module _ (document : Document) (parts : SessionParts) (can : CanSaveFast documen
         (λ (s : PagedStream). AreBounded s (flat_pieces save.pieces) (text_ends (whole_text document save.ends)))
         (sym new_stream_is) law))
 
+    -- where the old stream has sectors of its own it stays in them
+    in_place : KeepsSectors old file can.session.held.parts.text.wd
+    in_place long =
+        let ready : Ready = record {
+          save = save;
+          can = can_append document parts can formed items pieces;
+          formed = formed;
+          items = items;
+        } in
+        let same = wd_is document parts can formed items pieces in
+        subst (λ (wd : List ℕ). StaysInPlace wd_name (fib_end wd) old file wd) same
+        (stays ready file made (omega (arith, ap length same, long)))
+
     pub fast_file : IsFastFile can file
     fast_file =
         record {
@@ -236,6 +251,7 @@ module _ (document : Document) (parts : SessionParts) (can : CanSaveFast documen
           behind = behind;
           within = within;
           bounded = bounded;
+          in_place = in_place;
         }
 
 -- ---- the session after it
@@ -250,9 +266,9 @@ pub record AreAfter (old : SessionParts) (behind : FastParts) (new : SessionPart
   pub fib : new.fib ≡ behind.fib
   pub contents : new.container ≡ behind.container
 
-module _ (document : Document) (parts : SessionParts) (can : CanSaveFast document parts) (file : List ℕ)
-    (made : IsFastFile can file) (behind : FastParts) (are : AreFastParts made.held.holds behind) (new : SessionParts)
-    (after : AreAfter parts behind new) where
+module _ {old : List ℕ} (document : Document) (parts : SessionParts) (can : CanSaveFast old document parts)
+    (file : List ℕ) (made : IsFastFile can file) (behind : FastParts) (are : AreFastParts made.held.holds behind)
+    (new : SessionParts) (after : AreAfter parts behind new) where
   abbrev opened : OpenedFile
   opened = record {
     document = document;
@@ -301,7 +317,7 @@ module _ (document : Document) (parts : SessionParts) (can : CanSaveFast documen
       let bins = made.within.bins in
       let before = ap bin_length can.session.fib in
       let grows =
-      bound_grows (sector_count can.file) can.counts.sectors (bytes_beside can.counts (length (table_stream document)))
+      bound_grows (sector_count old) can.counts.sectors (bytes_beside can.counts (length (table_stream document)))
       (bin_length (fib_fields can.session.held.parts.text.wd)) can.counts.bin_bytes can.counted.sectors
       (omega (arith, before, can.counted.bins)) in
       record {
@@ -321,7 +337,7 @@ module _ (document : Document) (parts : SessionParts) (can : CanSaveFast documen
 
   pub saved_fast :
       IsSavedFast
-      (record { bytes = can.file; document = document; counts = can.counts; quick_saves = parts.fib.quick_saves })
+      (record { bytes = old; document = document; counts = can.counts; quick_saves = parts.fib.quick_saves })
       (record {
         bytes = file;
         document = document;
@@ -341,4 +357,5 @@ module _ (document : Document) (parts : SessionParts) (can : CanSaveFast documen
     count = made.quick_saves;
     within = made.within;
     bounded = record { saved = can.session.saved; held = can.session.held; stays = made.bounded };
+    in_place = made.in_place;
   }

@@ -52,8 +52,8 @@ session_again file document parts marks text session again = record {
 }
 
 counted_again : (file : List ℕ) (document : Document) (parts : SessionParts) (counts : Counts) (marks : Bool)
-    (text : SessionText) → IsCountedText file document parts counts → IsFitting document parts counts marks text →
-    IsCountedText file document (with_text parts text) counts
+    (text : SessionText) → IsCountedText file parts counts → IsFitting document parts counts marks text →
+    IsCountedText file (with_text parts text) counts
 counted_again file document parts counts marks text counted fits =
     let count = fits.again.count in
     let pieces = counted.pieces in
@@ -76,33 +76,33 @@ counted_again file document parts counts marks text counted fits =
 
 -- ---- the text that is chosen
 
-pub chosen_session : (document : Document) (parts : SessionParts) (counts : Counts) (chosen : Option SessionText) →
-    (can : CanWrite document parts counts) → IsTextToWrite document parts counts chosen →
-    IsSession can.file document (with_text parts (unwrap_or chosen parts.text))
-chosen_session document parts counts None can is = can.session
-chosen_session document parts counts (Some text) can (inl fits) =
-    session_again can.file document parts true text can.session fits.again
-chosen_session document parts counts (Some text) can (inr (much, fits)) =
-    session_again can.file document parts false text can.session fits.again
+pub chosen_session : (file : List ℕ) (document : Document) (parts : SessionParts) (counts : Counts)
+    (chosen : Option SessionText) → (can : CanWrite file document parts counts) →
+    IsTextToWrite document parts counts chosen → IsSession file document (with_text parts (unwrap_or chosen parts.text))
+chosen_session file document parts counts None can is = can.session
+chosen_session file document parts counts (Some text) can (inl fits) =
+    session_again file document parts true text can.session fits.again
+chosen_session file document parts counts (Some text) can (inr (much, fits)) =
+    session_again file document parts false text can.session fits.again
 
-pub chosen_counted : (document : Document) (parts : SessionParts) (counts : Counts) (chosen : Option SessionText) →
-    (can : CanWrite document parts counts) → IsTextToWrite document parts counts chosen →
-    IsCountedText can.file document (with_text parts (unwrap_or chosen parts.text)) counts
-chosen_counted document parts counts None can is = can.counted
-chosen_counted document parts counts (Some text) can (inl fits) =
-    counted_again can.file document parts counts true text can.counted fits
-chosen_counted document parts counts (Some text) can (inr (much, fits)) =
-    counted_again can.file document parts counts false text can.counted fits
+pub chosen_counted : (file : List ℕ) (document : Document) (parts : SessionParts) (counts : Counts)
+    (chosen : Option SessionText) → (can : CanWrite file document parts counts) →
+    IsTextToWrite document parts counts chosen →
+    IsCountedText file (with_text parts (unwrap_or chosen parts.text)) counts
+chosen_counted file document parts counts None can is = can.counted
+chosen_counted file document parts counts (Some text) can (inl fits) =
+    counted_again file document parts counts true text can.counted fits
+chosen_counted file document parts counts (Some text) can (inr (much, fits)) =
+    counted_again file document parts counts false text can.counted fits
 
 -- the session can be saved with it
-abbrev pub can_written : (document : Document) (parts : SessionParts) (counts : Counts) (chosen : Option SessionText) →
-    CanWrite document parts counts → IsTextToWrite document parts counts chosen →
-    CanSaveFast document (with_text parts (unwrap_or chosen parts.text))
-can_written document parts counts chosen can is = record {
-  file = can.file;
+abbrev pub can_written : (file : List ℕ) (document : Document) (parts : SessionParts) (counts : Counts)
+    (chosen : Option SessionText) → CanWrite file document parts counts → IsTextToWrite document parts counts chosen →
+    CanSaveFast file document (with_text parts (unwrap_or chosen parts.text))
+can_written file document parts counts chosen can is = record {
   counts = counts;
-  session = chosen_session document parts counts chosen can is;
-  counted = chosen_counted document parts counts chosen can is;
+  session = chosen_session file document parts counts chosen can is;
+  counted = chosen_counted file document parts counts chosen can is;
   judged = can.judged;
 }
 
@@ -162,12 +162,13 @@ written_room file document parts session =
 -- ---- the pages of the text before it is written
 
 -- the file has a bin table of paragraphs
-pub bins_there : (document : Document) (parts : SessionParts) → CanSaveFast document parts → IsFormed document →
+pub bins_there : (file : List ℕ) (document : Document) (parts : SessionParts) → CanSaveFast file document parts →
+    IsFormed document →
     IsFormedText parts.text.added.items → ArePieces parts.text.pieces.pieces →
     HasParagraphBins parts.fib parts.container
-bins_there document parts can formed items pieces =
+bins_there file document parts can formed items pieces =
     let ready : Ready = record {
-      save = save_in document parts;
+      save = save_in file document parts;
       can = can_append document parts can formed items pieces;
       formed = formed;
       items = items;

@@ -2,6 +2,8 @@
 use Rattle.std.specs.Prelude.{◌≡◌, ℕ, ◌+◌, ◌*◌, ◌<◌, ◌≤◌, List, length, true, false}
 use Rattle.doc_bits.specs.Number.{AreBytes}
 use Rattle.cfb_sectors.specs.Header.{sector_count}
+use Rattle.cfb_streams.specs.Names.{wd_name}
+use Rattle.cfb_append.specs.InPlace.{StaysInPlace}
 use Rattle.cfb_layout.specs.Counts.{most_sectors}
 use Rattle.cfb_layout.specs.Sectors.{units_for}
 use Rattle.fib_form.specs.FibFields.{fib_fields}
@@ -12,9 +14,10 @@ use Rattle.doc_read.specs.Holds.{FileParts, HasFileParts, HoldsDocument, IsAccep
 use Rattle.save_laws.specs.Ends.{ends_of}
 use Rattle.save_laws.specs.Slots.{StoryEnds, story_counts}
 use Rattle.save_laws.specs.KeptPages.{KeepsBytes}
+use Rattle.save_laws.specs.Places.{fib_end}
 use Rattle.save_bounds.specs.FastSizes.{SaveCounts}
 use Rattle.append_save.specs.Saves.{FastSave}
-use Rattle.append_save.specs.Appended.{page_count}
+use Rattle.append_save.specs.AddedPages.{paragraph_bins, pages_behind}
 use Rattle.edited_text.specs.SessionText.{HaveNoModifiers, HaveModifiersWithin, unwritten_count}
 use Rattle.fast_save.specs.declared.fast.FastFault.{FastFault}
 use Rattle.fast_save.specs.declared.fast.FastFault.TheVariants.{Sixteenth, TooManyPieces, TooLarge, Memory}
@@ -64,9 +67,10 @@ IsFastFault quick_saves counts table_bytes Memory = Unit {0}
 
 -- ---- what it is made of
 
--- the document and what a session has beside it
-abbrev pub save_in : Document → SessionParts → FastSave
-save_in document parts = record {
+-- the file that was given or last saved, the document, and what a session has beside it
+abbrev pub save_in : List ℕ → Document → SessionParts → FastSave
+save_in file document parts = record {
+  file = file;
   fib = parts.fib;
   contents = parts.container;
   document = document;
@@ -90,27 +94,31 @@ save_counts counts table_bytes = record {
   bin_bytes = counts.bin_bytes;
 }
 
+-- the pages that its text takes
+abbrev pub written_pages : SessionParts → ℕ
+written_pages parts =
+    pages_behind (paragraph_bins parts.fib parts.container) parts.text.added.base parts.text.added.items
+
 -- what a save needs of the counts: none is less than what it counts, where the pages are those that are written. So a
 -- text may be written that has other items and the same document, if they are few enough
-pub record IsCountedText (file : List ℕ) (document : Document) (parts : SessionParts) (counts : Counts) : Type 0 where
+pub record IsCountedText (file : List ℕ) (parts : SessionParts) (counts : Counts) : Type 0 where
   pub pieces : length parts.text.pieces.pieces ≤ counts.pieces
   pub modified : counts.modified ≡ false → HaveNoModifiers parts.text.pieces.pieces
   pub printed : HaveModifiersWithin counts.printed parts.text.pieces.pieces
   pub sectors : sector_count file ≤ counts.sectors
   pub few : counts.sectors ≤ most_sectors
   pub bins : bin_length parts.fib ≤ counts.bin_bytes
-  pub pages : 8 * page_count (save_in document parts) ≤ 16 * counts.runs + 256
+  pub pages : 8 * written_pages parts ≤ 16 * counts.runs + 256
   pub text :
-      512 * units_for 512 (2 * length parts.text.added.items) + 512 * page_count (save_in document parts)
+      512 * units_for 512 (2 * length parts.text.added.items) + 512 * written_pages parts
       ≤ 2 * counts.units + 512 * counts.runs + 1536
   pub unwritten : unwritten_count parts.text.sections.items ≤ counts.sections
 
--- a session whose counts do not refuse a fast save
-pub record CanSaveFast (document : Document) (parts : SessionParts) : Type 0 where
-  pub file : List ℕ
+-- a session on a file, whose counts do not refuse a fast save
+pub record CanSaveFast (file : List ℕ) (document : Document) (parts : SessionParts) : Type 0 where
   pub counts : Counts
   pub session : IsSession file document parts
-  pub counted : IsCountedText file document parts counts
+  pub counted : IsCountedText file parts counts
   pub judged : IsJudged parts.fib.quick_saves counts (length (table_stream document))
 
 -- ---- what a session has of the file after it
@@ -156,19 +164,24 @@ pub record IsWithin (counts : Counts) (table_bytes : ℕ) (file wd stream : List
   pub bins : bin_length (fib_fields wd) ≤ counts.bin_bytes + 16 * counts.runs + 256
   pub sectors : sector_count file ≤ sector_bound counts table_bytes
 
+-- a stream with sectors of its own stays in them: the first sectors of its chain are the old ones, as many as the old
+-- bytes need, and each byte behind the FIB stands where it stood in the file
+abbrev pub KeepsSectors : List ℕ → List ℕ → List ℕ → Type 0
+KeepsSectors old new wd = 4096 ≤ length wd → StaysInPlace wd_name (fib_end wd) old new wd
+
 -- the file of a fast save: the document is saved behind the old WordDocument, by the pieces that are there, with one
--- quick
--- save more, and within what is reckoned over the old file
-pub record IsFastFile {document : Document} {parts : SessionParts} (can : CanSaveFast document parts) (file : List ℕ) :
-    Type 0 where
+-- quick save more, and within what is reckoned over the old file
+pub record IsFastFile {old : List ℕ} {document : Document} {parts : SessionParts}
+    (can : CanSaveFast old document parts) (file : List ℕ) : Type 0 where
   pub held : IsHeldFile file document
   pub pieces : held.holds.parts.text.pieces ≡ parts.text.pieces.pieces
   pub quick_saves : (fib_fields held.holds.parts.text.wd).quick_saves ≡ parts.fib.quick_saves + 1
   pub behind : IsBehind can.counts can.session.held.parts.text.wd held.holds.parts.text.wd
   pub within :
-      IsWithin (counts_over can.file can.session.held.parts.text.wd can.counts) (length (table_stream document)) file
+      IsWithin (counts_over old can.session.held.parts.text.wd can.counts) (length (table_stream document)) file
       held.holds.parts.text.wd held.holds.parts.text.table
   pub bounded : IsBoundedFile can.session.held → IsBoundedFile held.holds
+  pub in_place : KeepsSectors old file can.session.held.parts.text.wd
 
 -- ---- the session after it
 
@@ -180,8 +193,8 @@ pub record StaysBounded (old : List ℕ) {new : List ℕ} {document : Document} 
   pub stays : IsBoundedFile held → IsBoundedFile holds
 
 -- the counts did not refuse it; the file is accepted and holds the document, behind the old WordDocument, and is within
--- what is reckoned over the old file; there is one quick save more, as its FIB says, and the counts are those after a
--- fast save
+-- what is reckoned over the old file; WordDocument stays in its sectors; there is one quick save more, as its FIB says,
+-- and the counts are those after a fast save
 pub record IsSavedFast (old new : SessionView) : Type 0 where
   pub judged : IsJudged old.quick_saves old.counts (length (table_stream old.document))
   pub accepted : IsAccepted new.bytes
@@ -197,3 +210,4 @@ pub record IsSavedFast (old new : SessionView) : Type 0 where
       IsWithin (counts_over old.bytes before.text.wd old.counts) (length (table_stream old.document)) new.bytes
       holds.parts.text.wd holds.parts.text.table
   pub bounded : StaysBounded old.bytes holds
+  pub in_place : KeepsSectors old.bytes new.bytes before.text.wd

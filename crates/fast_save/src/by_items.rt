@@ -5,8 +5,8 @@ ghost use Rattle.plain_doc.specs.Sound.{IsSound};
 ghost use Rattle.full_save.specs.Layout.{full_save_image, FitsCompoundFile, IsTooLarge};
 
 use doc_bits::{Bytes, Memory};
-use doc_columns::ColumnDocument;
-use full_save::{SaveFault, columns_are_formed, full_by_columns};
+use doc_columns::{ColumnDocument, columns_are_formed};
+use full_save::{SaveFault, full_by_columns};
 use plain_doc::{Document, documents_are_formed};
 use std::alloc::Global;
 

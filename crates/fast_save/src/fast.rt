@@ -15,11 +15,10 @@ use crate::ledgers::Counts;
 use crate::parts::SessionParts;
 use append_save::{AppendFault, EditedText, SavedFile, append};
 use doc_bits::{Bytes, Memory};
-use doc_columns::ColumnDocument;
+use doc_columns::{ColumnDocument, columns_are_formed};
 use edited_text::SessionText;
 use fib_form::Fib;
 use full_save::table_len_by_columns;
-use plain_doc::{Document, documents_are_formed};
 use std::alloc::Global;
 use thiserror::Error;
 
@@ -125,19 +124,22 @@ fn few_sectors(counts: &Counts, table_bytes: u64) -> Result<u64, FastFault>
 /// The file of a document whose text is this one, saved behind the file that is there.
 pub(crate) fn appended(
     alloc: Global,
-    document: &Document,
+    bytes: &[u8],
+    document: &ColumnDocument,
     parts: &SessionParts,
     text: &SessionText,
 ) -> Result<Bytes, FastFault>
-    requires { CanSaveFast document.now (record parts.now { text = text.now }) }
+    requires { CanSaveFast bytes.now document.now (record parts.now { text = text.now }) }
     ensures { MatchResult result
-        (λ file. (can : CanSaveFast document.now (record parts.now { text = text.now })) → IsFastFile can file)
+        (λ file. (can : CanSaveFast bytes.now document.now (record parts.now { text = text.now })) →
+        IsFastFile can file)
         (λ fault. fault ≡ NoMemory) }
 {
     text_is_formed(document, text);
     let old = SavedFile {
         fib: &parts.fib,
         container: &parts.container,
+        bytes,
     };
     let edited = EditedText {
         pieces: &text.pieces,
@@ -156,12 +158,12 @@ pub(crate) fn appended(
 }
 
 /// What the types of a document and of its text tell.
-pub(crate) fn text_is_formed(document: &Document, text: &SessionText)
+pub(crate) fn text_is_formed(document: &ColumnDocument, text: &SessionText)
     ensures document { IsFormed document.now }
     ensures items { IsFormedText text.now.added.items }
     ensures pieces { ArePieces text.now.pieces.pieces }
 {
-    documents_are_formed(document);
-    let _ = text.added.items.as_slice();
+    columns_are_formed(document);
+    let _ = text.added.items.len();
     let _ = text.pieces.len();
 }

@@ -23,12 +23,12 @@ use crate::ledgers::{Counts, Ledgers};
 use crate::parts::{SessionParts, bin_bytes, pieces_are_few};
 use crate::written::{put_pieces, written_file};
 use doc_bits::{Bytes, Memory};
-use doc_columns::ColumnDocument;
+use doc_columns::{ColumnDocument, Columns};
 use doc_read::{ReadFault, open};
 use edit_ops::{Command, Edit, EditFault, Facts, edit_of};
 use edited_text::Added;
 use full_save::{SaveFault, table_len_by_columns};
-use plain_doc::{Document, Items};
+use plain_doc::Document;
 use std::alloc::Global;
 use std::marker::Model;
 
@@ -149,12 +149,18 @@ impl Session {
             × IsFastFault self.old.quick_saves self.old.counts (length (table_stream self.old.document)) fault) }
     {
         let sectors = judged(self.alloc, &self.document, &self.parts.fib, &self.counts)?;
-        let written = written_file(self.alloc, &self.document, &self.parts, &self.counts)?;
+        let written = written_file(
+            self.alloc,
+            self.file.as_slice(),
+            &self.document,
+            &self.parts,
+            &self.counts,
+        )?;
         let behind = FastParts::of_file(self.alloc, &self.document, written.file.as_slice())?;
         put_pieces(&mut self.parts.text.pieces, written.pieces);
         self.parts.text.added = Added {
             base: behind.base,
-            items: Items::new(self.alloc),
+            items: Columns::new(self.alloc),
         };
         self.parts.text.ends = behind.ends;
         self.parts.text.sections = behind.places;
@@ -163,6 +169,14 @@ impl Session {
         self.counts = self.counts.after_fast(sectors);
         self.file = written.file;
         Ok(())
+    }
+
+    /// The document now, by columns.
+    pub fn columns(&self) -> &ColumnDocument
+        ensures same { result.now ≡ self.now.document }
+        ensures sound { IsSound result.now }
+    {
+        &self.document
     }
 
     /// The document now.

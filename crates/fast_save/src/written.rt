@@ -1,6 +1,5 @@
 // The text that a fast save writes: one that is written again, where it takes no more than is reckoned.
 ghost use Rattle.std.specs.Prelude.{◌≡◌, ◌↔◌, ◌+◌, ◌*◌, ◌≤◌, IsTrue, IfOk, MatchResult, MatchOption, length};
-ghost use Rattle.plain_doc.specs.declared.document.Document.{Document as DocumentValue};
 ghost use Rattle.append_save.specs.AddedPages.{HasParagraphBins, HavePages};
 ghost use Rattle.fast_save.specs.declared.fast.FastFault.TheVariants.{Memory as NoMemory};
 ghost use Rattle.fast_save.specs.Written.{CanWrite, HasFewPages, IsFitting, IsTooMuch, IsTextToWrite, IsWrittenFile};
@@ -14,7 +13,6 @@ use doc_bits::{Bytes, Memory};
 use doc_columns::ColumnDocument;
 use edited_text::SessionText;
 use piece_table::PieceList;
-use plain_doc::Document;
 use std::alloc::Global;
 
 /// The bytes of a page.
@@ -30,35 +28,23 @@ pub(crate) struct WrittenFile {
 /// The file of a document, with its text written again where that takes no more than is reckoned.
 pub(crate) fn written_file(
     alloc: Global,
+    bytes: &[u8],
     document: &ColumnDocument,
     parts: &SessionParts,
     counts: &Counts,
 ) -> Result<WrittenFile, FastFault>
-    requires { CanWrite document.now parts.now counts.now }
-    ensures { MatchResult result (IsWrittenFile document.now parts.now counts.now) (λ fault. fault ≡ NoMemory) }
+    requires { CanWrite bytes.now document.now parts.now counts.now }
+    ensures { MatchResult result
+        (IsWrittenFile bytes.now document.now parts.now counts.now) (λ fault. fault ≡ NoMemory) }
 {
-    let items = document.expand(alloc)?;
-    written_by_items(alloc, &items, parts, counts)
-}
-
-/// The same of a document item by item.
-fn written_by_items(
-    alloc: Global,
-    document: &Document,
-    parts: &SessionParts,
-    counts: &Counts,
-) -> Result<WrittenFile, FastFault>
-    requires { CanWrite document.now parts.now counts.now }
-    ensures { MatchResult result (IsWrittenFile document.now parts.now counts.now) (λ fault. fault ≡ NoMemory) }
-{
-    match text_to_write(alloc, document, parts, counts)? {
+    match text_to_write(alloc, bytes, document, parts, counts)? {
         Some(text) => {
-            let file = appended(alloc, document, parts, &text)?;
+            let file = appended(alloc, bytes, document, parts, &text)?;
             let pieces = Some(text.pieces);
             Ok(WrittenFile { file, pieces })
         }
         None => {
-            let file = appended(alloc, document, parts, &parts.text)?;
+            let file = appended(alloc, bytes, document, parts, &parts.text)?;
             Ok(WrittenFile { file, pieces: None })
         }
     }
@@ -67,41 +53,44 @@ fn written_by_items(
 /// The text that is written again, with old pieces that set marks or without, where it takes no more than is reckoned.
 fn text_to_write(
     alloc: Global,
-    document: &Document,
+    bytes: &[u8],
+    document: &ColumnDocument,
     parts: &SessionParts,
     counts: &Counts,
 ) -> Result<Option<SessionText>, Memory>
-    requires { CanWrite document.now parts.now counts.now }
+    requires { CanWrite bytes.now document.now parts.now counts.now }
     ensures { IfOk result (IsTextToWrite document.now parts.now counts.now) }
 {
-    let whole = fitting(alloc, document, parts, counts, true)?;
+    let whole = fitting(alloc, bytes, document, parts, counts, true)?;
     match whole {
         Some(text) => Ok(Some(text)),
-        None => fitting(alloc, document, parts, counts, false),
+        None => fitting(alloc, bytes, document, parts, counts, false),
     }
 }
 
 /// The text written again, where it takes no more than is reckoned.
 fn fitting(
     alloc: Global,
-    document: &Document,
+    bytes: &[u8],
+    document: &ColumnDocument,
     parts: &SessionParts,
     counts: &Counts,
     marks: bool,
 ) -> Result<Option<SessionText>, Memory>
-    requires { CanWrite document.now parts.now counts.now }
+    requires { CanWrite bytes.now document.now parts.now counts.now }
     ensures { IfOk result (λ text. MatchOption text (IsTooMuch document.now parts.now counts.now marks)
         (IsFitting document.now parts.now counts.now marks)) }
 {
     text_is_formed(document, &parts.text);
     let text = parts.text.written_again(alloc, document, marks)?;
-    let few = has_few_pages(alloc, parts, &text, counts)?;
+    let few = has_few_pages(alloc, bytes, parts, &text, counts)?;
     if few { Ok(Some(text)) } else { Ok(None) }
 }
 
 /// Whether the pages of a text and the bytes of its units are no more than is reckoned.
 fn has_few_pages(
     alloc: Global,
+    bytes: &[u8],
     parts: &SessionParts,
     text: &SessionText,
     counts: &Counts,
@@ -111,12 +100,12 @@ fn has_few_pages(
     requires few { length text.now.added.items ≤ 500001 }
     requires runs { counts.now.runs ≤ 6976000 }
     requires units { counts.now.units ≤ 6976000 }
-    ensures { IfOk result (λ few. (document : DocumentValue) →
-        IsTrue few ↔ HasFewPages document (with_text parts.now text.now) counts.now) }
+    ensures { IfOk result (λ few. IsTrue few ↔ HasFewPages (with_text parts.now text.now) counts.now) }
 {
     let old = SavedFile {
         fib: &parts.fib,
         container: &parts.container,
+        bytes,
     };
     let edited = EditedText {
         pieces: &text.pieces,

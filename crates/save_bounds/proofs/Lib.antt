@@ -9,3 +9,4 @@ pub mod SectorLemmas
 pub mod RenewedLemmas
 pub mod SizeLemmas
 pub mod FileLemmas
+pub mod BehindLemmas

@@ -6,3 +6,4 @@ pub mod TableLengths
 pub mod SectorCounts
 pub mod FastSizes
 pub mod FastFiles
+pub mod FilesBehind

@@ -8,6 +8,7 @@ ghost use Rattle.save_bounds.specs.TableLengths.{TablesDifferByOwnParts, TablesA
 ghost use Rattle.save_bounds.specs.SectorCounts.{LongerStreamsFit, NamedStreamsAreRenewed};
 ghost use Rattle.save_bounds.specs.FastSizes.{CountsBoundStreams, SepxIsShort};
 ghost use Rattle.save_bounds.specs.FastFiles.{FastSavesFit, FastStreamsFit};
+ghost use Rattle.save_bounds.specs.FilesBehind.{SavesBehindAreFew};
 
 /// A Clx has for each piece a CP, a Pcd and one Prc at most.
 pub fn clx_is_short()
@@ -107,4 +108,9 @@ pub fn sepx_is_short()
 /// The streams of a fast save fit a file where their counts say so, and it has no more sectors than are reckoned.
 pub fn fast_streams_fit()
     ensures { FastStreamsFit }
+{}
+
+/// What is counted bounds the sectors of a fast save in the file's own sectors.
+pub fn saves_behind_are_few()
+    ensures { SavesBehindAreFew }
 {}

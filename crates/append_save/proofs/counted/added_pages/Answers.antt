@@ -14,9 +14,8 @@ pub character_pages-requires-clause-runs : goal.character_pages-requires-clause-
 character_pages-requires-clause-runs c =
     let base = c.args.text.now.base in
     let items = c.args.text.now.added.now in
-    let writable = writable_items items c.as_slice-items.ensures.formed c.requires.text.short in
-    subst (λ (xs : List Item). AreRuns Chpx (text_runs Chpx base xs)) (sym c.as_slice-items.ensures.items)
-    (characters_right base items writable c.requires.text.small)
+    let writable = writable_items items c.len-len.ensures.formed c.requires.text.short in
+    characters_right base items writable c.requires.text.small
 
 pub paragraph_pages-requires-clause-table : goal.paragraph_pages-requires-clause-table
 paragraph_pages-requires-clause-table c =
@@ -26,20 +25,17 @@ pub paragraph_pages-requires-clause-runs : goal.paragraph_pages-requires-clause-
 paragraph_pages-requires-clause-runs c =
     let base = c.args.text.now.base in
     let items = c.args.text.now.added.now in
-    let writable = writable_items items c.as_slice-items.ensures.formed c.requires.text.short in
+    let writable = writable_items items c.len-len.ensures.formed c.requires.text.short in
     let old = c.old_part-table.ensures ∙ c.requires.file.named in
-    let same = c.as_slice-items.ensures.items in
-    subst (λ (x : List ℕ × List Item). AreRuns Papx (mark_runs x.0 base x.1)) (λ i. (sym old i, sym same i))
+    subst (λ (table : List ℕ). AreRuns Papx (mark_runs table base items)) (sym old)
     (marks_right base items writable c.requires.text.small
     (paragraph_bins c.args.old.now.fib.now c.args.old.now.container.now))
 
 pub returns : goal.returns
 returns c =
     let base = c.args.text.now.base in
+    let items = c.args.text.now.added.now in
     let old = c.old_part-table.ensures ∙ c.requires.file.named in
-    let same = c.as_slice-items.ensures.items in
-    let characters = c.in_ok-characters.ensures.count
-    ∙ ap (λ (xs : List Item). pages_taken Chpx (text_runs Chpx base xs)) same in
     let paragraphs = c.in_ok-paragraphs.ensures.count
-    ∙ (λ i. pages_taken Papx (mark_runs (old i) base (same i))) in
-    omega (arith, characters, paragraphs)
+    ∙ ap (λ (table : List ℕ). pages_taken Papx (mark_runs table base items)) old in
+    omega (arith, c.in_ok-characters.ensures.count, paragraphs)

@@ -1,7 +1,9 @@
-use Rattle.append_save.proofs.PlannedLemmas.{ArePlannedUpTo}
+use Rattle.std.specs.Prelude.{◌≡◌, take}
+use Rattle.run_lists.specs.Spread.{extent}
+use Rattle.append_save.specs.PlannedSections.{ArePlannedUpTo}
 use Rattle.append_save.proofs.sections.append_sections.Given as goal
 
-abbrev pub invariant-loop-cp : goal.invariant-loop-cp
-invariant-loop-cp l =
-    ArePlannedUpTo l.main l.places l.base l.fn.out l.cp l.number
-    (record { start = l.start; out = l.out; seds = l.seds })
+abbrev pub invariant-loop-run : goal.invariant-loop-run
+invariant-loop-run l =
+    (l.place ≡ extent (take l.run-index l.run-items)) × ArePlannedUpTo l.fn.main l.plan.places.now l.plan.base l.fn.out l.place
+    (record { number = l.sections.number; start = l.sections.start; out = l.out; seds = l.sections.seds })

@@ -9,10 +9,10 @@ use Rattle.doc_edit.proofs.generating.left_by.Goals as goal
 pub returns : goal.returns
 returns c =
     let now = c.args.session.now in
-    let document : c.in_ok-document.document ≡ now.document = c.in_ok-document.ensures.0 in
+    let document : c.columns-document.result.now ≡ now.document = c.columns-document.ensures.same in
     let units = c.all_items-units.ensures ∙ ap item_count document in
-    let items = c.as_slice.ensures.items ∙ ap (λ (d : Document). d.main) document in
-    let paragraphs = c.marks_in-paragraphs.ensures ∙ ap mark_count items in
+    let paragraphs = c.marks_in-paragraphs.ensures
+    ∙ ap (λ (d : Document). mark_count d.main) (c.document.view_is ∙ document) in
     let saves = c.generated_saves.ensures in
     generated_by c.args.seed now (record {
       image = c.in_ok-from_slice.field-0;

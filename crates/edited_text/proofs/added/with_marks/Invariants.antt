@@ -4,4 +4,4 @@ use Rattle.edited_text.proofs.added.with_marks.Given as goal
 
 -- so many marks are there
 abbrev pub invariant-loop-k : goal.invariant-loop-k
-invariant-loop-k l = l.items ≡ l.initial.items ++ replicate l._k extra_mark
+invariant-loop-k l = l.items ≡ l.fn.items ++ replicate l._k extra_mark

@@ -1,10 +1,16 @@
-use Rattle.std.proofs.Common.{arith}
+use Rattle.std.proofs.Common.{◌≡◌, List, Some, subst, arith}
 use Rattle.std.specs.Prelude.{slice_get}
+use Rattle.std.specs.Option.{option_map}
+use Rattle.piece_table.specs.Piece.{TextPiece}
 use Rattle.edited_text.proofs.WritingLemmas.{judged_piece}
 use Rattle.edited_text.proofs.writing.is_rewritten.Goals as goal
 
-pub returns-then-marks : goal.returns-then-marks
-returns-then-marks c =
-    judged_piece (slice_get c.args.text.now.pieces.pieces c.args.number) c.args.text.now.added.base c.args.marks
-    c.sets_marks.result c.piece-piece.result c.modifier.result.now c.piece-piece.ensures.value c.modifier.ensures.value
-    (omega (arith, c.end.ensures, c.if-end-text.false)) c.if-marks.true c.sets_marks.ensures
+pub returns-then-marks-clause-again : goal.returns-then-marks-clause-again
+returns-then-marks-clause-again c =
+    let number = c.args.number in
+    let modifier =
+    subst (λ (pieces : List TextPiece). option_map (λ (piece : TextPiece). piece.modifier) (slice_get pieces number)
+    ≡ Some c.modifier-modifier.result.now) c.piece-piece.ensures.same c.modifier-modifier.ensures.value in
+    judged_piece (slice_get c.args.walk.now number) c.args.base c.args.marks c.sets_marks.result c.piece-piece.result
+    c.modifier-modifier.result.now c.piece-piece.ensures.value modifier
+    (omega (arith, c.end.ensures, c.if-end-base.false)) c.if-marks.true c.sets_marks.ensures

@@ -13,7 +13,7 @@ pub append-requires : goal.append-requires
 append-requires c =
     let right = c.text_is_formed.ensures in
     let parts : SessionParts = with_text c.args.parts.now c.args.text.now in
-    let save : FastSave = save_in c.args.document.now parts in
+    let save : FastSave = save_in c.args.bytes.now c.args.document.now parts in
     subst (λ (places : List (Option ℕ)). CanBeAppended (record save { places = places })) (sym c.deref.ensures.value)
     (can_append c.args.document.now parts c.requires right.document right.items right.pieces)
 
@@ -21,7 +21,7 @@ pub returns-in-Ok : goal.returns-in-Ok
 returns-in-Ok c = λ can.
     let right = c.text_is_formed.ensures in
     let parts : SessionParts = with_text c.args.parts.now c.args.text.now in
-    let save : FastSave = save_in c.args.document.now parts in
+    let save : FastSave = save_in c.args.bytes.now c.args.document.now parts in
     let made : IsAppended save c.in-Ok.file =
     subst (λ (places : List (Option ℕ)). IsAppended (record save { places = places }) c.in-Ok.file)
     c.deref.ensures.value c.in-Ok.ensures in
@@ -31,7 +31,7 @@ pub unreachable-requires : goal.unreachable-requires
 unreachable-requires c =
     let right = c.text_is_formed.ensures in
     let parts : SessionParts = with_text c.args.parts.now c.args.text.now in
-    let save : FastSave = save_in c.args.document.now parts in
+    let save : FastSave = save_in c.args.bytes.now c.args.document.now parts in
     let fault : IsAppendFault save c.in-Err-Sixteenth.field-0 =
     subst (λ (places : List (Option ℕ)). IsAppendFault (record save { places = places }) c.in-Err-Sixteenth.field-0)
     c.deref.ensures.value c.in-Err-Sixteenth.ensures in
@@ -42,7 +42,7 @@ pub unreachable-requires-in-Err-TooLarge : goal.unreachable-requires-in-Err-TooL
 unreachable-requires-in-Err-TooLarge c =
     let right = c.text_is_formed.ensures in
     let parts : SessionParts = with_text c.args.parts.now c.args.text.now in
-    let save : FastSave = save_in c.args.document.now parts in
+    let save : FastSave = save_in c.args.bytes.now c.args.document.now parts in
     let fault : IsAppendFault save c.in-Err-TooLarge.field-0 =
     subst (λ (places : List (Option ℕ)). IsAppendFault (record save { places = places }) c.in-Err-TooLarge.field-0)
     c.deref.ensures.value c.in-Err-TooLarge.ensures in

@@ -7,11 +7,11 @@ use Rattle.fast_save.proofs.written.fitting.Goals as goal
 
 pub written_again-requires-clause-count : goal.written_again-requires-clause-count
 written_again-requires-clause-count c =
-    written_count c.requires.file c.args.document.now c.args.parts.now c.requires.session
+    written_count c.args.bytes.now c.args.document.now c.args.parts.now c.requires.session
 
 pub written_again-requires-clause-room : goal.written_again-requires-clause-room
 written_again-requires-clause-room c =
-    written_room c.requires.file c.args.document.now c.args.parts.now c.requires.session
+    written_room c.args.bytes.now c.args.document.now c.args.parts.now c.requires.session
 
 pub has_few_pages-requires : goal.has_few_pages-requires
 has_few_pages-requires c =
@@ -21,22 +21,24 @@ has_few_pages-requires c =
     let few = c.in_ok-text.ensures.few in
     let right = c.text_is_formed.ensures in
     record {
-      file = bins_there c.args.document.now c.args.parts.now (can_save can) right.document right.items right.pieces;
+      file =
+          bins_there c.args.bytes.now c.args.document.now c.args.parts.now (can_save can) right.document right.items
+          right.pieces;
       text =
-          pages_there can.file c.args.document.now c.args.parts.now c.args.marks c.in_ok-text.text can.session
+          pages_there c.args.bytes.now c.args.document.now c.args.parts.now c.args.marks c.in_ok-text.text can.session
           c.in_ok-text.ensures;
-      few = omega (arith, few, written_few can.file c.args.document.now c.args.parts.now can.session);
+      few = omega (arith, few, written_few c.args.bytes.now c.args.document.now c.args.parts.now can.session);
       runs = omega (arith, text);
       units = omega (arith, text);
     }
 
 pub returns-then-few : goal.returns-then-few
 returns-then-few c =
-    record { again = c.in_ok-text.ensures; few = (c.in_ok-few.ensures c.args.document.now).0 c.if-few.true }
+    record { again = c.in_ok-text.ensures; few = c.in_ok-few.ensures.0 c.if-few.true }
 
 pub returns-else-few : goal.returns-else-few
 returns-else-few c = record {
   text = c.in_ok-text.text;
   again = c.in_ok-text.ensures;
-  much = λ has. absurd (true≢false (sym ((c.in_ok-few.ensures c.args.document.now).1 has) ∙ c.if-few.false));
+  much = λ has. absurd (true≢false (sym (c.in_ok-few.ensures.1 has) ∙ c.if-few.false));
 }

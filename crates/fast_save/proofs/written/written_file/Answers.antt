@@ -1,16 +1,13 @@
-use Rattle.std.proofs.Common.{sym, subst}
-use Rattle.std.specs.Prelude.{◌≡◌, MatchResult}
-use Rattle.plain_doc.specs.declared.document.Document.{Document}
-use Rattle.fast_save.specs.declared.fast.FastFault.TheVariants.{Memory as NoMemory}
-use Rattle.fast_save.specs.Written.{CanWrite, IsWrittenFile}
+use Rattle.std.proofs.Common.{subst, Option, Some}
+use Rattle.edited_text.specs.declared.session_text.SessionText.{SessionText}
+use Rattle.fast_save.specs.Written.{IsTextToWrite}
+use Rattle.fast_save.proofs.WrittenLemmas.{can_written}
 use Rattle.fast_save.proofs.written.written_file.Goals as goal
 
-pub written_by_items-requires : goal.written_by_items-requires
-written_by_items-requires c =
-    subst (λ (d : Document). CanWrite d c.args.parts.now c.args.counts.now) (sym c.in_ok-items.ensures) c.requires
-
-pub returns : goal.returns
-returns c =
-    subst
-    (λ (d : Document). MatchResult c.written_by_items.result (IsWrittenFile d c.args.parts.now c.args.counts.now)
-    (λ fault. fault ≡ NoMemory)) c.in_ok-items.ensures c.written_by_items.ensures
+pub appended-requires : goal.appended-requires
+appended-requires c =
+    let document = c.args.document.now in
+    let parts = c.args.parts.now in
+    let counts = c.args.counts.now in
+    can_written c.args.bytes.now document parts counts (Some c.in-Some.text) c.requires
+    (subst (λ (o : Option SessionText). IsTextToWrite document parts counts o) c.in-Some.is c.in_ok-text.ensures)

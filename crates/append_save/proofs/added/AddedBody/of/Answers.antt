@@ -1,4 +1,4 @@
-use Rattle.std.proofs.Common.{◌≡◌, ◌∙◌, ◌+◌, ◌*◌, ◌≤◌, ◌++◌, ℕ, List, length, sym, ap, subst, arith}
+use Rattle.std.proofs.Common.{◌≡◌, ◌∙◌, ◌+◌, ◌*◌, ◌≤◌, ◌++◌, ℕ, List, length, refl, sym, ap, subst, arith}
 use Rattle.std.specs.Prelude.{All}
 use Rattle.cfb_layout.specs.Sectors.{units_for}
 use Rattle.fkp_pages.specs.declared.kind.PageKind.TheVariants.{Chpx, Papx}
@@ -7,6 +7,7 @@ use Rattle.fkp_pages.specs.Runs.{AreRuns}
 use Rattle.fkp_pages.specs.Packed.{pages_of}
 use Rattle.fkp_pages.specs.InARow.{numbered_bins}
 use Rattle.plain_doc.specs.declared.item.Item.{Item}
+use Rattle.plain_doc.specs.declared.document.Document.{Document}
 use Rattle.plain_doc.specs.Collected.{sections_of}
 use Rattle.full_save.specs.Runs.{text_runs}
 use Rattle.full_save.specs.Sections.{HasSavableSection}
@@ -28,39 +29,39 @@ use Rattle.append_save.proofs.added.AddedBody.of.Goals as goal
 pub old_part-table-requires : goal.old_part-table-requires
 old_part-table-requires c =
     let save : FastSave = save_of c.args.old.now c.args.document.now c.args.text.now in
-    let r = ready save c.requires.kept c.requires.formed c.as_slice-items.ensures.formed in
+    let r = ready save c.requires.kept c.requires.formed c.len-len.ensures.formed in
     characters_within r
 
 pub add_characters-requires-clause-old : goal.add_characters-requires-clause-old
 add_characters-requires-clause-old c =
     let save : FastSave = save_of c.args.old.now c.args.document.now c.args.text.now in
-    let r = ready save c.requires.kept c.requires.formed c.as_slice-items.ensures.formed in
+    let r = ready save c.requires.kept c.requires.formed c.len-len.ensures.formed in
     let old = c.old_part-table.ensures ∙ characters_named r in
     subst IsBinTable (sym old) (old_table_is Chpx r)
 
 pub add_characters-requires-clause-runs : goal.add_characters-requires-clause-runs
 add_characters-requires-clause-runs c =
     let save : FastSave = save_of c.args.old.now c.args.document.now c.args.text.now in
-    let r = ready save c.requires.kept c.requires.formed c.as_slice-items.ensures.formed in
-    let same = c.as_slice-items.ensures.items in
+    let r = ready save c.requires.kept c.requires.formed c.len-len.ensures.formed in
+    let same : c.args.text.now.added.now ≡ c.args.text.now.added.now = refl in
     subst (λ (xs : List Item). AreRuns Chpx (text_runs Chpx save.base xs)) (sym same) (runs_right Chpx r)
 
 pub add_characters-requires-clause-room : goal.add_characters-requires-clause-room
 add_characters-requires-clause-room c =
     let save : FastSave = save_of c.args.old.now c.args.document.now c.args.text.now in
-    let r = ready save c.requires.kept c.requires.formed c.as_slice-items.ensures.formed in
-    let same = c.as_slice-items.ensures.items in
-    let first = c.pages_for-first.ensures ∙ ap (λ (xs : List Item). units_for 512 (save.base + 2 * length xs)) same in
+    let r = ready save c.requires.kept c.requires.formed c.len-len.ensures.formed in
+    let same : c.args.text.now.added.now ≡ c.args.text.now.added.now = refl in
+    let first = c.pages_for-first.ensures ∙ ap (λ (n : ℕ). units_for 512 (save.base + 2 * n)) c.len-len.ensures.len in
     subst (λ (x : ℕ × List Item). x.0 + length (text_runs Chpx save.base x.1) ≤ 4194304)
     (λ i. (sym first i, sym same i)) (have_room r).characters
 
 pub add_characters-requires-clause-printable : goal.add_characters-requires-clause-printable
 add_characters-requires-clause-printable c =
     let save : FastSave = save_of c.args.old.now c.args.document.now c.args.text.now in
-    let r = ready save c.requires.kept c.requires.formed c.as_slice-items.ensures.formed in
-    let same = c.as_slice-items.ensures.items in
+    let r = ready save c.requires.kept c.requires.formed c.len-len.ensures.formed in
+    let same : c.args.text.now.added.now ≡ c.args.text.now.added.now = refl in
     let old = c.old_part-table.ensures ∙ characters_named r in
-    let first = c.pages_for-first.ensures ∙ ap (λ (xs : List Item). units_for 512 (save.base + 2 * length xs)) same in
+    let first = c.pages_for-first.ensures ∙ ap (λ (n : ℕ). units_for 512 (save.base + 2 * n)) c.len-len.ensures.len in
     subst (λ (x : List ℕ × (ℕ × List Item)). ArePrintableBins
     (kept_bins x.0 save.base ++ numbered_bins x.1.0 (pages_of Chpx (text_runs Chpx save.base x.1.1)).starts)
     (save.base + 2 * length x.1.1)) (λ i. (sym old i, (sym first i, sym same i))) (bins_printable Chpx r)
@@ -68,21 +69,21 @@ add_characters-requires-clause-printable c =
 pub old_part-table-requires-2 : goal.old_part-table-requires-2
 old_part-table-requires-2 c =
     let save : FastSave = save_of c.args.old.now c.args.document.now c.args.text.now in
-    let r = ready save c.requires.kept c.requires.formed c.as_slice-items.ensures.formed in
+    let r = ready save c.requires.kept c.requires.formed c.len-len.ensures.formed in
     paragraphs_within r
 
 pub add_paragraphs-requires-clause-old : goal.add_paragraphs-requires-clause-old
 add_paragraphs-requires-clause-old c =
     let save : FastSave = save_of c.args.old.now c.args.document.now c.args.text.now in
-    let r = ready save c.requires.kept c.requires.formed c.as_slice-items.ensures.formed in
+    let r = ready save c.requires.kept c.requires.formed c.len-len.ensures.formed in
     let old = c.old_part-table-2.ensures ∙ paragraphs_named r in
     subst IsBinTable (sym old) (old_table_is Papx r)
 
 pub add_paragraphs-requires-clause-runs : goal.add_paragraphs-requires-clause-runs
 add_paragraphs-requires-clause-runs c =
     let save : FastSave = save_of c.args.old.now c.args.document.now c.args.text.now in
-    let r = ready save c.requires.kept c.requires.formed c.as_slice-items.ensures.formed in
-    let same = c.as_slice-items.ensures.items in
+    let r = ready save c.requires.kept c.requires.formed c.len-len.ensures.formed in
+    let same : c.args.text.now.added.now ≡ c.args.text.now.added.now = refl in
     let old = c.old_part-table-2.ensures ∙ paragraphs_named r in
     subst (λ (x : List ℕ × List Item). AreRuns Papx (mark_runs x.0 save.base x.1)) (λ i. (sym old i, sym same i))
     (runs_right Papx r)
@@ -90,9 +91,9 @@ add_paragraphs-requires-clause-runs c =
 pub add_paragraphs-requires-clause-room : goal.add_paragraphs-requires-clause-room
 add_paragraphs-requires-clause-room c =
     let save : FastSave = save_of c.args.old.now c.args.document.now c.args.text.now in
-    let r = ready save c.requires.kept c.requires.formed c.as_slice-items.ensures.formed in
-    let same = c.as_slice-items.ensures.items in
-    let first = c.pages_for-first.ensures ∙ ap (λ (xs : List Item). units_for 512 (save.base + 2 * length xs)) same in
+    let r = ready save c.requires.kept c.requires.formed c.len-len.ensures.formed in
+    let same : c.args.text.now.added.now ≡ c.args.text.now.added.now = refl in
+    let first = c.pages_for-first.ensures ∙ ap (λ (n : ℕ). units_for 512 (save.base + 2 * n)) c.len-len.ensures.len in
     let next = c.in_ok-characters.ensures.next
     ∙ (λ i. first i + length (pages_of Chpx (text_runs Chpx save.base (same i))).starts) in
     let old = c.old_part-table-2.ensures ∙ paragraphs_named r in
@@ -102,10 +103,10 @@ add_paragraphs-requires-clause-room c =
 pub add_paragraphs-requires-clause-printable : goal.add_paragraphs-requires-clause-printable
 add_paragraphs-requires-clause-printable c =
     let save : FastSave = save_of c.args.old.now c.args.document.now c.args.text.now in
-    let r = ready save c.requires.kept c.requires.formed c.as_slice-items.ensures.formed in
-    let same = c.as_slice-items.ensures.items in
+    let r = ready save c.requires.kept c.requires.formed c.len-len.ensures.formed in
+    let same : c.args.text.now.added.now ≡ c.args.text.now.added.now = refl in
     let old = c.old_part-table-2.ensures ∙ paragraphs_named r in
-    let first = c.pages_for-first.ensures ∙ ap (λ (xs : List Item). units_for 512 (save.base + 2 * length xs)) same in
+    let first = c.pages_for-first.ensures ∙ ap (λ (n : ℕ). units_for 512 (save.base + 2 * n)) c.len-len.ensures.len in
     let next = c.in_ok-characters.ensures.next
     ∙ (λ i. first i + length (pages_of Chpx (text_runs Chpx save.base (same i))).starts) in
     subst (λ (x : List ℕ × (ℕ × List Item)). ArePrintableBins
@@ -115,26 +116,26 @@ add_paragraphs-requires-clause-printable c =
 pub append_sections-requires-clause-sections : goal.append_sections-requires-clause-sections
 append_sections-requires-clause-sections c =
     let save : FastSave = save_of c.args.old.now c.args.document.now c.args.text.now in
-    let r = ready save c.requires.kept c.requires.formed c.as_slice-items.ensures.formed in
-    subst (All HasSavableSection) (sym c.as_slice.ensures.items)
+    let r = ready save c.requires.kept c.requires.formed c.len-len.ensures.formed in
+    subst (λ (d : Document). All HasSavableSection d.main) (sym c.document.view_is)
     (sections_savable save.document r.formed (is_right r))
 
 pub append_sections-requires-clause-few : goal.append_sections-requires-clause-few
 append_sections-requires-clause-few c =
     let save : FastSave = save_of c.args.old.now c.args.document.now c.args.text.now in
-    let r = ready save c.requires.kept c.requires.formed c.as_slice-items.ensures.formed in
+    let r = ready save c.requires.kept c.requires.formed c.len-len.ensures.formed in
     let few = few_items save.document (is_right r) in
     let stories = few.stories in
-    let len = ap length c.as_slice.ensures.items in
+    let len = ap (λ (d : Document). length d.main) c.document.view_is in
     omega (arith, stories, len)
 
 pub append_sections-requires-clause-room : goal.append_sections-requires-clause-room
 append_sections-requires-clause-room c =
     let save : FastSave = save_of c.args.old.now c.args.document.now c.args.text.now in
-    let r = ready save c.requires.kept c.requires.formed c.as_slice-items.ensures.formed in
-    let same = c.as_slice-items.ensures.items in
+    let r = ready save c.requires.kept c.requires.formed c.len-len.ensures.formed in
+    let same : c.args.text.now.added.now ≡ c.args.text.now.added.now = refl in
     let old = c.old_part-table-2.ensures ∙ paragraphs_named r in
-    let made = pages_made save c.as_slice-items.result.now c.old_part-table-2.result.now c.new-bytes.result
+    let made = pages_made save c.args.text.now.added.now c.old_part-table-2.result.now c.new-bytes.result
     c.add_text.new.out c.add_characters.new.out c.add_paragraphs.new.out same old c.new-bytes.ensures
     c.in_ok-add_text.ensures c.in_ok-characters.ensures.bytes c.in_ok-paragraphs.ensures.bytes in
     let len = ap length made in
@@ -144,7 +145,7 @@ append_sections-requires-clause-room c =
 pub counts_of-requires-clause-main : goal.counts_of-requires-clause-main
 counts_of-requires-clause-main c =
     let save : FastSave = save_of c.args.old.now c.args.document.now c.args.text.now in
-    let r = ready save c.requires.kept c.requires.formed c.as_slice-items.ensures.formed in
+    let r = ready save c.requires.kept c.requires.formed c.len-len.ensures.formed in
     let few = few_items save.document (is_right r) in
     let n = few.stories in
     omega (arith, n)
@@ -152,7 +153,7 @@ counts_of-requires-clause-main c =
 pub counts_of-requires-clause-notes : goal.counts_of-requires-clause-notes
 counts_of-requires-clause-notes c =
     let save : FastSave = save_of c.args.old.now c.args.document.now c.args.text.now in
-    let r = ready save c.requires.kept c.requires.formed c.as_slice-items.ensures.formed in
+    let r = ready save c.requires.kept c.requires.formed c.len-len.ensures.formed in
     let few = few_items save.document (is_right r) in
     let n = few.notes in
     omega (arith, n)
@@ -160,7 +161,7 @@ counts_of-requires-clause-notes c =
 pub counts_of-requires-clause-heads : goal.counts_of-requires-clause-heads
 counts_of-requires-clause-heads c =
     let save : FastSave = save_of c.args.old.now c.args.document.now c.args.text.now in
-    let r = ready save c.requires.kept c.requires.formed c.as_slice-items.ensures.formed in
+    let r = ready save c.requires.kept c.requires.formed c.len-len.ensures.formed in
     let few = few_items save.document (is_right r) in
     let n = few.heads in
     omega (arith, n)
@@ -168,24 +169,24 @@ counts_of-requires-clause-heads c =
 pub print_clx-requires : goal.print_clx-requires
 print_clx-requires c =
     let save : FastSave = save_of c.args.old.now c.args.document.now c.args.text.now in
-    let r = ready save c.requires.kept c.requires.formed c.as_slice-items.ensures.formed in
+    let r = ready save c.requires.kept c.requires.formed c.len-len.ensures.formed in
     printable r
 
 pub returns : goal.returns
 unfolding fast_bin_table
 returns c =
     let save : FastSave = save_of c.args.old.now c.args.document.now c.args.text.now in
-    let r = ready save c.requires.kept c.requires.formed c.as_slice-items.ensures.formed in
-    let same = c.as_slice-items.ensures.items in
-    let first = c.pages_for-first.ensures ∙ ap (λ (xs : List Item). units_for 512 (save.base + 2 * length xs)) same in
+    let r = ready save c.requires.kept c.requires.formed c.len-len.ensures.formed in
+    let same : c.args.text.now.added.now ≡ c.args.text.now.added.now = refl in
+    let first = c.pages_for-first.ensures ∙ ap (λ (n : ℕ). units_for 512 (save.base + 2 * n)) c.len-len.ensures.len in
     let next = c.in_ok-characters.ensures.next
     ∙ (λ i. first i + length (pages_of Chpx (text_runs Chpx save.base (same i))).starts) in
     let characters = c.old_part-table.ensures ∙ characters_named r in
     let paragraphs = c.old_part-table-2.ensures ∙ paragraphs_named r in
-    let made = pages_made save c.as_slice-items.result.now c.old_part-table-2.result.now c.new-bytes.result
+    let made = pages_made save c.args.text.now.added.now c.old_part-table-2.result.now c.new-bytes.result
     c.add_text.new.out c.add_characters.new.out c.add_paragraphs.new.out same paragraphs c.new-bytes.ensures
     c.in_ok-add_text.ensures c.in_ok-characters.ensures.bytes c.in_ok-paragraphs.ensures.bytes in
-    let main = c.as_slice.ensures.items in
+    let main : c.document.inside.main ≡ save.document.main = ap (λ (d : Document). d.main) c.document.view_is in
     let table : c.in_ok-characters.characters.table ≡ fast_bin_table Chpx save = c.in_ok-characters.ensures.table
     ∙ (λ i. printed_bin
     (kept_bins (characters i) save.base

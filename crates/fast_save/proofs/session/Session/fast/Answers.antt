@@ -7,7 +7,7 @@ use Rattle.fast_save.specs.declared.ledgers.Counts.{Counts}
 use Rattle.fast_save.specs.declared.parts.SessionParts.{SessionParts}
 use Rattle.fast_save.specs.Ledgers.{after_fast, sector_bound}
 use Rattle.fast_save.specs.Session.{SessionView, IsCounted}
-use Rattle.fast_save.specs.Written.{with_text, CanWrite}
+use Rattle.fast_save.specs.Written.{with_text, CanWrite, IsWrittenFile}
 use Rattle.fast_save.specs.Fast.{CanSaveFast, IsFastFile, IsFastFault, IsHeldFile, AreFastParts, IsSavedFast}
 use Rattle.fast_save.proofs.CanLemmas.{are_small, counted_as_added}
 use Rattle.fast_save.proofs.FastLemmas.{AreAfter, session_after_fast, counted_after_fast, saved_fast}
@@ -38,12 +38,12 @@ returns-in_err-sectors-clause-err c =
 pub written_file-requires : goal.written_file-requires
 written_file-requires c =
     let inside = c.self.inside in
-    record {
-      file = inside.file;
+    subst (λ (f : List ℕ). CanWrite f inside.document inside.parts inside.counts) (sym c.as_slice.ensures)
+    (record {
       session = c.self.invariant.0;
       counted = counted_as_added inside.file inside.document inside.parts inside.counts c.self.invariant.1;
       judged = c.in_ok-sectors.ensures.0;
-    }
+    })
 
 pub returns-in_err-written-clause-err : goal.returns-in_err-written-clause-err
 returns-in_err-written-clause-err c =
@@ -53,18 +53,18 @@ returns-in_err-written-clause-err c =
 pub of_file-requires : goal.of_file-requires
 of_file-requires c =
     let inside = c.self.inside in
-    let can_write : CanWrite inside.document inside.parts inside.counts = record {
-      file = inside.file;
+    let can_write : CanWrite inside.file inside.document inside.parts inside.counts = record {
       session = c.self.invariant.0;
       counted = counted_as_added inside.file inside.document inside.parts inside.counts c.self.invariant.1;
       judged = c.in_ok-sectors.ensures.0;
     } in
-    let written = c.in_ok-written.ensures in
+    let written = subst (λ (f : List ℕ). IsWrittenFile f inside.document inside.parts inside.counts
+    c.in_ok-written.written) c.as_slice.ensures c.in_ok-written.ensures in
     let text = unwrap_or written.chosen inside.parts.text in
     let parts : SessionParts = with_text inside.parts text in
-    let can : CanSaveFast inside.document parts =
-    can_written inside.document inside.parts inside.counts written.chosen can_write written.is in
-    subst (λ (file : List ℕ). IsHeldFile file inside.document) (sym c.as_slice.ensures) (written.made can).held
+    let can : CanSaveFast inside.file inside.document parts =
+    can_written inside.file inside.document inside.parts inside.counts written.chosen can_write written.is in
+    subst (λ (file : List ℕ). IsHeldFile file inside.document) (sym c.as_slice-2.ensures) (written.made can).held
 
 pub returns-in_err-behind-clause-err : goal.returns-in_err-behind-clause-err
 returns-in_err-behind-clause-err c =
@@ -74,22 +74,22 @@ returns-in_err-behind-clause-err c =
 pub invariant_of-self : goal.invariant_of-self
 invariant_of-self c =
     let inside = c.self.inside in
-    let can_write : CanWrite inside.document inside.parts inside.counts = record {
-      file = inside.file;
+    let can_write : CanWrite inside.file inside.document inside.parts inside.counts = record {
       session = c.self.invariant.0;
       counted = counted_as_added inside.file inside.document inside.parts inside.counts c.self.invariant.1;
       judged = c.in_ok-sectors.ensures.0;
     } in
-    let written = c.in_ok-written.ensures in
+    let written = subst (λ (f : List ℕ). IsWrittenFile f inside.document inside.parts inside.counts
+    c.in_ok-written.written) c.as_slice.ensures c.in_ok-written.ensures in
     let text = unwrap_or written.chosen inside.parts.text in
     let parts : SessionParts = with_text inside.parts text in
-    let can : CanSaveFast inside.document parts =
-    can_written inside.document inside.parts inside.counts written.chosen can_write written.is in
+    let can : CanSaveFast inside.file inside.document parts =
+    can_written inside.file inside.document inside.parts inside.counts written.chosen can_write written.is in
     let file = c.in_ok-written.written.file in
     let behind = c.in_ok-behind.behind in
     let made : IsFastFile can file = written.made can in
     let are : AreFastParts made.held.holds behind =
-    subst (λ (f : List ℕ). (held : IsHeldFile f inside.document) → AreFastParts held.holds behind) c.as_slice.ensures
+    subst (λ (f : List ℕ). (held : IsHeldFile f inside.document) → AreFastParts held.holds behind) c.as_slice-2.ensures
     c.in_ok-behind.ensures made.held in
     let new : SessionParts = record {
       text = record {
@@ -123,22 +123,22 @@ invariant_of-self c =
 pub returns-clause-ok : goal.returns-clause-ok
 returns-clause-ok c =
     let inside = c.self.inside in
-    let can_write : CanWrite inside.document inside.parts inside.counts = record {
-      file = inside.file;
+    let can_write : CanWrite inside.file inside.document inside.parts inside.counts = record {
       session = c.self.invariant.0;
       counted = counted_as_added inside.file inside.document inside.parts inside.counts c.self.invariant.1;
       judged = c.in_ok-sectors.ensures.0;
     } in
-    let written = c.in_ok-written.ensures in
+    let written = subst (λ (f : List ℕ). IsWrittenFile f inside.document inside.parts inside.counts
+    c.in_ok-written.written) c.as_slice.ensures c.in_ok-written.ensures in
     let text = unwrap_or written.chosen inside.parts.text in
     let parts : SessionParts = with_text inside.parts text in
-    let can : CanSaveFast inside.document parts =
-    can_written inside.document inside.parts inside.counts written.chosen can_write written.is in
+    let can : CanSaveFast inside.file inside.document parts =
+    can_written inside.file inside.document inside.parts inside.counts written.chosen can_write written.is in
     let file = c.in_ok-written.written.file in
     let behind = c.in_ok-behind.behind in
     let made : IsFastFile can file = written.made can in
     let are : AreFastParts made.held.holds behind =
-    subst (λ (f : List ℕ). (held : IsHeldFile f inside.document) → AreFastParts held.holds behind) c.as_slice.ensures
+    subst (λ (f : List ℕ). (held : IsHeldFile f inside.document) → AreFastParts held.holds behind) c.as_slice-2.ensures
     c.in_ok-behind.ensures made.held in
     let new : SessionParts = record {
       text = record {

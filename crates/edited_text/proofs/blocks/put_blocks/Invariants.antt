@@ -1,6 +1,0 @@
-use Rattle.edited_text.proofs.GrowLemmas.{Grown}
-use Rattle.edited_text.proofs.blocks.put_blocks.Given as goal
-
--- the blocks of the changes so far are put
-abbrev pub invariant-loop-k : goal.invariant-loop-k
-invariant-loop-k l = Grown l.document l.fn.ends l.changes l.initial.added l.k l.added l.stories l.splices.items

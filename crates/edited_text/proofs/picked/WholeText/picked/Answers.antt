@@ -1,0 +1,78 @@
+use Rattle.std.proofs.Common.{◌∙◌, ◌++◌, length, ap, sym, subst, arith}
+use Rattle.std.specs.List.{All}
+use Rattle.std.proofs.lemmas.List.{length-map}
+use Rattle.run_lists.proofs.SpreadLemmas.{length-spread}
+use Rattle.plain_doc.specs.declared.item.Item.{Item}
+use Rattle.plain_doc.specs.Document.{HasPropertyMaps}
+use Rattle.doc_columns.specs.Beside.{beside_of}
+use Rattle.edited_text.proofs.PickLemmas.{picked_columns, picked_maps, renewed_few}
+use Rattle.edited_text.proofs.picked.WholeText.picked.Goals as goal
+
+pub picked_values-requires-clause-lists : goal.picked_values-requires-clause-lists
+picked_values-requires-clause-lists c =
+    omega (
+      arith,
+      length-spread c.chps.result.now,
+      ap length c.chps.ensures,
+      length-map c.args.self.now.main.now (λ (item : Item). item.chp),
+      c.len-first_len.ensures.len,
+    )
+
+pub picked_values-requires-2-clause-lists : goal.picked_values-requires-2-clause-lists
+picked_values-requires-2-clause-lists c =
+    omega (
+      arith,
+      length-spread c.besides.result.now,
+      ap length c.besides.ensures,
+      length-map c.args.self.now.main.now beside_of,
+      c.len-first_len.ensures.len,
+    )
+
+pub from_parts-requires-clause-few : goal.from_parts-requires-clause-few
+from_parts-requires-clause-few c =
+    let placed = c.args.placed.now in
+    omega (
+      arith,
+      ap length c.in_ok-units.ensures,
+      renewed_few placed.places.now placed.pieces.now.pieces (c.units.result.now ++ c.units-2.result.now),
+      c.requires.within,
+      c.requires.few,
+    )
+
+pub from_parts-requires-clause-chps : goal.from_parts-requires-clause-chps
+from_parts-requires-clause-chps c =
+    let placed = c.args.placed.now in
+    let whole = c.args.self.now in
+    let are = picked_columns placed.places.now placed.pieces.now.pieces whole.main.now whole.behind.now _ _ _ _ _ _ _ _ _
+    c.units.ensures c.units-2.ensures c.chps.ensures c.chps-2.ensures c.besides.ensures c.besides-2.ensures
+    c.in_ok-units.ensures c.in_ok-chps.ensures c.in_ok-besides.ensures in
+    are.chps_long
+
+pub from_parts-requires-clause-besides : goal.from_parts-requires-clause-besides
+from_parts-requires-clause-besides c =
+    let placed = c.args.placed.now in
+    let whole = c.args.self.now in
+    let are = picked_columns placed.places.now placed.pieces.now.pieces whole.main.now whole.behind.now _ _ _ _ _ _ _ _ _
+    c.units.ensures c.units-2.ensures c.chps.ensures c.chps-2.ensures c.besides.ensures c.besides-2.ensures
+    c.in_ok-units.ensures c.in_ok-chps.ensures c.in_ok-besides.ensures in
+    are.besides_long
+
+pub from_parts-requires-clause-maps : goal.from_parts-requires-clause-maps
+from_parts-requires-clause-maps c =
+    let placed = c.args.placed.now in
+    let whole = c.args.self.now in
+    let are = picked_columns placed.places.now placed.pieces.now.pieces whole.main.now whole.behind.now _ _ _ _ _ _ _ _ _
+    c.units.ensures c.units-2.ensures c.chps.ensures c.chps-2.ensures c.besides.ensures c.besides-2.ensures
+    c.in_ok-units.ensures c.in_ok-chps.ensures c.in_ok-besides.ensures in
+    subst (All HasPropertyMaps) (sym are.is)
+    (picked_maps placed.places.now placed.pieces.now.pieces whole.main.now whole.behind.now
+    c.len-first_len.ensures.formed c.len-behind.ensures.formed)
+
+pub returns : goal.returns
+returns c =
+    let placed = c.args.placed.now in
+    let whole = c.args.self.now in
+    let are = picked_columns placed.places.now placed.pieces.now.pieces whole.main.now whole.behind.now _ _ _ _ _ _ _ _ _
+    c.units.ensures c.units-2.ensures c.chps.ensures c.chps-2.ensures c.besides.ensures c.besides-2.ensures
+    c.in_ok-units.ensures c.in_ok-chps.ensures c.in_ok-besides.ensures in
+    c.from_parts.ensures ∙ are.is

@@ -1,0 +1,35 @@
+use Rattle.std.proofs.Common.{◌∙◌, ◌++◌, ◌+◌, ap, sym, arith}
+use Rattle.std.specs.Prelude.{slice_range}
+use Rattle.edited_text.specs.WrittenAgain.{values_for}
+use Rattle.edited_text.proofs.PickLemmas.{picked_more, next_total, total_upto}
+use Rattle.edited_text.proofs.picked.picked_units.Goals as goal
+
+pub put_units-requires-clause-within : goal.put_units-requires-clause-within
+put_units-requires-clause-within c =
+    let placed = c.args.placed.now in
+    let pieces = placed.pieces.now.pieces in
+    omega (
+      arith,
+      next_total placed.places.now pieces c.loop-number.number c.loop-number.cp c.stretch-stretch.result
+          c.stretch-stretch.ensures.stretch c.loop-number.invariant.cp,
+      total_upto pieces (c.loop-number.number + 1),
+      c.requires.within,
+    )
+
+pub loop-number-preserved : goal.loop-number-preserved
+loop-number-preserved c =
+    let placed = c.args.placed.now in
+    let pieces = placed.pieces.now.pieces in
+    let all = c.args.first.now ++ c.args.second.now in
+    let stretch = c.stretch-stretch.result in
+    let more = picked_more placed.places.now pieces c.loop-number.number c.loop-number.cp stretch all
+    c.stretch-stretch.ensures.stretch c.loop-number.invariant.cp c.requires.places in
+    record {
+      walk = c.stretch-stretch.ensures.walk ∙ c.loop-number.invariant.walk;
+      cp = next_total placed.places.now pieces c.loop-number.number c.loop-number.cp stretch
+          c.stretch-stretch.ensures.stretch c.loop-number.invariant.cp;
+      units = c.in_ok-put_units.ensures
+          ∙ (ap (λ l. l ++ values_for stretch.again (slice_range all stretch.from stretch.to))
+          c.loop-number.invariant.units
+          ∙ sym more);
+    }
