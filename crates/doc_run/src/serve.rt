@@ -30,6 +30,7 @@ use doc_tasks::{
 use edit_guards::Guard;
 use fast_save::Session;
 use std::alloc::Global;
+use std::mem::forget;
 
 /// The ending where the streams of a file are asked for.
 pub(crate) fn serve_streams<S: Shelf>(
@@ -102,7 +103,12 @@ pub(crate) fn serve_two<S: Shelf>(
     let taken = take_whole(alloc, shelf, first)?;
     let reached = open_taken(alloc, first, taken)?;
     match reached {
-        Reached::Opened(document) => serve_second(alloc, shelf, pair, &document, second),
+        Reached::Opened(document) => {
+            let ending = serve_second(alloc, shelf, pair, &document, second);
+            // The run is about to end, so the document is not taken apart.
+            forget(document);
+            ending
+        }
         Reached::Stopped(ending) => Ok(ending),
     }
 }
@@ -159,7 +165,12 @@ fn answer_second(
 {
     let reached = open_file(alloc, name, file)?;
     match reached {
-        Reached::Opened(second) => answer_two(alloc, pair, first, &second),
+        Reached::Opened(second) => {
+            let ending = answer_two(alloc, pair, first, &second);
+            // As above.
+            forget(second);
+            ending
+        }
         Reached::Stopped(ending) => Ok(ending),
     }
 }

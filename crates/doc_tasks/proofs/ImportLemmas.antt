@@ -1,5 +1,5 @@
 -- The import of bytes has one reply, and is served where they spell a sound document that fits a file.
-use Rattle.std.proofs.Common.{◌≡◌, ◌∙◌, inl, inr, ap, sym, subst, ℕ, List, arith}
+use Rattle.std.proofs.Common.{◌≡◌, ◌∙◌, inl, inr, ap, sym, subst, ℕ, List}
 use Rattle.std.specs.Prelude.{codes}
 use Rattle.std.proofs.lemmas.Option.{same_Some}
 use Rattle.serde_json.specs.Data.{Data}
@@ -11,7 +11,6 @@ use Rattle.doc_bits.proofs.RuleLemmas.{hold_or_first, first_agrees}
 use Rattle.plain_doc.specs.declared.document.Document.{Document}
 use Rattle.plain_doc.specs.Sound.{document_rules}
 use Rattle.plain_doc.proofs.SoundLemmas.{document_rules-IsSingle}
-use Rattle.json_doc.specs.declared.fault.JsonFault.{JsonFault}
 use Rattle.json_doc.specs.declared.fault.JsonFault.TheVariants as fault
 use Rattle.json_doc.specs.Documents.{json_value}
 use Rattle.json_doc.specs.Reading.{IsWhole, IsReadAs, IsJsonFault}
@@ -76,7 +75,8 @@ read_or_shape bytes a b x y =
 
 read_or_rule : (bytes : List ℕ) (a b : Reply) → SavesRead bytes a → BreaksRuleRead bytes b → ⊥
 read_or_rule bytes a b x y =
-    let same = same_document bytes y.document x.document y.whole (whole_of bytes x.document x.read) y.json x.read.json in
+    let whole = whole_of bytes x.document x.read in
+    let same = same_document bytes y.document x.document y.whole whole y.json x.read.json in
     hold_or_first Upto (document_rules x.document) y.rule y.place (document_rules-IsSingle x.document)
     x.read.sound.rules (subst (λ d. IsFirstPlace (document_rules d) y.rule y.place) same y.names)
 
@@ -133,8 +133,9 @@ import_one bytes a b (inr (inr (inr x))) (inr (inr (inr y))) = rule_one bytes a 
 saves_again : (bytes : List ℕ) (reply : Reply) (can : CanImport bytes) → SavesRead bytes reply →
     Saves (codes "import") can.document reply
 saves_again bytes reply can x =
-    let same = same_document bytes x.document can.document (whole_of bytes x.document x.read) (whole_of bytes can.document
-    can.read) x.read.json can.read.json in
+    let own = whole_of bytes x.document x.read in
+    let other = whole_of bytes can.document can.read in
+    let same = same_document bytes x.document can.document own other x.read.json can.read.json in
     subst (λ d. Saves (codes "import") d reply) same x.saves
 
 pub import_done : (bytes : List ℕ) (reply : Reply) → CanImport bytes → Imports bytes reply → IsDone reply

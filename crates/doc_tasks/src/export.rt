@@ -1,6 +1,5 @@
 // A document as JSON.
 ghost use Rattle.std.specs.Prelude.{◌≡◌, IfOk};
-ghost use Rattle.plain_doc.specs.Sound.{IsSound};
 ghost use Rattle.doc_tasks.specs.declared.reply.Reply.TheVariants.{Refused};
 ghost use Rattle.doc_tasks.specs.declared.reply.Refusal.TheVariants.{Save};
 ghost use Rattle.doc_tasks.specs.Exports.{too_large_line as too_large_of, Exports};
@@ -9,31 +8,17 @@ use crate::reply::{Refusal, Reply};
 use crate::save::made;
 use doc_bits::{Bytes, Memory, Text};
 use doc_columns::ColumnDocument;
-use json_doc::json_out;
-use plain_doc::Document;
+use json_doc::columns_json_out;
 use std::alloc::Global;
-use std::mem::forget;
 
 /// The most bytes of a text that is put: so many are read of a file at most.
 const MOST_EXPORTED: u64 = 7_143_936;
 
 /// The text of a document as JSON.
 pub(crate) fn export_reply(alloc: Global, document: &ColumnDocument) -> Result<Reply, Memory>
-    requires { IsSound document.now }
     ensures { IfOk result (Exports document.now) }
 {
-    let items = document.expand(alloc)?;
-    let reply = exported(alloc, &items);
-    // The run is about to end, so the items are not taken apart.
-    forget(items);
-    reply
-}
-
-/// The same of a document item by item.
-fn exported(alloc: Global, document: &Document) -> Result<Reply, Memory>
-    ensures { IfOk result (Exports document.now) }
-{
-    let out = json_out(alloc, document, MOST_EXPORTED)?;
+    let out = columns_json_out(alloc, document, MOST_EXPORTED)?;
     match out.text() {
         Some(text) => {
             let bytes = Bytes::from_slice(alloc, text.as_bytes())?;

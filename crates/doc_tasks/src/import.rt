@@ -16,7 +16,7 @@ use crate::reply::{Refusal, Reply};
 use crate::save::saved;
 use crate::status::STATUS_JSON;
 use doc_bits::{Memory, Text, Where};
-use json_doc::{JsonFault, from_json};
+use json_doc::{JsonFault, columns_from_json};
 use std::alloc::Global;
 use std::mem::forget;
 
@@ -33,10 +33,10 @@ pub fn import_file(alloc: Global, file: &[u8], out: &str) -> Result<Ending, Memo
 fn import_reply(alloc: Global, file: &[u8]) -> Result<Reply, Memory>
     ensures { IfOk result (Imports file.now) }
 {
-    match from_json(alloc, file) {
+    match columns_from_json(alloc, file) {
         Ok(document) => {
             let reply = saved(alloc, "import", &document);
-            // The run is about to end, so the document is not taken apart.
+            // The run is about to end, so the columns are not taken apart.
             forget(document);
             reply
         }

@@ -11,8 +11,7 @@ use crate::reply::{Refusal, Reply};
 use crate::save::saved;
 use doc_bits::{Memory, Text, Where};
 use doc_columns::ColumnDocument;
-use doc_join::{JoinFault, join};
-use plain_doc::Document;
+use doc_join::{JoinFault, columns_join};
 use std::alloc::Global;
 use std::mem::forget;
 
@@ -26,36 +25,10 @@ pub(crate) fn join_reply(
     requires second { IsSound second.now }
     ensures { IfOk result (Joins first.now second.now) }
 {
-    let items = first.expand(alloc)?;
-    let reply = join_behind(alloc, &items, second);
-    // The run is about to end, so the items are not taken apart.
-    forget(items);
-    reply
-}
-
-/// The same where the first is there item by item.
-fn join_behind(alloc: Global, first: &Document, second: &ColumnDocument) -> Result<Reply, Memory>
-    requires first { IsSound first.now }
-    requires second { IsSound second.now }
-    ensures { IfOk result (Joins first.now second.now) }
-{
-    let items = second.expand(alloc)?;
-    let reply = joined(alloc, first, &items);
-    // As above.
-    forget(items);
-    reply
-}
-
-/// The same where both are.
-fn joined(alloc: Global, first: &Document, second: &Document) -> Result<Reply, Memory>
-    requires first { IsSound first.now }
-    requires second { IsSound second.now }
-    ensures { IfOk result (Joins first.now second.now) }
-{
-    match join(alloc, first, second) {
+    match columns_join(alloc, first, second) {
         Ok(made) => {
             let reply = saved(alloc, "join", &made);
-            // As above.
+            // The run is about to end, so the columns are not taken apart.
             forget(made);
             reply
         }

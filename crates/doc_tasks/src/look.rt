@@ -12,9 +12,8 @@ use crate::reply::{Refusal, Reply};
 use doc_bits::Memory;
 use doc_columns::ColumnDocument;
 use doc_show::{columns_accepted_line, columns_listing, columns_main_text, columns_props_lines};
-use list_numbers::outline_lines;
+use list_numbers::columns_outline_lines;
 use std::alloc::Global;
-use std::mem::forget;
 
 /// The main text of a document.
 pub(crate) fn text_reply(alloc: Global, document: &ColumnDocument) -> Result<Reply, Memory>
@@ -66,9 +65,6 @@ pub(crate) fn outline_reply(alloc: Global, document: &ColumnDocument) -> Result<
     requires { IsSound document.now }
     ensures { IfOk result (ShowsOutline document.now) }
 {
-    let items = document.expand(alloc)?;
-    let text = outline_lines(alloc, &items);
-    // The run is about to end, so the items are not taken apart.
-    forget(items);
-    Ok(Reply::Done(text?))
+    let text = columns_outline_lines(alloc, document)?;
+    Ok(Reply::Done(text))
 }

@@ -12,7 +12,6 @@ use crate::summary::{no_summary, summary_place, wrong_summary};
 use crate::title::Title;
 use doc_bits::Memory;
 use doc_columns::ColumnDocument;
-use plain_doc::Document;
 use std::alloc::Global;
 use std::mem::forget;
 use summary_set::{SetFault, with_title};
@@ -65,22 +64,26 @@ fn saved_with(alloc: Global, document: &ColumnDocument, bytes: &[u8]) -> Result<
         (with_bytes document.now.carried.streams (place_of document.now.carried.streams) bytes.now) }
     ensures { IfOk result (SavesWith document.now bytes.now) }
 {
-    let items = document.expand(alloc)?;
-    let changed = with_summary(alloc, items, bytes)?;
+    let copy = document.copy(alloc)?;
+    let changed = with_summary(alloc, copy, bytes)?;
     let reply = saved(alloc, "retitle", &changed);
-    // The run is about to end, so the items are not taken apart.
+    // The run is about to end, so the columns are not taken apart.
     forget(changed);
     reply
 }
 
 /// The document with these bytes in its summary.
-fn with_summary(alloc: Global, document: Document, bytes: &[u8]) -> Result<Document, Memory>
+fn with_summary(
+    alloc: Global,
+    document: ColumnDocument,
+    bytes: &[u8],
+) -> Result<ColumnDocument, Memory>
     requires there { place_of document.carried.streams < length document.carried.streams }
     requires room { AreCarriedStreams
         (with_bytes document.carried.streams (place_of document.carried.streams) bytes.now) }
     ensures { IfOk result (HasSummaryBytes document bytes.now) }
 {
-    let Document {
+    let ColumnDocument {
         main,
         notes,
         heads,
@@ -90,7 +93,7 @@ fn with_summary(alloc: Global, document: Document, bytes: &[u8]) -> Result<Docum
     } = document;
     let place = summary_place(&carried.streams);
     let carried = carried.with_stream(alloc, place, bytes)?;
-    Ok(Document {
+    Ok(ColumnDocument {
         main,
         notes,
         heads,

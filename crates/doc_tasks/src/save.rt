@@ -12,8 +12,7 @@ use crate::lines::{bytes_line, needs_line};
 use crate::reply::{Refusal, Reply};
 use doc_bits::{Bytes, Memory};
 use doc_columns::ColumnDocument;
-use full_save::{SaveFault, full, full_by_columns};
-use plain_doc::Document;
+use full_save::{SaveFault, full_by_columns};
 use std::alloc::Global;
 
 /// The full save of a document.
@@ -21,16 +20,15 @@ pub(crate) fn full_reply(alloc: Global, document: &ColumnDocument) -> Result<Rep
     requires { IsSound document.now }
     ensures { IfOk result (Saves (codes "full") document.now) }
 {
-    let reply = reply_of(alloc, "full", full_by_columns(alloc, document))?;
-    Ok(reply)
+    saved(alloc, "full", document)
 }
 
 /// The full save of a document, for a command of this word.
-pub(crate) fn saved(alloc: Global, word: &str, document: &Document) -> Result<Reply, Memory>
+pub(crate) fn saved(alloc: Global, word: &str, document: &ColumnDocument) -> Result<Reply, Memory>
     requires { IsSound document.now }
     ensures { IfOk result (Saves word.now document.now) }
 {
-    let reply = reply_of(alloc, word, full(alloc, document))?;
+    let reply = reply_of(alloc, word, full_by_columns(alloc, document))?;
     Ok(reply)
 }
 

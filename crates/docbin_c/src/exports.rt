@@ -248,15 +248,15 @@ fn ending_two_put(
     alloc: Global,
     command: &str,
     first: &[u8],
-    second: &[u8],
+    other: &[u8],
     is_guarded: bool,
 ) -> Result<Ending, Memory>
-    ensures { IfOk result (IsReached (call_policies is_guarded) (two_put command.now) (two_files first.now second.now)) }
+    ensures { IfOk result (IsReached (call_policies is_guarded) (two_put command.now) (two_files first.now other.now)) }
 {
     ending_over(
         alloc,
         &[command, FIRST, SECOND, OUT],
-        GivenFiles::two(alloc, first, second)?,
+        GivenFiles::two(alloc, first, other)?,
         is_guarded,
     )
 }

@@ -1,5 +1,6 @@
 // The files of a call.
-ghost use Rattle.std.specs.Prelude.{◌≡◌, ◌-◌, ◌≤◌, length, min, Some, None, IfOk, OnOk, OnErr, IsErrOf, option_map};
+ghost use Rattle.std.specs.Prelude.{◌≡◌, ◌-◌, ◌≤◌, length, min, Some, None, option_map};
+ghost use Rattle.std.specs.Prelude.{IfOk, OnOk, OnErr, IsErrOf};
 ghost use Rattle.doc_outer.specs.Counts.{Rose, GoesOn};
 ghost use Rattle.doc_outer.specs.Held.{file_at, held_with, OthersStay, Told, ReadsPart, IsAbsent, IsPart};
 ghost use Rattle.docbin_c.specs.Calls.{Given, given_files};

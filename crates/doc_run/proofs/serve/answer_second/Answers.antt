@@ -15,6 +15,6 @@ returns-in-Opened-clause-judges c =
     let first = c.args.first.now in
     let second = c.in-Opened.second in
     let is = subst (λ r. IsJudged name file r) c.in-Opened.is c.in_ok-reached.ensures.is in
-    IfOk-weaker c.answer_two.result (λ e. EndsBy (out_of_two pair) (RepliesTwo pair first second) e)
+    IfOk-weaker c.answer_two-ending.result (λ e. EndsBy (out_of_two pair) (RepliesTwo pair first second) e)
     (λ e. Judges (all_rules file) name (AnswersBeside pair first file) e)
-    (λ e h. inr (is.0, record { second = second; holds = is.1.0; answers = h })) c.answer_two.ensures
+    (λ e h. inr (is.0, record { second = second; holds = is.1.0; answers = h })) c.answer_two-ending.ensures

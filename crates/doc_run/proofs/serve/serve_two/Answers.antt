@@ -9,15 +9,16 @@ use Rattle.doc_run.proofs.StageLemmas.{opened_reads, opened_sound, second_reads,
 use Rattle.doc_run.proofs.StageLemmas.{caused_later, read_twice}
 use Rattle.doc_run.proofs.serve.serve_two.Goals as goal
 
-pub serve_second-requires : goal.serve_second-requires
-serve_second-requires g c =
+pub serve_second-ending-requires : goal.serve_second-ending-requires
+serve_second-ending-requires g c =
     opened_sound c.in_ok-taken.taken c.in-Opened.document
     (subst (λ r. IsReached c.args.first.now c.in_ok-taken.taken r) c.in-Opened.is c.in_ok-reached.ensures)
 
 pub returns-in-Opened-clause-read : goal.returns-in-Opened-clause-read
 returns-in-Opened-clause-read g c =
-    read_twice g.S.Shelf c.args.shelf.now c.take_whole.new.shelf c.serve_second.new.shelf c.in_ok-taken.ensures.read
-    c.serve_second.ensures.read
+    let ending = c.serve_second-ending in
+    read_twice g.S.Shelf c.args.shelf.now c.take_whole.new.shelf ending.new.shelf c.in_ok-taken.ensures.read
+    ending.ensures.read
 
 pub returns-in-Opened-clause-ends : goal.returns-in-Opened-clause-ends
 returns-in-Opened-clause-ends g c =
@@ -27,18 +28,19 @@ returns-in-Opened-clause-ends g c =
     let held = g.S.Shelf.held c.args.shelf.now in
     let taken = c.in_ok-taken.taken in
     let document = c.in-Opened.document in
-    let result = c.serve_second.result in
+    let result = c.serve_second-ending.result in
     let opened = subst (λ r. IsReached first taken r) c.in-Opened.is c.in_ok-reached.ensures in
     let reads =
     subst (λ h. IfOk result (λ e. ReadsFile second h all_rules (AnswersBeside pair document) e))
-    c.in_ok-taken.ensures.read.kept c.serve_second.ensures.ends in
+    c.in_ok-taken.ensures.read.kept c.serve_second-ending.ensures.ends in
     opened_reads first held taken document (ReadsSecond pair second held) result c.in_ok-taken.ensures.is opened
     (λ one holds. second_reads pair second held document one result holds reads)
 
 pub returns-in-Opened-clause-cause : goal.returns-in-Opened-clause-cause
 returns-in-Opened-clause-cause g c =
-    caused_later g.S.Shelf c.args.shelf.now c.take_whole.new.shelf c.serve_second.new.shelf c.serve_second.result
-    c.in_ok-taken.ensures.read c.serve_second.ensures.cause
+    let ending = c.serve_second-ending in
+    caused_later g.S.Shelf c.args.shelf.now c.take_whole.new.shelf ending.new.shelf ending.result
+    c.in_ok-taken.ensures.read ending.ensures.cause
 
 pub returns-in-Stopped-clause-ends : goal.returns-in-Stopped-clause-ends
 returns-in-Stopped-clause-ends g c =

@@ -1,5 +1,5 @@
 use Rattle.std.specs.Prelude.{MatchResult, Result}
-use Rattle.std.proofs.Common.{◌≡◌, ◌∙◌, ap, inl, length, List, ℕ, subst, Ok, Err}
+use Rattle.std.proofs.Common.{◌≡◌, ◌∙◌, ap, inl, length, List, ℕ, subst, Ok}
 use Rattle.std.proofs.lemmas.Result.{IfOk-weaker}
 use Rattle.plain_doc.specs.declared.document.Document.{Document}
 use Rattle.full_save.specs.declared.fault.SaveFault.{SaveFault}
@@ -37,6 +37,5 @@ returns-in-Err c =
     let fault = c.in-Err.fault in
     IfOk-weaker c.not_made.result (λ r. (document : Document) → IsTooLarge document fault → Saves word document r)
     (RepliesTo c.args.file word)
-    (λ r h document comes.
-    let has : Comes (Err fault) document =
-    subst (λ (file : Result (List ℕ) SaveFault). Comes file document) c.in-Err.is comes in h document has) c.not_made.ensures
+    (λ r h document comes. h document (subst (λ (file : Result (List ℕ) SaveFault). Comes file document) c.in-Err.is
+    comes)) c.not_made.ensures

@@ -7,7 +7,7 @@ use Rattle.doc_tasks.specs.declared.reply.Refusal.TheVariants.{Unsound}
 use Rattle.doc_tasks.specs.Lines.{rule_line}
 use Rattle.doc_tasks.specs.Joins.{Joins}
 use Rattle.doc_tasks.proofs.JoinLemmas.{unsound_said}
-use Rattle.doc_tasks.proofs.joining.joined.Goals as goal
+use Rattle.doc_tasks.proofs.joining.join_reply.Goals as goal
 
 pub returns-in-Err-Unsound : goal.returns-in-Err-Unsound
 returns-in-Err-Unsound c =
