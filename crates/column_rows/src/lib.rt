@@ -2,13 +2,19 @@
 #![tactic(auto)]
 
 #[cfg(test)]
+mod as_json;
+#[cfg(test)]
 mod documents;
 #[cfg(test)]
 mod edits;
 #[cfg(test)]
 mod files;
 #[cfg(test)]
+mod joins;
+#[cfg(test)]
 mod marks;
+#[cfg(test)]
+mod outlines;
 #[cfg(test)]
 mod played;
 #[cfg(test)]

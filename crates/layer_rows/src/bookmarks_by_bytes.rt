@@ -1,7 +1,9 @@
 // Bookmarks by their three parts, and the calls that change a list of them. The bytes were worked out by hand from
 // [MS-DOC] SttbfBkmk, Plcfbkf and Plcfbkl.
-use doc_bits::{Bytes, Memory, Units};
-use doc_parts::{Bookmark, Bookmarks, PartFault, bookmarks, print_ends, print_names, print_starts};
+use doc_bits::{Bytes, Memory};
+use doc_parts::{
+    Bookmark, Bookmarks, Name, PartFault, bookmarks, print_ends, print_names, print_starts,
+};
 use std::alloc::Global;
 use std::test::Fail;
 
@@ -20,7 +22,7 @@ const LEN: u32 = 12;
 /// A bookmark with a name of one letter.
 fn bookmark_of(alloc: Global, letter: u8, from: u32, to: u32) -> Result<Bookmark, Memory> {
     Ok(Bookmark {
-        name: Units::from_slice(alloc, &[letter as u16])?,
+        name: Name::from_slice(alloc, &[letter as u16])?,
         from,
         to,
         flags: 0,

@@ -1,8 +1,8 @@
 // Documents joined, where no file is. What each joined document has was worked out by hand.
 use crate::documents::{document_of, is_sound, unit_of};
-use doc_bits::{Memory, Units};
+use doc_bits::Memory;
 use doc_join::{JoinFault, join};
-use doc_parts::{Bookmark, Bookmarks};
+use doc_parts::{Bookmark, Bookmarks, Name};
 use plain_doc::{Document, Items};
 use prop_map::{CHARACTER_GROUPS, PropMap};
 use sprm_table::Code;
@@ -30,7 +30,7 @@ fn add_bookmark(
         return Err(Memory);
     }
     list.add(Bookmark {
-        name: Units::from_slice(alloc, &[name])?,
+        name: Name::from_slice(alloc, &[name])?,
         from,
         to,
         flags: 0,

@@ -30,6 +30,8 @@ mod pieces;
 #[cfg(test)]
 mod puts;
 #[cfg(test)]
+mod ready_blocks;
+#[cfg(test)]
 mod refusing;
 #[cfg(test)]
 mod saves;

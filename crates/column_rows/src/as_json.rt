@@ -1,0 +1,55 @@
+// Documents by columns as JSON.
+use crate::edits::EACH;
+use crate::scripted::edited;
+use doc_bits::{Memory, Text};
+use doc_columns::ColumnDocument;
+use json_doc::{JsonFault, columns_from_json, columns_json_out, to_json};
+use plain_doc::{Document, blank, equal};
+use std::alloc::Global;
+use std::test::Fail;
+
+/// The JSON of a document by columns, where it has at most so many bytes.
+fn text_of(alloc: Global, columns: &ColumnDocument, most: u64) -> Result<Text, Memory> {
+    let out = columns_json_out(alloc, columns, most)?;
+    Ok(out.into_text())
+}
+
+/// Whether a document has one text by columns and item by item, and is read from it as it was.
+fn goes_as_json(alloc: Global, plain: &Document) -> Result<bool, Memory> {
+    let columns = ColumnDocument::from_document(alloc, plain)?;
+    let text = text_of(alloc, &columns, u64::MAX)?;
+    let same = text.as_str() == to_json(alloc, plain)?.as_str();
+    let back = comes_back(alloc, text.as_str(), plain)?;
+    Ok(same && back)
+}
+
+/// Whether a document is read from its JSON.
+fn comes_back(alloc: Global, text: &str, plain: &Document) -> Result<bool, Memory> {
+    match columns_from_json(alloc, text.as_bytes()) {
+        Ok(columns) => {
+            let expanded = columns.expand(alloc)?;
+            Ok(equal(plain, &expanded))
+        }
+        Err(_) => Ok(false),
+    }
+}
+
+/// Why a text is read as no document by columns.
+fn fault(alloc: Global, text: &[u8]) -> Option<JsonFault> {
+    columns_from_json(alloc, text).err()
+}
+
+#[test]
+fn documents_go_as_json_by_columns(rt: HostRuntime) -> Result<(), Fail> {
+    let alloc = rt.alloc();
+    assert!(rt; goes_as_json(alloc, &blank(alloc)?)?);
+    assert!(rt; goes_as_json(alloc, &edited(alloc, EACH)?)?);
+    Ok(())
+}
+
+#[test]
+fn what_is_no_document_is_refused_by_columns(rt: HostRuntime) -> Result<(), Fail> {
+    assert!(rt; fault(rt.alloc(), b"{") == Some(JsonFault::Json));
+    assert!(rt; fault(rt.alloc(), b"{}") == Some(JsonFault::Shape));
+    Ok(())
+}
