@@ -14,6 +14,7 @@ mod session;
 mod stories;
 mod written;
 
+pub use cfb_append::{Change, appended};
 pub use fast::FastFault;
 pub use laws::{
     edits_add_little, equal_files_have_one_save, full_saves_are_canonical, full_saves_are_fixed,
