@@ -38,7 +38,7 @@ static void says(docbin_answer got, uint32_t status, const char *line) {
 }
 
 typedef struct {
-  uint8_t at[70000];
+  uint8_t at[200000];
   size_t len;
 } bytes;
 
