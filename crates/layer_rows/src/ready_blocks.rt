@@ -1,4 +1,5 @@
-// The border of what is made ready: a list in blocks takes a ready block where the block of a place is full, and else none.
+// The border of what is made ready: a list in blocks takes a ready block where the block of a place is full, and else
+// none.
 ghost use Rattle.std.specs.Prelude.{◌≡◌};
 
 use block_lists::{BlockList, Measured};
