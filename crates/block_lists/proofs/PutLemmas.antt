@@ -6,7 +6,7 @@ use Rattle.std.specs.List.{All, splice}
 use Rattle.std.proofs.lemmas.List.Elements.{All-nil, All-take}
 use Rattle.std.proofs.lemmas.List.{take_at, take-append-drop, get_or_push}
 use Rattle.block_lists.specs.declared.places.Place.{Place}
-use Rattle.block_lists.specs.Blocks.{joined, units_of, block_at, number_of, AreSized, IsPlaceIn, IsMadeRoom, IsPut}
+use Rattle.block_lists.specs.Blocks.{joined, units_of, block_at, number_of, AreSized, IsMadeRoom, IsPut}
 use Rattle.block_lists.specs.Blocks.{BlockRow, AreInBlocks}
 use Rattle.block_lists.proofs.UnitLemmas.{length_put, units-nil, units-append, units-cons}
 use Rattle.block_lists.proofs.JoinLemmas.{joined-nil, put_joined, divided_joined, joined_more_length}
@@ -42,18 +42,6 @@ halves_fresh first second rest one two = record {
 }
 
 -- ---- a block that divides
-
--- there is room already
-pub made_already : {T : Type 0} (blocks : List (List T)) (place : Place) → IsPlaceIn blocks place →
-    length (block_at blocks place.block) < 128 → IsMadeRoom blocks blocks place place
-made_already blocks place in_block room = record {
-  same = refl;
-  in_block = in_block;
-  room = room;
-  here = refl;
-  behind = omega arith;
-  sized = λ full low sized. sized;
-}
 
 -- the halves of a block, where they are
 pub record AreHalves {T : Type 0} (old new : List (List T)) (b : ℕ) : Type 0 where
@@ -189,19 +177,6 @@ no_blocks {T = T} units row ready none empty =
       few = omega (arith, items);
       total = omega (arith, total, units-nil units);
     }
-
--- the same blocks with more room
-pub roomier : {T : Type 0} (units : T → ℕ) (row more : BlockRow T) (ready further : List (List T)) (count full : ℕ) →
-    AreInBlocks units row ready count full → more.blocks ≡ row.blocks → length further ≤ more.spare
-    → All (λ (block : List T). block ≡ []) further → AreInBlocks units more further count full
-roomier {T = T} units row more ready further count full is same room empty = record {
-  sized = subst (λ (t : List (List T)). AreSized t full) (sym same) is.sized;
-  counted = is.counted ∙ ap (λ (t : List (List T)). length (joined t)) (sym same);
-  room = room;
-  empty = empty;
-  few = let e = ap (λ (t : List (List T)). length (joined t)) same in let f = is.few in omega arith;
-  total = let e = ap (λ (t : List (List T)). units_of units (joined t)) same in let f = is.total in omega arith;
-}
 
 -- one item in one block
 pub one_block : {T : Type 0} (x : T) → AreSized ((x ∷ []) ∷ []) 0

@@ -6,7 +6,7 @@ use Rattle.std.specs.Prelude.{slice_range}
 use Rattle.std.proofs.Math.Seq.{take-add}
 use Rattle.std.proofs.lemmas.Bool.{cases_lt}
 use Rattle.std.proofs.lemmas.List.{take_at, drop_at, take-append-le, drop-append-le, take_all, drop_all, drop-drop}
-use Rattle.std.proofs.lemmas.List.{append-nil, map-append, take-append-drop, take_min, drop_min, set_at, drop_more}
+use Rattle.std.proofs.lemmas.List.{append-nil, map-append, take-append-drop, drop_min, set_at, drop_more}
 use Rattle.std.proofs.lemmas.List.{map-set, set-get_or, get_or_at, length-map}
 use Rattle.std.proofs.lemmas.Option.{slice_get-get_or}
 use Rattle.block_lists.specs.Blocks.{map_range}
@@ -149,7 +149,7 @@ length-map_range {A = A} f xs a b order =
     )
 
 -- bounds beyond the list
-range_clamped : {A : Type 0} (xs : List A) (a b : ℕ) → a ≤ b →
+pub range_clamped : {A : Type 0} (xs : List A) (a b : ℕ) → a ≤ b →
     slice_range xs (min a (length xs)) (min b (length xs)) ≡ slice_range xs a b
 range_clamped {A = A} xs a b order =
     let long = length-drop a xs in
@@ -163,15 +163,6 @@ range_clamped {A = A} xs a b order =
           let same : min b (length xs) - min a (length xs) ≡ b - a = omega arith in
           ap (λ (n : ℕ). take n (drop a xs)) same
     ]
-
-pub map_range_clamped : {A : Type 0} (f : A → A) (xs : List A) (a b : ℕ) → a ≤ b →
-    map_range f xs (min a (length xs)) (min b (length xs)) ≡ map_range f xs a b
-map_range_clamped {A = A} f xs a b order =
-    let m = min a (length xs) in
-    let n = min b (length xs) in
-    ap (λ (t : List A). t ++ (map f (slice_range xs m n) ++ drop n xs)) (take_min a xs)
-    ∙ ap (λ (t : List A). take a xs ++ (map f t ++ drop n xs)) (range_clamped xs a b order)
-    ∙ ap (λ (t : List A). take a xs ++ (map f (slice_range xs a b) ++ t)) (drop_min b xs)
 
 -- a list of nothing
 pub range_nil : {A : Type 0} (xs : List A) (a b : ℕ) → xs ≡ [] → slice_range xs a b ≡ []
@@ -189,12 +180,6 @@ map_range_nil {A = A} f xs a b none =
     ∙ ap (λ (t : List A). t ++ (map f (slice_range [] a b) ++ drop b [])) (take_all a [] first)
     ∙ ap (λ (t : List A). map f t ++ drop b []) (range_nil [] a b refl)
     ∙ drop_all b [] last
-
--- nothing is exchanged yet
-pub map_range_none : {A : Type 0} (f : A → A) (xs : List A) (a : ℕ) → xs ≡ map_range f xs a a
-map_range_none {A = A} f xs a =
-    let none : a - a ≡ 0 = omega arith in
-    sym (ap (λ (n : ℕ). take a xs ++ (map f (take n (drop a xs)) ++ drop a xs)) none ∙ take-append-drop a xs)
 
 -- an element more is exchanged
 pub map_range_more : {A : Type 0} (f : A → A) (xs now : List A) (a i : ℕ) (x : A) → a ≤ i → i < length xs →

@@ -17,10 +17,6 @@ use Rattle.block_lists.proofs.RangeLemmas.{drop_past}
 
 -- ---- units of what is left
 
-pub units-drop-le : {T : Type 0} (units : T → ℕ) (xs : List T) (i : ℕ) → units_of units (drop i xs) ≤ units_of units xs
-units-drop-le units xs i =
-    omega (arith, units-append units (take i xs) (drop i xs), ap (units_of units) (take-append-drop i xs))
-
 pub units-cut-le : {T : Type 0} (units : T → ℕ) (xs : List T) (a b : ℕ) → a ≤ b →
     units_of units (splice xs a b []) ≤ units_of units xs
 units-cut-le units xs a b order =

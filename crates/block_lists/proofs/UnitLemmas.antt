@@ -166,11 +166,6 @@ set_spliced {A = A} xs i x within =
 
 -- ---- a range
 
-pub range_none : {A : Type 0} (xs : List A) (from : ℕ) → [] ≡ slice_range xs from from
-range_none xs from =
-    let none : from - from ≡ 0 = omega arith in
-    sym (ap (λ (n : ℕ). take n (drop from xs)) none)
-
 -- an item more of a range
 pub range_push : {A : Type 0} (xs : List A) (from i : ℕ) (x : A) → from ≤ i → slice_get xs i ≡ Some x →
     slice_range xs from i ++ x ∷ [] ≡ slice_range xs from (i + 1)

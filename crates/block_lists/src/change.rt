@@ -13,6 +13,8 @@ impl<T: Measured> BlockList<T> {
         ensures items { self.new.items ≡ slice_set self.old.items i item }
         ensures spare { self.new.spare ≡ self.old.spare }
         ensures memory { IsNoLarger self.old self.new }
+        ensures blocks { self.new.blocks ≡ self.old.blocks }
+        ensures room { self.new.room ≡ self.old.room }
     {
         let place = self.row.place(i);
         self.row.set(place.block, place.within, item);
@@ -25,6 +27,8 @@ impl<T: Measured> BlockList<T> {
         ensures items { self.new.items ≡ map_range (C.image by.now) self.old.items first last }
         ensures spare { self.new.spare ≡ self.old.spare }
         ensures memory { IsNoLarger self.old self.new }
+        ensures blocks { self.new.blocks ≡ self.old.blocks }
+        ensures room { self.new.room ≡ self.old.room }
     {
         change_range(&mut self.row, first, last, by);
     }

@@ -101,11 +101,13 @@ impl<T: Measured> BlockList<T> {
         self.row.get(place.block, place.within)
     }
 
-    /// Makes blocks ready for so many insertions at least.
+    /// Makes blocks ready for so many insertions, less those that stand ready.
     pub fn reserve(&mut self, n: usize) -> Result<(), Memory>
         ensures ok { OnOk result (n ≤ self.new.spare) }
         ensures items { self.new.items ≡ self.old.items }
         ensures more { self.old.spare ≤ self.new.spare }
+        ensures most { self.new.spare ≤ self.old.spare + (n - self.old.spare) }
+        ensures blocks { self.new.blocks + self.old.spare ≡ self.old.blocks + self.new.spare }
     {
         self.row.reserve(n)?;
         make_ready(self.alloc, &mut self.ready, n)?;
@@ -155,6 +157,8 @@ impl<T: Measured> BlockList<T> {
         ensures spare { self.old.spare ≤ self.new.spare + 1 }
         ensures no_more { self.new.spare ≤ self.old.spare }
         ensures memory { IsNoLarger self.old self.new }
+        ensures blocks { self.new.blocks ≡ self.old.blocks }
+        ensures room { self.new.room ≡ self.old.room }
     {
         if self.count == 0 {
             self.insert_first(item);
@@ -172,6 +176,8 @@ impl<T: Measured> BlockList<T> {
         ensures spare { self.old.spare ≤ self.new.spare + 1 }
         ensures no_more { self.new.spare ≤ self.old.spare }
         ensures memory { IsNoLarger self.old self.new }
+        ensures blocks { self.new.blocks ≡ self.old.blocks }
+        ensures room { self.new.room ≡ self.old.room }
     {
         put_first(&mut self.row, &mut self.ready, item);
         self.count = 1;
@@ -189,6 +195,8 @@ impl<T: Measured> BlockList<T> {
         ensures spare { self.old.spare ≤ self.new.spare + 1 }
         ensures no_more { self.new.spare ≤ self.old.spare }
         ensures memory { IsNoLarger self.old self.new }
+        ensures blocks { self.new.blocks ≡ self.old.blocks }
+        ensures room { self.new.room ≡ self.old.room }
     {
         let place = self.row.place(i);
         let full = self.full.min(place.block);

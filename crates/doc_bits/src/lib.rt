@@ -11,7 +11,7 @@ mod steps;
 mod sums;
 
 pub use laws::{number_is_read_back, plc_is_read_back};
-pub use lists::{Bytes, Text, Units};
+pub use lists::{Bytes, Text, Units, splice_list};
 pub use memory::Memory;
 pub use numbers::{get16, get32, put16, put32};
 pub use places::{Story, Where, lesser};

@@ -1,5 +1,6 @@
 // Lists that grow. After want of memory each is what it was.
-ghost use Rattle.std.specs.Prelude.{◌≡◌, List, ℕ, [], ◌∷◌, ◌++◌, IfOk, OnOk, OnErr};
+ghost use Rattle.std.specs.Prelude.{◌≡◌, ◌≤◌, List, ℕ, [], ◌∷◌, ◌++◌, length, IfOk, OnOk, OnErr};
+ghost use Rattle.std.specs.List.{splice};
 ghost use Rattle.std.specs.String.{string_bytes};
 ghost use Rattle.doc_bits.specs.Number.{number_bytes};
 
@@ -29,6 +30,14 @@ impl Bytes {
         }
     }
 
+    /// No bytes, and room for so many.
+    pub fn with_capacity(alloc: Global, room: usize) -> Result<Bytes, Memory>
+        ensures { IfOk result (λ made. made ≡ []) }
+    {
+        let items = Vec::with_capacity(alloc, room)?;
+        Ok(Bytes { items })
+    }
+
     /// A list of these bytes.
     pub fn from_slice(alloc: Global, bytes: &[u8]) -> Result<Bytes, Memory>
         ensures { IfOk result (λ made. made ≡ bytes.now) }
@@ -43,6 +52,13 @@ impl Bytes {
     {
         self.items.extend_from_slice(more)?;
         Ok(())
+    }
+
+    /// Gives back the room behind the bytes.
+    pub fn fit(&mut self)
+        ensures { self.new ≡ self.old }
+    {
+        self.items.shrink_to_fit();
     }
 
     /// Appends the two bytes of a number, the lowest first.
@@ -157,4 +173,20 @@ impl Text {
     {
         self.text.as_str()
     }
+}
+
+/// Puts `fresh` in place of the entries from `from` to before `to`. Each entry is moved once.
+pub fn splice_list<T: Drop>(
+    list: &mut Vec<T>,
+    from: usize,
+    to: usize,
+    fresh: Vec<T>,
+) -> Result<(), Memory>
+    requires ordered { from ≤ to }
+    requires within { to ≤ length list.old.items }
+    ensures ok { OnOk result (list.new.items ≡ splice list.old.items from to fresh.items) }
+    ensures err { OnErr result (list.new.items ≡ list.old.items) }
+{
+    let _ = list.splice(from..to, fresh)?;
+    Ok(())
 }

@@ -10,13 +10,13 @@ use Rattle.std.proofs.lemmas.List.Elements.{filter-append, All-filter, All-push}
 use Rattle.doc_bits.specs.Number.{u16_at, AreBytes}
 use Rattle.doc_bits.proofs.NumberLemmas.{number_at-bound}
 use Rattle.doc_bits.specs.Plc.{IsPlcOf, plc_cp}
-use Rattle.doc_bits.specs.Rules.{Nowhere, IsLeast, Among, LeastOrNone, lesser_of}
-use Rattle.doc_bits.proofs.RuleLemmas.{first_among, least_same, least_either}
+use Rattle.doc_bits.specs.Rules.{Nowhere, IsLeast, LeastOrNone, lesser_of}
+use Rattle.doc_bits.proofs.RuleLemmas.{least_same, least_either}
 use Rattle.doc_parts.specs.Tabulated.{tabulate}
 use Rattle.doc_parts.specs.BookmarkParts.{bookmark_count, name_place, HasNameFront, IsWholeName, AreWholeNames}
 use Rattle.doc_parts.specs.BookmarkParts.{IsWrongCount}
 use Rattle.doc_parts.specs.BookmarkParts.{FillNames, HasWrongCount, AreWrongNames, BreaksNames, end_index, start_entry}
-use Rattle.doc_parts.specs.BookmarkParts.{IsWrongIndex, BreaksStarts, BookmarkParts, bookmark_at, is_kept}
+use Rattle.doc_parts.specs.BookmarkParts.{BreaksStarts, BookmarkParts, bookmark_at, is_kept}
 use Rattle.doc_parts.specs.BookmarkParts.{kept_bookmarks, bookmarks_of, name_of, HasNames, BreaksParts, AreRightParts}
 use Rattle.doc_parts.specs.BookmarkParts.{parts_at}
 use Rattle.doc_parts.specs.declared.bookmark_order.Bookmark.{Bookmark}
@@ -74,10 +74,6 @@ part_least names at wrong = record {
     | inr y ↦ let here = y.broken.here in omega arith
   ];
 }
-
-pub wrong_front : (names : List ℕ) (at : ℕ) → ¬ (HasNameFront names) →
-    IsLeast (λ a b. a ≤ b) (BreaksNames names at) at
-wrong_front names at wrong = part_least names at (inl wrong)
 
 -- a count that is not there
 pub no_count : (names : List ℕ) (at k : ℕ) → k < bookmark_count names → AreWholeNames names k →
@@ -158,23 +154,6 @@ whole_more names k whole here j low = elim (cases_lt j k) [
 ]
 
 -- ---- the starts
-
-index_later : (starts : List ℕ) (at count j k a b : ℕ) → j < k → IsWrongIndex starts at count j a →
-    IsWrongIndex starts at count k b → a ≤ b
-index_later starts at count j k a b low one other = let here = one.here in let there = other.here in omega arith
-
-pub wrong_index : (starts : List ℕ) (at count k : ℕ) → IsPlcOf starts 4 count → k < count →
-    count ≤ end_index starts count k → ((j : ℕ) → j < k → end_index starts count j < count) →
-    IsLeast (λ a b. a ≤ b) (BreaksStarts starts at count) (at + start_entry count k)
-wrong_index starts at count k whole below outside before =
-    let first : IsLeast (λ a b. a ≤ b) (Among count (IsWrongIndex starts at count)) (at + start_entry count k) =
-    first_among (IsWrongIndex starts at count) count k (at + start_entry count k)
-    (index_later starts at count) below (λ j low p w. omega (arith, before j low, w.outside))
-    (record { broken = record { outside = outside; here = refl }; least = λ p w. let here = w.here in omega arith }) in
-    record {
-      broken = inr (whole, first.broken);
-      least = λ p w. elim w [ inl x ↦ absurd (x.1 whole) | inr y ↦ first.least p y.1 ];
-    }
 
 pub right_starts : (starts : List ℕ) (at count : ℕ) → IsPlcOf starts 4 count →
     ((j : ℕ) → j < count → end_index starts count j < count) → Nowhere (BreaksStarts starts at count)

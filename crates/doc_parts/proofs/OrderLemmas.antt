@@ -12,7 +12,7 @@ use Rattle.std.specs.Cmp.{IsTotalOrder}
 use Rattle.std.specs.FinMap.{IsAntisymmetric}
 use Rattle.std.proofs.lemmas.Cmp.{upto, tied_itself}
 use Rattle.std.proofs.lemmas.List.Sorted.{ranks_by, sorted_far, sum_by-IsPermutation}
-use Rattle.std.proofs.lemmas.List.Sums.{sum_by-cons, sum_by_push}
+use Rattle.std.proofs.lemmas.List.Sums.{sum_by-cons}
 use Rattle.std.proofs.lemmas.List.Elements.{All-cons, All-head, All-tail}
 use Rattle.std.specs.Prelude.{All}
 use Rattle.std.specs.List.{filter}
@@ -209,20 +209,6 @@ pub sorted_stays : {K : Type 0} (cmp : K → K → Ordering) → IsTotalOrder cm
 sorted_stays cmp total alone xs sorted =
     one_order cmp total alone (in_order cmp xs) xs (order_rises cmp total xs) (sorted_rises cmp total xs sorted)
     (order_counted cmp xs)
-
--- one more at the end is put in its place
-pub push_in_order : {K : Type 0} (cmp : K → K → Ordering) → IsTotalOrder cmp → IsAntisymmetric cmp → (x : K)
-    (xs : List K) → IsSorted cmp xs → in_order cmp (xs ++ x ∷ []) ≡ put_in cmp x xs
-push_in_order cmp total alone x xs sorted =
-    one_order cmp total alone (in_order cmp (xs ++ x ∷ [])) (put_in cmp x xs) (order_rises cmp total (xs ++ x ∷ []))
-    (put_rises cmp total x xs (sorted_rises cmp total xs sorted))
-    (λ f. omega (
-      arith,
-      order_counted cmp (xs ++ x ∷ []) f,
-      sum_by_push f xs x,
-      put_counted cmp x xs f,
-      sum_by-cons f x xs,
-    ))
 
 -- ---- an entry is put at the place that a walk finds
 

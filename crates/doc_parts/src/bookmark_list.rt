@@ -11,8 +11,7 @@ ghost use Rattle.doc_parts.specs.Bookmarks.{moved_bookmarks};
 ghost use Rattle.doc_parts.specs.Names.{name_cmp, is_named, AreApart, HasSameName};
 
 use crate::bookmark_order::{Bookmark, compare, move_all, sort};
-use crate::splices::splice_list;
-use doc_bits::Memory;
+use doc_bits::{Memory, splice_list};
 use std::alloc::Global;
 use std::cmp::Ordering;
 use std::marker::Model;
@@ -49,7 +48,7 @@ impl Bookmarks {
     }
 
     /// These bookmarks, in order. Whether their names differ is found out.
-    pub fn of(mut items: Vec<Bookmark>) -> Bookmarks
+    pub(crate) fn of(mut items: Vec<Bookmark>) -> Bookmarks
         requires { All HasFileNumbers items.items }
         ensures { result ≡ in_order bookmark_cmp items.items }
     {
@@ -280,7 +279,7 @@ fn place_of(bookmark: &Bookmark, list: &[Bookmark]) -> usize
 }
 
 /// Whether no bookmark comes before the one before it.
-pub fn is_in_order(list: &[Bookmark]) -> bool
+fn is_in_order(list: &[Bookmark]) -> bool
     ensures { IsTrue result ↔ IsSorted bookmark_cmp list.now }
 {
     for i in 1..list.len() {

@@ -61,7 +61,7 @@ impl Bookmark {
 }
 
 /// Where a bookmark stands beside another.
-pub fn compare(one: &Bookmark, other: &Bookmark) -> Ordering
+pub(crate) fn compare(one: &Bookmark, other: &Bookmark) -> Ordering
     ensures { result ≡ bookmark_cmp one.now other.now }
 {
     one.from

@@ -18,7 +18,6 @@ pub mod FlatLemmas
 pub mod CutLemmas
 pub mod RenumberLemmas
 pub mod SpliceLemmas
-pub mod ModifiedLemmas
 pub mod PrcListLemmas
 pub mod RenewalLemmas
 pub mod BlockLemmas

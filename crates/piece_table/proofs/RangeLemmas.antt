@@ -100,7 +100,7 @@ range_parts Q old cut met from to first last sound twice are all = λ k d low.
     subst Q (ap (λ (e : Entry). e.modifier) is ∙ sym part.modifier ∙ sym (ap (λ (e : Entry). e.modifier) now))
     (all (place - are.first) no_entry there_met)
 
--- the list after the modifiers of the entries that a range meets were composed, the entries cut and their numbers renewed
+-- the list after the modifiers of the entries that a range meets were composed, the entries cut and numbered anew
 pub renewed_met : (old_modifiers new_modifiers : List Modifier) (by : Modifier) (numbers : List ℕ) (old cut met : List
     Entry) (from to first last : ℕ) → AreNumbered old_modifiers old → ArePieces (map (text_piece old_modifiers) old) →
     IsCutTwice old cut from to first last → from < to → Extends old_modifiers new_modifiers → IsFormedModifier by →
@@ -110,5 +110,6 @@ pub renewed_met : (old_modifiers new_modifiers : List Modifier) (by : Modifier) 
 renewed_met old_modifiers new_modifiers by numbers old cut met from to first last numbered are twice order more formed
     have range all =
     let sound = twice.keeps.pieces (entries_sound old_modifiers old are) in
-    renewed old_modifiers new_modifiers by numbers old cut from to first last numbered are twice (omega arith) more formed
+    let le : from ≤ to = omega arith in
+    renewed old_modifiers new_modifiers by numbers old cut from to first last numbered are twice le more formed
     have (range_parts (λ (n : ℕ). slice_index numbers n ≢ 0) old cut met from to first last sound twice range all)

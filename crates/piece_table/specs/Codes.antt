@@ -23,8 +23,8 @@ piece_code =
 
 abbrev pub table_code : Coded PieceTable
 table_code =
-    code_by (List TextPiece × ℕ)
-    (coded× (coded_list piece_code) coded_ℕ)
-    (λ t. (t.pieces, t.spare))
-    (λ p. record { pieces = p.0; spare = p.1 })
+    code_by (List TextPiece × (ℕ × (ℕ × ℕ)))
+    (coded× (coded_list piece_code) (coded× coded_ℕ (coded× coded_ℕ coded_ℕ)))
+    (λ t. (t.pieces, (t.spare, (t.blocks, t.room))))
+    (λ p. record { pieces = p.0; spare = p.1.0; blocks = p.1.1.0; room = p.1.1.1 })
     (λ _. refl)

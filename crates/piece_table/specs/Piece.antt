@@ -18,10 +18,18 @@ pub record TextPiece : Type 0 where
 abbrev pub bare_piece : TextPiece → Piece
 bare_piece piece = record { at = piece.at; wide = piece.wide; len = piece.len }
 
--- pieces, and the number of further ones for which there is memory
+-- pieces, the number of further ones for which there is memory, how many blocks there are with the ready ones, and how
+-- many there is room for in the list of blocks
 pub record PieceTable : Type 0 where
   pub pieces : List TextPiece
   pub spare : ℕ
+  pub blocks : ℕ
+  pub room : ℕ
+
+-- no block is made, and no room for more
+pub record IsNoLarger (old new : PieceTable) : Type 0 where
+  pub blocks : new.blocks ≤ old.blocks
+  pub room : new.room ≤ old.room
 
 -- where a unit stands: its first byte in WordDocument, and whether it has two; and the modifier of its piece
 pub record UnitPlace : Type 0 where

@@ -3,7 +3,7 @@ ghost use Rattle.std.specs.Prelude.{◌≡◌, ◌+◌, ◌-◌, ◌/◌, ◌<�
 ghost use Rattle.std.specs.Prelude.{⊤, OnOk, OnErr, Option, MatchOption, option_to_list};
 ghost use Rattle.std.specs.List.{splice};
 ghost use Rattle.prop_map.specs.Modifiers.{IsFormedModifier};
-ghost use Rattle.piece_table.specs.Piece.{IsPiece, flat_pieces, total_length};
+ghost use Rattle.piece_table.specs.Piece.{IsPiece, IsNoLarger, flat_pieces, total_length};
 ghost use Rattle.piece_table.specs.Changes.{IsSpot, HasBegin, fresh_places, fresh_units, AreModified};
 
 use crate::cutting::{cut, cut_range, met, put, units_of};
@@ -16,11 +16,13 @@ use prop_map::Modifier;
 const MODIFIERS_KEPT: usize = 64;
 
 impl PieceList {
-    /// Takes memory for the blocks that so many further pieces may divide.
+    /// Takes memory for the blocks that so many further pieces may divide, less those that stand ready.
     pub fn reserve(&mut self, n: usize) -> Result<(), Memory>
         ensures ok { OnOk result (n ≤ self.new.spare) }
         ensures pieces { self.new.pieces ≡ self.old.pieces }
         ensures more { self.old.spare ≤ self.new.spare }
+        ensures most { self.new.spare ≤ self.old.spare + (n - self.old.spare) }
+        ensures blocks { self.new.blocks + self.old.spare ≡ self.old.blocks + self.new.spare }
     {
         self.entries.reserve(n)?;
         Ok(())
@@ -48,6 +50,7 @@ impl PieceList {
         ensures count { length self.new.pieces ≤ length self.old.pieces + 1 }
         ensures spare { self.old.spare ≤ self.new.spare + 1 }
         ensures no_more { self.new.spare ≤ self.old.spare }
+        ensures memory { IsNoLarger self.old self.new }
     {
         let _ = cut(&mut self.entries, cp, self.total);
     }
@@ -64,6 +67,7 @@ impl PieceList {
         ensures count { length self.new.pieces ≤ length self.old.pieces + 1 + length (option_to_list fresh) }
         ensures spare { self.old.spare ≤ self.new.spare + 3 }
         ensures no_more { self.new.spare ≤ self.old.spare }
+        ensures memory { IsNoLarger self.old self.new }
     {
         let (first, last) = cut_range(&mut self.entries, from, to, self.total);
         self.entries.remove(first, last);
@@ -84,6 +88,7 @@ impl PieceList {
         ensures begins { OnOk result (HasBegin self.new.pieces from) }
         ensures ends { OnOk result (HasBegin self.new.pieces to) }
         ensures err { OnErr result (self.new ≡ self.old) }
+        ensures memory { OnOk result (IsNoLarger self.old self.new) }
     {
         let alloc = *self.modifiers.allocator();
         let range = met(&self.entries, from, to)?;

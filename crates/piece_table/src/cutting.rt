@@ -54,6 +54,8 @@ pub(crate) fn cut(entries: &mut BlockList<Entry>, cp: u32, total: u32) -> usize
     ensures cut { IsCut entries.old.items entries.new.items cp result }
     ensures spare { entries.old.spare ≤ entries.new.spare + 1 }
     ensures no_more { entries.new.spare ≤ entries.old.spare }
+    ensures blocks { entries.new.blocks ≡ entries.old.blocks }
+    ensures room { entries.new.room ≡ entries.old.room }
 {
     if cp == total {
         return entries.len();
@@ -84,6 +86,8 @@ pub(crate) fn cut_range(
     ensures cut { IsCutTwice entries.old.items entries.new.items from to result.0 result.1 }
     ensures spare { entries.old.spare ≤ entries.new.spare + 2 }
     ensures no_more { entries.new.spare ≤ entries.old.spare }
+    ensures blocks { entries.new.blocks ≡ entries.old.blocks }
+    ensures room { entries.new.room ≡ entries.old.room }
 {
     let first = cut(entries, from, total);
     let last = cut(entries, to, total);
@@ -100,6 +104,8 @@ pub(crate) fn put(entries: &mut BlockList<Entry>, number: usize, fresh: Option<P
         ≡ take number entries.old.items ++ (fresh_entries fresh ++ drop number entries.old.items) }
     ensures spare { entries.old.spare ≤ entries.new.spare + 1 }
     ensures no_more { entries.new.spare ≤ entries.old.spare }
+    ensures blocks { entries.new.blocks ≡ entries.old.blocks }
+    ensures room { entries.new.room ≡ entries.old.room }
 {
     if let Some(piece) = fresh {
         entries.insert(number, Entry { piece, modifier: 0 });

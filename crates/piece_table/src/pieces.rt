@@ -84,6 +84,8 @@ impl Model for PieceList {
     ghost view = { λ list. record {
       pieces = map (text_piece list.modifiers.items) list.entries.items;
       spare = list.entries.spare;
+      blocks = list.entries.blocks;
+      room = list.entries.room;
     } };
 
     ghost invariant = { λ list. AreNumbered list.modifiers.items list.entries.items

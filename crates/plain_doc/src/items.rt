@@ -7,8 +7,7 @@ ghost use Rattle.plain_doc.specs.Document.{HasPropertyMaps, IsFormedText};
 
 use crate::Item;
 use crate::ranges::are_formed;
-use doc_bits::Memory;
-use doc_parts::splice_list;
+use doc_bits::{Memory, splice_list};
 use std::alloc::Global;
 use std::marker::Model;
 use std::mem;

@@ -6,8 +6,7 @@ ghost use Rattle.std.specs.List.{splice};
 ghost use Rattle.plain_doc.specs.Document.{AreFormedTexts};
 
 use crate::Items;
-use doc_bits::Memory;
-use doc_parts::splice_list;
+use doc_bits::{Memory, splice_list};
 use std::alloc::Global;
 use std::marker::Model;
 use std::mem;

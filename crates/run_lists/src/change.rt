@@ -103,7 +103,7 @@ fn changed<T: Shared, C: Change<T>>(
     requires few { extent runs.now < 2 ^ 32 }
     ensures { IfOk result (AreTogether (C.becomes by.now) (slice_range (spread runs.now) from to)) }
 {
-    let mut fresh = Runs::new(alloc);
+    let mut fresh = Runs::with_room(alloc, run_count(runs, spot, from, to))?;
     let mut number = spot.run;
     let mut skipped = spot.left;
     let mut left = to - from;
@@ -117,4 +117,19 @@ fn changed<T: Shared, C: Change<T>>(
         number += 1;
     }
     Ok(fresh)
+}
+
+/// How many runs the values from `from`, whose run and place in it are the spot, to before `to` are in.
+fn run_count<T>(runs: &[Run<T>], spot: Spot, from: usize, to: usize) -> usize
+    requires found { IsFound runs.now 0 from spot }
+    requires ordered { from ≤ to }
+    requires within { to ≤ extent runs.now }
+    requires few { extent runs.now < 2 ^ 32 }
+    ensures { result ≤ length runs.now }
+{
+    let end = find(runs, spot.run, spot.left + (to - from));
+    if end.left == 0 {
+        return end.run - spot.run;
+    }
+    end.run + 1 - spot.run
 }

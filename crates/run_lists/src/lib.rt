@@ -4,13 +4,11 @@
 mod change;
 mod cursor;
 mod cut;
-mod lists;
 mod runs;
 mod shared;
 
 pub use change::{Change, copy_runs};
 pub use cursor::{Cursor, seek, value_until};
 pub use cut::{Spot, find};
-pub use lists::splice_list;
 pub use runs::{Run, Runs};
 pub use shared::Shared;

@@ -1,14 +1,13 @@
 // A list that is kept as runs. After want of memory it is what it was.
 ghost use Rattle.std.specs.Prelude.{◌≡◌, ◌+◌, ◌-◌, ◌^◌, ◌<◌, ◌≤◌};
 ghost use Rattle.std.specs.Prelude.{[], ◌++◌, length, replicate, slice_get};
-ghost use Rattle.std.specs.Prelude.{Some, OnOk, OnErr};
+ghost use Rattle.std.specs.Prelude.{Some, IfOk, OnOk, OnErr};
 ghost use Rattle.std.specs.List.{splice};
 ghost use Rattle.run_lists.specs.Spread.{spread};
 
 use crate::Shared;
 use crate::cut::{cut, find};
-use crate::lists::splice_list;
-use doc_bits::Memory;
+use doc_bits::{Memory, splice_list};
 use std::alloc::Global;
 use std::marker::Model;
 
@@ -46,6 +45,14 @@ impl<T: Shared> Runs<T> {
         Runs {
             runs: Vec::new(alloc),
         }
+    }
+
+    /// No values, and room for so many runs.
+    pub(crate) fn with_room(alloc: Global, room: usize) -> Result<Runs<T>, Memory>
+        ensures { IfOk result (λ runs. runs ≡ []) }
+    {
+        let runs = Vec::with_capacity(alloc, room)?;
+        Ok(Runs { runs })
     }
 
     /// Puts a value last, `count` times. It joins the last run where that has the same value.

@@ -149,12 +149,6 @@ pub record Knows (has : ℕ → Bool) (number : ℕ → ℕ) (n : ℕ) : Type 0 
   pub some : (q : ℕ) → has q ≡ true → (j : ℕ) × ((j < n) × (number j ≡ q))
   pub none : (q : ℕ) → has q ≡ false → (j : ℕ) → j < n → number j ≢ q
 
-pub knows_none : (has : ℕ → Bool) (number : ℕ → ℕ) → ((q : ℕ) → has q ≡ false) → Knows has number 0
-knows_none has number empty = record {
-  some = λ q h. absurd (false≢true (sym (empty q) ∙ h));
-  none = λ q h j low. absurd (omega arith);
-}
-
 apart_case : (less equal : Bool) → equal ≡ false → is_eq (if less then Less else (if equal then Equal else Greater)) ≡
     false
 apart_case true equal h = refl

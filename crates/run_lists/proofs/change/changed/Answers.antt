@@ -21,8 +21,8 @@ loop-left-init g c =
       place = λ some. omega (arith, c.requires.ordered, some);
       part = λ some run is. left_of c.args.runs.now 0 c.args.from spot run c.requires.found is;
       together =
-          none_changed (g.C.Change.becomes c.args.by.now) (spread c.args.runs.now) c.new-fresh.result c.args.from
-          (c.args.to - (c.args.to - c.args.from)) end c.new-fresh.ensures;
+          none_changed (g.C.Change.becomes c.args.by.now) (spread c.args.runs.now) c.in_ok-fresh.fresh c.args.from
+          (c.args.to - (c.args.to - c.args.from)) end c.in_ok-fresh.ensures;
     }
 
 pub overflow_sub-run : goal.overflow_sub-run

@@ -11,7 +11,8 @@ returns-clause-value g c =
     let mark = c.reach-mark.result in
     let reached = c.reach-mark.ensures in
     let k = c.args.i - mark.before in
-    let here : length (joined (take mark.block blocks)) + k ≡ c.args.i = omega (arith, reached.at.before, reached.ahead) in
+    let before = reached.at.before in
+    let here : length (joined (take mark.block blocks)) + k ≡ c.args.i = omega (arith, before, reached.ahead) in
     ap (λ l. slice_get l c.args.i) (sym c.self.view_is)
     ∙ ap (λ (n : ℕ). slice_get (joined blocks) n) (sym here)
     ∙ item_of_block blocks mark.block k reached.there (omega (arith, reached.inside, reached.ahead))

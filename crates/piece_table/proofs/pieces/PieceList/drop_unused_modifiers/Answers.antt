@@ -42,5 +42,11 @@ returns c =
     c.change.ensures.items ∙ whole_range (renumbered numbers) items
     c.len.result (omega (arith, c.len.ensures, ap length c.in_ok-entries.ensures)) in
     let seen = ap (map (text_piece made)) new ∙ seen-copied old made numbers items c.self.invariant.0.first have all in
-    ap (λ (l : List TextPiece). record { pieces = l; spare = c.change.new.self.spare }) seen
-    ∙ (ap (λ n. record { pieces = map (text_piece old) items; spare = n }) c.change.ensures.spare ∙ c.self.view_is)
+    let changed = c.change.new.self in
+    ap (λ (l : List TextPiece). record {
+      pieces = l;
+      spare = changed.spare;
+      blocks = changed.blocks;
+      room = changed.room;
+    }) seen
+    ∙ rw (c.change.ensures.spare, c.change.ensures.blocks, c.change.ensures.room) c.self.view_is

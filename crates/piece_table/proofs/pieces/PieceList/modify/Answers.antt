@@ -54,7 +54,12 @@ returns-in_err-numbers-clause-err c =
     let items = c.self.inside.entries.items in
     let seen = seen-extended old_modifiers modifiers items c.compose_all.ensures.extends c.self.invariant.0.named in
     let p = err_from_is_err_and c.from_residual-in_err-numbers.result c.from_residual-in_err-numbers.ensures.1 in
-    rw p.1 (ap (λ (l : List TextPiece). record { pieces = l; spare = c.self.inside.entries.spare }) seen
+    rw p.1 (ap (λ (l : List TextPiece). record {
+      pieces = l;
+      spare = c.self.inside.entries.spare;
+      blocks = c.self.inside.entries.blocks;
+      room = c.self.inside.entries.room;
+    }) seen
     ∙ c.self.view_is)
 
 pub cut_range-first-requires-clause-total : goal.cut_range-first-requires-clause-total

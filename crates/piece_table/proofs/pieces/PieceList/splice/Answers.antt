@@ -134,3 +134,13 @@ returns-clause-text c =
     )) in
     ap (flat_entries modifiers) new ∙ (is.flat ∙ ap (λ table. splice (flat_pieces table.pieces) c.args.from c.args.to
     (fresh_places fresh)) c.self.view_is)
+
+pub returns-clause-memory : goal.returns-clause-memory
+returns-clause-memory c =
+    let cut = c.cut_range-first.ensures in
+    let taken = c.remove.ensures.memory in
+    let put = c.put.ensures in
+    record {
+      blocks = omega (arith, ap (λ table. table.blocks) c.self.view_is, cut.blocks, taken.blocks, put.blocks);
+      room = omega (arith, ap (λ table. table.room) c.self.view_is, cut.room, taken.room, put.room);
+    }
