@@ -9,7 +9,7 @@ use Rattle.cfb_append.specs.Change.{StreamChange, grown_bytes}
 use Rattle.cfb_append.specs.InPlace.{StaysInPlace}
 use Rattle.cfb_append.specs.Contract.{IsNamed, CanBeAppended, IsSavedInPlace}
 use Rattle.cfb_append.proofs.InPlaceLemmas.{same_stream}
-use Rattle.cfb_append.proofs.PlaceLemmas.{named_once}
+use Rattle.cfb_streams.proofs.SameNameLemmas.{named_place}
 use Rattle.cfb_append.proofs.ContentsAgain.{save_stays, grown_bytes_are}
 
 -- a stream by its name
@@ -21,15 +21,8 @@ is_named contents name bytes has = record { stream = has.stream; here = has.here
 -- a file has one stream of a name
 named_index : (file : List ℕ) (contents : Contents) (name : List ℕ) (i j : ℕ) → HasContents file contents → IsNamed
     contents i name → IsNamed contents j name → i ≡ j
-named_index file contents name i j has one other = elim (cases_order i j) [
-  | inl e ↦ e
-  | inr apart ↦ elim apart [
-    | inl less ↦ absurd (named_once file contents has name i j one.stream other.stream less one.here other.here
-        one.named other.named)
-    | inr more ↦ absurd (named_once file contents has name j i other.stream one.stream more other.here one.here
-        other.named one.named)
-  ]
-]
+named_index file contents name i j has one other =
+    named_place file contents has name i j one.stream other.stream one.here other.here one.named other.named
 
 -- and it has these bytes
 pub named_bytes : (file : List ℕ) (contents : Contents) (name bytes : List ℕ) (i : ℕ) → HasContents file contents →

@@ -3,20 +3,18 @@ use Rattle.std.proofs.Common.{◌≡◌, inl, inr, ℕ, ◌+◌, ◌-◌, ◌*�
 use Rattle.std.proofs.Common.{drop, slice_index, slice_get, Some, refl, sym, ap, ◌∙◌, subst, arith}
 use Rattle.std.proofs.Common.{length-append, length-take, length-drop}
 use Rattle.std.specs.List.{flat_map, range_with_len}
-use Rattle.std.proofs.lemmas.Bool.{cases_order}
 use Rattle.std.proofs.lemmas.List.{get_or-take, get_or-drop, take-take, take-append-le, get_or_append_left}
 use Rattle.std.proofs.lemmas.List.{get_or-append_right}
 use Rattle.std.proofs.lemmas.List.Concat.{get_or-flat_map}
-use Rattle.std.proofs.lemmas.Option.{slice_get_within}
 use Rattle.cfb_sectors.specs.Header.{sector_bytes}
 use Rattle.cfb_sectors.specs.Chain.{AreSectorsOf}
 use Rattle.cfb_sectors.proofs.StreamLemmas.{length-sector, length-joined}
-use Rattle.cfb_directory.specs.Directory.{AreSameNames, ComesBefore, entry_size}
+use Rattle.cfb_directory.specs.Directory.{entry_size}
 use Rattle.cfb_directory.specs.Reach.{entry_place}
 use Rattle.cfb_directory.specs.StreamEntries.{stream_head}
-use Rattle.cfb_directory.proofs.NameLemmas.{ComesBefore-entries}
 use Rattle.cfb_streams.specs.Contents.{Stream, Contents}
-use Rattle.cfb_streams.specs.Container.{HasContents, IsLongBody}
+use Rattle.cfb_streams.specs.Container.{IsLongBody}
+pub use Rattle.cfb_streams.proofs.SameNameLemmas.{named_once, named_place}
 use Rattle.cfb_streams.proofs.UniqueLemmas.{contents_unique}
 use Rattle.cfb_streams.proofs.ContentLemmas.{chain_inside}
 use Rattle.cfb_layout.specs.Sectors.{units_for}
@@ -94,52 +92,13 @@ stream_byte file bytes sectors x h low =
     ap (λ xs. slice_index xs x) h.body.joined
     ∙ (get_or-take size (joined file sectors) x 0 (omega arith) ∙ joined_at file sectors x h.are (omega arith))
 
--- names that are equal to a third are not in order
-same_not_before : (name other third : List ℕ) → AreSameNames name third → AreSameNames other third →
-    ¬ ComesBefore name other
-same_not_before name other third a b before =
-    let la = a.long in
-    let lb = b.long in
-    elim before [
-      | inl short ↦ omega arith
-      | inr same ↦
-          let place = same.1.0 in
-          let least = same.1.1 in
-          let inside = least.inside in
-          let less = least.less in
-          let u = a.units place inside in
-          let v = b.units place (omega arith) in
-          omega arith
-    ]
-
-pub named_once : (file : List ℕ) (contents : Contents) (has : HasContents file contents) (name : List ℕ) (i j : ℕ)
-    (s t : Stream) → i < j → slice_get contents.streams i ≡ Some s → slice_get contents.streams j ≡ Some t →
-    AreSameNames s.name name → ¬ AreSameNames t.name name
-named_once file contents has name i j s t less a b one other =
-    let low = slice_get_within contents.streams j t b in
-    let len = has.streams.len in
-    let first = has.streams.each i s a in
-    let second = has.streams.each j t b in
-    let order = has.lists.order i j less (omega arith) in
-    same_not_before s.name t.name name one other
-    (ComesBefore-entries file (entry_place has.parts.directory (slice_index has.entries i)) (entry_place
-    has.parts.directory (slice_index has.entries j)) s.name t.name first.name second.name order)
-
 -- a file has one stream of a name
 pub long_one : (file name bytes sectors others more : List ℕ) → HasLongStream file name bytes sectors →
     HasLongStream file name others more → (bytes ≡ others) × (sectors ≡ more)
 long_one file name bytes sectors others more a b =
     let same = contents_unique file a.contents b.contents a.has b.has in
     let there = ap (λ (c : Contents). slice_get c.streams b.index) same ∙ b.here in
-    let index : a.index ≡ b.index = elim (cases_order a.index b.index) [
-      | inl e ↦ e
-      | inr apart ↦ elim apart [
-        | inl less ↦ absurd (named_once file a.contents a.has name a.index b.index a.stream b.stream less a.here there
-            a.named b.named)
-        | inr more ↦ absurd (named_once file a.contents a.has name b.index a.index b.stream a.stream more there a.here
-            b.named a.named)
-      ]
-    ] in
+    let index = named_place file a.contents a.has name a.index b.index a.stream b.stream a.here there a.named b.named in
     let here = ap (λ i. slice_get a.contents.streams i) index ∙ there in
     let one = a.here in
     let stream : a.stream ≡ b.stream = cc in

@@ -5,6 +5,7 @@ use Rattle.std.specs.List.{flat_map, range_with_len}
 use Rattle.doc_bits.specs.Number.{u32_at, zeros}
 use Rattle.cfb_sectors.specs.Header.{sector_count, fat_sector_count, fat_sector, fat_sectors, sector_bytes}
 use Rattle.cfb_sectors.specs.SectorChain.{HasSector}
+use Rattle.cfb_sectors.specs.Header.{sector_len}
 use Rattle.cfb_directory.specs.Directory.{entry_start, entry_size}
 use Rattle.cfb_directory.specs.Reach.{entry_place, entry_count}
 use Rattle.cfb_streams.specs.StreamRules.{Parts}
@@ -19,12 +20,12 @@ SameBytes old new at count = (i : ℕ) → i < count → slice_index new (at + i
 
 -- [MS-CFB] Compound File Header: the number of FAT sectors and their list
 pub record ChangesHeader (old new : List ℕ) (added : Added) : Type 0 where
-  pub len : length new ≡ 512 * (sectors_after old added + 1)
+  pub len : length new ≡ sector_len * (sectors_after old added + 1)
   pub fat_count : fat_sector_count new ≡ fat_sector_count old + added.fat
   pub fat_list : (k : ℕ) → k < added.fat → fat_sector new (fat_sector_count old + k) ≡ fat_from added + k
   pub front : SameBytes old new 0 44
   pub middle : SameBytes old new 48 (28 + 4 * fat_sector_count old)
-  pub rest : (at : ℕ) → 76 + 4 * fat_sector_count new ≤ at → at < 512 → slice_index new at ≡ slice_index old at
+  pub rest : (at : ℕ) → 76 + 4 * fat_sector_count new ≤ at → at < sector_len → slice_index new at ≡ slice_index old at
 
 -- [MS-CFB] Directory Entry: the start and the size of an entry, with the upper half of the size
 pub record HasStart (file : List ℕ) (at start size : ℕ) : Type 0 where
@@ -44,7 +45,7 @@ pub record ChangesDirectory (old new directory : List ℕ) (chains : OldChains) 
 
 -- the bytes of sectors, joined
 abbrev pub joined : List ℕ → List ℕ → List ℕ
-joined file sectors = flat_map (sector_bytes 512 512 file) sectors
+joined file sectors = flat_map (sector_bytes sector_len sector_len file) sectors
 
 -- the sectors of the stream that grows: the old ones and the added ones
 abbrev pub chain_after : OldChains → Added → List ℕ
@@ -63,10 +64,10 @@ pub data IsTouched (old : List ℕ) (parts : Parts) (chains : OldChains) (added 
 pub record ChangesSectors (old new : List ℕ) (parts : Parts) (chains : OldChains) (added : Added)
     (change : StreamChange) : Type 0 where
   pub grown : joined new (chain_after chains added) ≡ grown_bytes change chains.bytes ++ drop (length
-      (grown_bytes change chains.bytes)) (joined old chains.grown ++ zeros (512 * added.grown))
-  pub table : joined new (range_with_len (fresh_from added) added.fresh) ≡ padded 512 0 change.table
+      (grown_bytes change chains.bytes)) (joined old chains.grown ++ zeros (sector_len * added.grown))
+  pub table : joined new (range_with_len (fresh_from added) added.fresh) ≡ padded sector_len 0 change.table
   pub kept : (s : ℕ) → s < sector_count old → ¬ IsTouched old parts chains added s →
-      SameBytes old new ((s + 1) * 512) 512
+      SameBytes old new ((s + 1) * sector_len) sector_len
 
 -- all of it
 pub record IsSavedBehind (old new : List ℕ) (parts : Parts) (chains : OldChains) (added : Added)

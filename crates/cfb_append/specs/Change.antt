@@ -1,7 +1,7 @@
 -- What is changed of a container in its own sectors: the stream that grows, the stream that is written anew, and how
 -- many sectors that takes. `from` is the first sector number that no valid sector has.
 use Rattle.std.specs.Prelude.{ℕ, ◌+◌, ◌-◌, ◌*◌, max, List, ◌++◌, length, drop}
-use Rattle.cfb_sectors.specs.Header.{sector_count, fat_sector_count, valid_below}
+use Rattle.cfb_sectors.specs.Header.{sector_len, sector_count, fat_sector_count, valid_below}
 use Rattle.cfb_layout.specs.Sectors.{units_for}
 
 -- the new front of the stream that grows, what comes behind it, and the bytes of the stream that is written anew
@@ -42,21 +42,22 @@ fat_sectors_more fat_count sectors = units_for 127 (sectors - 128 * fat_count)
 
 -- the added sectors that are no FAT sectors
 abbrev pub grown_count : OldChains → StreamChange → ℕ
-grown_count chains change = units_for 512 (length (grown_bytes change chains.bytes)) - length chains.grown
+grown_count chains change = units_for sector_len (length (grown_bytes change chains.bytes)) - length chains.grown
 
 abbrev pub fresh_count : StreamChange → ℕ
-fresh_count change = units_for 512 (length change.table)
+fresh_count change = units_for sector_len (length change.table)
 
 -- the same by the lengths of the chain and of the two streams
 abbrev pub grown_more : ℕ → ℕ → ℕ
-grown_more chain grown = units_for 512 grown - chain
+grown_more chain grown = units_for sector_len grown - chain
 
 abbrev pub added_for : List ℕ → ℕ → ℕ → ℕ → Added
 added_for file chain grown table = record {
   from = valid_below file;
   grown = grown_more chain grown;
-  fresh = units_for 512 table;
-  fat = fat_sectors_more (fat_sector_count file) (valid_below file + grown_more chain grown + units_for 512 table);
+  fresh = units_for sector_len table;
+  fat = fat_sectors_more (fat_sector_count file) (valid_below file + grown_more chain grown + units_for sector_len
+      table);
 }
 
 unfoldable pub added_sectors : List ℕ → OldChains → StreamChange → Added

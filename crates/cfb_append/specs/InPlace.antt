@@ -5,6 +5,7 @@ use Rattle.cfb_streams.specs.Contents.{Stream, Contents}
 use Rattle.cfb_streams.specs.Container.{container_rules, HasContents}
 use Rattle.cfb_directory.specs.Directory.{AreSameNames}
 use Rattle.cfb_layout.specs.Sectors.{units_for}
+use Rattle.cfb_sectors.specs.Header.{sector_len}
 
 -- the file has a stream of this name with sectors of its own, these bytes and these sectors
 pub record HasLongStream (file name bytes sectors : List ℕ) : Type 0 where
@@ -20,7 +21,7 @@ pub record HasLongStream (file name bytes sectors : List ℕ) : Type 0 where
 
 -- where byte x of a stream with these sectors stands in the file
 abbrev pub byte_place : List ℕ → ℕ → ℕ
-byte_place sectors x = (slice_index sectors (x / 512) + 1) * 512 + x % 512
+byte_place sectors x = (slice_index sectors (x / sector_len) + 1) * sector_len + x % sector_len
 
 -- the first sectors of the stream are those of the old one, as many as its bytes need, and from a byte on all of the
 -- old bytes stand where they stood
@@ -31,6 +32,7 @@ pub record StaysInPlace (name : List ℕ) (from : ℕ) (old new bytes : List ℕ
   pub sectors_after : List ℕ
   pub is : HasLongStream new name bytes_after sectors_after
   pub longer : length bytes ≤ length bytes_after
-  pub first : take (units_for 512 (length bytes)) sectors_after ≡ take (units_for 512 (length bytes)) sectors
+  pub first : take (units_for sector_len (length bytes)) sectors_after ≡ take (units_for sector_len (length bytes))
+      sectors
   pub same : (x : ℕ) → from ≤ x → x < length bytes →
       slice_index new (byte_place sectors x) ≡ slice_index old (byte_place sectors x)

@@ -2,7 +2,7 @@
 use Rattle.std.specs.Prelude.{◌≡◌, ℕ, ◌+◌, ◌*◌, ◌≤◌, List, length, Some, slice_get}
 use Rattle.doc_bits.specs.Rules.{Hold}
 use Rattle.doc_bits.specs.Number.{AreBytes}
-use Rattle.cfb_sectors.specs.Header.{sector_count}
+use Rattle.cfb_sectors.specs.Header.{sector_len, sector_count}
 use Rattle.cfb_directory.specs.Directory.{AreSameNames}
 use Rattle.cfb_streams.specs.Contents.{Stream, Contents}
 use Rattle.cfb_streams.specs.Container.{container_rules, HasContents}
@@ -31,7 +31,7 @@ FatFitsTheHeader =
 abbrev pub SectorsAreReckoned : Type 0
 SectorsAreReckoned =
     (file : List ℕ) (chains : OldChains) (change : StreamChange) (bytes : ℕ)
-    → 512 * (grown_count chains change + fresh_count change) + 9975 ≤ bytes
+    → sector_len * (grown_count chains change + fresh_count change) + 9975 ≤ bytes
     → sectors_after file (added_sectors file chains change) ≤ sector_count file + units_for 500 bytes + 8
 
 -- a stream that stays where it is over one save, and over the next, stays over both

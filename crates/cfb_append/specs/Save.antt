@@ -3,6 +3,7 @@ use Rattle.std.specs.Prelude.{◌≡◌, ◌≢◌, ℕ, ◌^◌, ◌<◌, ◌�
 use Rattle.std.specs.List.{range_with_len}
 use Rattle.doc_bits.specs.Rules.{Hold}
 use Rattle.cfb_sectors.specs.Chain.{fat_table, HoldsChain}
+use Rattle.cfb_sectors.specs.Header.{sector_len, mini_sector_len}
 use Rattle.cfb_directory.specs.Directory.{entry_size}
 use Rattle.cfb_directory.specs.Reach.{entry_place}
 use Rattle.cfb_directory.specs.StreamEntries.{IsStreamEntry, IsLargeStream, IsSmallStream, stream_head}
@@ -21,16 +22,16 @@ pub data LeavesSectors (file : List ℕ) (parts : Parts) (chains : OldChains) : 
   nothing : entry_size file (entry_place parts.directory chains.table_entry) ≡ 0 → chains.freed ≡ [] →
       chains.freed_mini ≡ [] → LeavesSectors file parts chains
   mini_sectors : IsSmallStream file parts.directory chains.table_entry → HoldsChain (mini_table_of file
-      parts.directory parts.mini_fat) (stream_head file 64 (entry_place parts.directory chains.table_entry))
-      chains.freed_mini → chains.freed ≡ [] → LeavesSectors file parts chains
-  sectors : IsLargeStream file parts.directory chains.table_entry → HoldsChain (fat_table file) (stream_head file 512
-      (entry_place parts.directory chains.table_entry)) chains.freed → chains.freed_mini ≡ [] →
+      parts.directory parts.mini_fat) (stream_head file mini_sector_len (entry_place parts.directory
+      chains.table_entry)) chains.freed_mini → chains.freed ≡ [] → LeavesSectors file parts chains
+  sectors : IsLargeStream file parts.directory chains.table_entry → HoldsChain (fat_table file) (stream_head file
+      sector_len (entry_place parts.directory chains.table_entry)) chains.freed → chains.freed_mini ≡ [] →
       LeavesSectors file parts chains
 
 -- the chain of a short stream; no other one has mini sectors
 pub record IsMiniChain (file : List ℕ) (parts : Parts) (entry : ℕ) (sectors : List ℕ) : Type 0 where
   pub short : IsSmallStream file parts.directory entry → HoldsChain (mini_table_of file parts.directory parts.mini_fat)
-      (stream_head file 64 (entry_place parts.directory entry)) sectors
+      (stream_head file mini_sector_len (entry_place parts.directory entry)) sectors
   pub none : ¬ IsSmallStream file parts.directory entry → sectors ≡ []
 
 -- two streams of the file: one with sectors of its own, which grows, and another one

@@ -3,7 +3,7 @@ use Rattle.std.specs.Prelude.{ℕ, ◌≡◌, ◌+◌, ◌*◌, ◌<◌, ◌≤�
 use Rattle.std.specs.Prelude.{if◌then◌else◌, slice_range, slice_index, slice_get, get_or}
 use Rattle.std.specs.List.{flat_map, range_with_len}
 use Rattle.doc_bits.specs.Number.{number_bytes}
-use Rattle.cfb_sectors.specs.Header.{fat_sector_count, fat_sectors, sector_count}
+use Rattle.cfb_sectors.specs.Header.{sector_len, fat_sector_count, fat_sectors, sector_count}
 use Rattle.cfb_sectors.specs.Chain.{IsTable}
 use Rattle.cfb_directory.specs.Directory.{entry_start}
 use Rattle.cfb_directory.specs.Reach.{entry_place}
@@ -48,7 +48,7 @@ unfoldable pub header_after : List ℕ → Added → List ℕ
 header_after old added =
     let fats = fat_sector_count old in
     take 44 old ++ (number_bytes 4 (fats + added.fat) ++ (slice_range old 48 (76 + 4 * fats) ++ (flat_map (number_bytes
-    4) (range_with_len (fat_from added) added.fat) ++ slice_range old (76 + 4 * (fats + added.fat)) 512)))
+    4) (range_with_len (fat_from added) added.fat) ++ slice_range old (76 + 4 * (fats + added.fat)) sector_len)))
 
 -- of what the sectors after are made: whose each is, the entries of the tables, the bytes of the two streams, and the
 -- two entries of the directory
@@ -67,7 +67,7 @@ cut_at xs width index = slice_range xs (width * index) (width * index + width)
 
 -- an old sector
 abbrev pub old_sector : List ℕ → ℕ → List ℕ
-old_sector old sector = slice_range old ((sector + 1) * 512) ((sector + 1) * 512 + 512)
+old_sector old sector = slice_range old ((sector + 1) * sector_len) ((sector + 1) * sector_len + sector_len)
 
 -- the bytes of a sector after, that one of a part
 abbrev pub part_bytes : List ℕ → Sources → ℕ → ℕ → Part → List ℕ
@@ -75,8 +75,8 @@ part_bytes old sources sector index Fat = flat_map (number_bytes 4) (cut_at sour
 part_bytes old sources sector index MiniFat = flat_map (number_bytes 4) (cut_at sources.mini 128 index)
 part_bytes old sources sector index Directory =
     four_entries sources.grown_head sources.table_head (4 * index) (old_sector old sector)
-part_bytes old sources sector index Grown = cut_at sources.grown 512 index
-part_bytes old sources sector index Fresh = cut_at sources.table 512 index
+part_bytes old sources sector index Grown = cut_at sources.grown sector_len index
+part_bytes old sources sector index Fresh = cut_at sources.table sector_len index
 part_bytes old sources sector index Other = old_sector old sector
 
 unfoldable pub sector_after : List ℕ → Sources → ℕ → List ℕ
@@ -89,8 +89,8 @@ abbrev pub HasPart : List ℕ → Sources → ℕ → ℕ → Part → Type 0
 HasPart old sources sector index Fat = 128 * index + 128 ≤ length sources.fat
 HasPart old sources sector index MiniFat = 128 * index + 128 ≤ length sources.mini
 HasPart old sources sector index Directory = (sector < sector_count old) × (index < 2 ^ 32)
-HasPart old sources sector index Grown = 512 * index + 512 ≤ length sources.grown
-HasPart old sources sector index Fresh = 512 * index + 512 ≤ length sources.table
+HasPart old sources sector index Grown = sector_len * index + sector_len ≤ length sources.grown
+HasPart old sources sector index Fresh = sector_len * index + sector_len ≤ length sources.table
 HasPart old sources sector index Other = sector < sector_count old
 
 abbrev pub HasAllParts : List ℕ → Sources → Type 0
@@ -115,7 +115,7 @@ pub record AreMinisAfter (old mini_fat freed mini : List ℕ) : Type 0 where
 abbrev pub grown_sectors : List ℕ → OldChains → Added → StreamChange → List ℕ
 grown_sectors old chains added change =
     let bytes = grown_bytes change chains.bytes in
-    bytes ++ rest_behind (length bytes) (joined old chains.grown) (512 * added.grown)
+    bytes ++ rest_behind (length bytes) (joined old chains.grown) (sector_len * added.grown)
 
 -- they are those of a save
 pub record AreSources (old : List ℕ) (parts : Parts) (chains : OldChains) (added : Added) (change : StreamChange)
@@ -124,7 +124,7 @@ pub record AreSources (old : List ℕ) (parts : Parts) (chains : OldChains) (add
   pub fat : AreFatsAfter old chains added sources.fat
   pub mini : AreMinisAfter old parts.mini_fat chains.freed_mini sources.mini
   pub grown : sources.grown ≡ grown_sectors old chains added change
-  pub table : sources.table ≡ padded 512 0 change.table
+  pub table : sources.table ≡ padded sector_len 0 change.table
   pub grown_head : sources.grown_head ≡ record {
     entry = chains.grown_entry;
     start = entry_start old (entry_place parts.directory chains.grown_entry);

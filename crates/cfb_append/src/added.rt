@@ -1,6 +1,6 @@
 // How many sectors a save adds, and which.
-ghost use Rattle.std.specs.Prelude.{◌≡◌, ◌+◌, ◌*◌, ◌^◌, ◌<◌, ◌≤◌, length};
-ghost use Rattle.cfb_sectors.specs.Header.{fat_sector_count};
+ghost use Rattle.std.specs.Prelude.{◌≡◌, ◌⊎◌, ◌↔◌, ◌+◌, ◌*◌, ◌^◌, ◌<◌, ◌≤◌, IsTrue, length};
+ghost use Rattle.cfb_sectors.specs.Header.{sector_len, fat_sector_count};
 ghost use Rattle.cfb_layout.specs.Sectors.{units_for};
 ghost use Rattle.cfb_append.specs.Change.{added_for, grown_more, fresh_from, fat_from, end_of, sectors_after};
 ghost use Rattle.cfb_append.specs.Tables.{IsNewEntry};
@@ -43,7 +43,7 @@ impl Model for Added {
 impl Added {
     /// What a save adds to a file. The old chain has `chain` sectors; the two streams get so many bytes.
     pub(crate) fn new(file: &[u8], chain: usize, grown: usize, table: usize) -> Added
-        requires header { 512 ≤ length file.now }
+        requires header { sector_len ≤ length file.now }
         requires short { length file.now < 2 ^ 32 }
         requires few { fat_sector_count file.now ≤ 109 }
         requires grown_short { grown < 2 ^ 31 }
@@ -65,7 +65,7 @@ impl Added {
 
     /// The sectors of the file after.
     pub(crate) fn sectors_after(&self, file: &[u8]) -> u64
-        requires { 512 ≤ length file.now }
+        requires { sector_len ≤ length file.now }
         ensures { result ≡ sectors_after file.now self.now }
     {
         let count = (file.len() / SECTOR_LEN - 1) as u64;
@@ -104,17 +104,25 @@ impl Added {
         if sector >= self.fat_from() {
             return FAT_SECTOR;
         }
-        if sector + 1 == self.fresh_from() || sector + 1 == self.fat_from() {
+        if self.is_last(sector) {
             return END_OF_CHAIN;
         }
         sector + 1
+    }
+
+    /// Whether it is the last sector that one of the two streams gets.
+    fn is_last(&self, sector: u32) -> bool
+        requires { sector + 1 < 2 ^ 32 }
+        ensures { IsTrue result ↔ ((sector + 1 ≡ fresh_from self.now) ⊎ (sector + 1 ≡ fat_from self.now)) }
+    {
+        sector + 1 == self.fresh_from() || sector + 1 == self.fat_from()
     }
 }
 
 /// The sectors that a stream of so many bytes needs.
 fn sectors_for(len: usize) -> u32
     requires { len < 2 ^ 31 }
-    ensures { result ≡ units_for 512 len }
+    ensures { result ≡ units_for sector_len len }
 {
     ((len + (SECTOR_LEN - 1)) / SECTOR_LEN) as u32
 }

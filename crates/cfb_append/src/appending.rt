@@ -1,7 +1,7 @@
 // A save in a container's own sectors: the file after is written sector by sector.
 ghost use Rattle.std.specs.Prelude.{◌≡◌, ◌++◌, ◌+◌, ◌*◌, ◌<◌, ◌≤◌, OnOk, IfOk, MatchResult, length};
 ghost use Rattle.doc_bits.specs.Rules.{Hold};
-ghost use Rattle.cfb_sectors.specs.Header.{fat_sector_count, sector_count};
+ghost use Rattle.cfb_sectors.specs.Header.{sector_len, fat_sector_count, sector_count};
 ghost use Rattle.cfb_streams.specs.Layout.{IsLayout};
 ghost use Rattle.cfb_streams.specs.Container.{container_rules, HasContents};
 ghost use Rattle.cfb_append.specs.Change.{added_sectors};
@@ -120,7 +120,7 @@ fn file_after(
 
 /// Writes the file after, sector by sector.
 fn write(alloc: Global, old: &[u8], sources: &Sources, added: &Added) -> Result<Bytes, Memory>
-    requires header { 512 ≤ length old.now }
+    requires header { sector_len ≤ length old.now }
     requires few { fat_sector_count old.now + added.now.fat ≤ 109 }
     requires parts { HasAllParts old.now sources.now }
     ensures { IfOk result (λ file. file ≡ written old.now added.now sources.now) }
@@ -163,7 +163,7 @@ fn push_sector(
 fn sector_of(old: &[u8], sector: usize) -> &[u8]
     requires { sector < sector_count old.now }
     ensures is { result.now ≡ old_sector old.now sector }
-    ensures len { length result.now ≡ 512 }
+    ensures len { length result.now ≡ sector_len }
 {
     let at = (sector + 1) * SECTOR_LEN;
     &old[at..at + SECTOR_LEN]

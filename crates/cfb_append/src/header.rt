@@ -2,7 +2,7 @@
 ghost use Rattle.std.specs.Prelude.{◌≡◌, ◌++◌, ◌+◌, ◌^◌, ◌<◌, ◌≤◌, OnOk, length};
 ghost use Rattle.std.specs.List.{flat_map, range_with_len};
 ghost use Rattle.doc_bits.specs.Number.{number_bytes};
-ghost use Rattle.cfb_sectors.specs.Header.{fat_sector_count};
+ghost use Rattle.cfb_sectors.specs.Header.{sector_len, fat_sector_count};
 ghost use Rattle.cfb_append.specs.Sources.{header_after};
 
 use crate::added::{Added, FAT_COUNT};
@@ -14,7 +14,7 @@ pub(crate) const FAT_SECTORS: usize = 76;
 
 /// Appends the header, in which the added FAT sectors stand behind the others.
 pub(crate) fn push_header(out: &mut Bytes, old: &[u8], added: &Added) -> Result<(), Memory>
-    requires header { 512 ≤ length old.now }
+    requires header { sector_len ≤ length old.now }
     requires few { fat_sector_count old.now + added.now.fat ≤ 109 }
     ensures { OnOk result (out.new ≡ out.old ++ header_after old.now added.now) }
 {

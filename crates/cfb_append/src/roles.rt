@@ -1,7 +1,7 @@
 // Whose sectors they are in the file after.
 ghost use Rattle.std.specs.Prelude.{◌≡◌, ◌++◌, ◌+◌, ◌^◌, ◌<◌, ◌≤◌, IfOk, length, replicate};
 ghost use Rattle.std.specs.List.{range_with_len};
-ghost use Rattle.cfb_sectors.specs.Header.{fat_sector_count, fat_sectors};
+ghost use Rattle.cfb_sectors.specs.Header.{sector_len, fat_sector_count, fat_sectors};
 ghost use Rattle.cfb_sectors.specs.Claims.{AreDistinctBelow};
 ghost use Rattle.cfb_append.specs.Appended.{chain_after};
 ghost use Rattle.cfb_append.specs.Roles.{AreGiven, ArePartsBelow, AreRoles, part_sectors, sectors_of_parts, other_role};
@@ -14,7 +14,7 @@ use doc_bits::Memory;
 use std::alloc::Global;
 
 /// The parts of the file after in which something changes, and all others.
-#[derive(Clone, Copy, Debug, PartialEq, Eq)]
+#[derive(Clone, Copy)]
 pub(crate) enum Part {
     Fat,
     MiniFat,
@@ -25,7 +25,7 @@ pub(crate) enum Part {
 }
 
 /// Whose sector it is, and which of the part's sectors, counted from 0.
-#[derive(Clone, Copy, Debug, PartialEq, Eq)]
+#[derive(Clone, Copy)]
 pub(crate) struct Role {
     pub(crate) part: Part,
     pub(crate) index: usize,
@@ -51,7 +51,7 @@ pub(crate) fn roles_of(
     added: &Added,
     count: usize,
 ) -> Result<Vec<Role>, Memory>
-    requires header { 512 ≤ length old.now }
+    requires header { sector_len ≤ length old.now }
     requires few { fat_sector_count old.now ≤ 109 }
     requires below { ArePartsBelow count (sectors_of_parts old.now layout.now.parts chains.now added.now) }
     ensures { IfOk result (λ roles.

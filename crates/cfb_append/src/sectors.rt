@@ -3,6 +3,7 @@ ghost use Rattle.std.specs.Prelude.{◌≡◌, ◌++◌, ◌+◌, ◌*◌, ◌^�
 ghost use Rattle.std.specs.List.{flat_map};
 ghost use Rattle.doc_bits.specs.Number.{number_bytes};
 ghost use Rattle.cfb_append.specs.Sources.{headed, entry_after, four_entries, rest_behind};
+ghost use Rattle.cfb_sectors.specs.Header.{sector_len};
 
 use doc_bits::{Bytes, Memory};
 use std::marker::Model;
@@ -80,7 +81,7 @@ pub(crate) fn push_directory(
     grown: &NewHead,
     table: &NewHead,
 ) -> Result<(), Memory>
-    requires whole { length bytes.now ≡ 512 }
+    requires whole { length bytes.now ≡ sector_len }
     requires room { first + 4 < 2 ^ 63 }
     ensures { OnOk result (out.new ≡ out.old ++ four_entries grown.now table.now first bytes.now) }
 {

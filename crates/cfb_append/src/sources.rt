@@ -1,6 +1,7 @@
 // Of what the sectors of the file after are made.
 ghost use Rattle.std.specs.Prelude.{◌≡◌, ◌+◌, ◌-◌, ◌*◌, ◌^◌, ◌<◌, ◌≤◌, IfOk, length};
 ghost use Rattle.cfb_sectors.specs.Chain.{AreSectorsOf};
+ghost use Rattle.cfb_sectors.specs.Header.{sector_len};
 ghost use Rattle.cfb_directory.specs.Directory.{entry_start};
 ghost use Rattle.cfb_directory.specs.Reach.{entry_place as place_of, entry_count};
 ghost use Rattle.cfb_layout.specs.Sectors.{units_for, padded};
@@ -69,16 +70,16 @@ impl Sources {
 
     /// The bytes of a sector of the stream that grows.
     pub(crate) fn grown_part(&self, index: usize) -> &[u8]
-        requires { 512 * index + 512 ≤ length self.now.grown }
-        ensures { result.now ≡ cut_at self.now.grown 512 index }
+        requires { sector_len * index + sector_len ≤ length self.now.grown }
+        ensures { result.now ≡ cut_at self.now.grown sector_len index }
     {
         &self.grown.as_slice()[SECTOR_LEN * index..SECTOR_LEN * index + SECTOR_LEN]
     }
 
     /// The bytes of a sector of the stream that is written anew.
     pub(crate) fn table_part(&self, index: usize) -> &[u8]
-        requires { 512 * index + 512 ≤ length self.now.table }
-        ensures { result.now ≡ cut_at self.now.table 512 index }
+        requires { sector_len * index + sector_len ≤ length self.now.table }
+        ensures { result.now ≡ cut_at self.now.table sector_len index }
     {
         &self.table.as_slice()[SECTOR_LEN * index..SECTOR_LEN * index + SECTOR_LEN]
     }
@@ -138,8 +139,8 @@ fn grown_after(
     requires inside { AreSectorsOf old.now chains.now.grown }
     requires front { length change.now.change.fib ≤ length chains.now.bytes }
     requires within { length (grown_bytes change.now.change chains.now.bytes)
-        ≤ length (joined old.now chains.now.grown) + 512 * added.now.grown }
-    requires room { length (joined old.now chains.now.grown) + 512 * added.now.grown < 2 ^ 63 }
+        ≤ length (joined old.now chains.now.grown) + sector_len * added.now.grown }
+    requires room { length (joined old.now chains.now.grown) + sector_len * added.now.grown < 2 ^ 63 }
     ensures { IfOk result (λ bytes. bytes ≡ grown_sectors old.now chains.now added.now change.now.change) }
 {
     let joined = read_sectors(alloc, old, chains.grown)?;
@@ -155,7 +156,7 @@ fn grown_after(
 /// The stream that is written anew, filled up with zeros to whole sectors.
 fn table_after(alloc: Global, change: &Change) -> Result<Bytes, Memory>
     requires { length change.now.change.table < 2 ^ 31 }
-    ensures { IfOk result (λ bytes. bytes ≡ padded 512 0 change.now.change.table) }
+    ensures { IfOk result (λ bytes. bytes ≡ padded sector_len 0 change.now.change.table) }
 {
     let table = change.table.as_slice();
     let mut out = Bytes::new(alloc);
@@ -167,7 +168,7 @@ fn table_after(alloc: Global, change: &Change) -> Result<Bytes, Memory>
 /// What is missing of whole sectors.
 fn rest_of(len: usize) -> usize
     requires { len < 2 ^ 31 }
-    ensures { result ≡ units_for 512 len * 512 - len }
+    ensures { result ≡ units_for sector_len len * sector_len - len }
 {
     (len + (SECTOR_LEN - 1)) / SECTOR_LEN * SECTOR_LEN - len
 }

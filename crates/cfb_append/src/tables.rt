@@ -1,6 +1,6 @@
 // The entries of the FAT and of the mini FAT after a save, and how many sectors are added.
 ghost use Rattle.std.specs.Prelude.{ℕ, ◌≡◌, ◌+◌, ◌*◌, ◌^◌, ◌<◌, ◌≤◌, IfOk, List, length, slice_index};
-ghost use Rattle.cfb_sectors.specs.Header.{fat_sector_count, fat_sectors, table_place as place_of};
+ghost use Rattle.cfb_sectors.specs.Header.{sector_len, fat_sector_count, fat_sectors, table_place as place_of};
 ghost use Rattle.cfb_sectors.specs.Chain.{AreSectorsOf, IsTable};
 ghost use Rattle.cfb_append.specs.Change.{fat_sectors_more, end_of};
 ghost use Rattle.cfb_append.specs.Tables.{AreFreed};
@@ -88,7 +88,7 @@ fn entry_after(entries: &[u32], added: &Added, sector: u32) -> u32
 
 /// The numbers of the FAT sectors that are there.
 pub(crate) fn old_fats(alloc: Global, old: &[u8]) -> Result<Vec<u32>, Memory>
-    requires header { 512 ≤ length old.now }
+    requires header { sector_len ≤ length old.now }
     requires few { fat_sector_count old.now ≤ 109 }
     ensures { IfOk result (λ sectors. sectors.items ≡ fat_sectors old.now) }
 {
@@ -129,7 +129,7 @@ pub(crate) fn fat_entries(
     chains: &Chains<'_>,
     added: &Added,
 ) -> Result<Vec<u32>, Memory>
-    requires header { 512 ≤ length old.now }
+    requires header { sector_len ≤ length old.now }
     requires few { fat_sector_count old.now + added.now.fat ≤ 109 }
     requires inside { AreSectorsOf old.now (fat_sectors old.now) }
     requires can { (entries : List ℕ) → length entries ≡ 128 * fat_sector_count old.now

@@ -1,6 +1,7 @@
--- The order of names is that of the entries that have them.
+-- The order of names is that of the entries that have them, and equal names are in none.
 use Rattle.std.proofs.Common.{◌≡◌, inl, inr, ℕ, ◌<◌, List, length, slice_index, ap, sym, ◌∙◌, arith}
 use Rattle.cfb_directory.specs.Directory.{entry_unit, upper_case, IsNameOf, EntryBefore, ComesBefore}
+use Rattle.cfb_directory.specs.Directory.{AreSameNames, HaveOneName}
 
 -- the units of an entry's name, in upper case
 upper_unit : (file : List ℕ) (at : ℕ) (name : List ℕ) → IsNameOf file at name → (i : ℕ) → i < length name →
@@ -62,4 +63,34 @@ ComesBefore-entries file at other name later a b h =
               },
             ),
           )
+    ]
+
+-- names that are equal to a third are not in order
+pub same_not_before : (name other third : List ℕ) → AreSameNames name third → AreSameNames other third →
+    ¬ ComesBefore name other
+same_not_before name other third a b before =
+    let la = a.long in
+    let lb = b.long in
+    elim before [
+      | inl short ↦ omega arith
+      | inr same ↦
+          let place = same.1.0 in
+          let least = same.1.1 in
+          let inside = least.inside in
+          let less = least.less in
+          let u = a.units place inside in
+          let v = b.units place (omega arith) in
+          omega arith
+    ]
+
+-- entries in the order of names have two names
+pub before_apart : (file : List ℕ) (at other : ℕ) → EntryBefore file at other → ¬ HaveOneName file at other
+before_apart file at other h one =
+    let long = one.long in
+    elim h [
+      | inl short ↦ omega arith
+      | inr same ↦
+          let less = same.1.1 in
+          let e = one.units same.1.0 less.inside in
+          let below = less.less in omega arith
     ]

@@ -4,6 +4,7 @@ use Rattle.doc_bits.specs.Rules.{Rules, rule, ◌then◌, Nowhere}
 use Rattle.cfb_directory.specs.declared.body.Body.{Body}
 use Rattle.cfb_directory.specs.declared.body.Body.TheVariants.{Empty, Short, Long}
 use Rattle.cfb_sectors.specs.Chain.{AreSectorsOf}
+use Rattle.cfb_sectors.specs.Header.{sector_len, mini_sector_len}
 use Rattle.cfb_directory.specs.Directory.{entry_size}
 use Rattle.cfb_directory.specs.Reach.{entry_place, IsDirectory, ListsReached, BreaksRoot, BreaksTree, BreaksName}
 use Rattle.cfb_directory.specs.Reach.{BreaksStorage}
@@ -42,6 +43,6 @@ pub record AreEntries (entries : EntryLists) : Type 0 where
 abbrev pub IsBody : List ℕ → List ℕ → ℕ → Body → Type 0
 IsBody file directory entry Empty = entry_size file (entry_place directory entry) ≡ 0
 IsBody file directory entry (Short claim) = IsSmallStream file directory
-    entry × (claim ≡ stream_head file 64 (entry_place directory entry))
+    entry × (claim ≡ stream_head file mini_sector_len (entry_place directory entry))
 IsBody file directory entry (Long claim) = IsLargeStream file directory
-    entry × (claim ≡ stream_head file 512 (entry_place directory entry))
+    entry × (claim ≡ stream_head file sector_len (entry_place directory entry))

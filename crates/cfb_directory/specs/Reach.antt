@@ -3,13 +3,14 @@ use Rattle.std.specs.Prelude.{◌≡◌, ◌≢◌, ◌⊎◌, ℕ, ◌+◌, ◌
 use Rattle.doc_bits.specs.Number.{u32_at}
 use Rattle.cfb_sectors.specs.SectorChain.{HasSector, IsFullPath}
 use Rattle.cfb_sectors.specs.Chain.{Head, fat_table, HoldsChain, BreaksChain}
+use Rattle.cfb_sectors.specs.Header.{sector_len}
 use Rattle.cfb_directory.specs.Directory.{entry_left, entry_right, entry_child, entry_type, entry_name_length}
 use Rattle.cfb_directory.specs.Directory.{no_entry}
 use Rattle.cfb_directory.specs.Directory.{HaveOneName}
 
 -- the chain of the directory starts at the number at 48
 abbrev pub directory_head : List ℕ → Head
-directory_head file = record { field = 48; start = u32_at file 48; unit = 512; size = 0 }
+directory_head file = record { field = 48; start = u32_at file 48; unit = sector_len; size = 0 }
 
 -- the path from the directory's start has more than 256 sectors
 pub record IsLongDirectory (file : List ℕ) (place : ℕ) : Type 0 where
@@ -29,7 +30,7 @@ pub record IsDirectory (file directory : List ℕ) : Type 0 where
 
 -- entry k of a directory of these sectors stands here; there are four of them in each sector
 abbrev pub entry_place : List ℕ → ℕ → ℕ
-entry_place directory k = (slice_index directory (k / 4) + 1) * 512 + 128 * (k % 4)
+entry_place directory k = (slice_index directory (k / 4) + 1) * sector_len + 128 * (k % 4)
 
 abbrev pub entry_count : List ℕ → ℕ
 entry_count directory = 4 * length directory

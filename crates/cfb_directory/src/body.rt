@@ -1,6 +1,7 @@
 // What the stream of an entry has.
 ghost use Rattle.std.specs.Prelude.{◌≡◌, ◌+◌, ◌≤◌, ◌<◌, ◌^◌, length};
 ghost use Rattle.cfb_sectors.specs.Chain.{AreSectorsOf};
+ghost use Rattle.cfb_sectors.specs.Header.{sector_len};
 ghost use Rattle.cfb_directory.specs.Reach.{entry_count};
 ghost use Rattle.cfb_directory.specs.StreamEntries.{IsStreamEntry, stream_head};
 ghost use Rattle.cfb_directory.specs.Entries.{IsBody};
@@ -39,7 +40,7 @@ pub(crate) fn body_of(file: &[u8], directory: &[u32], entry: u32) -> Body
 pub fn stream_claim(file: &[u8], at: usize, unit: usize) -> Claim
     requires short { length file.now < 2 ^ 32 }
     requires inside { at + 128 ≤ length file.now }
-    requires few { unit ≤ 512 }
+    requires few { unit ≤ sector_len }
     ensures { result ≡ stream_head file.now unit at }
 {
     Claim {

@@ -5,9 +5,10 @@ use Rattle.std.proofs.lemmas.Bool.{cases_order}
 use Rattle.std.proofs.lemmas.Option.{slice_get-get_or}
 use Rattle.doc_bits.specs.Rules.{Nowhere}
 use Rattle.cfb_streams.specs.Contents.{NamedBytes, AreStreams}
-use Rattle.cfb_directory.specs.Directory.{IsNameOf, HaveOneName, EntryBefore}
+use Rattle.cfb_directory.specs.Directory.{IsNameOf, EntryBefore}
 use Rattle.cfb_directory.specs.Reach.{BreaksName}
-use Rattle.cfb_directory.proofs.NameLemmas.{EntryBefore-names}
+use Rattle.cfb_directory.proofs.NameLemmas.{EntryBefore-names, before_apart}
+use Rattle.cfb_directory.proofs.OrderLemmas.{one_name-sym}
 use Rattle.cfb_layout.specs.Layout.{no_stream}
 use Rattle.cfb_layout.proofs.Image.{IsImage}
 use Rattle.cfb_layout.proofs.ImageTree.{directory_of, place_in, image_stream, reached_only}
@@ -18,30 +19,6 @@ pub image_name : (file : List ℕ) (streams : List NamedBytes) (clsid : List ℕ
 image_name file streams clsid i k im low is =
     let e = image_stream file streams clsid i k im low is in
     record { long = e.long; units = λ j h. sym (e.units j h) }
-
--- entries in the order of names have two names
-pub before_apart : (file : List ℕ) (at other : ℕ) → EntryBefore file at other → ¬ HaveOneName file at other
-before_apart file at other h one =
-    let long = one.long in
-    elim h [
-      | inl short ↦ omega arith
-      | inr same ↦
-          let less = same.1.1 in
-          let e = one.units same.1.0 less.inside in
-          let below = less.less in omega arith
-    ]
-
-pub after_apart : (file : List ℕ) (at other : ℕ) → EntryBefore file other at → ¬ HaveOneName file at other
-after_apart file at other h one =
-    let long = one.long in
-    elim h [
-      | inl short ↦ omega arith
-      | inr same ↦
-          let less = same.1.1 in
-          let inside = less.inside in
-          let e = one.units same.1.0 (omega arith) in
-          let below = less.less in omega arith
-    ]
 
 -- the entries stand in the order of their names
 pub image_order : (file : List ℕ) (streams : List NamedBytes) (clsid : List ℕ) (e k : ℕ) → IsImage file streams
@@ -88,8 +65,9 @@ names_hold file streams clsid im are few = λ p h.
             | inr apart ↦ elim apart [
               | inl less ↦ before_apart file (place_in streams taken.earlier) (place_in streams k) (image_order file
                   streams clsid taken.earlier k im are x less (omega arith)) taken.same
-              | inr more ↦ after_apart file (place_in streams taken.earlier) (place_in streams k) (image_order file
-                  streams clsid k taken.earlier im are from more (omega arith)) taken.same
+              | inr more ↦ before_apart file (place_in streams k) (place_in streams taken.earlier) (image_order file
+                  streams clsid k taken.earlier im are from more (omega arith)) (one_name-sym file (place_in streams
+                  taken.earlier) (place_in streams k) taken.same)
             ]
           ]
     ]

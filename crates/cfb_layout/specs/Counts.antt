@@ -3,6 +3,7 @@
 use Rattle.std.specs.Prelude.{◌≤◌, ℕ, ◌+◌, ◌*◌, List, [], ◌∷◌, ◌++◌, length, map, sum, nat_lt, if◌then◌else◌}
 use Rattle.std.specs.Prelude.{slice_index}
 use Rattle.cfb_sectors.specs.SectorChain.{end_of_chain}
+use Rattle.cfb_sectors.specs.Header.{sector_len, mini_sector_len}
 use Rattle.cfb_layout.specs.Sectors.{units_for, start_of}
 
 abbrev pub large_len : ℕ → ℕ
@@ -13,18 +14,18 @@ small_len len = if nat_lt len 4096 then len else 0
 
 -- the mini sectors of each stream
 unfoldable pub mini_counts : List ℕ → List ℕ
-mini_counts lengths = map (λ len. units_for 64 (small_len len)) lengths
+mini_counts lengths = map (λ len. units_for mini_sector_len (small_len len)) lengths
 
 -- the sectors that each stream has of its own
 unfoldable pub large_counts : List ℕ → List ℕ
-large_counts lengths = map (λ len. units_for 512 (large_len len)) lengths
+large_counts lengths = map (λ len. units_for sector_len (large_len len)) lengths
 
 -- the sectors of each part: the streams, the mini stream, the mini FAT and the directory
 unfoldable pub sector_counts : List ℕ → List ℕ
 sector_counts lengths =
     large_counts lengths
-    ++ (units_for 512 (64 * sum (mini_counts lengths)) ∷ (units_for 128 (sum (mini_counts lengths)) ∷ (units_for 4
-    (length lengths + 1) ∷ [])))
+    ++ (units_for sector_len (mini_sector_len * sum (mini_counts lengths))
+    ∷ (units_for 128 (sum (mini_counts lengths)) ∷ (units_for 4 (length lengths + 1) ∷ [])))
 
 -- the sectors of the FAT
 abbrev pub fat_count : List ℕ → ℕ

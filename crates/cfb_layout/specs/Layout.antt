@@ -10,6 +10,7 @@ use Rattle.cfb_streams.specs.Contents.{NamedBytes, Stream, Contents}
 use Rattle.cfb_directory.specs.Directory.{no_entry}
 use Rattle.cfb_sectors.specs.SectorChain.{end_of_chain}
 use Rattle.cfb_sectors.specs.Opening.{signature}
+use Rattle.cfb_sectors.specs.Header.{sector_len, mini_sector_len}
 use Rattle.cfb_layout.specs.Sectors.{units_for, filled, padded, chains_from, start_of, table_bytes, free_sector}
 use Rattle.cfb_layout.specs.Sectors.{fat_sector_mark}
 use Rattle.cfb_layout.specs.declared.entries.EntryFields.{EntryFields}
@@ -33,7 +34,7 @@ lengths_of streams = map (λ stream. length stream.bytes) streams
 
 -- the small parts, each in whole mini sectors
 unfoldable pub mini_stream : List NamedBytes → List ℕ
-mini_stream streams = flat_map (λ stream. padded 64 0 (small_part stream.bytes)) streams
+mini_stream streams = flat_map (λ stream. padded mini_sector_len 0 (small_part stream.bytes)) streams
 
 -- the FAT's entries, those of its own sectors last
 unfoldable pub fat : List ℕ → List ℕ
@@ -49,7 +50,7 @@ root_fields lengths = record {
   right = no_entry;
   child = top (all_entries (length lengths));
   start = first_sector (sector_counts lengths) (length lengths);
-  size = 64 * sum (mini_counts lengths);
+  size = mini_sector_len * sum (mini_counts lengths);
 }
 
 abbrev pub root_entry : List ℕ → List ℕ → Entry
@@ -94,8 +95,8 @@ directory_bytes streams clsid =
 -- the parts in the order of their sectors: the streams, the mini stream, the mini FAT, the directory and the FAT
 unfoldable pub parts : List NamedBytes → List ℕ → List (List ℕ)
 parts streams clsid =
-    map (λ stream. padded 512 0 (large_part stream.bytes)) streams
-    ++ (padded 512 0 (mini_stream streams)
+    map (λ stream. padded sector_len 0 (large_part stream.bytes)) streams
+    ++ (padded sector_len 0 (mini_stream streams)
     ∷ (table_bytes (chains_from 0 (mini_counts (lengths_of streams)))
     ∷ (directory_bytes streams clsid
     ∷ (table_bytes (fat (lengths_of streams)) ∷ []))))

@@ -8,6 +8,7 @@ use crate::entries::EntryFields;
 use crate::sectors::units_for;
 use crate::sizes::{CUTOFF, large_sectors, mini_sectors};
 use crate::tree::{NO_ENTRY, all_entries, part_of};
+use cfb_sectors::{MINI_SECTOR_LEN, SECTOR_LEN};
 use doc_bits::Memory;
 use std::alloc::Global;
 use std::marker::Model;
@@ -112,7 +113,7 @@ impl Plan {
             right: NO_ENTRY,
             child: all_entries(count as u32).top(),
             start: self.sectors.first_sector(count + MINI_STREAM),
-            size: 64 * self.minis.total(),
+            size: MINI_SECTOR_LEN as u32 * self.minis.total(),
         }
     }
 
@@ -171,7 +172,7 @@ fn count_sectors(alloc: Global, lengths: &[u64], minis: u32) -> Result<Vec<u32>,
         counts.push(large_sectors(*len) as u32)?;
     }
     let minis = minis as u64;
-    counts.push(units_for(512, 64 * minis) as u32)?;
+    counts.push(units_for(SECTOR_LEN as u64, MINI_SECTOR_LEN as u64 * minis) as u32)?;
     counts.push(units_for(128, minis) as u32)?;
     counts.push(units_for(4, lengths.len() as u64 + 1) as u32)?;
     Ok(counts)

@@ -4,6 +4,7 @@ ghost use Rattle.std.specs.Prelude.{◌<◌, ◌≤◌, OnOk, length, replicate,
 ghost use Rattle.std.specs.List.{flat_map, range_with_len};
 ghost use Rattle.doc_bits.specs.Number.{number_bytes};
 ghost use Rattle.cfb_layout.specs.Sectors.{units_for, padded, chain_entries, chains_from};
+ghost use Rattle.cfb_sectors.specs.Header.{sector_len};
 
 use cfb_sectors::SECTOR_LEN;
 use doc_bits::{Bytes, Memory};
@@ -32,7 +33,7 @@ pub(crate) fn units_for(unit: u64, size: u64) -> u64
 /// What is missing of whole parts of `unit`.
 pub(crate) fn rest_of(unit: usize, len: usize) -> usize
     requires some { 0 < unit }
-    requires small { unit ≤ 512 }
+    requires small { unit ≤ sector_len }
     requires room { len < 2 ^ 63 }
     ensures is { result ≡ units_for unit len * unit - len }
     ensures less { result < unit }
@@ -42,7 +43,7 @@ pub(crate) fn rest_of(unit: usize, len: usize) -> usize
 
 /// Appends zeros, a sector at most.
 pub(crate) fn push_zeros(out: &mut Bytes, count: usize) -> Result<(), Memory>
-    requires { count ≤ 512 }
+    requires { count ≤ sector_len }
     ensures { OnOk result (out.new ≡ out.old ++ replicate count 0) }
 {
     let zeros = [0u8; SECTOR_LEN];
@@ -53,7 +54,7 @@ pub(crate) fn push_zeros(out: &mut Bytes, count: usize) -> Result<(), Memory>
 /// Appends bytes, filled up with zeros to whole parts of `unit`.
 pub(crate) fn push_padded(out: &mut Bytes, bytes: &[u8], unit: usize) -> Result<(), Memory>
     requires some { 0 < unit }
-    requires small { unit ≤ 512 }
+    requires small { unit ≤ sector_len }
     ensures { OnOk result (out.new ≡ out.old ++ padded unit 0 bytes.now) }
 {
     out.push_all(bytes)?;

@@ -2,8 +2,10 @@
 ghost use Rattle.std.specs.Prelude.{◌≡◌, ◌^◌, ◌<◌, ◌≤◌, sum};
 ghost use Rattle.cfb_layout.specs.Sectors.{units_for};
 ghost use Rattle.cfb_layout.specs.Counts.{large_len, small_len, sectors_needed};
+ghost use Rattle.cfb_sectors.specs.Header.{sector_len, mini_sector_len};
 
 use crate::sectors::units_for;
+use cfb_sectors::{MINI_SECTOR_LEN, SECTOR_LEN};
 
 /// Streams of so many bytes stand in sectors of their own.
 pub const CUTOFF: u64 = 4_096;
@@ -14,19 +16,27 @@ pub const MAX_SECTORS: u64 = 13_952;
 /// The sectors of a stream's own.
 pub(crate) fn large_sectors(len: u64) -> u64
     requires { len < 2 ^ 62 }
-    ensures is { result ≡ units_for 512 (large_len len) }
+    ensures is { result ≡ units_for sector_len (large_len len) }
     ensures few { result ≤ len }
 {
-    if len < CUTOFF { 0 } else { units_for(512, len) }
+    if len < CUTOFF {
+        0
+    } else {
+        units_for(SECTOR_LEN as u64, len)
+    }
 }
 
 /// The mini sectors of a stream.
 pub(crate) fn mini_sectors(len: u64) -> u64
-    ensures is { result ≡ units_for 64 (small_len len) }
+    ensures is { result ≡ units_for mini_sector_len (small_len len) }
     ensures few { result ≤ len }
     ensures most { result ≤ 64 }
 {
-    if len < CUTOFF { units_for(64, len) } else { 0 }
+    if len < CUTOFF {
+        units_for(MINI_SECTOR_LEN as u64, len)
+    } else {
+        0
+    }
 }
 
 /// The number of sectors after the header in the canonical container of streams of these lengths. It
@@ -41,7 +51,7 @@ pub fn sectors_needed(lengths: &[u64]) -> u64
         large += large_sectors(*len);
         minis += mini_sectors(*len);
     }
-    let stored = units_for(512, 64 * minis);
+    let stored = units_for(SECTOR_LEN as u64, MINI_SECTOR_LEN as u64 * minis);
     let table = units_for(128, minis);
     let directory = units_for(4, lengths.len() as u64 + 1);
     let sectors = large + stored + table + directory;

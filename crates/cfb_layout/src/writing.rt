@@ -8,6 +8,7 @@ ghost use Rattle.cfb_layout.specs.Entries.{entry_bytes, unused_fields};
 ghost use Rattle.cfb_layout.specs.Layout.{lengths_of, large_part, small_part, mini_stream, fat};
 ghost use Rattle.cfb_layout.specs.Layout.{directory_entry, directory_bytes, header_bytes, compound_file};
 ghost use Rattle.cfb_layout.specs.Faults.{IsLayoutFault};
+ghost use Rattle.cfb_sectors.specs.Header.{sector_len};
 
 use crate::LayoutFault;
 use crate::entries::{EntryFields, push_entry};
@@ -149,7 +150,7 @@ fn small_part(bytes: &[u8]) -> &[u8]
 /// Appends the streams that have sectors of their own.
 fn push_large(out: &mut Bytes, streams: &Streams) -> Result<(), Memory>
     ensures { OnOk result (out.new ≡ out.old
-        ++ flat_map (λ stream. padded 512 0 (large_part stream.bytes)) streams.now) }
+        ++ flat_map (λ stream. padded sector_len 0 (large_part stream.bytes)) streams.now) }
 {
     for i in 0..streams.count() {
         let part = large_part(streams.bytes(i));
@@ -161,7 +162,7 @@ fn push_large(out: &mut Bytes, streams: &Streams) -> Result<(), Memory>
 /// Appends the mini stream.
 fn push_mini_stream(out: &mut Bytes, streams: &Streams, plan: &Plan) -> Result<(), Memory>
     requires { plan.now ≡ lengths_of streams.now }
-    ensures { OnOk result (out.new ≡ out.old ++ padded 512 0 (mini_stream streams.now)) }
+    ensures { OnOk result (out.new ≡ out.old ++ padded sector_len 0 (mini_stream streams.now)) }
 {
     for i in 0..streams.count() {
         let part = small_part(streams.bytes(i));

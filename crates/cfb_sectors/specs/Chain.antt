@@ -1,7 +1,7 @@
 -- A chain that is judged: the table that it goes by, what says where it starts, and where it is broken.
 use Rattle.std.specs.Prelude.{◌≡◌, ◌≢◌, ◌⊎◌, ℕ, ◌+◌, ◌*◌, ◌/◌, ◌^◌, ◌<◌, ◌≤◌, min, List, length, slice_index}
 use Rattle.doc_bits.specs.Number.{u32_at}
-use Rattle.cfb_sectors.specs.Header.{table_place, fat_sectors, valid_below}
+use Rattle.cfb_sectors.specs.Header.{sector_len, mini_sectors_in, table_place, fat_sectors, valid_below}
 use Rattle.cfb_sectors.specs.SectorChain.{IsSectorChain, IsFullPath, last_of, end_of_chain}
 
 -- the FAT or the mini FAT: the entry of a sector, where that entry stands, and the number below which sectors are valid
@@ -30,13 +30,13 @@ fat_table file = table_of file (fat_sectors file) (valid_below file)
 
 -- Profile: a mini sector is valid where it has an entry and begins before the end of the root's size
 abbrev pub mini_table : List ℕ → List ℕ → ℕ → Table
-mini_table file mini_fat size = table_of file mini_fat (min (128 * length mini_fat) ((size + 63) / 64))
+mini_table file mini_fat size = table_of file mini_fat (min (128 * length mini_fat) (mini_sectors_in size))
 
 -- sectors that are in a file of less than 2^32 bytes; there are fewer than 2^24 of them
 pub record AreSectorsOf (file sectors : List ℕ) : Type 0 where
   pub short : length file < 2 ^ 32
   pub few : length sectors < 2 ^ 24
-  pub inside : (i : ℕ) → i < length sectors → (slice_index sectors i + 2) * 512 ≤ length file
+  pub inside : (i : ℕ) → i < length sectors → (slice_index sectors i + 2) * sector_len ≤ length file
 
 -- the entries of the table that stands in these sectors
 pub record IsTable (file sectors entries : List ℕ) : Type 0 where

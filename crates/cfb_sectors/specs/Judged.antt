@@ -1,13 +1,13 @@
 -- What the judge of a chain answers, and why a file is refused.
-use Rattle.std.specs.Prelude.{◌≡◌, ℕ, ◌≤◌, Option, Some, None, List}
-use Rattle.doc_bits.specs.Rules.{IsLeast}
+use Rattle.std.specs.Prelude.{◌≡◌, ℕ, ◌≤◌, Option, Some, None, MatchOption, List}
+use Rattle.doc_bits.specs.Rules.{Rules, Hold, IsLeast, IsFirst}
+use Rattle.cfb_sectors.specs.declared.faults.BrokenRule.{BrokenRule}
 use Rattle.cfb_sectors.specs.declared.faults.CfbFault.{CfbFault}
 use Rattle.cfb_sectors.specs.declared.faults.CfbFault.TheVariants.{Rule}
 use Rattle.cfb_sectors.specs.declared.chain.Chain.{Chain}
 use Rattle.cfb_sectors.specs.declared.chain.Chain.TheVariants.{Found, Breaks}
 use Rattle.cfb_sectors.specs.Chain.{Table, Head, HoldsChain, BreaksChain}
 use Rattle.cfb_sectors.specs.declared.faults.CfbFault.TheVariants.{Memory}
-use Rattle.doc_bits.specs.Rules.{Rules, IsFirst}
 
 -- sectors that hold a rule, or the one place at which it is broken
 abbrev pub IsFoundBy : (List ℕ → Type 0) → (ℕ → Type 0) → Chain → Type 0
@@ -26,6 +26,10 @@ broken_place (Breaks place) = Some place
 -- the rule is broken at the place
 abbrev pub IsRefused : ℕ → Option ℕ → CfbFault → Type 0
 IsRefused number wrong fault = (place : ℕ) × ((wrong ≡ Some place) × (fault ≡ Rule number place))
+
+-- what a function that judges rules answers: the first that is broken, at its least place, or nothing where all hold
+abbrev pub FirstOrNone : Rules ℕ → Option BrokenRule → Type 0
+FirstOrNone rules found = MatchOption found (Hold rules) (λ broken. IsFirst rules broken.rule broken.offset)
 
 -- the first broken rule, or want of memory, which is free
 abbrev pub IsCfbFault : Rules ℕ → CfbFault → Type 0

@@ -1,10 +1,11 @@
 -- The rules that are judged before the header is read: the length of the file, and its signature.
 use Rattle.std.specs.Prelude.{◌≡◌, ◌≢◌, ◌⊎◌, ℕ, ◌%◌, ◌<◌, ◌≤◌, min, List, [], ◌∷◌, length, take}
 use Rattle.doc_bits.specs.Rules.{Rules, rule, ◌then◌}
+use Rattle.cfb_sectors.specs.Header.{sector_len}
 
 -- a header and two sectors at least, whole sectors, and the 13,952 sectors that 109 FAT sectors can name at most
 abbrev pub IsWrongLength : ℕ → Type 0
-IsWrongLength len = (len % 512 ≢ 0) ⊎ ((len < 1536) ⊎ (7143936 < len))
+IsWrongLength len = (len % sector_len ≢ 0) ⊎ ((len < 1536) ⊎ (7143936 < len))
 
 -- the first eight bytes of a compound file
 abbrev pub signature : List ℕ
@@ -25,6 +26,6 @@ opening_rules file = rule 1 (BreaksLength file) then rule 2 (BreaksSignature fil
 
 -- a file whose length is right
 pub record IsWhole (file : List ℕ) : Type 0 where
-  pub sectors : length file % 512 ≡ 0
+  pub sectors : length file % sector_len ≡ 0
   pub least : 1536 ≤ length file
   pub most : length file ≤ 7143936

@@ -1,7 +1,7 @@
 // [MS-CFB] The FAT and the mini FAT: tables of 32-bit entries that stand in sectors, 128 of them in each.
 ghost use Rattle.std.specs.Prelude.{◌≡◌, ◌+◌, ◌*◌, ◌/◌, ◌%◌, ◌<◌, ◌≤◌, ◌↔◌, IsTrue, length, slice_index, IfOk};
 ghost use Rattle.doc_bits.specs.Rules.{LeastOrNone};
-ghost use Rattle.cfb_sectors.specs.Header.{fat_sector_count, fat_sectors};
+ghost use Rattle.cfb_sectors.specs.Header.{sector_len, fat_sector_count, fat_sectors};
 ghost use Rattle.cfb_sectors.specs.Header.{table_place as place_of, valid_below};
 ghost use Rattle.cfb_sectors.specs.HeaderRules.{BreaksFat, IsListedBefore};
 ghost use Rattle.cfb_sectors.specs.Chain.{AreSectorsOf, IsTable};
@@ -23,7 +23,7 @@ pub const TABLE_LEN: usize = 128;
 
 /// The number below which the sectors of the file are valid.
 pub(crate) fn valid_sectors(file: &[u8]) -> usize
-    requires { 512 ≤ length file.now }
+    requires { sector_len ≤ length file.now }
     ensures { result ≡ valid_below file.now }
 {
     let fat = TABLE_LEN * get32(file, FAT_COUNT) as usize;
@@ -32,7 +32,7 @@ pub(crate) fn valid_sectors(file: &[u8]) -> usize
 
 /// The least place at which the header's FAT sectors are wrong.
 pub(crate) fn wrong_fat(file: &[u8]) -> Option<u32>
-    requires { 512 ≤ length file.now }
+    requires { sector_len ≤ length file.now }
     ensures { LeastOrNone (BreaksFat file.now) result }
 {
     let count = get32(file, FAT_COUNT) as usize;
@@ -51,7 +51,7 @@ pub(crate) fn wrong_fat(file: &[u8]) -> Option<u32>
 
 /// Whether the number of FAT sector `k` is there already.
 fn is_listed_before(file: &[u8], k: usize) -> bool
-    requires header { 512 ≤ length file.now }
+    requires header { sector_len ≤ length file.now }
     requires in_header { k < 109 }
     ensures { IsTrue result ↔ IsListedBefore file.now k }
 {
@@ -66,7 +66,7 @@ fn is_listed_before(file: &[u8], k: usize) -> bool
 
 /// The numbers of the FAT sectors.
 pub(crate) fn read_fat_sectors(alloc: Global, file: &[u8]) -> Result<Vec<u32>, Memory>
-    requires header { 512 ≤ length file.now }
+    requires header { sector_len ≤ length file.now }
     requires few { fat_sector_count file.now ≤ 109 }
     ensures { IfOk result (λ sectors. sectors.items ≡ fat_sectors file.now) }
 {

@@ -7,6 +7,13 @@ use crate::chain::Chain;
 use doc_bits::Memory;
 use thiserror::Error;
 
+/// A broken rule, and its place in bytes from the start of the file.
+#[derive(Clone, Copy)]
+pub struct BrokenRule {
+    pub rule: u8,
+    pub offset: u32,
+}
+
 /// Why a file is not read as a compound file.
 #[derive(Clone, Copy, Debug, PartialEq, Eq, Error)]
 pub enum CfbFault {
@@ -25,6 +32,20 @@ impl From<Memory> for CfbFault {
 
     fn from(_: Memory) -> Self {
         CfbFault::Memory
+    }
+}
+
+impl From<BrokenRule> for CfbFault {
+    ghost use Rattle.std.specs.Prelude.{◌≡◌};
+    ghost use Rattle.cfb_sectors.specs.declared.faults.CfbFault.TheVariants.{Rule};
+
+    ghost from_gives = { λ broken e. e ≡ Rule broken.rule broken.offset };
+
+    fn from(broken: BrokenRule) -> Self {
+        CfbFault::Rule {
+            rule: broken.rule,
+            offset: broken.offset,
+        }
     }
 }
 

@@ -2,6 +2,7 @@
 ghost use Rattle.std.specs.Prelude.{◌≤◌, length};
 ghost use Rattle.doc_bits.specs.Rules.{LeastOrNone};
 ghost use Rattle.cfb_sectors.specs.HeaderRules.{BreaksHeader, IsOther32};
+ghost use Rattle.cfb_sectors.specs.Header.{sector_len};
 
 use doc_bits::{get16, get32};
 
@@ -29,7 +30,7 @@ pub const CUTOFF: u32 = 4_096;
 
 /// The first field that is not that of version 3.
 pub(crate) fn wrong_header(file: &[u8]) -> Option<u32>
-    requires { 512 ≤ length file.now }
+    requires { sector_len ≤ length file.now }
     ensures { LeastOrNone (BreaksHeader file.now) result }
 {
     if get16(file, VERSION) != 3 {
@@ -49,7 +50,7 @@ pub(crate) fn wrong_header(file: &[u8]) -> Option<u32>
 
 /// The number of DIFAT sectors, where there are any.
 pub(crate) fn wrong_difat(file: &[u8]) -> Option<u32>
-    requires { 512 ≤ length file.now }
+    requires { sector_len ≤ length file.now }
     ensures { LeastOrNone (IsOther32 file.now 72 0) result }
 {
     if get32(file, DIFAT_COUNT) != 0 {

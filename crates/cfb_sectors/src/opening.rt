@@ -1,7 +1,8 @@
 // Rules 1 and 2: the length of the file and its signature.
-ghost use Rattle.std.specs.Prelude.{MatchOption};
-ghost use Rattle.doc_bits.specs.Rules.{Hold, IsFirst};
 ghost use Rattle.cfb_sectors.specs.Opening.{opening_rules};
+ghost use Rattle.cfb_sectors.specs.Judged.{FirstOrNone};
+
+use crate::faults::BrokenRule;
 
 /// The bytes that a compound file begins with.
 const SIGNATURE: [u8; 8] = [0xD0, 0xCF, 0x11, 0xE0, 0xA1, 0xB1, 0x1A, 0xE1];
@@ -22,18 +23,9 @@ const RULE_LENGTH: u8 = 1;
 
 const RULE_SIGNATURE: u8 = 2;
 
-/// A broken rule, and its place in bytes from the start of the file.
-#[derive(Clone, Copy, Debug, PartialEq, Eq)]
-pub struct BrokenRule {
-    pub rule: u8,
-    pub offset: u32,
-}
-
-/// The first of rules 1 and 2 that the file breaks.
-pub(crate) fn opening_fault(file: &[u8]) -> Option<BrokenRule>
-    ensures { MatchOption result
-        (Hold (opening_rules file.now))
-        (λ broken. IsFirst (opening_rules file.now) broken.rule broken.offset) }
+/// Judges the rules 1 and 2.
+pub fn judge_opening(file: &[u8]) -> Option<BrokenRule>
+    ensures { FirstOrNone (opening_rules file.now) result }
 {
     if file.len() % SECTOR_LEN != 0 || file.len() < MIN_LEN || file.len() > MAX_LEN {
         let offset = file.len().min(MAX_LEN + 1) as u32;

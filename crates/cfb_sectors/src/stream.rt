@@ -1,7 +1,7 @@
 // Streams: the sectors of a chain joined, and cut to the stream's size.
 ghost use Rattle.std.specs.Prelude.{◌≡◌, ℕ, ◌+◌, ◌*◌, ◌<◌, ◌≤◌, min, length, take, slice_index, IfOk};
 ghost use Rattle.std.specs.List.{flat_map};
-ghost use Rattle.cfb_sectors.specs.Header.{sector_bytes};
+ghost use Rattle.cfb_sectors.specs.Header.{sector_len, sector_bytes};
 ghost use Rattle.cfb_sectors.specs.Chain.{AreSectorsOf};
 
 use crate::opening::SECTOR_LEN;
@@ -37,7 +37,7 @@ pub fn join(
 /// The bytes of these sectors in a row.
 pub fn read_sectors(alloc: Global, file: &[u8], sectors: &[u32]) -> Result<Vec<u8>, Memory>
     requires { AreSectorsOf file.now sectors.now }
-    ensures { IfOk result (λ bytes. bytes.items ≡ flat_map (sector_bytes 512 512 file.now) sectors.now) }
+    ensures { IfOk result (λ bytes. bytes.items ≡ flat_map (sector_bytes sector_len sector_len file.now) sectors.now) }
 {
     let size = sectors.len() * SECTOR_LEN;
     let bytes = join(alloc, file, SECTOR_LEN, SECTOR_LEN, sectors, size)?;

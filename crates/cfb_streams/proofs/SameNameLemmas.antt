@@ -1,10 +1,15 @@
--- Names that are compared: as a test and as a relation.
+-- Names that are compared: as a test and as a relation. A file has one stream of a name.
 use Rattle.std.proofs.Common.{◌≡◌, ◌↔◌, ℕ, zero, suc, ◌+◌, ◌<◌, Bool, true, false, ◌==◌, IsTrue, List, length}
-use Rattle.std.proofs.Common.{slice_index, refl, sym, subst, arith, eq-eqb, eqb-true}
+use Rattle.std.proofs.Common.{slice_index, slice_get, Some, inl, inr, refl, sym, subst, arith, eq-eqb, eqb-true}
 use Rattle.std.specs.List.{list_all, range_with_len}
-use Rattle.std.proofs.lemmas.Bool.{and_from, and_parts, false_from_ne_true}
+use Rattle.std.proofs.lemmas.Bool.{and_from, and_parts, false_from_ne_true, cases_order}
+use Rattle.std.proofs.lemmas.Option.{slice_get_within}
 use Rattle.cfb_directory.specs.Directory.{upper_case, AreSameNames}
+use Rattle.cfb_directory.specs.Reach.{entry_place}
+use Rattle.cfb_directory.proofs.NameLemmas.{ComesBefore-entries, same_not_before}
 use Rattle.cfb_streams.specs.Names.{is_same_name}
+use Rattle.cfb_streams.specs.Contents.{Stream, Contents}
+use Rattle.cfb_streams.specs.Container.{HasContents}
 
 -- a test that all numbers of a range pass
 all-from : (test : ℕ → Bool) (from count : ℕ) → ((i : ℕ) → i < count → test (from + i) ≡ true) →
@@ -57,3 +62,29 @@ pub same_name-test : (name other : List ℕ) (b : Bool) → (IsTrue b ↔ AreSam
     b ≡ is_same_name name other
 same_name-test name other true is = sym ((same_name-is name other).1 (is.0 refl))
 same_name-test name other false is = same_name-false name other (λ are. absurd (cc (is.1 are)))
+
+-- of two streams of a file the later one has not the name of the other
+pub named_once : (file : List ℕ) (contents : Contents) (has : HasContents file contents) (name : List ℕ) (i j : ℕ)
+    (s t : Stream) → i < j → slice_get contents.streams i ≡ Some s → slice_get contents.streams j ≡ Some t →
+    AreSameNames s.name name → ¬ AreSameNames t.name name
+named_once file contents has name i j s t less a b one other =
+    let low = slice_get_within contents.streams j t b in
+    let len = has.streams.len in
+    let first = has.streams.each i s a in
+    let second = has.streams.each j t b in
+    let order = has.lists.order i j less (omega arith) in
+    same_not_before s.name t.name name one other
+    (ComesBefore-entries file (entry_place has.parts.directory (slice_index has.entries i)) (entry_place
+    has.parts.directory (slice_index has.entries j)) s.name t.name first.name second.name order)
+
+-- so streams with one name stand at one place
+pub named_place : (file : List ℕ) (contents : Contents) (has : HasContents file contents) (name : List ℕ) (i j : ℕ)
+    (s t : Stream) → slice_get contents.streams i ≡ Some s → slice_get contents.streams j ≡ Some t →
+    AreSameNames s.name name → AreSameNames t.name name → i ≡ j
+named_place file contents has name i j s t a b one other = elim (cases_order i j) [
+  | inl same ↦ same
+  | inr apart ↦ elim apart [
+    | inl less ↦ absurd (named_once file contents has name i j s t less a b one other)
+    | inr more ↦ absurd (named_once file contents has name j i t s more b a other one)
+  ]
+]

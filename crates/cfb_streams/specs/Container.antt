@@ -5,7 +5,7 @@ use Rattle.cfb_streams.specs.Contents.{Stream, Contents}
 use Rattle.cfb_directory.specs.Order.{ListsStreams}
 use Rattle.doc_bits.specs.Rules.{Rules, rule, ◌then◌, given}
 use Rattle.cfb_sectors.specs.Opening.{opening_rules}
-use Rattle.cfb_sectors.specs.Header.{sector_bytes}
+use Rattle.cfb_sectors.specs.Header.{sector_len, mini_sector_len, sector_bytes}
 use Rattle.cfb_sectors.specs.HeaderRules.{header_rules}
 use Rattle.cfb_sectors.specs.Chain.{fat_table, HoldsChain}
 use Rattle.cfb_directory.specs.Directory.{entry_size, entry_clsid, IsNameOf}
@@ -46,23 +46,23 @@ container_rules file = opening_rules file then header_rules file then directory_
 
 -- the whole sectors of the mini stream, in a row
 abbrev pub mini_bytes : List ℕ → Parts → List ℕ
-mini_bytes file parts = flat_map (sector_bytes 512 512 file) parts.mini_stream
+mini_bytes file parts = flat_map (sector_bytes sector_len sector_len file) parts.mini_stream
 
 -- the bytes of a stream that has sectors of its own
 pub record IsLongBody (file directory : List ℕ) (entry : ℕ) (bytes sectors : List ℕ) : Type 0 where
   pub is_large : IsLargeStream file directory entry
-  pub holds : HoldsChain (fat_table file) (stream_head file 512 (entry_place directory entry)) sectors
+  pub holds : HoldsChain (fat_table file) (stream_head file sector_len (entry_place directory entry)) sectors
   pub joined : bytes ≡ take (entry_size file (entry_place directory entry))
-      (flat_map (sector_bytes 512 512 file) sectors)
+      (flat_map (sector_bytes sector_len sector_len file) sectors)
 
 -- the bytes of a stream that stands in the mini stream, whose bytes are `stored`
 pub record IsShortBody (file directory mini_fat stored : List ℕ) (entry : ℕ) (bytes : List ℕ) : Type 0 where
   pub is_small : IsSmallStream file directory entry
   pub sectors : List ℕ
-  pub holds : HoldsChain (mini_table_of file directory mini_fat) (stream_head file 64 (entry_place directory entry))
-      sectors
+  pub holds : HoldsChain (mini_table_of file directory mini_fat) (stream_head file mini_sector_len
+      (entry_place directory entry)) sectors
   pub joined : bytes ≡ take (entry_size file (entry_place directory entry))
-      (flat_map (sector_bytes 0 64 stored) sectors)
+      (flat_map (sector_bytes 0 mini_sector_len stored) sectors)
 
 -- the bytes and the chain of the stream of an entry
 pub record IsEmptyStream (file : List ℕ) (parts : Parts) (entry : ℕ) (stream : Stream) : Type 0 where

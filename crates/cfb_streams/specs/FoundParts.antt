@@ -6,13 +6,14 @@ use Rattle.cfb_directory.specs.Directory.{entry_size}
 use Rattle.cfb_directory.specs.Reach.{entry_place, IsDirectory, BreaksDirectory}
 use Rattle.cfb_streams.specs.StreamRules.{IsMiniFat, BreaksMiniFat, IsMiniStream, BreaksMiniStream}
 use Rattle.cfb_sectors.specs.Tables.{TablePlace}
+use Rattle.cfb_sectors.specs.Header.{mini_sectors_in}
 
 -- where the mini FAT stands
 abbrev pub mini_place : List ℕ → List ℕ → List ℕ → TablePlace
 mini_place file directory mini_fat = record {
   file = file;
   sectors = mini_fat;
-  valid = min (128 * length mini_fat) ((entry_size file (entry_place directory 0) + 63) / 64);
+  valid = min (128 * length mini_fat) (mini_sectors_in (entry_size file (entry_place directory 0)));
 }
 
 -- the directory's sectors, or where rule 6 is broken

@@ -2,7 +2,7 @@
 use Rattle.std.specs.Prelude.{◌≡◌, ℕ, List}
 use Rattle.std.specs.List.{flat_map}
 use Rattle.doc_bits.specs.Rules.{Hold}
-use Rattle.cfb_sectors.specs.Header.{sector_bytes}
+use Rattle.cfb_sectors.specs.Header.{sector_len, sector_bytes}
 use Rattle.cfb_sectors.specs.Opening.{opening_rules}
 use Rattle.cfb_sectors.specs.HeaderRules.{header_rules}
 use Rattle.cfb_streams.specs.StreamRules.{Parts, IsMiniFat, IsMiniStream}
@@ -42,4 +42,4 @@ pub record KeepsLayout (entries : EntryLists) (fat mini : TablePlace) (mini_stre
   pub is_layout : IsLayout (places_of entries mini.sectors mini_stream)
   pub is_fat : fat ≡ fat_place entries.file
   pub is_mini : mini ≡ mini_place entries.file entries.directory mini.sectors
-  pub joined : stored ≡ flat_map (sector_bytes 512 512 entries.file) mini_stream
+  pub joined : stored ≡ flat_map (sector_bytes sector_len sector_len entries.file) mini_stream

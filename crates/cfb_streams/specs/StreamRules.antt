@@ -1,7 +1,7 @@
 -- The mini FAT, the mini stream and the streams: their chains, and the sectors that two of them have.
 use Rattle.std.specs.Prelude.{◌≡◌, ◌≢◌, ◌⊎◌, ℕ, List, []}
 use Rattle.doc_bits.specs.Number.{u32_at}
-use Rattle.cfb_sectors.specs.Header.{fat_sectors}
+use Rattle.cfb_sectors.specs.Header.{sector_len, mini_sector_len, fat_sectors}
 use Rattle.cfb_sectors.specs.SectorChain.{HasSector}
 use Rattle.cfb_sectors.specs.Chain.{Table, Head, fat_table, mini_table, HoldsChain, BreaksChain}
 use Rattle.cfb_directory.specs.Directory.{entry_size}
@@ -9,7 +9,7 @@ use Rattle.cfb_directory.specs.Reach.{entry_place, AmongReached}
 use Rattle.cfb_directory.specs.StreamEntries.{IsLargeStream, IsSmallStream, stream_head}
 
 abbrev pub mini_fat_head : List ℕ → Head
-mini_fat_head file = record { field = 60; start = u32_at file 60; unit = 512; size = 0 }
+mini_fat_head file = record { field = 60; start = u32_at file 60; unit = sector_len; size = 0 }
 
 -- rule 11; there is no mini FAT where the number of its sectors is 0
 pub record BreaksMiniFat (file : List ℕ) (place : ℕ) : Type 0 where
@@ -25,14 +25,14 @@ IsMiniFat file sectors =
 -- rule 12; Profile: the chain of an empty mini stream is not looked at
 pub record BreaksMiniStream (file directory : List ℕ) (place : ℕ) : Type 0 where
   pub there : entry_size file (entry_place directory 0) ≢ 0
-  pub broken : BreaksChain (fat_table file) (stream_head file 512 (entry_place directory 0)) place
+  pub broken : BreaksChain (fat_table file) (stream_head file sector_len (entry_place directory 0)) place
 
 -- the sectors of the mini stream, which is the root's chain
 abbrev pub IsMiniStream : List ℕ → List ℕ → List ℕ → Type 0
 IsMiniStream file directory sectors =
     ((entry_size file (entry_place directory 0) ≡ 0) × (sectors ≡ []))
     ⊎ ((entry_size file (entry_place directory 0) ≢ 0) × HoldsChain (fat_table file)
-    (stream_head file 512 (entry_place directory 0)) sectors)
+    (stream_head file sector_len (entry_place directory 0)) sectors)
 
 -- the mini FAT by which the file's short streams go
 abbrev pub mini_table_of : List ℕ → List ℕ → List ℕ → Table
@@ -41,12 +41,12 @@ mini_table_of file directory mini_fat = mini_table file mini_fat (entry_size fil
 -- the chain of a stream's entry is broken
 pub record IsWrongLarge (file directory : List ℕ) (entry place : ℕ) : Type 0 where
   pub is_large : IsLargeStream file directory entry
-  pub broken : BreaksChain (fat_table file) (stream_head file 512 (entry_place directory entry)) place
+  pub broken : BreaksChain (fat_table file) (stream_head file sector_len (entry_place directory entry)) place
 
 pub record IsWrongSmall (file directory mini_fat : List ℕ) (entry place : ℕ) : Type 0 where
   pub is_small : IsSmallStream file directory entry
-  pub broken : BreaksChain (mini_table_of file directory mini_fat) (stream_head file 64 (entry_place directory entry))
-      place
+  pub broken : BreaksChain (mini_table_of file directory mini_fat) (stream_head file mini_sector_len
+      (entry_place directory entry)) place
 
 abbrev pub IsWrongStream : List ℕ → List ℕ → List ℕ → ℕ → ℕ → Type 0
 IsWrongStream file directory mini_fat entry place = IsWrongLarge file directory entry place ⊎ IsWrongSmall file
@@ -68,14 +68,14 @@ pub data Owner : Type 0 where
 pub record HasLargeSector (file directory : List ℕ) (entry sector : ℕ) : Type 0 where
   pub is_large : IsLargeStream file directory entry
   pub sectors : List ℕ
-  pub holds : HoldsChain (fat_table file) (stream_head file 512 (entry_place directory entry)) sectors
+  pub holds : HoldsChain (fat_table file) (stream_head file sector_len (entry_place directory entry)) sectors
   pub has : HasSector sectors sector
 
 pub record HasSmallSector (file directory mini_fat : List ℕ) (entry sector : ℕ) : Type 0 where
   pub is_small : IsSmallStream file directory entry
   pub sectors : List ℕ
-  pub holds : HoldsChain (mini_table_of file directory mini_fat) (stream_head file 64 (entry_place directory entry))
-      sectors
+  pub holds : HoldsChain (mini_table_of file directory mini_fat) (stream_head file mini_sector_len
+      (entry_place directory entry)) sectors
   pub has : HasSector sectors sector
 
 -- the sectors of the directory, of the mini FAT and of the mini stream

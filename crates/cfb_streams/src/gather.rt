@@ -14,6 +14,7 @@ ghost use Rattle.cfb_streams.specs.Gathered.{IsRead, TakesChain, TakesStream, Ha
 ghost use Rattle.cfb_streams.specs.Gathered.{AreUnshared, with_some, IsTakenFront};
 ghost use Rattle.cfb_streams.specs.Container.{container_rules, HasContents, IsStreamOf, AreStreamsOf};
 ghost use Rattle.cfb_sectors.specs.Judged.{IsCfbFault};
+ghost use Rattle.cfb_sectors.specs.Header.{sector_len, mini_sector_len};
 
 use crate::CfbFault;
 use crate::container::Container;
@@ -140,7 +141,8 @@ impl<'a> Layout<'a> {
         claim: &Claim,
     ) -> Result<Option<RootStream>, Memory>
         requires is_small { IsSmallStream self.now.file self.now.parts.directory entry }
-        requires is_claim { claim.now ≡ stream_head self.now.file 64 (place_of self.now.parts.directory entry) }
+        requires is_claim { claim.now
+            ≡ stream_head self.now.file mini_sector_len (place_of self.now.parts.directory entry) }
         requires is_name { IsNameOf self.now.file (place_of self.now.parts.directory entry) name.items }
         requires is_whole { Nowhere
             (IsWrongStream self.now.file self.now.parts.directory self.now.parts.mini_fat entry) }
@@ -173,7 +175,8 @@ impl<'a> Layout<'a> {
         claim: &Claim,
     ) -> Result<Option<RootStream>, Memory>
         requires is_large { IsLargeStream self.now.file self.now.parts.directory entry }
-        requires is_claim { claim.now ≡ stream_head self.now.file 512 (place_of self.now.parts.directory entry) }
+        requires is_claim { claim.now
+            ≡ stream_head self.now.file sector_len (place_of self.now.parts.directory entry) }
         requires is_name { IsNameOf self.now.file (place_of self.now.parts.directory entry) name.items }
         requires is_whole { Nowhere
             (IsWrongStream self.now.file self.now.parts.directory self.now.parts.mini_fat entry) }

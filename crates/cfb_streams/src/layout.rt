@@ -1,6 +1,8 @@
 // Where the parts of a file stand that breaks none of the rules 1 to 12.
 ghost use Rattle.std.specs.Prelude.{◌≡◌, ◌<◌, MatchResult, IfOk, length, slice_index};
 ghost use Rattle.doc_bits.specs.Rules.{Hold};
+ghost use Rattle.cfb_sectors.specs.Opening.{opening_rules};
+ghost use Rattle.cfb_sectors.specs.HeaderRules.{header_rules};
 ghost use Rattle.cfb_sectors.specs.Tables.{fat_place};
 ghost use Rattle.cfb_streams.specs.Layout.{IsLayout, places_of};
 ghost use Rattle.cfb_streams.specs.Container.{container_rules};
@@ -19,6 +21,21 @@ const RULE_DIRECTORY: u8 = 6;
 const RULE_MINI_FAT: u8 = 11;
 
 const RULE_MINI_STREAM: u8 = 12;
+
+/// Judges the rules 1 to 5.
+fn judge_front(file: &[u8]) -> Result<(), CfbFault>
+    ensures { MatchResult result
+        (λ _. Hold (opening_rules file.now) × Hold (header_rules file.now))
+        (IsCfbFault (container_rules file.now)) }
+{
+    if let Some(broken) = judge_opening(file) {
+        return Err(CfbFault::from(broken));
+    }
+    if let Some(broken) = judge_header(file) {
+        return Err(CfbFault::from(broken));
+    }
+    Ok(())
+}
 
 /// The entries of a file, its FAT, its mini FAT, and its mini stream: by its sectors, and by the bytes of these.
 #[derive(Drop)]
@@ -47,8 +64,7 @@ impl<'a> Layout<'a> {
             (λ layout. (layout.file ≡ file.now) × IsLayout layout)
             (IsCfbFault (container_rules file.now)) }
     {
-        judge_opening(file)?;
-        judge_header(file)?;
+        judge_front(file)?;
         let mut fat = read_fat(alloc, file)?;
         let directory = whole(RULE_DIRECTORY, find_directory(alloc, file, &mut fat)?)?;
         let entries = Entries::read(alloc, file, directory)?;

@@ -5,6 +5,7 @@ ghost use Rattle.cfb_sectors.specs.Chain.{AreSectorsOf};
 ghost use Rattle.cfb_directory.specs.Reach.{IsLongDirectory};
 ghost use Rattle.cfb_streams.specs.StreamRules.{mini_table_of};
 ghost use Rattle.cfb_sectors.specs.Tables.{fat_place};
+ghost use Rattle.cfb_sectors.specs.Header.{sector_len};
 ghost use Rattle.cfb_streams.specs.FoundParts.{IsFoundDirectory, IsFoundMiniFat, IsFoundMiniStream};
 
 use cfb_directory::{ENTRY_SIZE, entry_place, stream_claim};
@@ -20,9 +21,9 @@ const MAX_DIRECTORY: usize = 256;
 
 /// The claim of a chain whose start stands in the header.
 fn header_claim(file: &[u8], field: usize) -> Claim
-    requires header { 512 ≤ length file.now }
-    requires inside { field + 4 ≤ 512 }
-    ensures { result ≡ record { field = field; start = u32_at file.now field; unit = 512; size = 0 } }
+    requires header { sector_len ≤ length file.now }
+    requires inside { field + 4 ≤ sector_len }
+    ensures { result ≡ record { field = field; start = u32_at file.now field; unit = sector_len; size = 0 } }
 {
     Claim {
         field: field as u32,
@@ -34,7 +35,7 @@ fn header_claim(file: &[u8], field: usize) -> Claim
 
 /// Whether the path from the directory's start has more than 256 sectors.
 fn is_long_directory(alloc: Global, file: &[u8], fat: &mut Table<'_>) -> Result<bool, Memory>
-    requires header { 512 ≤ length file.now }
+    requires header { sector_len ≤ length file.now }
     requires is_fat { fat.old ≡ fat_place file.now }
     ensures long { IfOk result (λ long. IsTrue long ↔ IsLongDirectory file.now 48) }
     ensures kept { fat.new ≡ fat.old }
@@ -53,7 +54,7 @@ pub(crate) fn find_directory(
     file: &[u8],
     fat: &mut Table<'_>,
 ) -> Result<Chain, Memory>
-    requires header { 512 ≤ length file.now }
+    requires header { sector_len ≤ length file.now }
     requires is_fat { fat.old ≡ fat_place file.now }
     ensures found { IfOk result (IsFoundDirectory file.now) }
     ensures kept { fat.new ≡ fat.old }
@@ -73,7 +74,7 @@ pub(crate) fn find_mini_fat(
     file: &[u8],
     fat: &mut Table<'_>,
 ) -> Result<Chain, Memory>
-    requires header { 512 ≤ length file.now }
+    requires header { sector_len ≤ length file.now }
     requires is_fat { fat.old ≡ fat_place file.now }
     ensures found { IfOk result (IsFoundMiniFat file.now) }
     ensures kept { fat.new ≡ fat.old }

@@ -1,4 +1,5 @@
--- The byte sink in memory as a value: what was written, its room, the calls that are to fail, and its count.
+-- The byte sink in memory as a value: what was written, its room, the calls that are to fail, its count,
+-- and its memory.
 use Rattle.std.specs.Prelude.{ℕ, ◌-◌, ◌==◌, ◌&&◌, not, Bool, false, List, [], ◌++◌, length, take, min, if◌then◌else◌}
 use Rattle.doc_outer.specs.Counts.{raised}
 use Rattle.doc_outer.specs.Plan.{Plan, no_plan, after_call}
@@ -14,10 +15,13 @@ pub record ByteSink : Type 0 where
   pub stopped : Bool
   -- how often a call failed, or took nothing of a nonempty piece
   pub faults : ℕ
+  -- how many bytes it has memory for
+  pub capacity : ℕ
 
 -- a sink that nothing was put into
-abbrev pub empty_sink : ℕ → ByteSink
-empty_sink room = record { written = []; room = room; plan = no_plan; stopped = false; faults = 0 }
+abbrev pub empty_sink : ℕ → ℕ → ByteSink
+empty_sink room capacity =
+    record { written = []; room = room; plan = no_plan; stopped = false; faults = 0; capacity = capacity }
 
 -- how many bytes of a piece of this length are taken
 abbrev pub taken_count : ByteSink → ℕ → ℕ
@@ -35,6 +39,7 @@ sink_after sink bytes count = record {
   plan = after_call sink.plan;
   stopped = sink.stopped;
   faults = faults_taking count (length bytes) sink.faults;
+  capacity = sink.capacity;
 }
 
 -- the sink after a failed call: nothing was taken
@@ -45,4 +50,5 @@ sink_failed sink = record {
   plan = after_call sink.plan;
   stopped = sink.stopped;
   faults = raised sink.faults;
+  capacity = sink.capacity;
 }

@@ -1,5 +1,6 @@
 // A byte sink in memory, to stand in for standard output.
-ghost use Rattle.std.specs.Prelude.{◌≡◌, ◌<◌, ◌≤◌, length, take, true, Some, Ok, IfOk, OnOk, OnErr, IsErr, MatchResult};
+ghost use Rattle.std.specs.Prelude.{◌≡◌, ◌+◌, ◌++◌, ◌<◌, ◌≤◌, length, take, true, Some, Ok, IfOk, OnOk, OnErr, IsErr};
+ghost use Rattle.std.specs.Prelude.{MatchResult, vec_len, vec_capacity};
 ghost use Rattle.doc_outer.specs.ByteSink.{empty_sink, taken_count, sink_after, sink_failed};
 ghost use Rattle.doc_outer.specs.Counts.{Rose, GoesOn};
 ghost use Rattle.doc_outer.specs.Plan.{fails_at, FailsNext};
@@ -34,6 +35,7 @@ impl Model for MemSink {
       plan = s.plan;
       stopped = s.stopped;
       faults = s.faults;
+      capacity = vec_capacity s.bytes;
     } };
 
     ghost invariant = { λ s. length s.bytes.items + s.room ≤ vec_capacity s.bytes };
@@ -42,7 +44,7 @@ impl Model for MemSink {
 impl MemSink {
     /// A sink with room for so many bytes. The memory for all of them is taken at once.
     pub fn new(alloc: Global, room: u32) -> Result<MemSink, Memory>
-        ensures { IfOk result (λ sink. sink ≡ empty_sink room) }
+        ensures { IfOk result (λ sink. sink ≡ empty_sink room sink.capacity) }
     {
         let room = room as usize;
         let bytes = Vec::with_capacity(alloc, room)?;
@@ -76,6 +78,19 @@ impl MemSink {
         ensures { result.now ≡ self.now.written }
     {
         &self.bytes
+    }
+}
+
+/// Appends bytes where there is room for all of them. It takes no memory.
+fn append(to: &mut Vec<u8>, bytes: &[u8])
+    requires room { vec_len to.old + length bytes.now ≤ vec_capacity to.old }
+    ensures items { to.new.items ≡ to.old.items ++ bytes.now }
+    ensures kept { vec_capacity to.new ≡ vec_capacity to.old }
+{
+    for byte in bytes {
+        let end = to.len();
+        // Where there is room, an insertion leaves the block of memory as it is.
+        to.insert(end, *byte).unwrap();
     }
 }
 
@@ -116,7 +131,7 @@ impl Sink for MemSink {
         if count == 0 && !bytes.is_empty() {
             self.faults = self.faults.saturating_add(1);
         }
-        self.bytes.extend_from_slice(&bytes[..count]).unwrap();
+        append(&mut self.bytes, &bytes[..count]);
         self.room -= count;
         Ok(count)
     }

@@ -15,7 +15,7 @@ returns-in_err-entries c =
     let p = err_from_is_err_and c.from_residual-in_err-entries.result c.from_residual-in_err-entries.ensures.1 in
     rw (p.1, p.2)
     (entries_fault c.args.file.now c.in_ok-directory.directory.items c.in_err-entries.field-0.0
-    c.in_ok-judge_opening.ensures c.in_ok-judge_header.ensures is
+    c.in_ok-judge_front.ensures.0 c.in_ok-judge_front.ensures.1 is
     (own_fault c.args.file.now c.in_ok-directory.directory.items c.in_err-entries.field-0.0 c.in_err-entries.ensures))
 
 pub returns-in_err-mini_fat : goal.returns-in_err-mini_fat
@@ -23,7 +23,7 @@ returns-in_err-mini_fat c =
     let p = err_from_is_err_and c.from_residual-in_err-mini_fat.result c.from_residual-in_err-mini_fat.ensures.1 in
     rw (p.1, p.2)
     (minis_fault c.args.file.now c.in_ok-entries.entries c.in_err-mini_fat.field-0.0 c.in_ok-entries.ensures.0
-    c.in_ok-judge_opening.ensures c.in_ok-judge_header.ensures c.in_ok-entries.ensures.2
+    c.in_ok-judge_front.ensures.0 c.in_ok-judge_front.ensures.1 c.in_ok-entries.ensures.2
     (refused_chain 11 (IsMiniFat c.args.file.now) (BreaksMiniFat c.args.file.now) c.in_ok-find_mini_fat.field-0
     c.in_err-mini_fat.field-0.0 c.in_ok-find_mini_fat.ensures.found c.in_err-mini_fat.ensures))
 
@@ -37,7 +37,7 @@ returns-in_err-mini_stream c =
     c.from_residual-in_err-mini_stream.ensures.1 in
     rw (p.1, p.2)
     (stored_fault c.args.file.now c.in_ok-entries.entries c.in_ok-mini_fat.mini_fat.items c.in_err-mini_stream.field-0.0
-    c.in_ok-entries.ensures.0 c.in_ok-judge_opening.ensures c.in_ok-judge_header.ensures c.in_ok-entries.ensures.2 is
+    c.in_ok-entries.ensures.0 c.in_ok-judge_front.ensures.0 c.in_ok-judge_front.ensures.1 c.in_ok-entries.ensures.2 is
     (refused_chain 12 (IsMiniStream c.args.file.now c.in_ok-entries.entries.directory)
     (BreaksMiniStream c.args.file.now c.in_ok-entries.entries.directory) c.in_ok-found.found
     c.in_err-mini_stream.field-0.0 found c.in_err-mini_stream.ensures))
@@ -51,8 +51,8 @@ read-requires-2-clause-is_layout c =
     let stored : IsMiniStream c.args.file.now c.in_ok-entries.entries.directory c.in_ok-mini_stream.mini_stream.items =
     rw c.in_ok-mini_stream.ensures at found in
     layout_is c.args.file.now c.in_ok-entries.entries c.in_ok-mini_fat.mini_fat.items
-    c.in_ok-mini_stream.mini_stream.items c.in_ok-entries.ensures.0 c.in_ok-judge_opening.ensures
-    c.in_ok-judge_header.ensures c.in_ok-entries.ensures.2 is stored
+    c.in_ok-mini_stream.mini_stream.items c.in_ok-entries.ensures.0 c.in_ok-judge_front.ensures.0
+    c.in_ok-judge_front.ensures.1 c.in_ok-entries.ensures.2 is stored
 
 pub returns : goal.returns
 returns c =
@@ -63,8 +63,8 @@ returns c =
     let stored : IsMiniStream c.args.file.now c.in_ok-entries.entries.directory c.in_ok-mini_stream.mini_stream.items =
     rw c.in_ok-mini_stream.ensures at found in
     let layout = layout_is c.args.file.now c.in_ok-entries.entries c.in_ok-mini_fat.mini_fat.items
-    c.in_ok-mini_stream.mini_stream.items c.in_ok-entries.ensures.0 c.in_ok-judge_opening.ensures
-    c.in_ok-judge_header.ensures c.in_ok-entries.ensures.2 is stored in (
+    c.in_ok-mini_stream.mini_stream.items c.in_ok-entries.ensures.0 c.in_ok-judge_front.ensures.0
+    c.in_ok-judge_front.ensures.1 c.in_ok-entries.ensures.2 is stored in (
       ap (λ q. q.file) c.in_ok-layout.ensures ∙ c.in_ok-entries.ensures.0,
       subst IsLayout (sym c.in_ok-layout.ensures) layout,
     )
