@@ -1,7 +1,7 @@
 -- The bytes of entries spell these entries and no others.
 use Rattle.std.proofs.Common.{◌≡◌, ◌∙◌, inl, inr, refl, sym, ap, subst, ℕ, zero, suc, ◌+◌, ◌-◌, ◌<◌, ◌≤◌, ◌==◌, true}
 use Rattle.std.proofs.Common.{false, List, [], ◌∷◌, ◌++◌, length, take, drop, arith, IsTrue, Some, length-append}
-use Rattle.std.proofs.Common.{append_assoc}
+use Rattle.std.proofs.Common.{append_assoc, get_or}
 use Rattle.std.specs.Prelude.{slice_range}
 use Rattle.std.specs.List.{All}
 use Rattle.std.specs.Ordering.{nat_cmp}
@@ -378,3 +378,9 @@ not_first code other value rest apart = elim (cases_lt code other) [
 
 pub all_of_none : {X : Type 0} (P : X → Type 0) → All P []
 all_of_none P k d within = absurd (omega arith)
+
+-- a value of one byte is its first
+pub single : (value : List ℕ) (d : ℕ) → length value ≡ 1 → get_or value 0 d ∷ [] ≡ value
+single [] d e = absurd (omega arith)
+single (byte ∷ []) d e = refl
+single (byte ∷ other ∷ value) d e = absurd (omega arith)

@@ -1,6 +1,6 @@
 -- Values in order of their codes, one of which is put in its place.
-use Rattle.std.proofs.Common.{◌≡◌, ℕ, zero, suc, ◌+◌, ◌<◌, ◌≤◌, List, [], ◌∷◌, ◌++◌, length, take, drop, map, get_or}
-use Rattle.std.proofs.Common.{slice_index_or, slice_set, IsTrue, refl, sym, ap, ◌∙◌, subst, arith}
+use Rattle.std.proofs.Common.{◌≡◌, ℕ, zero, suc, ◌+◌, ◌<◌, ◌≤◌, List, [], ◌∷◌, ◌++◌, length, take, drop, get_or}
+use Rattle.std.proofs.Common.{slice_index_or, slice_set, refl, sym, ap, ◌∙◌, subst, arith}
 use Rattle.std.proofs.Common.{inl, inr}
 use Rattle.std.proofs.lemmas.Bool.{cases_lt}
 use Rattle.std.proofs.lemmas.List.{length-map, take-map, drop-map, map-append, map-set, take_more, take_all}
@@ -8,7 +8,7 @@ use Rattle.std.proofs.lemmas.List.{get_or-map, get_or_default}
 use Rattle.std.proofs.lemmas.List.Elements.{All-push}
 use Rattle.std.specs.List.{insert}
 use Rattle.std.specs.Ordering.{nat_cmp}
-use Rattle.std.specs.FinMap.{put, is_sorted}
+use Rattle.std.specs.FinMap.{put}
 use Rattle.prop_map.specs.declared.values.SetValue.{SetValue}
 use Rattle.prop_map.specs.Entries.{Entries}
 use Rattle.prop_map.specs.Block.{entry_bytes, block_bytes, entries_in, IsBlockEntry, AreBlockEntries, IsSortedBlock}
@@ -92,6 +92,18 @@ upper_half values code middle here sorted within least k d above inner =
           let same_code = ap (λ n. (slice_index_or values n d).code.0) same in
           omega arith
     ]
+
+-- the code stands there: so many have lesser ones
+pub found_at : (values : List SetValue) (code at : ℕ) (here : SetValue) → AreInOrder values → at < length values →
+    (slice_index_or values at here).code.0 ≡ code → IsLesserCount values code at
+found_at values code at here sorted within same = record {
+  inside = omega arith;
+  below = λ k d lt.
+      let alike = ap (λ (x : SetValue). x.code.0) (get_or_default values at here d within) in
+      let rise = ascends values k at d sorted lt within in
+      omega arith;
+  above = upper_half values code at here sorted within (omega arith);
+}
 
 -- the value stands there already
 pub set_found : (values : List SetValue) (at : ℕ) (set d : SetValue) → IsLesserCount values set.code.0 at →

@@ -1,5 +1,5 @@
 // Acting with a list of sprms.
-ghost use Rattle.std.specs.Prelude.{◌≡◌, [], ◌∷◌, IfOk, IfSome, IsTrue, OnOk};
+ghost use Rattle.std.specs.Prelude.{◌≡◌, [], ◌∷◌, IfOk, IfSome, OnOk};
 ghost use Rattle.std.specs.Option.{option_or};
 ghost use Rattle.std.specs.FinMap.{empty};
 ghost use Rattle.sprm_table.specs.Sprm.{IsPrl, IsAcceptedList};
@@ -15,6 +15,9 @@ use crate::values::{SetValue, block_of, put_value};
 use doc_bits::{Bytes, Memory, get16};
 use sprm_table::{Class, Code, SprmIter, class, held};
 use std::alloc::Global;
+
+/// The bytes of a long list, which is seldom in order of its codes.
+const LONG_LIST: usize = 512;
 
 /// What a list makes of a map, and the style that it names, where it names one.
 #[derive(Drop)]
@@ -73,12 +76,14 @@ fn act_by_values(alloc: Global, list: &[u8], groups: u8) -> Result<Option<Acted>
     ensures { IfOk result (λ acted. IfSome acted (IsActedBy list.now groups empty)) }
 {
     let mut values = Vec::new(alloc);
+    let mut guess = 0;
     let mut istd = None;
     let mut prls = SprmIter::new(list);
     while let Some((code, from, to)) = prls.next() {
         let value = &list[from..to];
-        if !keep_value(&mut values, groups, SetValue { code, value })? {
-            return Ok(None);
+        match keep_value(&mut values, guess, groups, SetValue { code, value })? {
+            None => return Ok(None),
+            Some(next) => guess = next,
         }
         istd = style(groups, code, value, istd);
     }
@@ -86,29 +91,30 @@ fn act_by_values(alloc: Global, list: &[u8], groups: u8) -> Result<Option<Acted>
     Ok(Some(Acted { map, istd }))
 }
 
-/// Keeps what a sprm sets among the values so far. Whether these are what is set then: not where the sprm clears, or
-/// where too many codes are set.
+/// Keeps what a sprm sets among the values so far, and tells where the next one is looked for first. Nothing where the
+/// sprm clears, or where too many codes are set.
 fn keep_value<'a>(
     values: &mut Vec<SetValue<'a>>,
+    guess: usize,
     groups: u8,
     set: SetValue<'a>,
-) -> Result<bool, Memory>
+) -> Result<Option<usize>, Memory>
     requires { AreInOrder values.old.items }
     ensures order { OnOk result (AreInOrder values.new.items) }
-    ensures kept { IfOk result (λ kept. IsTrue kept → ArePropertiesAfter (entry_of set.entry ∷ []) groups
-        (set_map values.old.items) (set_map values.new.items)) }
+    ensures kept { IfOk result (λ kept. IfSome kept (λ _. ArePropertiesAfter (entry_of set.entry ∷ []) groups
+        (set_map values.old.items) (set_map values.new.items))) }
 {
     if held(groups, set.code) {
         match class(set.code) {
             Class::Plain | Class::Toggle => {
-                let put = put_value(values, set)?;
+                let put = put_value(values, guess, set)?;
                 Ok(put)
             }
-            Class::Clear => Ok(false),
-            Class::Style | Class::Refused => Ok(true),
+            Class::Clear => Ok(None),
+            Class::Style | Class::Refused => Ok(Some(guess)),
         }
     } else {
-        Ok(true)
+        Ok(Some(guess))
     }
 }
 
@@ -117,7 +123,7 @@ fn act_in_order(alloc: Global, list: &[u8], groups: u8) -> Result<Option<Acted>,
     requires { IsAcceptedList list.now groups }
     ensures { IfOk result (λ acted. IfSome acted (IsActedBy list.now groups empty)) }
 {
-    let mut bytes = Bytes::new(alloc);
+    let mut bytes = Bytes::with_capacity(alloc, room_for(list))?;
     let mut least = 0;
     let mut istd = None;
     let mut prls = SprmIter::new(list);
@@ -131,6 +137,11 @@ fn act_in_order(alloc: Global, list: &[u8], groups: u8) -> Result<Option<Acted>,
     }
     let map = PropMap::from_block(alloc, Block::of_bytes(bytes))?;
     Ok(Some(Acted { map, istd }))
+}
+
+/// The room that the entries of a list take at most: three bytes of it make seven. That of a long list is less.
+fn room_for(list: &[u8]) -> usize {
+    list.len().min(LONG_LIST) / 3 * 7
 }
 
 /// Appends to the entries of a map what a sprm sets, where its code is not below the least: the least code for the

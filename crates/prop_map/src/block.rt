@@ -125,10 +125,11 @@ fn first_of(block: &[u8]) -> (Code, &[u8], &[u8])
 
 impl Block {
     /// The block of these bytes, which are entries in order. They are taken over.
-    pub(crate) fn of_bytes(bytes: Bytes) -> Block
+    pub(crate) fn of_bytes(mut bytes: Bytes) -> Block
         requires { IsSortedBlock bytes }
         ensures { result ≡ map.from_sorted (entries_in bytes) }
     {
+        bytes.fit();
         let list_len = list_len(bytes.as_slice());
         Block { bytes, list_len }
     }
@@ -252,11 +253,24 @@ pub(crate) fn push_entry(bytes: &mut Bytes, code: Code, value: &[u8]) -> Result<
     ensures bytes { OnOk result (bytes.new ≡ bytes.old ++ entry_bytes (code.0, value.now)) }
     ensures entry { OnOk result (IsBlockEntry (code.0, value.now)) }
 {
+    if value.len() == 1 {
+        return push_small(bytes, code, value[0]);
+    }
     if value.len() > u32::MAX as usize {
         return Err(Memory);
     }
     bytes.push_all(&head_of(code, value.len() as u32))?;
     bytes.push_all(value)?;
+    Ok(())
+}
+
+/// Appends the bytes of an entry whose value is one byte, all at once.
+fn push_small(bytes: &mut Bytes, code: Code, value: u8) -> Result<(), Memory>
+    ensures bytes { OnOk result (bytes.new ≡ bytes.old ++ entry_bytes (code.0, value ∷ [])) }
+    ensures entry { OnOk result (IsBlockEntry (code.0, value ∷ [])) }
+{
+    let word = code.0.to_le_bytes();
+    bytes.push_all(&[word[0], word[1], 1, 0, 0, 0, value])?;
     Ok(())
 }
 

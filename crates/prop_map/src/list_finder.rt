@@ -1,6 +1,6 @@
 // Where a list may stand among those that were met. A wrong answer only costs time.
 
-use doc_bits::Memory;
+use doc_bits::{Memory, get32};
 use std::alloc::Global;
 
 /// So many rows stand at least, where a list is kept.
@@ -13,7 +13,7 @@ const GUESSES_A_ROW: usize = 8;
 #[derive(Clone, Copy)]
 struct Link {
     sum: u32,
-    before: usize,
+    before: u32,
 }
 
 /// Finds numbers of lists by the sums of their bytes, and by their places. It has as many rows as lists, up to twice.
@@ -22,9 +22,9 @@ pub(crate) struct ListFinder {
     /// By the number of a list.
     links: Vec<Link>,
     /// By a sum, one more than the number of the last list, or 0.
-    rows: Vec<usize>,
+    rows: Vec<u32>,
     /// By a place, the number of the list that was found there last.
-    guesses: Vec<usize>,
+    guesses: Vec<u32>,
 }
 
 impl ListFinder {
@@ -39,9 +39,9 @@ impl ListFinder {
 
     /// The number of the list that was found last at a place, or of another one.
     pub(crate) fn guess(&self, place: usize) -> usize {
-        let slot = slot_of(place / 2, self.guesses.len());
+        let slot = slot_of(spot_of(place), self.guesses.len());
         if slot < self.guesses.len() {
-            self.guesses[slot]
+            self.guesses[slot] as usize
         } else {
             0
         }
@@ -49,9 +49,9 @@ impl ListFinder {
 
     /// Keeps the number of the list that was found at a place.
     pub(crate) fn keep_guess(&mut self, place: usize, number: usize) {
-        let slot = slot_of(place / 2, self.guesses.len());
+        let slot = slot_of(spot_of(place), self.guesses.len());
         if slot < self.guesses.len() {
-            self.guesses[slot] = number;
+            self.guesses[slot] = in_32_bits(number);
         }
     }
 
@@ -59,7 +59,7 @@ impl ListFinder {
     pub(crate) fn last_of(&self, sum: u32) -> usize {
         let slot = slot_of(row_of(sum), self.rows.len());
         if slot < self.rows.len() {
-            self.rows[slot]
+            self.rows[slot] as usize
         } else {
             0
         }
@@ -73,7 +73,7 @@ impl ListFinder {
     /// One more than the number of the list before another one in its row, or 0.
     pub(crate) fn before(&self, number: usize) -> usize {
         if number < self.links.len() {
-            self.links[number].before
+            self.links[number].before as usize
         } else {
             0
         }
@@ -115,9 +115,19 @@ impl ListFinder {
         if slot < self.rows.len() {
             let before = self.rows[slot];
             self.links[number] = Link { sum, before };
-            self.rows[slot] = number.wrapping_add(1);
+            self.rows[slot] = in_32_bits(number.wrapping_add(1));
         }
     }
+}
+
+/// A number of a list in 32 bits. A list of a greater number is not found again.
+fn in_32_bits(number: usize) -> u32 {
+    number.min(u32::MAX as usize) as u32
+}
+
+/// Places of one page have spots of their own, and so have equal places of neighbouring pages.
+fn spot_of(place: usize) -> usize {
+    place / 2 + place / 512
 }
 
 /// Spreads sums over rows.
@@ -130,11 +140,20 @@ fn slot_of(number: usize, len: usize) -> usize {
     number & len.wrapping_sub(1)
 }
 
-/// A number by which a list is looked for.
+/// A number by which a list is looked for. Four bytes are taken at once.
 pub(crate) fn sum_of(list: &[u8]) -> u32 {
+    let words = list.len() / 4;
     let mut sum = 0u32;
-    for byte in list {
-        sum = sum.wrapping_mul(0x0100_0193).wrapping_add(*byte as u32);
+    for word in 0..words {
+        sum = next_sum(sum, get32(list, 4 * word));
+    }
+    for byte in &list[4 * words..] {
+        sum = next_sum(sum, *byte as u32);
     }
     sum
+}
+
+/// A sum with a number more.
+fn next_sum(sum: u32, number: u32) -> u32 {
+    sum.wrapping_mul(0x0100_0193).wrapping_add(number)
 }

@@ -1,5 +1,5 @@
-// The values that a list sets, in order of their codes: where a code stands is found by halving.
-ghost use Rattle.std.specs.Prelude.{◌≡◌, IfOk, OnOk, IsTrue};
+// The values that a list sets, in order of their codes: where a code stands is guessed, or found by halving.
+ghost use Rattle.std.specs.Prelude.{◌≡◌, IfOk, IfSome, OnOk};
 ghost use Rattle.std.specs.Ordering.{nat_cmp};
 ghost use Rattle.std.specs.FinMap as map;
 ghost use Rattle.prop_map.specs.Values.{entries_of, AreInOrder, IsLesserCount};
@@ -19,26 +19,39 @@ pub(crate) struct SetValue<'a> {
     pub(crate) value: &'a [u8],
 }
 
-/// Puts a value at its code, in place of what stood there. Not where it would be one more than the most.
+/// Puts a value at its code, in place of what stood there, and tells where the next one is looked for first. Nothing
+/// where it would be one more than the most.
 pub(crate) fn put_value<'a>(
     values: &mut Vec<SetValue<'a>>,
+    guess: usize,
     set: SetValue<'a>,
-) -> Result<bool, Memory>
+) -> Result<Option<usize>, Memory>
     requires { AreInOrder values.old.items }
     ensures order { OnOk result (AreInOrder values.new.items) }
-    ensures put { IfOk result (λ put. IsTrue put → entries_of values.new.items
-        ≡ map.put nat_cmp set.entry.code.0 set.entry.value.now (entries_of values.old.items)) }
+    ensures put { IfOk result (λ put. IfSome put (λ _. entries_of values.new.items
+        ≡ map.put nat_cmp set.entry.code.0 set.entry.value.now (entries_of values.old.items))) }
 {
-    let at = lesser_count(values, set.code);
+    let at = place_of(values, guess, set.code);
     if at < values.len() && values[at].code.0 == set.code.0 {
         values[at] = set;
-        return Ok(true);
+        return Ok(Some(at + 1));
     }
     if MOST_VALUES <= values.len() {
-        return Ok(false);
+        return Ok(None);
     }
     values.insert(at, set)?;
-    Ok(true)
+    Ok(Some(at + 1))
+}
+
+/// How many of the values have lesser codes: as many as stand before the guess, where the code stands there.
+fn place_of(values: &[SetValue<'_>], guess: usize, code: Code) -> usize
+    requires { AreInOrder values.now }
+    ensures { IsLesserCount values.now code.0 result }
+{
+    if guess < values.len() && values[guess].code.0 == code.0 {
+        return guess;
+    }
+    lesser_count(values, code)
 }
 
 /// How many of the values have lesser codes.

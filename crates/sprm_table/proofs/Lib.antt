@@ -1,3 +1,4 @@
+pub mod CodeLemmas
 pub mod OperandLemmas
 pub mod SprmLemmas
 pub mod FaultLemmas

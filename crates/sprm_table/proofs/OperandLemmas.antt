@@ -1,5 +1,6 @@
 -- Operands: how their bytes tell where the value ends.
-use Rattle.std.proofs.Common.{◌≡◌, ℕ, ◌+◌, ◌-◌, ◌*◌, ◌/◌, ◌%◌, ◌<◌, ◌≤◌, List, [], ◌∷◌, ◌++◌, length, take, drop}
+use Rattle.std.proofs.Common.{◌≡◌, ℕ, zero, suc, ◌+◌, ◌-◌, ◌*◌, ◌/◌, ◌%◌, ◌<◌, ◌≤◌, ◌==◌, false, List, [], ◌∷◌, ◌++◌}
+use Rattle.std.proofs.Common.{length, take, drop}
 use Rattle.std.proofs.Common.{get_or, refl, sym, ap, ◌∙◌, arith, append_assoc, length-append}
 use Rattle.std.proofs.lemmas.List.{drop-drop, append_cancel_left}
 use Rattle.std.specs.Prelude.{slice_range}
@@ -7,7 +8,8 @@ use Rattle.doc_bits.specs.Number.{number_at, u16_at, number_bytes}
 use Rattle.doc_bits.proofs.NumberLemmas.{number_at-number_bytes, length-number_bytes}
 use Rattle.sprm_table.specs.declared.operands.OperandSize.{OperandSize}
 use Rattle.sprm_table.specs.declared.operands.OperandSize.TheVariants.{Fixed, CountedByByte, CountedByWord}
-use Rattle.sprm_table.specs.Operands.{IsSizeOf, operand_bytes, IsOperandAt, HasNoOperand}
+use Rattle.sprm_table.proofs.CodeLemmas.{apart}
+use Rattle.sprm_table.specs.Operands.{size_of, fixed_len, counted, IsSizeOf, operand_bytes, IsOperandAt, HasNoOperand}
 pub use Rattle.doc_bits.specs.Number.{AreBytes}
 pub use Rattle.doc_bits.proofs.ListLemmas.{same_front, three_parts, length-range}
 
@@ -145,3 +147,39 @@ range_moved bytes rest at from to e =
     let len : at + to - (at + from) ≡ to - from = omega arith in
     let part : drop (at + from) bytes ≡ drop from rest = sym (ap (drop from) e ∙ drop-drop from at bytes) in
     rw (len, part) refl
+
+-- ---- sizes by the spra
+
+not_counted : (code spra : ℕ) → code / 8192 ≡ spra → ¬ (spra ≡ 6) → (code == 0xD608) ≡ false
+not_counted code spra e other = apart code 0xD608 (λ same. other (omega arith))
+
+by_spra : (code spra : ℕ) → code / 8192 ≡ spra → spra < 8 → ¬ (fixed_len code ≡ 0) → Fixed (fixed_len code) ≡ size_of code
+by_spra code zero e lt some = rw (not_counted code 0 e (λ s. omega arith), e) refl
+by_spra code (suc zero) e lt some = rw (not_counted code 1 e (λ s. omega arith), e) refl
+by_spra code (suc (suc zero)) e lt some = rw (not_counted code 2 e (λ s. omega arith), e) refl
+by_spra code (suc (suc (suc zero))) e lt some = rw (not_counted code 3 e (λ s. omega arith), e) refl
+by_spra code (suc (suc (suc (suc zero)))) e lt some = rw (not_counted code 4 e (λ s. omega arith), e) refl
+by_spra code (suc (suc (suc (suc (suc zero))))) e lt some = rw (not_counted code 5 e (λ s. omega arith), e) refl
+by_spra code (suc (suc (suc (suc (suc (suc zero)))))) e lt some = absurd (some (rw e refl))
+by_spra code (suc (suc (suc (suc (suc (suc (suc zero))))))) e lt some = rw (not_counted code 7 e (λ s. omega arith), e) refl
+by_spra code (suc (suc (suc (suc (suc (suc (suc (suc n)))))))) e lt some = absurd (omega arith)
+
+-- an operand of some bytes has this size
+pub fixed_size : (code : ℕ) → code < 65536 → ¬ (fixed_len code ≡ 0) → Fixed (fixed_len code) ≡ size_of code
+fixed_size code word some = by_spra code (code / 8192) refl (omega arith) some
+
+by_count : (code spra : ℕ) → code / 8192 ≡ spra → spra < 8 → fixed_len code ≡ 0 → counted code ≡ size_of code
+by_count code zero e lt none = absurd (let f : 1 ≡ 0 = rw e at none in omega arith)
+by_count code (suc zero) e lt none = absurd (let f : 1 ≡ 0 = rw e at none in omega arith)
+by_count code (suc (suc zero)) e lt none = absurd (let f : 2 ≡ 0 = rw e at none in omega arith)
+by_count code (suc (suc (suc zero))) e lt none = absurd (let f : 4 ≡ 0 = rw e at none in omega arith)
+by_count code (suc (suc (suc (suc zero)))) e lt none = absurd (let f : 2 ≡ 0 = rw e at none in omega arith)
+by_count code (suc (suc (suc (suc (suc zero))))) e lt none = absurd (let f : 2 ≡ 0 = rw e at none in omega arith)
+by_count code (suc (suc (suc (suc (suc (suc zero)))))) e lt none = rw e refl
+by_count code (suc (suc (suc (suc (suc (suc (suc zero))))))) e lt none = absurd (let f : 3 ≡ 0 = rw e at none in
+    omega arith)
+by_count code (suc (suc (suc (suc (suc (suc (suc (suc n)))))))) e lt none = absurd (omega arith)
+
+-- where there are none, it is counted
+pub counted_size : (code : ℕ) → code < 65536 → fixed_len code ≡ 0 → counted code ≡ size_of code
+counted_size code word none = by_count code (code / 8192) refl (omega arith) none

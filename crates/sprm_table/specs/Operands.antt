@@ -14,6 +14,18 @@ size_of code =
     if code / 8192 == 6 then CountedByByte else
     if code / 8192 == 0 || code / 8192 == 1 then Fixed 1 else Fixed 3
 
+-- how many bytes an operand has, 0 where they are counted
+abbrev pub fixed_len : ℕ → ℕ
+fixed_len code =
+    if code / 8192 == 2 || (code / 8192 == 4 || code / 8192 == 5) then 2 else
+    if code / 8192 == 3 then 4 else
+    if code / 8192 == 6 then 0 else
+    if code / 8192 == 0 || code / 8192 == 1 then 1 else 3
+
+-- the size of an operand that is counted
+abbrev pub counted : ℕ → OperandSize
+counted code = if code == 0xD608 then CountedByWord else CountedByByte
+
 -- a value of so many bytes has this size
 abbrev pub IsSizeOf : OperandSize → ℕ → Type 0
 IsSizeOf (Fixed size) len = len ≡ size

@@ -8,8 +8,23 @@ const CPLAIN: u16 = 0x2A33;
 
 const PISTD: u16 = 0x4600;
 
+/// A code above the toggles.
+const LOW_CODES: u16 = 0x0859;
+
 /// What a sprm does. Codes that the table does not list are Plain.
+#[tactic(auto, using(crate::proofs::CodeLemmas::plain_code))]
 pub fn class(code: Code) -> Class
+    ensures { result ≡ class_of code.0 }
+{
+    // Most sprms are told by one bit: none of the others has it at 0, but for some of low numbers.
+    if LOW_CODES <= code.0 && code.0 >> 9 & 1 == 0 {
+        return Class::Plain;
+    }
+    rare_class(code)
+}
+
+/// The same by the tables.
+fn rare_class(code: Code) -> Class
     ensures { result ≡ class_of code.0 }
 {
     match code.0 {

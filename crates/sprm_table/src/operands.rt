@@ -1,5 +1,5 @@
 ghost use Rattle.std.specs.Prelude.{◌≡◌, MatchOption};
-ghost use Rattle.sprm_table.specs.Operands.{size_of, IsOperandAt, HasNoOperand};
+ghost use Rattle.sprm_table.specs.Operands.{size_of, fixed_len, counted, IsOperandAt, HasNoOperand};
 
 use crate::Code;
 use doc_bits::get16;
@@ -22,16 +22,34 @@ pub enum OperandSize {
 pub fn operand_size(code: Code) -> OperandSize
     ensures { result ≡ size_of code.0 }
 {
+    let len = fixed_len(code);
+    if len == 0 {
+        return counted_size(code);
+    }
+    OperandSize::Fixed(len as usize)
+}
+
+/// By the spra of a code, how many bytes its operand has; 0 where they are counted.
+fn fixed_len(code: Code) -> u8
+    ensures { result ≡ fixed_len code.0 }
+{
+    match code.0 >> 13 {
+        0 | 1 => 1,
+        2 | 4 | 5 => 2,
+        3 => 4,
+        6 => 0,
+        _ => 3,
+    }
+}
+
+/// The size of an operand that is counted.
+fn counted_size(code: Code) -> OperandSize
+    ensures { result ≡ counted code.0 }
+{
     if code.0 == TDEFTABLE {
         return OperandSize::CountedByWord;
     }
-    match code.0 >> 13 {
-        0 | 1 => OperandSize::Fixed(1),
-        2 | 4 | 5 => OperandSize::Fixed(2),
-        3 => OperandSize::Fixed(4),
-        6 => OperandSize::CountedByByte,
-        _ => OperandSize::Fixed(3),
-    }
+    OperandSize::CountedByByte
 }
 
 /// Where the value of a code's operand begins and ends in the bytes after the code. None where they

@@ -1,9 +1,9 @@
-use Rattle.std.proofs.Common.{◌≡◌, [], ◌∷◌, ◌++◌, refl, sym, ap, ◌∙◌, subst, append_assoc, arith}
+use Rattle.std.proofs.Common.{◌≡◌, [], ◌∷◌, ◌++◌, refl, sym, ap, ◌∙◌, subst, append_assoc}
 use Rattle.std.proofs.lemmas.List.{append-nil}
 use Rattle.std.specs.Prelude.{slice_range, IfSome}
 use Rattle.std.specs.Ordering.{nat_cmp}
 use Rattle.std.specs.Option.{option_or}
-use Rattle.std.specs.FinMap.{get, get-empty, empty, from_sorted}
+use Rattle.std.specs.FinMap.{get, empty}
 use Rattle.sprm_table.specs.Sprm.{Prl}
 use Rattle.prop_map.specs.Acting.{value_after, style_of, ArePropertiesAfter}
 use Rattle.prop_map.specs.Values.{set_map, AreInOrder}
@@ -32,7 +32,9 @@ loop-code-preserved c =
     let bytes = c.loop-code.invariant.list_is in
     let entry : Prl = (c.in-Some.code.0, slice_range c.args.list.now c.in-Some.from c.in-Some.to) in
     let made : ArePropertiesAfter (entry ∷ []) c.args.groups (set_map c.loop-code.values.items)
-    (set_map c.keep_value.new.values.items) = c.in_ok-keep_value.ensures.kept c.if-not-branch.false in
+    (set_map c.keep_value.new.values.items) = subst (λ o. IfSome o (λ _. ArePropertiesAfter (entry ∷ []) c.args.groups
+    (set_map c.loop-code.values.items) (set_map c.keep_value.new.values.items))) c.in-Some-2.is
+    c.in_ok-keep_value.ensures.kept in
     record {
       list_is = c.in-Some.ensures.given.bytes ∙ bytes;
       order = c.in_ok-keep_value.ensures.order;

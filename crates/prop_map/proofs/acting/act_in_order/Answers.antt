@@ -1,9 +1,9 @@
-use Rattle.std.proofs.Common.{◌≡◌, [], ◌∷◌, ◌++◌, refl, sym, ap, ◌∙◌, subst, append_assoc, arith}
+use Rattle.std.proofs.Common.{◌≡◌, [], ◌∷◌, ◌++◌, refl, sym, ap, ◌∙◌, subst, append_assoc}
 use Rattle.std.proofs.lemmas.List.{append-nil}
 use Rattle.std.specs.Prelude.{slice_range, IfSome}
 use Rattle.std.specs.Ordering.{nat_cmp}
 use Rattle.std.specs.Option.{option_or}
-use Rattle.std.specs.FinMap.{get, get-empty, empty, from_sorted}
+use Rattle.std.specs.FinMap.{get, empty, from_sorted}
 use Rattle.sprm_table.specs.Sprm.{Prl}
 use Rattle.prop_map.specs.Acting.{value_after, style_of, ArePropertiesAfter}
 use Rattle.prop_map.specs.Block.{entries_in, map_of, HasCodesBelow}
@@ -16,10 +16,10 @@ use Rattle.prop_map.proofs.acting.act_in_order.Goals as goal
 pub loop-code-init : goal.loop-code-init
 loop-code-init c =
     let start = c.new-prls.ensures in
-    let nothing = ap from_sorted (ap entries_in c.new-bytes.ensures ∙ entries_in-none) ∙ from_sorted-nil in
+    let nothing = ap from_sorted (ap entries_in c.in_ok-bytes.ensures ∙ entries_in-none) ∙ from_sorted-nil in
     record {
       list_is = ap (λ s. s.bytes) start;
-      below = none_below c.new-bytes.result c.new-bytes.ensures;
+      below = none_below c.in_ok-bytes.bytes c.in_ok-bytes.ensures;
       so_far = λ prls h. record {
         done = [];
         others = prls;

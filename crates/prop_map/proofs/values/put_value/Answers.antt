@@ -1,4 +1,4 @@
-use Rattle.std.proofs.Common.{◌≡◌, ◌<◌, List, IsTrue, length, slice_index_or, refl, sym, ap, ◌∙◌, subst, arith}
+use Rattle.std.proofs.Common.{List, IsTrue, sym, ap, ◌∙◌, subst, arith}
 use Rattle.std.specs.Ordering.{nat_cmp}
 use Rattle.std.specs.FinMap.{is_sorted}
 use Rattle.prop_map.specs.declared.values.SetValue.{SetValue}
@@ -10,21 +10,21 @@ use Rattle.prop_map.proofs.values.put_value.Goals.{else-at-len-via-then-at-len+e
 use Rattle.prop_map.proofs.values.put_value.Goals.{else-at-len-via-else-at-len}
 
 pub returns-then-index-set-clause-put : goal.returns-then-index-set-clause-put
-returns-then-index-set-clause-put c = λ _.
+returns-then-index-set-clause-put c =
     let items : List SetValue = c.args.values.now.items in
     let here = c.index.result.now in
-    let count = subst (λ l. IsLesserCount l c.args.set.code.0 c.lesser_count-at.result) c.deref.ensures.value
-    c.lesser_count-at.ensures in
-    set_found items c.lesser_count-at.result c.args.set here count (omega (arith, c.if-at-len.true, c.len.ensures))
+    let count = subst (λ l. IsLesserCount l c.args.set.code.0 c.place_of-at.result) c.deref.ensures.value
+    c.place_of-at.ensures in
+    set_found items c.place_of-at.result c.args.set here count (omega (arith, c.if-at-len.true, c.len.ensures))
     (ap (λ (x : SetValue). x.code.0) (sym c.index.ensures) ∙ c.if-index-set.true)
 
 pub returns-then-index-set-clause-order : goal.returns-then-index-set-clause-order
 returns-then-index-set-clause-order c =
     let items : List SetValue = c.args.values.now.items in
     let here = c.index.result.now in
-    let count = subst (λ l. IsLesserCount l c.args.set.code.0 c.lesser_count-at.result) c.deref.ensures.value
-    c.lesser_count-at.ensures in
-    let put = set_found items c.lesser_count-at.result c.args.set here count (omega (
+    let count = subst (λ l. IsLesserCount l c.args.set.code.0 c.place_of-at.result) c.deref.ensures.value
+    c.place_of-at.ensures in
+    let put = set_found items c.place_of-at.result c.args.set here count (omega (
       arith,
       c.if-at-len.true,
       c.len.ensures,
@@ -33,11 +33,11 @@ returns-then-index-set-clause-order c =
     c.args.set.value.now c.requires)
 
 pub returns-clause-put : goal.returns-clause-put
-returns-clause-put c = λ _.
+returns-clause-put c =
     let items : List SetValue = c.args.values.now.items in
-    let at = c.lesser_count-at.result in
+    let at = c.place_of-at.result in
     let set = c.args.set in
-    let count = subst (λ l. IsLesserCount l set.code.0 at) c.deref.ensures.value c.lesser_count-at.ensures in
+    let count = subst (λ l. IsLesserCount l set.code.0 at) c.deref.ensures.value c.place_of-at.ensures in
     ap entries_of c.in_ok-insert.ensures.items
     ∙ elim c.else-at-len.branch [
       | else-at-len-via-then-at-len+else-index-set w ↦ set_between items at set w.index.result.now count
@@ -50,5 +50,5 @@ returns-clause-put c = λ _.
     ]
 
 pub returns-clause-order : goal.returns-clause-order
-returns-clause-order c = subst (λ es. IsTrue (is_sorted nat_cmp es)) (sym (returns-clause-put c refl)) (sorted-put
+returns-clause-order c = subst (λ es. IsTrue (is_sorted nat_cmp es)) (sym (returns-clause-put c)) (sorted-put
     (entries_of c.args.values.now.items) c.args.set.code.0 c.args.set.value.now c.requires)

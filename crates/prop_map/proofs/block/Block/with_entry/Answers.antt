@@ -1,4 +1,4 @@
-use Rattle.std.proofs.Common.{◌≡◌, ◌++◌, ◌∙◌, ap, subst}
+use Rattle.std.proofs.Common.{◌++◌, ◌∙◌, ap, subst}
 use Rattle.std.specs.FinMap.{from_sorted}
 use Rattle.prop_map.specs.Block.{entry_bytes, IsPutBetween}
 use Rattle.prop_map.proofs.EntriesLemmas.{from_sorted-put}
