@@ -27,7 +27,8 @@ use Rattle.direct_props.specs.Direct.{IsDirectMark}
 use Rattle.direct_props.specs.Stretches.{IsRightList, HasSettingsAround}
 use Rattle.direct_props.specs.Pages.{HasPageAround}
 use Rattle.direct_props.specs.Kept.{HasNoFault, HaveNoFault, IsMadeOf, IsMadeIn, AreMade, PlaceSource, IsMadeAt}
-use Rattle.direct_props.specs.Kept.{HasMadeAround, IsMadeByAnswer}
+use Rattle.direct_props.specs.Kept.{AreKept, HasMadeAround, IsMadeByAnswer}
+use Rattle.direct_props.specs.PageRules.{IsRightBetween}
 use Rattle.direct_props.proofs.StretchLemmas.{in_page, cut_rest}
 
 -- a value of a list with one more is one of the list, or the last
@@ -138,6 +139,21 @@ one_made kind wd modifier places made from to one is are =
     together_joined (IsMadeIn kind wd modifier) places made ((from, to) ∷ []) (one ∷ []) are (together_one
     (IsMadeIn kind wd modifier) (from, to) one is)
 
+-- nothing is kept
+pub no_kept : (kind : PageKind) (wd : List ℕ) (modifier : Modifier) → AreKept kind wd modifier [] []
+no_kept kind wd modifier = record { right = no_places kind wd; made_are = no_made kind wd modifier }
+
+-- one right list more is kept
+pub one_kept : (kind : PageKind) (wd : List ℕ) (modifier : Modifier) (places : List (ℕ × ℕ)) (made : List Made)
+    (from to : ℕ) (one : Made) →
+    HasNoFault kind wd from to → IsMadeOf kind (slice_range wd from to) modifier one →
+    AreKept kind wd modifier places made →
+    AreKept kind wd modifier (places ++ (from, to) ∷ []) (made ++ one ∷ [])
+one_kept kind wd modifier places made from to one none is are = record {
+  right = one_faultless kind wd places from to are.right none;
+  made_are = one_made kind wd modifier places made from to one is are.made_are;
+}
+
 -- what is kept of a list of the stream is what the page's answer makes
 pub kept_answer : (kind : PageKind) (wd : List ℕ) (modifier : Modifier) (number from to : ℕ) (made : Made) →
     IsRightList kind (page_at wd number) from to →
@@ -155,15 +171,16 @@ kept_answer kind wd modifier number from to made right is =
 
 -- what the answer of a page makes is what the list of each of its places makes
 pub made_along : (source : PlaceSource) (fc : ℕ) (stretch : PageStretch) (made : Made) → HasPageAround source.kind
-    source.wd source.bin fc stretch →
+    source.wd source.bin fc stretch → IsRightBetween source.kind source.wd source.bin stretch.first stretch.last →
     IsMadeByAnswer source.kind source.modifier (page_at source.wd stretch.number) stretch.answer made →
     HasMadeAround source fc (record { first = stretch.first; last = stretch.last; made = made })
-made_along source fc stretch made h by = record {
+made_along source fc stretch made h between by = record {
   from = h.from;
   to = h.to;
   each = λ other a b.
       let here = h.each other a b in
       record {
+        right = between other a b;
         list = by.list;
         has = record {
           number = stretch.number;
@@ -197,6 +214,7 @@ characters_around source fc stretch e h =
     record {
       from = h.from;
       to = h.to;
+      right = λ other a b. (made other a b).right;
       each = λ other a b.
           let at = made other a b in
           let makes = at.makes in

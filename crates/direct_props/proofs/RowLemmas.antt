@@ -338,3 +338,17 @@ more_passed places left new count rest few is =
       },
       passed,
     )
+
+-- what is so at the places that are passed and at some more is so at all of them
+pub passed_so : (IsSo : ℕ → Type 0) (places left : List ℕ) (count : ℕ) → IsRest places left →
+    ((k : ℕ) → k < length places - length left → IsSo (slice_index places k))
+    → ((k : ℕ) → k < count → IsSo (slice_index left k))
+    → (k : ℕ) → k < length places - length left + count → IsSo (slice_index places k)
+passed_so IsSo places left count rest done more k below = elim (cases_lt k (length places - length left)) [
+  | inl before ↦ done k before
+  | inr now ↦
+      let j : ℕ = k - (length places - length left) in
+      let here : length places - length left + j ≡ k = omega (arith, now) in
+      subst IsSo (index_rest places left j rest ∙ ap (λ (n : ℕ). slice_index places n) here)
+      (more j (omega (arith, below, now)))
+]

@@ -22,6 +22,7 @@ use Rattle.direct_props.specs.declared.kept.KeptLists.{KeptLists}
 use Rattle.direct_props.specs.declared.pages.PageCursor.{PageCursor}
 use Rattle.direct_props.specs.Pages.{IsPageCursor}
 use Rattle.direct_props.specs.Direct.{MakesSettings}
+use Rattle.direct_props.specs.PageRules.{IsRightPlace}
 
 -- the sprms of the list from one byte to before another have no fault
 abbrev pub HasNoFault : PageKind → List ℕ → ℕ → ℕ → Type 0
@@ -61,6 +62,12 @@ IsMadeIn kind wd modifier place made = IsMadeOf kind (slice_range wd place.0 pla
 abbrev pub AreMade : PageKind → List ℕ → Modifier → List (ℕ × ℕ) → List Made → Type 0
 AreMade kind wd modifier places made = AreTogether (IsMadeIn kind wd modifier) places made
 
+-- each of these places has such a list, without a fault, and this is what it makes
+pub record AreKept (kind : PageKind) (wd : List ℕ) (modifier : Modifier) (places : List (ℕ × ℕ)) (made : List Made) :
+    Type 0 where
+  pub right : HaveNoFault kind wd places
+  pub made_are : AreMade kind wd modifier places made
+
 -- what settings of places are read from: the pages of a kind, and the modifier of pieces
 pub record PlaceSource : Type 0 where
   pub kind : PageKind
@@ -68,8 +75,9 @@ pub record PlaceSource : Type 0 where
   pub bin : List ℕ
   pub modifier : Modifier
 
--- the list of the place, and that this is what it makes
+-- the place is right, its list, and that this is what it makes
 pub record IsMadeAt (source : PlaceSource) (fc : ℕ) (made : Made) : Type 0 where
+  pub right : IsRightPlace source.kind source.wd source.bin fc
   pub list : List ℕ
   pub has : HasListAt source.kind source.bin source.wd fc list
   pub makes : IsMadeOf source.kind list source.modifier made
@@ -92,4 +100,4 @@ pub record IsReader (source : PlaceSource) (cursor : PageCursor) (kept : KeptLis
   pub table : IsBinTable source.bin
   pub small : length source.wd < 2 ^ 32
   pub cursor_is : IsPageCursor source.wd source.bin cursor
-  pub made : AreMade source.kind source.wd source.modifier kept.places kept.made.items
+  pub kept_are : AreKept source.kind source.wd source.modifier kept.places kept.made.items

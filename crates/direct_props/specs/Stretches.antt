@@ -4,6 +4,7 @@ use Rattle.std.specs.List.{All}
 use Rattle.doc_bits.specs.Rules.{Nowhere}
 use Rattle.sprm_table.specs.Sprm.{HasSprmFaultAt}
 use Rattle.fkp_pages.specs.declared.kind.PageKind.{PageKind}
+use Rattle.fkp_pages.specs.declared.kind.PageKind.TheVariants.{Chpx}
 use Rattle.fkp_pages.specs.declared.kind.RunAnswer.{RunAnswer}
 use Rattle.fkp_pages.specs.declared.kind.RunAnswer.TheVariants.{Found, Empty, NoRun, BadCount, Leaves}
 use Rattle.fkp_pages.specs.Fkp.{least_list}
@@ -13,6 +14,7 @@ use Rattle.prop_map.specs.declared.modifiers.Modifier.{Modifier}
 use Rattle.prop_map.specs.Formed.{IsPropertyMap, character_groups}
 use Rattle.prop_map.specs.Modifiers.{IsFormedModifier}
 use Rattle.direct_props.specs.Direct.{IsDirectCharacter}
+use Rattle.direct_props.specs.PageRules.{IsRightBetween}
 
 -- a list with room for itself before the last byte of a page, whose sprms have no fault
 pub record IsRightList (kind : PageKind) (page : List ℕ) (from to : ℕ) : Type 0 where
@@ -28,12 +30,13 @@ HasRightList kind page NoRun = ⊥
 HasRightList kind page BadCount = ⊥
 HasRightList kind page (Leaves entry) = ⊥
 
--- each place from the first to the last has these direct settings, and the place is among them; they are well formed
--- where the modifier is
+-- each place from the first to the last is right and has these direct settings, and the place is among them; they are
+-- well formed where the modifier is
 pub record HasSettingsAround (wd bin : List ℕ) (modifier : Modifier) (fc first last : ℕ) (settings : Settings) :
     Type 0 where
   pub from : first ≤ fc
   pub to : fc ≤ last
+  pub right : IsRightBetween Chpx wd bin first last
   pub each : (other : ℕ) → first ≤ other → other ≤ last → IsDirectCharacter wd bin other modifier settings
   pub formed : IsFormedModifier modifier → IsPropertyMap character_groups settings
 

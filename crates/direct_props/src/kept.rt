@@ -1,5 +1,6 @@
 // What the lists of pages make, each kept once.
-ghost use Rattle.std.specs.Prelude.{◌≡◌, ◌<◌, ◌≤◌, ◌+◌, ◌*◌, ℕ, List, drop, length, slice_range, IfOk, OnOk, OnErr};
+ghost use Rattle.std.specs.Prelude.{◌≡◌, ◌<◌, ◌≤◌, ◌+◌, ◌*◌, ℕ, List, drop, length, slice_range};
+ghost use Rattle.std.specs.Prelude.{IfOk, MatchOption, OnOk, OnErr};
 ghost use Rattle.sprm_table.specs.Sprm.{IsAcceptedList};
 ghost use Rattle.prop_map.specs.declared.modifiers.Modifier.{Modifier as TheModifier};
 ghost use Rattle.fkp_pages.specs.declared.kind.PageKind.{PageKind as PageType};
@@ -10,10 +11,11 @@ ghost use Rattle.fkp_pages.specs.Bin.{page_at};
 ghost use Rattle.fkp_pages.specs.Runs.{run_groups};
 ghost use Rattle.direct_props.specs.Stretches.{HasRightList};
 ghost use Rattle.direct_props.specs.Pages.{IsPageIn};
-ghost use Rattle.direct_props.specs.Kept.{AreMade, IsMadeByAnswer, IsMadeOf, MakesCharacter, MakesMark};
+ghost use Rattle.direct_props.specs.Kept.{AreKept, HasNoFault, IsMadeByAnswer, IsMadeOf, MakesCharacter, MakesMark};
 
 use crate::characters::settings_of;
 use crate::lists::{bare, list_in};
+use crate::rules::style_len;
 use doc_bits::{Memory, get16};
 use fkp_pages::{PAGE_LEN, PageKind, RunAnswer};
 use prop_map::{MetLists, Modifier, PropMap};
@@ -65,7 +67,7 @@ impl KeptLists {
     /// No lists. It takes no memory.
     pub(crate) fn new(alloc: Global) -> KeptLists
         ensures { (kind : PageType) (wd : List ℕ) (modifier : TheModifier)
-            → AreMade kind wd modifier result.places result.made.items }
+            → AreKept kind wd modifier result.places result.made.items }
     {
         KeptLists {
             places: MetLists::new(alloc),
@@ -73,64 +75,75 @@ impl KeptLists {
         }
     }
 
-    /// What the list makes that a page answers, which is right.
+    /// What the list makes that a page answers, where it is right.
     pub(crate) fn made_of(
         &mut self,
         alloc: Global,
         source: &ListSource<'_>,
         number: u32,
         answer: RunAnswer,
-    ) -> Result<Made, Memory>
+    ) -> Result<Option<Made>, Memory>
         requires page { IsPageIn source.now.wd.now number }
-        requires right { HasRightList source.now.kind (page_at source.now.wd.now number) answer }
-        requires kept { AreMade source.now.kind source.now.wd.now source.now.modifier.now
+        requires kept { AreKept source.now.kind source.now.wd.now source.now.modifier.now
             self.old.places self.old.made.items }
-        ensures kept { AreMade source.now.kind source.now.wd.now source.now.modifier.now
+        ensures kept { AreKept source.now.kind source.now.wd.now source.now.modifier.now
             self.new.places self.new.made.items }
-        ensures made { IfOk result (IsMadeByAnswer source.now.kind source.now.modifier.now
-            (page_at source.now.wd.now number) answer) }
+        ensures made { IfOk result (λ made. MatchOption made
+            (¬ (HasRightList source.now.kind (page_at source.now.wd.now number) answer))
+            (λ made. HasRightList source.now.kind (page_at source.now.wd.now number) answer
+            × IsMadeByAnswer source.now.kind source.now.modifier.now
+            (page_at source.now.wd.now number) answer made)) }
     {
         match answer {
             RunAnswer::Found { from, to } => self.made_at(alloc, source, number, (from, to)),
-            RunAnswer::Empty => make(alloc, source, bare(source.kind)),
-            RunAnswer::NoRun => unreachable!(),
-            RunAnswer::BadCount => unreachable!(),
-            RunAnswer::Leaves { .. } => unreachable!(),
+            RunAnswer::Empty => {
+                let made = make(alloc, source, bare(source.kind))?;
+                Ok(Some(made))
+            }
+            RunAnswer::NoRun => Ok(None),
+            RunAnswer::BadCount => Ok(None),
+            RunAnswer::Leaves { .. } => Ok(None),
         }
     }
 
-    /// What the right list makes that stands in a range of a page. A list that is not kept is acted with, and kept.
+    /// What the list makes that stands in a range of a page, where it is right. A list that is not kept is judged and
+    /// acted with, and kept.
     fn made_at(
         &mut self,
         alloc: Global,
         source: &ListSource<'_>,
         number: u32,
         range: (usize, usize),
-    ) -> Result<Made, Memory>
+    ) -> Result<Option<Made>, Memory>
         requires page { IsPageIn source.now.wd.now number }
-        requires right { HasRightList source.now.kind (page_at source.now.wd.now number) (Found range.0 range.1) }
-        requires kept { AreMade source.now.kind source.now.wd.now source.now.modifier.now
+        requires kept { AreKept source.now.kind source.now.wd.now source.now.modifier.now
             self.old.places self.old.made.items }
-        ensures kept { AreMade source.now.kind source.now.wd.now source.now.modifier.now
+        ensures kept { AreKept source.now.kind source.now.wd.now source.now.modifier.now
             self.new.places self.new.made.items }
-        ensures made { IfOk result (IsMadeByAnswer source.now.kind source.now.modifier.now
-            (page_at source.now.wd.now number) (Found range.0 range.1)) }
+        ensures made { IfOk result (λ made. MatchOption made
+            (¬ (HasRightList source.now.kind (page_at source.now.wd.now number) (Found range.0 range.1)))
+            (λ made. HasRightList source.now.kind (page_at source.now.wd.now number) (Found range.0 range.1)
+            × IsMadeByAnswer source.now.kind source.now.modifier.now
+            (page_at source.now.wd.now number) (Found range.0 range.1) made)) }
     {
         let begin = PAGE_LEN * number as usize;
         let (from, to) = range;
+        if PAGE_LEN <= from || PAGE_LEN <= to || to < from + style_len(source.kind) {
+            return Ok(None);
+        }
         let place = (begin + from, begin + to);
         if let Some(known) = self.places.number_at(source.wd, place.0, place.1) {
             let copy = self.made[known].copy(alloc)?;
-            return Ok(copy);
+            return Ok(Some(copy));
         }
         let page = &source.wd[begin..begin + PAGE_LEN];
         match list_in(source.kind, page, from, to) {
-            None => unreachable!(),
+            None => Ok(None),
             Some(list) => {
                 let made = make(alloc, source, list)?;
                 let copy = made.copy(alloc)?;
                 self.put(source.wd, place, made)?;
-                Ok(copy)
+                Ok(Some(copy))
             }
         }
     }
@@ -139,9 +152,10 @@ impl KeptLists {
     fn put(&mut self, stream: &[u8], place: (usize, usize), made: Made) -> Result<(), Memory>
         requires { (place.0 ≤ place.1) × (place.1 ≤ length stream.now) }
         ensures ok { OnOk result ((kind : PageType) (wd : List ℕ) (modifier : TheModifier)
+            → HasNoFault kind wd place.0 place.1
             → IsMadeOf kind (slice_range wd place.0 place.1) modifier made
-            → AreMade kind wd modifier self.old.places self.old.made.items
-            → AreMade kind wd modifier self.new.places self.new.made.items) }
+            → AreKept kind wd modifier self.old.places self.old.made.items
+            → AreKept kind wd modifier self.new.places self.new.made.items) }
         ensures err { OnErr result ((self.new.places ≡ self.old.places)
             × (self.new.made.items ≡ self.old.made.items)) }
     {

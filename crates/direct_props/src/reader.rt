@@ -1,5 +1,5 @@
 // Readers of the settings of places, which keep what each list makes.
-ghost use Rattle.std.specs.Prelude.{◌≡◌, ◌+◌, ◌<◌, ◌^◌, length, IsTrue, IfOk, OnOk, OnErr};
+ghost use Rattle.std.specs.Prelude.{◌≡◌, ◌↔◌, ◌+◌, ◌<◌, ◌^◌, length, IsTrue, IfOk, MatchOption};
 ghost use Rattle.prop_map.specs.Formed.{IsPropertyMap, paragraph_groups};
 ghost use Rattle.prop_map.specs.Modifiers.{IsFormedModifier};
 ghost use Rattle.fkp_pages.specs.declared.kind.PageKind.TheVariants.{Chpx, Papx};
@@ -76,25 +76,28 @@ impl<'a> PlaceReader<'a> {
         self.modifier.equal(modifier)
     }
 
-    /// Appends the direct settings of the characters at these places, run by run. After want of memory some of them
-    /// may stand in the list.
+    /// Appends the direct settings of the characters at these places, run by run, and answers whether each place is
+    /// right. Where one is not, and after want of memory, some of them may stand in the list.
     pub fn push_character_runs(
         &mut self,
         alloc: Global,
         places: &Places<'_>,
         runs: &mut Runs<PropMap>,
-    ) -> Result<(), Memory>
+    ) -> Result<bool, Memory>
         requires kind { self.old.kind ≡ Chpx }
-        requires right { AreRightPlaces Chpx self.old.wd self.old.bin places.now }
         requires few { length runs.old + length places.now < 2 ^ 32 }
         ensures same { self.new ≡ self.old }
-        ensures ok { OnOk result
-            (AddsCharacters self.old.wd self.old.bin places.now self.old.modifier runs.old runs.new) }
-        ensures err { OnErr result (BeginsWith runs.old runs.new) }
+        ensures right { IfOk result
+            (λ right. IsTrue right ↔ AreRightPlaces Chpx self.old.wd self.old.bin places.now) }
+        ensures added { IfOk result (λ right. IsTrue right
+            → AddsCharacters self.old.wd self.old.bin places.now self.old.modifier runs.old runs.new) }
+        ensures begins { BeginsWith runs.old runs.new }
     {
         let mut left = places.skip(0);
         while left.len() > 0 {
-            let stretch = self.stretch_around(alloc, left.first())?;
+            let Some(stretch) = self.stretch_around(alloc, left.first())? else {
+                return Ok(false);
+            };
             let CharacterStretch {
                 first: _,
                 last,
@@ -104,20 +107,21 @@ impl<'a> PlaceReader<'a> {
             runs.add(count as u32, map)?;
             left = left.skip(count);
         }
-        Ok(())
+        Ok(true)
     }
 
-    /// The places around one that have its settings.
-    fn stretch_around(&mut self, alloc: Global, fc: u32) -> Result<CharacterStretch, Memory>
+    /// The places around one that have its settings, where it is right.
+    fn stretch_around(&mut self, alloc: Global, fc: u32) -> Result<Option<CharacterStretch>, Memory>
         requires kind { self.old.kind ≡ Chpx }
-        requires right { IsRightPlace Chpx self.old.wd self.old.bin fc }
         ensures same { self.new ≡ self.old }
-        ensures around { IfOk result
-            (λ s. HasSettingsAround self.old.wd self.old.bin self.old.modifier fc s.first s.last s.map) }
+        ensures around { IfOk result (λ stretch. MatchOption stretch
+            (¬ (IsRightPlace Chpx self.old.wd self.old.bin fc))
+            (λ s. HasSettingsAround self.old.wd self.old.bin self.old.modifier fc s.first s.last s.map)) }
     {
-        let MadeStretch { first, last, made } = self.made_around(alloc, fc)?;
-        let Made { istd: _, map } = made;
-        Ok(CharacterStretch { first, last, map })
+        match self.made_around(alloc, fc)? {
+            None => Ok(None),
+            Some(stretch) => Ok(Some(characters_of(stretch))),
+        }
     }
 
     /// Reads the mark at a place.
@@ -130,23 +134,22 @@ impl<'a> PlaceReader<'a> {
         ensures formed { IfOk result
             (λ mark. IsFormedModifier self.old.modifier → IsPropertyMap paragraph_groups mark.pap) }
     {
-        let MadeStretch {
-            first: _,
-            last: _,
-            made,
-        } = self.made_around(alloc, fc)?;
-        let Made { istd, map } = made;
+        let Some(stretch) = self.made_around(alloc, fc)? else {
+            unreachable!()
+        };
+        let Made { istd, map } = stretch.made;
         Ok(DirectMark { istd, pap: map })
     }
 
-    /// What the list of a place makes, and how far around the place it is the list.
-    fn made_around(&mut self, alloc: Global, fc: u32) -> Result<MadeStretch, Memory>
-        requires right { IsRightPlace self.old.kind self.old.wd self.old.bin fc }
+    /// What the list of a place makes, where it is right, and how far around the place it is the list.
+    fn made_around(&mut self, alloc: Global, fc: u32) -> Result<Option<MadeStretch>, Memory>
         ensures same { self.new ≡ self.old }
-        ensures around { IfOk result (HasMadeAround self.old fc) }
+        ensures around { IfOk result (λ stretch. MatchOption stretch
+            (¬ (IsRightPlace self.old.kind self.old.wd self.old.bin fc))
+            (HasMadeAround self.old fc)) }
     {
         let Some(stretch) = page_around(self.kind, self.wd, self.bin, fc, self.cursor) else {
-            unreachable!()
+            return Ok(None);
         };
         self.cursor = stretch.next;
         let source = ListSource {
@@ -154,15 +157,27 @@ impl<'a> PlaceReader<'a> {
             wd: self.wd,
             modifier: &self.modifier,
         };
-        let made = self
+        let Some(made) = self
             .kept
-            .made_of(alloc, &source, stretch.number, stretch.answer)?;
-        Ok(MadeStretch {
+            .made_of(alloc, &source, stretch.number, stretch.answer)?
+        else {
+            return Ok(None);
+        };
+        Ok(Some(MadeStretch {
             first: stretch.first,
             last: stretch.last,
             made,
-        })
+        }))
     }
+}
+
+/// The settings that a stretch makes for its characters.
+fn characters_of(stretch: MadeStretch) -> CharacterStretch
+    ensures { result ≡ record { first = stretch.first; last = stretch.last; map = stretch.made.map } }
+{
+    let MadeStretch { first, last, made } = stretch;
+    let Made { istd: _, map } = made;
+    CharacterStretch { first, last, map }
 }
 
 /// The places from `first` to `last`, and the settings that characters have there.

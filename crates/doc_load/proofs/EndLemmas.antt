@@ -3,15 +3,17 @@ use Rattle.std.proofs.Common.{◌≡◌, ◌∙◌, refl, sym, ap, ℕ, zero, su
 use Rattle.std.proofs.Common.{Bool, true, false, ◌||◌, List, length, map, drop, filter, inl, inr, arith}
 use Rattle.std.specs.List.{range_with_len}
 use Rattle.std.specs.Prelude.{slice_index}
-use Rattle.std.proofs.lemmas.Bool.{cases_lt, eq-eqb, ne_eqb}
+use Rattle.std.proofs.lemmas.Bool.{cases_lt, eq-eqb, ne_eqb, false≢true, false_from_ne_true}
 use Rattle.std.proofs.lemmas.List.{length-drop, length-map}
 use Rattle.std.proofs.lemmas.List.Elements.{All-from_get_or}
 use Rattle.std.proofs.lemmas.List.Folds.{list_any_none, list_any_at}
 use Rattle.std.proofs.lemmas.Grind.{get_or_after_one}
+use Rattle.doc_bits.specs.Rules.{IsLeast, Nowhere}
+use Rattle.doc_bits.proofs.RuleLemmas.{first_number}
 use Rattle.doc_parts.specs.declared.lists.Sed.{Sed}
 use Rattle.doc_load.specs.SectionRules.{section_begin}
 use Rattle.doc_load.specs.FormatRules.{is_end, section_ends}
-use Rattle.doc_load.specs.EndSearch.{AreInOrder, AreMet, HasNoneIn, IsNextEnd}
+use Rattle.doc_load.specs.EndSearch.{AreInOrder, AreMet, HasNoneIn, IsSoIn, IsNextEnd}
 use Rattle.doc_load.proofs.FormatLemmas.{is_end-append, none-added}
 
 -- ---- none in a range, and one that is first
@@ -31,6 +33,32 @@ none_more ends from cp to next before here = λ k above below. elim (cases_lt k 
   | inl low ↦ before k above low
   | inr high ↦ ap ends (omega arith) ∙ here
 ]
+
+-- the first one that is so
+pub first_so : (ends : ℕ → Bool) (from to cp : ℕ) → from ≤ cp → cp < to → ends cp ≡ true → HasNoneIn ends from cp →
+    IsLeast (λ a b. a ≤ b) (IsSoIn ends from to) cp
+first_so ends from to cp above below here none = first_number (IsSoIn ends from to) cp
+    (λ k less so. false≢true (sym (none k so.behind less) ∙ so.is_so))
+    (record { behind = above; within = below; is_so = here })
+
+-- none before it is
+pub none_first : (ends : ℕ → Bool) (from to cp : ℕ) → IsLeast (λ a b. a ≤ b) (IsSoIn ends from to) cp →
+    HasNoneIn ends from cp
+none_first ends from to cp first = λ k above below. false_from_ne_true (ends k) (λ so.
+    let inside = first.broken.within in
+    let least = first.least k (record { behind = above; within = omega arith; is_so = so }) in
+    omega arith)
+
+-- none at all is
+pub so_nowhere : (ends : ℕ → Bool) (from to : ℕ) → HasNoneIn ends from to → Nowhere (IsSoIn ends from to)
+so_nowhere ends from to none = λ k so. false≢true (sym (none k so.behind so.within) ∙ so.is_so)
+
+pub none_nowhere : (ends : ℕ → Bool) (from to : ℕ) → Nowhere (IsSoIn ends from to) → HasNoneIn ends from to
+none_nowhere ends from to none = λ k above below. false_from_ne_true (ends k) (λ so. none k (record {
+  behind = above;
+  within = below;
+  is_so = so;
+}))
 
 -- a range that has none adds nothing
 pub none_kept : (p : ℕ → Bool) (f : ℕ → ℕ) (from n : ℕ) → HasNoneIn p from (from + n) →
@@ -127,12 +155,9 @@ begins_next sections main_len met cp order so_far there above =
     get_or_after_one starts (met - 1) 0 ∙ ap (section_begin sections) (omega arith) in
     let one = list_any_at (λ e. e == begin) (drop 1 starts) (met - 1) 0 (omega arith) (eq-eqb _ begin here) in
     let rest = λ (k : ℕ) (most : met ≤ k) (h : k < length sections). begin_later sections main_len met k order most h in
-    record {
-      behind = omega arith;
-      within = omega arith;
-      is_so = is_end-append (drop 1 starts) main_len begin ∙ ap (λ b. b || (main_len == begin)) one;
-      none_before = none_between sections main_len met cp begin so_far (omega arith) rest;
-    }
+    first_so (is_end (section_ends sections main_len)) (cp + 1) (main_len + 1) begin (omega arith) (omega arith)
+    (is_end-append (drop 1 starts) main_len begin ∙ ap (λ b. b || (main_len == begin)) one)
+    (none_between sections main_len met cp begin so_far (omega arith) rest)
 
 or_true : (b : Bool) → (b || true) ≡ true
 or_true true = refl
@@ -144,10 +169,6 @@ pub main_next : (sections : List Sed) (main_len met cp : ℕ) → AreMet section
 main_next sections main_len met cp so_far all inside =
     let later : List ℕ = drop 1 (map (λ (sed : Sed). sed.start) sections) in
     let one = ap (λ b. is_end later main_len || b) (eq-eqb main_len main_len refl) in
-    record {
-      behind = omega arith;
-      within = omega arith;
-      is_so = is_end-append later main_len main_len ∙ (one ∙ or_true (is_end later main_len));
-      none_before = none_between sections main_len met cp main_len so_far (omega arith)
-          (λ k most h. absurd (omega arith));
-    }
+    first_so (is_end (section_ends sections main_len)) (cp + 1) (main_len + 1) main_len (omega arith) (omega arith)
+    (is_end-append later main_len main_len ∙ (one ∙ or_true (is_end later main_len)))
+    (none_between sections main_len met cp main_len so_far (omega arith) (λ k most h. absurd (omega arith)))

@@ -6,11 +6,12 @@ use Rattle.std.specs.Prelude.{slice_index}
 use Rattle.std.proofs.Math.Bool.{and-false}
 use Rattle.std.proofs.lemmas.Bool.{le-ltb, lt-ltb, false≢true}
 use Rattle.std.proofs.lemmas.List.{get_or-drop, get_or-take}
+use Rattle.doc_bits.specs.Rules.{IsLeast}
 use Rattle.doc_parts.specs.declared.lists.Sed.{Sed}
 use Rattle.text_codes.specs.Paragraph.{is_paragraph_end}
 use Rattle.doc_load.specs.FormatRules.{is_end, section_ends, ends_section}
-use Rattle.doc_load.specs.EndSearch.{HasNoneIn, IsFirstIn, IsNextEnd, ends_at}
-use Rattle.doc_load.proofs.EndLemmas.{none_joined}
+use Rattle.doc_load.specs.EndSearch.{HasNoneIn, IsSoIn, IsNextEnd, ends_at}
+use Rattle.doc_load.proofs.EndLemmas.{none_joined, first_so, none_first}
 
 any_section : (p q r b : Bool) → (p || (q || (r && false))) ≡ true → (p || (q || (r && b))) ≡ true
 any_section true q r b e = refl
@@ -26,17 +27,18 @@ bare_ends unit b = any_section (unit == 0x0D) (unit == 0x07) (unit == 0x0C) b
 pub inner_units : (sections : List Sed) (main_len cp stop : ℕ) → IsNextEnd sections main_len cp stop →
     HasNoneIn (ends_section sections main_len) cp (stop - 1)
 inner_units sections main_len cp stop next = λ k above below.
-    let none = next.none_before (k + 1) (omega arith) (omega arith) in
+    let is = is_end (section_ends sections main_len) in
+    let none = none_first is (cp + 1) (main_len + 1) stop next (k + 1) (omega arith) (omega arith) in
     ap (λ b. nat_lt k main_len && b) none ∙ and-false (nat_lt k main_len)
 
 -- and one does with the last
 pub last_unit : (sections : List Sed) (main_len cp stop : ℕ) → IsNextEnd sections main_len cp stop →
     ends_section sections main_len (stop - 1) ≡ true
 last_unit sections main_len cp stop next =
-    let behind = next.behind in
-    let within = next.within in
+    let behind = next.broken.behind in
+    let within = next.broken.within in
     let is = is_end (section_ends sections main_len) in
-    ap (λ b. b && is (stop - 1 + 1)) (lt-ltb (stop - 1) main_len (omega arith)) ∙ (ap is (omega arith) ∙ next.is_so)
+    ap (λ b. b && is (stop - 1 + 1)) (lt-ltb (stop - 1) main_len (omega arith)) ∙ (ap is (omega arith) ∙ next.broken.is_so)
 
 -- none does behind the main text
 pub outer_units : (sections : List Sed) (main_len cp to : ℕ) → main_len ≤ cp →
@@ -68,16 +70,13 @@ pub first_in_part : (units : List ℕ) (sections : List Sed) (main_len from cp s
     stop ≤ length units → AreBare (slice_range units cp stop) n →
     is_paragraph_end (slice_index (slice_range units cp stop) n) false ≡ true →
     HasNoneIn (ends_section sections main_len) cp (cp + n) → HasNoneIn (ends_at units sections main_len) from cp →
-    IsFirstIn (ends_at units sections main_len) from (length units) (cp + n)
+    IsLeast (λ a b. a ≤ b) (IsSoIn (ends_at units sections main_len) from (length units)) (cp + n)
 first_in_part units sections main_len from cp stop n above below within bare here inner before =
     let unit = ap (λ u. is_paragraph_end u false) (sym (unit_in_part units cp stop n below)) in
     let none = none_in_part units sections main_len cp stop n (omega arith) bare inner in
-    record {
-      behind = omega arith;
-      within = omega arith;
-      is_so = bare_ends (slice_index units (cp + n)) (ends_section sections main_len (cp + n)) (unit ∙ here);
-      none_before = none_joined (ends_at units sections main_len) from cp (cp + n) before none;
-    }
+    first_so (ends_at units sections main_len) from (length units) (cp + n) (omega arith) (omega arith)
+    (bare_ends (slice_index units (cp + n)) (ends_section sections main_len (cp + n)) (unit ∙ here))
+    (none_joined (ends_at units sections main_len) from cp (cp + n) before none)
 
 -- none ends one in a stretch, but for its last unit
 pub none_in_stretch : (units : List ℕ) (sections : List Sed) (main_len from cp stop : ℕ) →
@@ -85,7 +84,7 @@ pub none_in_stretch : (units : List ℕ) (sections : List Sed) (main_len from cp
     HasNoneIn (ends_at units sections main_len) from cp →
     HasNoneIn (ends_at units sections main_len) from (stop - 1)
 none_in_stretch units sections main_len from cp stop next bare before =
-    let behind = next.behind in
+    let behind = next.broken.behind in
     let inner = inner_units sections main_len cp stop next in
     let none = none_in_part units sections main_len cp stop (stop - 1 - cp) (omega arith)
     (λ j h. bare j (omega arith)) (λ k above below. inner k above (omega arith)) in
@@ -105,8 +104,8 @@ pub stop_is : (units : List ℕ) (sections : List Sed) (main_len from cp stop : 
     stop → main_len ≤ length units → AreBare (slice_range units cp stop) (stop - cp) → HasNoneIn (ends_at units sections
     main_len) from cp → IsStop units sections main_len from cp stop
 stop_is units sections main_len from cp stop next main bare before =
-    let behind = next.behind in
-    let within = next.within in
+    let behind = next.broken.behind in
+    let within = next.broken.within in
     record {
       behind = omega arith;
       within = omega arith;

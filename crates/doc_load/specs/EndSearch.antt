@@ -1,5 +1,6 @@
 -- The search for the units that end a paragraph: what it has found, and which sections it has met.
 use Rattle.std.specs.Prelude.{◌≡◌, ℕ, ◌+◌, ◌<◌, ◌≤◌, Bool, true, false, List, map, slice_index}
+use Rattle.doc_bits.specs.Rules.{IsLeast}
 use Rattle.doc_parts.specs.declared.lists.Sed.{Sed}
 use Rattle.doc_parts.specs.Cps.{AreCpsInOrder}
 use Rattle.doc_parts.specs.Sections.{sed_cps}
@@ -11,12 +12,11 @@ use Rattle.doc_load.specs.FormatRules.{is_end, section_ends, ends_section}
 abbrev pub HasNoneIn : (ℕ → Bool) → ℕ → ℕ → Type 0
 HasNoneIn ends from to = (cp : ℕ) → from ≤ cp → cp < to → ends cp ≡ false
 
--- the first one there that is so
-pub record IsFirstIn (ends : ℕ → Bool) (from to cp : ℕ) : Type 0 where
+-- one there that is so
+pub record IsSoIn (ends : ℕ → Bool) (from to cp : ℕ) : Type 0 where
   pub behind : from ≤ cp
   pub within : cp < to
   pub is_so : ends cp ≡ true
-  pub none_before : HasNoneIn ends from cp
 
 -- the unit of a CP ends a paragraph
 abbrev pub ends_at : List ℕ → List Sed → ℕ → ℕ → Bool
@@ -33,4 +33,5 @@ pub record AreMet (sections : List Sed) (number cp : ℕ) : Type 0 where
 
 -- the first CP behind another before which a section ends
 abbrev pub IsNextEnd : List Sed → ℕ → ℕ → ℕ → Type 0
-IsNextEnd sections main_len cp = IsFirstIn (is_end (section_ends sections main_len)) (cp + 1) (main_len + 1)
+IsNextEnd sections main_len cp =
+    IsLeast (λ a b. a ≤ b) (IsSoIn (is_end (section_ends sections main_len)) (cp + 1) (main_len + 1))

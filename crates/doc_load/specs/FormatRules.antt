@@ -50,12 +50,23 @@ paragraph_ends source sections =
 abbrev pub paragraph_places : DocSource → List Sed → List ℕ
 paragraph_places source sections = map (slice_index (judged_places source)) (paragraph_ends source sections)
 
+-- the rules 39 to 43
+abbrev pub character_rules : DocSource → Rules Place
+character_rules source =
+    rules_in stands.Wd (page_rules Chpx source.wd (part_bytes source PlcfBteChpx) (judged_places source))
+
+-- the rules 44 to 48
+abbrev pub mark_rules : DocSource → List Sed → Rules Place
+mark_rules source sections =
+    rules_in stands.Wd (page_rules Papx source.wd (part_bytes source PlcfBtePapx) (paragraph_places source sections))
+
 -- the rules 39 to 48
 abbrev pub format_rules : DocSource → List Sed → Rules Place
-format_rules source sections =
-    rules_in stands.Wd (page_rules Chpx source.wd (part_bytes source PlcfBteChpx) (judged_places source))
-    then rules_in stands.Wd
-    (page_rules Papx source.wd (part_bytes source PlcfBtePapx) (paragraph_places source sections))
+format_rules source sections = character_rules source then mark_rules source sections
 
 abbrev pub rules_of_formats : DocSource → Rules Place
 rules_of_formats source = given (HasSections source) (format_rules source)
+
+-- those of them that are not on characters
+abbrev pub rules_of_marks : DocSource → Rules Place
+rules_of_marks source = given (HasSections source) (mark_rules source)

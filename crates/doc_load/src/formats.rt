@@ -4,8 +4,7 @@ ghost use Rattle.doc_bits.specs.Rules.{Hold};
 ghost use Rattle.doc_load.specs.Faults.{IsReadFault};
 ghost use Rattle.doc_load.specs.SectionRules.{HasSections};
 ghost use Rattle.doc_load.specs.BinRules.{rules_of_bins};
-ghost use Rattle.doc_load.specs.FormatRules.{format_rules, paragraph_places as places_of_paragraphs};
-ghost use Rattle.doc_load.specs.FormatRules.{rules_of_formats};
+ghost use Rattle.doc_load.specs.FormatRules.{character_rules, mark_rules, paragraph_places as places_of_paragraphs};
 
 use crate::fault::refused_page;
 use crate::paragraph_ends::{SectionEnds, next_end};
@@ -17,38 +16,34 @@ use fib_form::{StoryKind, TablePart};
 use fkp_pages::PageKind;
 use std::alloc::Global;
 
-/// Judges the pages of the text.
-pub fn judge_formats(alloc: Global, source: &Source<'_>, sections: &Seds) -> Result<(), ReadFault>
-    requires sections { HasSections source.now sections.now }
-    requires bins { Hold (rules_of_bins source.now) }
+/// Judges the pages of the characters: those of all units.
+pub fn judge_characters(alloc: Global, source: &Source<'_>) -> Result<(), ReadFault>
+    requires { Hold (rules_of_bins source.now) }
     ensures { MatchResult result
-        (λ _. Hold (rules_of_formats source.now))
-        (IsReadFault (rules_of_formats source.now)) }
-{
-    match judge_runs(alloc, source, sections) {
-        Ok(()) => Ok(()),
-        Err(fault) => Err(fault),
-    }
-}
-
-/// Judges the pages of all units, and then those of the ends of paragraphs.
-fn judge_runs(alloc: Global, source: &Source<'_>, sections: &Seds) -> Result<(), ReadFault>
-    requires sections { HasSections source.now sections.now }
-    requires bins { Hold (rules_of_bins source.now) }
-    ensures { MatchResult result
-        (λ _. Hold (format_rules source.now sections.now))
-        (IsReadFault (format_rules source.now sections.now)) }
+        (λ _. Hold (character_rules source.now))
+        (IsReadFault (character_rules source.now)) }
 {
     let characters = source.part(TablePart::PlcfBteChpx);
     let all = source.judged_places();
     let wrong = judge_rows(alloc, PageKind::Chpx, source.wd(), characters, &all)?;
-    if let Some(fault) = wrong {
-        return Err(refused_page(fault));
+    match wrong {
+        None => Ok(()),
+        Some(fault) => Err(refused_page(fault)),
     }
+}
+
+/// Judges the pages of the units that end a paragraph.
+pub fn judge_marks(alloc: Global, source: &Source<'_>, sections: &Seds) -> Result<(), ReadFault>
+    requires sections { HasSections source.now sections.now }
+    requires bins { Hold (rules_of_bins source.now) }
+    ensures { MatchResult result
+        (λ _. Hold (mark_rules source.now sections.now))
+        (IsReadFault (mark_rules source.now sections.now)) }
+{
     let ends = paragraph_places(alloc, source, sections)?;
     let paragraphs = source.part(TablePart::PlcfBtePapx);
-    let wrong_too = judge_places(alloc, PageKind::Papx, source.wd(), paragraphs, &ends)?;
-    match wrong_too {
+    let wrong = judge_places(alloc, PageKind::Papx, source.wd(), paragraphs, &ends)?;
+    match wrong {
         None => Ok(()),
         Some(fault) => Err(refused_page(fault)),
     }

@@ -1,7 +1,8 @@
 // The search for the units that end a paragraph: the ends of sections are met in their order, and no list of them is
 // made.
 ghost use Rattle.std.specs.Prelude.{◌≡◌, ◌<◌, ◌≤◌, ⊤, length, MatchOption};
-ghost use Rattle.doc_load.specs.EndSearch.{AreInOrder, AreMet, HasNoneIn, IsFirstIn, IsNextEnd, ends_at};
+ghost use Rattle.doc_bits.specs.Rules.{LeastOrNone};
+ghost use Rattle.doc_load.specs.EndSearch.{AreInOrder, AreMet, IsSoIn, IsNextEnd, ends_at};
 
 use doc_parts::Seds;
 use text_codes::{bare_len, ends_paragraph};
@@ -44,9 +45,8 @@ pub(crate) fn next_end(units: &[u16], ends: &mut SectionEnds<'_>, from: usize) -
     requires met { AreMet ends.old.sections.now ends.old.met from }
     requires main { ends.old.main_len ≤ length units.now }
     requires from { from ≤ length units.now }
-    ensures first { MatchOption result
-        (HasNoneIn (ends_at units.now ends.old.sections.now ends.old.main_len) from (length units.now))
-        (IsFirstIn (ends_at units.now ends.old.sections.now ends.old.main_len) from (length units.now)) }
+    ensures first { LeastOrNone
+        (IsSoIn (ends_at units.now ends.old.sections.now ends.old.main_len) from (length units.now)) result }
     ensures met { MatchOption result ⊤ (λ at. AreMet ends.new.sections.now ends.new.met at) }
     ensures sections { ends.new.sections.now ≡ ends.old.sections.now }
     ensures main { ends.new.main_len ≡ ends.old.main_len }

@@ -2,14 +2,14 @@
 use Rattle.std.proofs.Common.{◌≡◌, ◌∙◌, sym, ap, subst, ℕ, ◌<◌, ◌≤◌, ◌^◌, ◌+◌, true, List, length, arith}
 use Rattle.std.specs.Prelude.{slice_index, is_some}
 use Rattle.std.proofs.lemmas.List.{length-map}
-use Rattle.doc_bits.specs.Rules.{Hold}
 use Rattle.prop_map.specs.Settings.{Settings}
 use Rattle.fib_form.specs.declared.table_parts.TablePart.TheVariants.{PlcfBteChpx, PlcfBtePapx}
 use Rattle.fib_form.specs.declared.stories.StoryKind.TheVariants.{Main}
 use Rattle.doc_load.specs.Source.{DocSource, part_bytes, story_length}
 use Rattle.doc_load.specs.FormatRules.{judged_units, judged_places, ends_section}
-use Rattle.doc_load.specs.PartRules.{PartLists, HasPartLists, part_rules}
-use Rattle.doc_load.proofs.RightPlaces.{bin_tables, right_characters, right_paragraphs}
+use Rattle.doc_load.specs.PartRules.{PartLists, HasPartLists, HoldButCharacters}
+use Rattle.doc_load.proofs.CharacterRules.{marks_right}
+use Rattle.doc_load.proofs.RightPlaces.{bin_tables}
 use Rattle.doc_read.specs.Sections.{AreSectionMaps}
 use Rattle.doc_read.specs.Marked.{field_bytes, note_kinds}
 use Rattle.doc_read.specs.Passing.{AreUp}
@@ -31,23 +31,22 @@ view_of source marks maps = record {
 }
 
 pub readable_of : (source : DocSource) (lists : PartLists) (marks : MarkLists) (maps : List Settings) →
-    Hold (part_rules source) → HasPartLists source lists → AreSectionMaps source.wd lists.sections maps →
+    HoldButCharacters source → HasPartLists source lists → AreSectionMaps source.wd lists.sections maps →
     AreMarksOf source lists marks → length source.wd < 2 ^ 32 → length (judged_units source) ≤ 500000 →
     length (judged_places source) ≡ length (judged_units source) → IsReadable (view_of source marks maps)
 readable_of source lists marks maps rules has are is small few same =
     let sections = lists.sections in
     let main_len = story_length source Main in
-    let bins = bin_tables source rules.0.1 in
-    let some = some_section source sections rules.0.0 has.has_sections in
+    let bins = bin_tables source rules.layout.1 in
+    let some = some_section source sections rules.layout.0 has.has_sections in
     let ends = ends_up sections main_len some has.has_sections.leading.in_order in
-    let right = right_paragraphs source sections rules.1.0 has.has_sections in
+    let right = marks_right source sections rules.rest.0 has.has_sections in
     record {
       character_bins = bins.0;
       paragraph_bins = bins.1;
       small = small;
       few = few;
       same = same;
-      right_characters = right_characters source sections rules.1.0 has.has_sections;
       right_paragraphs = λ cp below ends_here.
           let there = λ (s : is_some (section_at marks.section_cps maps cp) ≡ true). section_ends_there sections
           main_len maps cp ends (ap (λ l. is_some (section_at l maps cp)) (sym is.sections) ∙ s) in

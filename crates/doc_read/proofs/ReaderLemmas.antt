@@ -1,7 +1,8 @@
 -- Readers of pieces with one modifier.
 use Rattle.std.proofs.Common.{◌≡◌, ◌∙◌, ◌<◌, ◌≤◌, ◌+◌, ◌-◌, refl, sym, ap, subst, ℕ, List, [], ◌∷◌, ◌++◌, length}
-use Rattle.std.proofs.Common.{Some, slice_get, get_or, arith}
-use Rattle.std.specs.Prelude.{slice_range}
+use Rattle.std.proofs.Common.{Some, slice_get, get_or, inl, inr, arith}
+use Rattle.std.specs.Prelude.{slice_index, slice_range}
+use Rattle.std.proofs.lemmas.Bool.{cases_lt}
 use Rattle.std.proofs.lemmas.Option.{slice_get_read, slice_get_within}
 use Rattle.std.proofs.lemmas.List.Elements.{All-set}
 use Rattle.std.proofs.Math.ListN.{set}
@@ -36,6 +37,22 @@ right_range wd bin places from to within right k below =
     let inside : k < to - from = omega (arith, below, len) in
     subst (λ fc. IsRightPlace Chpx wd bin fc) (sym (range_at places from to k inside)) (right (from + k)
     (omega (arith, inside, within)))
+
+-- the places before a CP and those of the next ones are right, so all before the next CP are
+pub right_more : (wd bin places : List ℕ) (from to : ℕ) → to ≤ length places →
+    ((k : ℕ) → k < from → IsRightPlace Chpx wd bin (slice_index places k))
+    → AreRightPlaces Chpx wd bin (slice_range places from to)
+    → (k : ℕ) → k < to → IsRightPlace Chpx wd bin (slice_index places k)
+right_more wd bin places from to within done more k below = elim (cases_lt k from) [
+  | inl before ↦ done k before
+  | inr now ↦
+      let j : ℕ = k - from in
+      let here : from + j ≡ k = omega (arith, now) in
+      let inside : j < to - from = omega (arith, now, below) in
+      let len = length-range places from to within in
+      subst (λ fc. IsRightPlace Chpx wd bin fc)
+      (range_at places from to j inside ∙ ap (slice_index places) here) (more j (omega (arith, inside, len)))
+]
 
 -- the reader at a number
 pub reader_there : (readers : List PieceReader) (number : ℕ) (reader : PieceReader) (modifier : Modifier) →

@@ -2,6 +2,9 @@
 use Rattle.std.specs.Prelude.{◌≡◌, ℕ, ◌<◌, ◌^◌, List, length, All}
 use Rattle.prop_map.specs.Settings.{Settings}
 use Rattle.cfb_streams.specs.Contents.{Contents}
+use Rattle.fkp_pages.specs.declared.kind.PageKind.TheVariants.{Chpx}
+use Rattle.direct_props.specs.PageRules.{AreRightPlaces}
+use Rattle.piece_table.specs.Piece.{TextPiece}
 use Rattle.plain_doc.specs.Document.{HasPropertyMaps}
 use Rattle.doc_load.specs.FormatRules.{judged_units, text_count}
 use Rattle.doc_load.specs.PartRules.{PartLists}
@@ -9,6 +12,7 @@ use Rattle.doc_load.specs.FileRules.{FileText, source_of}
 use Rattle.doc_columns.specs.Columns.{items_of}
 use Rattle.doc_read.specs.Sections.{AreSectionMaps}
 use Rattle.doc_read.specs.Items.{TextParts, HoldsItems}
+use Rattle.doc_read.specs.Reading.{TextView, ArePlacedItems}
 use Rattle.doc_read.specs.CarriedParts.{HoldsCarried}
 use Rattle.doc_read.specs.Holds.{head_texts}
 use Rattle.doc_read.specs.declared.columns.ReadColumns.{ReadColumns}
@@ -21,6 +25,13 @@ pub record FitUnits (units : List ℕ) (read : ReadColumns) : Type 0 where
   pub chps : length read.chps ≡ length units
   pub besides : length read.besides ≡ length units
   pub maps : All HasPropertyMaps (items_of units read.chps read.besides)
+
+-- the columns of all units of a text, each of which has its page for characters
+pub record AreReadColumns (view : TextView) (pieces : List TextPiece) (read : ReadColumns) : Type 0 where
+  pub right : AreRightPlaces Chpx view.wd view.characters view.places
+  pub chps : length read.chps ≡ length view.units
+  pub besides : length read.besides ≡ length view.units
+  pub each : ArePlacedItems view pieces (items_of view.units read.chps read.besides)
 
 -- with the units of the three stories they make the items of the CPs
 pub record AreColumnsOf (parts : TextParts) (read : ReadColumns) : Type 0 where

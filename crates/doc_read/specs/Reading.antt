@@ -8,7 +8,7 @@ use Rattle.prop_map.specs.Modifiers.{IsFormedModifier}
 use Rattle.fkp_pages.specs.declared.kind.PageKind.TheVariants.{Chpx, Papx}
 use Rattle.fkp_pages.specs.Bin.{IsBinTable}
 use Rattle.direct_props.specs.Direct.{IsDirectCharacter}
-use Rattle.direct_props.specs.PageRules.{IsRightPlace, AreRightPlaces}
+use Rattle.direct_props.specs.PageRules.{IsRightPlace}
 use Rattle.piece_table.specs.Piece.{TextPiece, UnitPlace, place_of_cp}
 use Rattle.plain_doc.specs.declared.item.Item.{Item}
 use Rattle.plain_doc.specs.declared.item.NoteKind.{NoteKind}
@@ -88,14 +88,13 @@ abbrev pub ends_at : TextView → ℕ → Bool
 ends_at view cp =
     is_paragraph_end (slice_index view.units cp) (is_some (section_at view.marks.section_cps view.maps cp))
 
--- each unit has its pages, and what stands at CPs ascends
+-- each unit that ends a paragraph has its page, and what stands at CPs ascends
 pub record IsReadable (view : TextView) : Type 0 where
   pub character_bins : IsBinTable view.characters
   pub paragraph_bins : IsBinTable view.paragraphs
   pub small : length view.wd < 2 ^ 32
   pub few : length view.units ≤ 500000
   pub same : length view.places ≡ length view.units
-  pub right_characters : AreRightPlaces Chpx view.wd view.characters view.places
   pub right_paragraphs :
       (cp : ℕ) → cp < length view.units → IsTrue (ends_at view cp) →
       IsRightPlace Papx view.wd view.paragraphs (slice_index view.places cp)

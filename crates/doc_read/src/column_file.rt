@@ -7,6 +7,8 @@ ghost use Rattle.cfb_streams.specs.Container.{container_rules, HasContents};
 ghost use Rattle.plain_doc.specs.Marks.{HasFormedBookmarks};
 ghost use Rattle.plain_doc.specs.Sound.{IsSound, document_rules};
 ghost use Rattle.doc_load.specs.Faults.{IsReadFault};
+ghost use Rattle.doc_load.specs.BinRules.{rules_of_bins};
+ghost use Rattle.doc_load.specs.FormatRules.{character_rules};
 ghost use Rattle.doc_load.specs.FileRules.{contents_rules};
 ghost use Rattle.doc_read.specs.CarriedParts.{AreWithinBounds};
 ghost use Rattle.doc_read.specs.Holds.{all_rules};
@@ -15,7 +17,7 @@ ghost use Rattle.doc_read.specs.Opened.{IsFoundIn, IsOpened};
 use crate::document::{document_with, read_document_parts};
 use cfb_streams::Container;
 use doc_columns::{ColumnDocument, is_sound};
-use doc_load::{ReadFault, load_text, read_parts, refused_container};
+use doc_load::{ReadFault, Source, judge_characters, load_text, read_unjudged, refused_container};
 use fib_form::Fib;
 use piece_table::PieceList;
 use plain_doc::{Document, check};
@@ -135,8 +137,10 @@ fn read_contents(alloc: Global, container: &Container) -> Result<Found, ReadFaul
 {
     let text = load_text(alloc, container)?;
     let source = text.source();
-    let parts = read_parts(alloc, &source)?;
-    let read = read_document_parts(alloc, container, &text, parts)?;
+    let parts = read_unjudged(alloc, &source)?;
+    let Some(read) = read_document_parts(alloc, container, &text, parts)? else {
+        return Err(character_fault(alloc, &source));
+    };
     let (fib, pieces, units) = text.into_parts_with_units();
     let document = document_with(alloc, &fib, units, read)?;
     Ok(Found {
@@ -144,6 +148,18 @@ fn read_contents(alloc: Global, container: &Container) -> Result<Found, ReadFaul
         fib,
         pieces,
     })
+}
+
+/// The first broken rule on the pages of characters, one of which is broken.
+fn character_fault(alloc: Global, source: &Source<'_>) -> ReadFault
+    requires bins { Hold (rules_of_bins source.now) }
+    requires wrong { ¬ (Hold (character_rules source.now)) }
+    ensures { IsReadFault (character_rules source.now) result }
+{
+    match judge_characters(alloc, source) {
+        Ok(()) => unreachable!(),
+        Err(fault) => fault,
+    }
 }
 
 /// Judges a document by the rules on documents. Where its columns do not tell, its items are put one by one.

@@ -1,17 +1,18 @@
 // What stands with the units of all three stories, by columns, piece by piece.
-ghost use Rattle.std.specs.Prelude.{◌≡◌, ◌-◌, ◌≤◌, length, IfOk, OnOk};
+ghost use Rattle.std.specs.Prelude.{◌≡◌, ◌↔◌, ◌-◌, ◌≤◌, length, slice_range, IfOk, IsTrue, MatchOption};
 ghost use Rattle.doc_bits.specs.Rules.{Hold};
+ghost use Rattle.fkp_pages.specs.declared.kind.PageKind.TheVariants.{Chpx};
+ghost use Rattle.direct_props.specs.PageRules.{AreRightPlaces};
 ghost use Rattle.piece_table.specs.Piece.{total_length};
 ghost use Rattle.doc_load.specs.FileRules.{source_of};
-ghost use Rattle.doc_load.specs.FormatRules.{text_count};
-ghost use Rattle.doc_load.specs.PartRules.{part_rules, HasPartLists};
-ghost use Rattle.doc_columns.specs.Columns.{items_of};
+ghost use Rattle.doc_load.specs.FormatRules.{character_rules, text_count};
+ghost use Rattle.doc_load.specs.PartRules.{HasPartLists, HoldButCharacters};
 ghost use Rattle.doc_read.specs.Sections.{AreSectionMaps};
 ghost use Rattle.doc_read.specs.Passing.{AddsEach};
-ghost use Rattle.doc_read.specs.Reading.{ArePassed, ArePlacedItems, IsReadable, IsReadCharacter};
+ghost use Rattle.doc_read.specs.Reading.{ArePassed, IsReadable, IsReadCharacter};
 ghost use Rattle.doc_read.specs.Reading.{IsPieceReader, text_view};
 ghost use Rattle.doc_read.specs.Beside.{IsBesideAt};
-ghost use Rattle.doc_read.specs.ReadParts.{AreColumnsOf};
+ghost use Rattle.doc_read.specs.ReadParts.{AreColumnsOf, AreReadColumns};
 
 use crate::beside::{Left, push_besides};
 use crate::marked::read_marks;
@@ -35,22 +36,24 @@ pub(crate) struct ReadColumns {
     pub(crate) besides: Runs<Beside>,
 }
 
-/// Reads what stands with the units of the CPs of all three stories.
+/// Reads what stands with the units of the CPs of all three stories; nothing where one has no right page for characters.
 pub(crate) fn read_columns(
     alloc: Global,
     text: &LoadedText<'_>,
     parts: &DocParts<'_>,
     sections: &SectionMaps,
-) -> Result<ReadColumns, Memory>
-    requires rules { Hold (part_rules (source_of text.now)) }
+) -> Result<Option<ReadColumns>, Memory>
+    requires rules { HoldButCharacters (source_of text.now) }
     requires lists { HasPartLists (source_of text.now) parts.now }
     requires sections { AreSectionMaps text.now.wd parts.now.sections sections.now }
-    ensures { IfOk result (AreColumnsOf (record {
-      source = source_of text.now;
-      pieces = text.now.pieces;
-      lists = parts.now;
-      sections = sections.now;
-    })) }
+    ensures { IfOk result (λ read. MatchOption read
+        (¬ (Hold (character_rules (source_of text.now))))
+        (λ read. Hold (character_rules (source_of text.now)) × AreColumnsOf (record {
+          source = source_of text.now;
+          pieces = text.now.pieces;
+          lists = parts.now;
+          sections = sections.now;
+        }) read)) }
 {
     let source = text.source();
     has_units(&source);
@@ -64,8 +67,10 @@ pub(crate) fn read_columns(
         marks: &marks,
         maps: sections,
     };
-    let read = columns_of_pieces(alloc, &lists, text.pieces())?;
-    Ok(read)
+    let Some(read) = columns_of_pieces(alloc, &lists, text.pieces())? else {
+        return Ok(None);
+    };
+    Ok(Some(read))
 }
 
 /// A text has a unit for each CP of its stories. This does nothing when it runs.
@@ -75,18 +80,18 @@ fn has_units(source: &Source<'_>)
     let _begin = source.story_begin(StoryKind::Heads);
 }
 
-/// The columns of all pieces, one after the other, as far as there are units.
+/// The columns of all pieces, one after the other, as far as there are units; nothing where one of these has no right
+/// page for characters.
 fn columns_of_pieces(
     alloc: Global,
     text: &TextSource<'_>,
     pieces: &PieceList,
-) -> Result<ReadColumns, Memory>
+) -> Result<Option<ReadColumns>, Memory>
     requires readable { IsReadable (text_view text.now) }
     requires enough { length text.now.units.now ≤ total_length pieces.now.pieces }
-    ensures chps { IfOk result (λ read. length read.chps ≡ length text.now.units.now) }
-    ensures besides { IfOk result (λ read. length read.besides ≡ length text.now.units.now) }
-    ensures each { IfOk result (λ read. ArePlacedItems (text_view text.now) pieces.now.pieces
-        (items_of text.now.units.now read.chps read.besides)) }
+    ensures { IfOk result (λ read. MatchOption read
+        (¬ (AreRightPlaces Chpx text.now.wd.now text.now.characters.now text.now.places))
+        (AreReadColumns (text_view text.now) pieces.now.pieces)) }
 {
     let count = text.units.len();
     let mut read = ReadColumns {
@@ -108,7 +113,7 @@ fn columns_of_pieces(
         let modifier = pieces.modifier(i);
         let number = reader_for(alloc, text, modifier, &mut readers, &mut numbers)?;
         let part = TextPart::new(&*text, cp, rest.skip(0));
-        push_piece(
+        let right = push_piece(
             alloc,
             &part,
             Left { cp, end },
@@ -116,13 +121,17 @@ fn columns_of_pieces(
             &mut read,
             &mut passed,
         )?;
+        if !right {
+            return Ok(None);
+        }
         rest = rest.skip(end - cp);
         cp = end;
     }
-    Ok(read)
+    Ok(Some(read))
 }
 
-/// Appends the settings of the units of a piece, and what stands beside them.
+/// Appends the settings of the units of a piece, and what stands beside them, and answers whether each of these has a
+/// right page for characters.
 fn push_piece(
     alloc: Global,
     part: &TextPart<'_>,
@@ -130,7 +139,7 @@ fn push_piece(
     reader: &mut PieceReader<'_>,
     read: &mut ReadColumns,
     passed: &mut Passed,
-) -> Result<(), Memory>
+) -> Result<bool, Memory>
     requires from { part.now.from ≡ piece.cp }
     requires reader { IsPieceReader part.now.view reader.old }
     requires ordered { piece.cp ≤ piece.end }
@@ -139,16 +148,24 @@ fn push_piece(
     requires besides { length read.old.besides ≡ piece.cp }
     requires passed { ArePassed part.now.view.marks passed.old piece.cp }
     ensures same { reader.new ≡ reader.old }
-    ensures passed { OnOk result (ArePassed part.now.view.marks passed.new piece.end) }
-    ensures chps { OnOk result (AddsEach (IsReadCharacter part.now.view reader.old.characters.modifier)
+    ensures right { IfOk result (λ right. IsTrue right ↔ AreRightPlaces Chpx part.now.view.wd
+        part.now.view.characters (slice_range part.now.view.places piece.cp piece.end)) }
+    ensures passed { IfOk result (λ right. IsTrue right
+        → ArePassed part.now.view.marks passed.new piece.end) }
+    ensures chps { IfOk result (λ right. IsTrue right
+        → AddsEach (IsReadCharacter part.now.view reader.old.characters.modifier)
         (piece.end - piece.cp) read.old.chps read.new.chps) }
-    ensures besides { OnOk result (AddsEach (IsBesideAt part.now.view reader.old.characters.modifier)
+    ensures besides { IfOk result (λ right. IsTrue right
+        → AddsEach (IsBesideAt part.now.view reader.old.characters.modifier)
         (piece.end - piece.cp) read.old.besides read.new.besides) }
 {
     let places = part.front(piece.end - piece.cp);
-    reader
+    let right = reader
         .characters
         .push_character_runs(alloc, &places, &mut read.chps)?;
+    if !right {
+        return Ok(false);
+    }
     push_besides(alloc, part, piece, reader, &mut read.besides, passed)?;
-    Ok(())
+    Ok(true)
 }

@@ -1,7 +1,8 @@
 // The document of the parts of a file, by columns. What borrows from its text is read before the units are taken over.
-ghost use Rattle.std.specs.Prelude.{◌≡◌, ◌≤◌, length, take, IfOk};
+ghost use Rattle.std.specs.Prelude.{◌≡◌, ◌≤◌, length, take, IfOk, MatchOption};
 ghost use Rattle.doc_bits.specs.Rules.{Hold};
-ghost use Rattle.doc_load.specs.PartRules.{part_rules, HasPartLists};
+ghost use Rattle.doc_load.specs.FormatRules.{character_rules};
+ghost use Rattle.doc_load.specs.PartRules.{HasPartLists, HoldButCharacters};
 ghost use Rattle.doc_load.specs.FileRules.{HasText, source_of};
 ghost use Rattle.doc_read.specs.CarriedParts.{AreWithinBounds};
 ghost use Rattle.doc_read.specs.ReadParts.{AreDocumentParts, FitUnits};
@@ -47,25 +48,31 @@ struct ReadTexts {
     heads: ColumnTexts,
 }
 
-/// Reads what the document of a file is made of, whose parts have been read.
+/// Reads what the document of a file is made of, whose parts have been read; nothing where a unit has no right page for
+/// characters.
 pub(crate) fn read_document_parts(
     alloc: Global,
     container: &Container,
     text: &LoadedText<'_>,
     parts: DocParts<'_>,
-) -> Result<DocumentParts, Memory>
+) -> Result<Option<DocumentParts>, Memory>
     requires bounds { AreWithinBounds container.now }
     requires text { HasText container.now text.now }
-    requires rules { Hold (part_rules (source_of text.now)) }
+    requires rules { HoldButCharacters (source_of text.now) }
     requires lists { HasPartLists (source_of text.now) parts }
-    ensures { IfOk result (AreDocumentParts container.now text.now parts.entry) }
+    ensures { IfOk result (λ read. MatchOption read
+        (¬ (Hold (character_rules (source_of text.now))))
+        (λ read. Hold (character_rules (source_of text.now))
+        × AreDocumentParts container.now text.now parts.entry read)) }
 {
     let sections = read_section_maps(alloc, text, &parts.sections)?;
     let carried = read_carried(alloc, container, text, &parts)?;
-    let columns = read_columns(alloc, text, &parts, &sections)?;
+    let Some(columns) = read_columns(alloc, text, &parts, &sections)? else {
+        return Ok(None);
+    };
     let head_count = SEPARATORS + HEADS_A_SECTION * parts.sections.len();
     let notes = parts.notes;
-    Ok(DocumentParts {
+    Ok(Some(DocumentParts {
         columns,
         cuts: StoryCuts {
             notes: notes.cuts,
@@ -75,7 +82,7 @@ pub(crate) fn read_document_parts(
         sheet: parts.sheet,
         carried,
         bookmarks: parts.bookmarks,
-    })
+    }))
 }
 
 /// The document of its parts and of the units of its text, which it takes over.

@@ -1,7 +1,7 @@
 // A text from a CP on.
 ghost use Rattle.std.specs.Prelude.{◌≡◌, ◌+◌, ◌<◌, ◌≤◌, ℕ, drop, length, slice_index, slice_range, IsTrue};
-ghost use Rattle.fkp_pages.specs.declared.kind.PageKind.TheVariants.{Chpx, Papx};
-ghost use Rattle.direct_props.specs.PageRules.{AreRightPlaces, IsRightPlace};
+ghost use Rattle.fkp_pages.specs.declared.kind.PageKind.TheVariants.{Papx};
+ghost use Rattle.direct_props.specs.PageRules.{IsRightPlace};
 ghost use Rattle.doc_read.specs.Reading.{IsReadable, ArePassed, ends_at, text_view};
 
 use crate::entries::next_cp;
@@ -61,13 +61,12 @@ impl<'a> TextPart<'a> {
         self.places.get(cp - self.from)
     }
 
-    /// The places of the first units, which have pages for characters.
+    /// The places of the first units.
     pub(crate) fn front(&self, count: usize) -> Places<'a>
         requires { self.now.from + count ≤ length self.now.view.units }
         ensures places { result ≡ slice_range self.now.view.places self.now.from (self.now.from + count) }
         ensures within { self.now.from + count ≤ length self.now.view.places }
         ensures few { self.now.from + count ≤ 500000 }
-        ensures right { AreRightPlaces Chpx self.now.view.wd self.now.view.characters result }
     {
         self.places.front(count)
     }

@@ -1,10 +1,11 @@
 use Rattle.std.proofs.Common.{◌≡◌, ◌∙◌, ap, sym, ◌+◌, ◌≤◌, drop, filter, length, map, subst, arith}
 use Rattle.std.specs.List.{range_with_len}
 use Rattle.std.specs.Prelude.{slice_index}
+use Rattle.doc_bits.specs.Rules.{IsLeast, Nowhere}
 use Rattle.doc_load.specs.FormatRules.{ends_paragraph, judged_places, judged_units}
-use Rattle.doc_load.specs.EndSearch.{AreMet, HasNoneIn, IsFirstIn}
+use Rattle.doc_load.specs.EndSearch.{AreMet, IsSoIn}
 use Rattle.doc_load.proofs.FormatLemmas.{one-added, walk_on}
-use Rattle.doc_load.proofs.EndLemmas.{met_behind, none_up_to}
+use Rattle.doc_load.proofs.EndLemmas.{met_behind, none_first, none_nowhere, none_up_to}
 use Rattle.doc_load.proofs.formats.paragraph_places.Goals as goal
 
 pub next_end-requires-clause-main : goal.next_end-requires-clause-main
@@ -23,13 +24,14 @@ loop-end-preserved c =
     let cp = c.loop-end.cp in
     let main = c.story_len-main_len.ensures.count in
     let units = c.judged_units-units.ensures.units in
-    let first : IsFirstIn ends cp (length (judged_units source)) end =
+    let first : IsLeast (λ a b. a ≤ b) (IsSoIn ends cp (length (judged_units source))) end =
     rw (so_far.same, so_far.main, main, units) at c.in-Some.ensures.first in
-    let behind = first.behind in
-    let within = first.within in
+    let behind = first.broken.behind in
+    let within = first.broken.within in
     let units_len = ap length units in
     let before : c.loop-end.places.items ≡ map place (filter ends (range_with_len 0 end)) =
-    so_far.found ∙ none_up_to ends place cp end behind first.none_before in
+    so_far.found ∙ none_up_to ends place cp end behind
+    (none_first ends cp (length (judged_units source)) end first) in
     let walk = c.loop-end.walk in
     let walked = walk_on all walk.rest walk.passed end (omega (arith, so_far.behind)) so_far.rest in
     let passed = c.place_of.ensures.passed in
@@ -37,7 +39,7 @@ loop-end-preserved c =
     let met = met_behind _ _ end (end + 1) c.in-Some.ensures.met (omega arith) in
     record {
       found = one-added ends place end c.place_of.result c.loop-end.places.items c.push.new.self.items
-          first.is_so (c.place_of.ensures.place ∙ walked.1) c.in_ok-push.ensures.items before;
+          first.broken.is_so (c.place_of.ensures.place ∙ walked.1) c.in_ok-push.ensures.items before;
       within = omega arith;
       behind = omega arith;
       rest = c.place_of.ensures.rest ∙ (walked.0 ∙ ap (λ n. drop n all) (sym passed));
@@ -55,7 +57,7 @@ returns c =
     let len = length (judged_units source) in
     let main = c.story_len-main_len.ensures.count in
     let units = c.judged_units-units.ensures.units in
-    let none : HasNoneIn ends cp len = rw (so_far.same, so_far.main, main, units) at c.in_default.ensures.first in
+    let none : Nowhere (IsSoIn ends cp len) = rw (so_far.same, so_far.main, main, units) at c.in_default.ensures.first in
     let units_len = ap length units in
     let within : cp ≤ len = omega (arith, so_far.within) in
-    so_far.found ∙ none_up_to ends (slice_index (judged_places source)) cp len within none
+    so_far.found ∙ none_up_to ends (slice_index (judged_places source)) cp len within (none_nowhere ends cp len none)

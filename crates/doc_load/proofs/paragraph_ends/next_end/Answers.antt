@@ -1,6 +1,6 @@
 use Rattle.std.proofs.Common.{◌∙◌, ◌+◌, ◌-◌, ◌≤◌, true, false, length, arith}
 use Rattle.doc_load.specs.EndSearch.{IsNextEnd, ends_at}
-use Rattle.doc_load.proofs.EndLemmas.{met_behind, none_joined, none_more}
+use Rattle.doc_load.proofs.EndLemmas.{met_behind, first_so, none_joined, none_more, so_nowhere}
 use Rattle.doc_load.proofs.StretchLemmas.{first_in_part, none_in_part, stop_is}
 use Rattle.doc_load.proofs.StretchLemmas.{inner_units, outer_units}
 use Rattle.doc_load.proofs.paragraph_ends.next_end.Goals as goal
@@ -15,7 +15,7 @@ returns-then-at-stop-clause-first c =
     let so_far = c.loop-cp.invariant in
     let bare = c.bare_len.ensures in
     let next : IsNextEnd sections main_len cp stop = rw (so_far.same, so_far.main) at c.behind-stop.ensures.next in
-    let within = next.within in
+    let within = next.broken.within in
     let inner = inner_units sections main_len cp stop next in
     first_in_part units sections main_len c.args.from cp stop c.bare_len.result so_far.behind (omega arith)
     (omega (arith, within, c.requires.main)) bare.bare (bare.ends (omega arith))
@@ -31,12 +31,9 @@ returns-then-ends_paragraph-clause-first c =
     let stop = stop_is c.args.units.now sections main_len c.args.from c.loop-cp.cp c.behind-stop.result next
     c.requires.main (λ j h. c.bare_len.ensures.bare j (omega arith)) so_far.none in
     let within = stop.within in
-    record {
-      behind = omega (arith, stop.behind, so_far.behind);
-      within = omega (arith, stop.behind, within);
-      is_so = stop.last c.ends_paragraph.result true c.ends_paragraph.ensures c.if-ends_paragraph.true;
-      none_before = stop.none;
-    }
+    first_so (ends_at c.args.units.now sections main_len) c.args.from (length c.args.units.now) (c.behind-stop.result - 1)
+    (omega (arith, stop.behind, so_far.behind)) (omega (arith, stop.behind, within))
+    (stop.last c.ends_paragraph.result true c.ends_paragraph.ensures c.if-ends_paragraph.true) stop.none
 
 pub loop-cp-preserved : goal.loop-cp-preserved
 loop-cp-preserved c =
@@ -86,5 +83,6 @@ returns-else-at-units-clause-first c =
     let outside : main_len ≤ cp = omega (arith, c.loop-cp-test.false, so_far.main) in
     let outer = outer_units sections main_len cp (cp + n) outside in
     let none = none_in_part units sections main_len cp len n (omega arith) c.bare_len-2.ensures.bare outer in
-    none_joined (ends_at units sections main_len) c.args.from cp len so_far.none
-    (λ k above below. none k above (omega arith))
+    so_nowhere (ends_at units sections main_len) c.args.from len
+    (none_joined (ends_at units sections main_len) c.args.from cp len so_far.none
+    (λ k above below. none k above (omega arith)))

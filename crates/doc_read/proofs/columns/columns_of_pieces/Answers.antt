@@ -1,9 +1,13 @@
 -- A piece more.
 use Rattle.std.proofs.Common.{rules, ◌≡◌, ◌∙◌, sym, ap, subst, ◌+◌, ◌-◌, ◌≤◌}
 use Rattle.std.proofs.Common.{drop, length, take, min, slice_get, Some, arith}
-use Rattle.std.proofs.lemmas.List.{drop-drop, length-drop}
+use Rattle.std.specs.Prelude.{slice_range}
+use Rattle.std.proofs.lemmas.Bool.{true≢false}
+use Rattle.std.proofs.lemmas.List.{drop-drop, length-drop, take_all}
 use Rattle.std.proofs.lemmas.Option.{slice_get_within}
 use Rattle.std.specs.Option.{option_map}
+use Rattle.fkp_pages.specs.declared.kind.PageKind.TheVariants.{Chpx}
+use Rattle.direct_props.specs.PageRules.{AreRightPlaces}
 use Rattle.piece_table.specs.declared.pieces.Piece.{Piece}
 use Rattle.piece_table.specs.Piece.{TextPiece, total_length}
 use Rattle.doc_load.proofs.UnitLemmas.{piece_read}
@@ -11,7 +15,7 @@ use Rattle.doc_columns.specs.Columns.{items_of}
 use Rattle.doc_read.specs.Passing.{AddsEach}
 use Rattle.doc_read.specs.Reading.{ArePassed, IsPieceReader, IsReadCharacter, TextRest, text_view}
 use Rattle.doc_read.proofs.PlacedLemmas.{placed_more, length-more}
-use Rattle.doc_read.proofs.ReaderLemmas.{reader_at, reader_right, readers_same}
+use Rattle.doc_read.proofs.ReaderLemmas.{reader_at, reader_right, readers_same, right_more, right_range}
 use Rattle.doc_read.specs.Beside.{IsBesideAt}
 use Rattle.doc_read.proofs.MeetLemmas.{length-read, adds_items, none_placed}
 use Rattle.doc_read.proofs.columns.columns_of_pieces.Goals as goal
@@ -25,6 +29,7 @@ loop-i-init c =
     (omega arith) in
     record {
       len = omega arith;
+      right = λ k below. absurd (omega (arith, below));
       chps = ap length c.new.ensures;
       besides = ap length c.new-2.ensures;
       placed = none_placed view c.args.pieces.now.pieces (items_of view.units chps besides) none;
@@ -102,24 +107,30 @@ loop-i-preserved c =
     let at = reader_at readers number reader c.modifier-modifier.result.now c.in_ok-number.ensures.serves
     c.index_mut.ensures.value in
     let same = at.1 ∙ sym modifier_is in
+    let went = c.if-not-right.false in
     let long : cp + added - cp ≡ added = omega arith in
     let behind : cp + (cp + added - cp) ≡ cp + added = omega arith in
     let chps = subst (λ m. AddsEach (IsReadCharacter view m) added old.chps new.chps) same
     (subst (λ n. AddsEach (IsReadCharacter view reader.characters.modifier) n old.chps new.chps) long
     (subst
     (λ (p : TextRest). AddsEach (IsReadCharacter p.view reader.characters.modifier) (cp + added - cp) old.chps new.chps)
-    c.new-part.ensures c.in_ok-push_piece.ensures.chps)) in
+    c.new-part.ensures (c.in_ok-right.ensures.chps went))) in
     let besides = subst (λ m. AddsEach (IsBesideAt view m) added old.besides new.besides) same
     (subst (λ n. AddsEach (IsBesideAt view reader.characters.modifier) n old.besides new.besides) long
     (subst
     (λ (p : TextRest). AddsEach (IsBesideAt p.view reader.characters.modifier) (cp + added - cp) old.besides
     new.besides)
-    c.new-part.ensures c.in_ok-push_piece.ensures.besides)) in
+    c.new-part.ensures (c.in_ok-right.ensures.besides went))) in
     let adds = adds_items view piece.modifier cp added old.chps new.chps old.besides new.besides c.loop-i.invariant.chps
     c.loop-i.invariant.besides within chps besides in
     record {
       len = length-more pieces i added count piece (length old_items) (cp + added) here front added_is
           (ap (λ n. n + added) (sym old_long));
+      right = right_more view.wd view.characters view.places cp (cp + added)
+          (omega (arith, within, c.requires.readable.same)) c.loop-i.invariant.right
+          (subst
+          (λ (p : TextRest). AreRightPlaces Chpx p.view.wd p.view.characters (slice_range p.view.places cp (cp + added)))
+          c.new-part.ensures (c.in_ok-right.ensures.right.0 went));
       chps = omega (arith, chps.len, c.loop-i.invariant.chps);
       besides = omega (arith, besides.len, c.loop-i.invariant.besides);
       placed = placed_more view pieces i added count piece old_items new_items here front added_is
@@ -127,7 +138,36 @@ loop-i-preserved c =
       rest = c.skip-rest-in-loop-i.ensures ∙ ap (drop (cp + added - cp)) c.loop-i.invariant.rest
           ∙ drop-drop (cp + added - cp) cp text.places ∙ ap (λ n. drop n text.places) behind;
       readers = readers_same view readers number reader c.push_piece.new.reader c.in_ok-number.ensures.readers at.0
-          c.in_ok-push_piece.ensures.same;
+          c.in_ok-right.ensures.same;
       passed = subst (λ (p : TextRest). ArePassed p.view.marks c.push_piece.new.passed (cp + added)) c.new-part.ensures
-          c.in_ok-push_piece.ensures.passed;
+          (c.in_ok-right.ensures.passed went);
+    }
+
+pub returns-then-not-right : goal.returns-then-not-right
+returns-then-not-right c = λ all.
+    let view = text_view c.args.text.now in
+    let cp = c.loop-i.cp in
+    let added = c.min.result in
+    let within : cp + added ≤ length view.units = omega (arith, c.min.ensures, c.loop-i.invariant.len) in
+    let some = right_range view.wd view.characters view.places cp (cp + added)
+    (omega (arith, within, c.requires.readable.same)) all in
+    let here = subst
+    (λ (p : TextRest). AreRightPlaces Chpx p.view.wd p.view.characters (slice_range p.view.places cp (cp + added)))
+    (sym c.new-part.ensures) some in
+    true≢false (sym (c.in_ok-right.ensures.right.1 here) ∙ c.if-not-right.true)
+
+pub returns : goal.returns
+returns c =
+    let view = text_view c.args.text.now in
+    let pieces = c.args.pieces.now.pieces in
+    let cp = c.loop-i.cp in
+    let count = length view.units in
+    let whole : take c.loop-i.i pieces ≡ pieces = take_all c.loop-i.i pieces (omega (arith, c.len-i-end.ensures.value)) in
+    let all : cp ≡ count =
+    omega (arith, c.loop-i.invariant.len, ap total_length whole, c.requires.enough) in
+    record {
+      right = λ k below. c.loop-i.invariant.right k (omega (arith, below, all, c.requires.readable.same));
+      chps = c.loop-i.invariant.chps ∙ all;
+      besides = c.loop-i.invariant.besides ∙ all;
+      each = c.loop-i.invariant.placed;
     }

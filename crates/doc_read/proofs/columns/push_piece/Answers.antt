@@ -1,5 +1,6 @@
 -- The settings of the places of a piece, and what stands beside its units.
-use Rattle.std.proofs.Common.{◌≡◌, ◌∙◌, ℕ, List, sym, ap, subst, ◌+◌, ◌-◌, ◌≤◌, length, arith}
+use Rattle.std.proofs.Common.{◌≡◌, ◌∙◌, refl, ℕ, List, sym, ap, subst, ◌+◌, ◌-◌, ◌≤◌, length, arith}
+use Rattle.std.proofs.lemmas.Bool.{true≢false}
 use Rattle.std.specs.Prelude.{slice_range}
 use Rattle.fkp_pages.specs.declared.kind.PageKind.TheVariants.{Chpx}
 use Rattle.direct_props.specs.PageRules.{AreRightPlaces}
@@ -14,11 +15,6 @@ use Rattle.doc_read.proofs.columns.push_piece.Goals as goal
 
 pub push_character_runs-requires-clause-kind : goal.push_character_runs-requires-clause-kind
 push_character_runs-requires-clause-kind c = ap (λ (s : PlaceSource). s.kind) c.requires.reader.characters
-
-pub push_character_runs-requires-clause-right : goal.push_character_runs-requires-clause-right
-push_character_runs-requires-clause-right c =
-    subst (λ (s : PlaceSource). AreRightPlaces Chpx s.wd s.bin c.front-places.result)
-    (sym c.requires.reader.characters) c.front-places.ensures.right
 
 pub push_character_runs-requires-clause-few : goal.push_character_runs-requires-clause-few
 push_character_runs-requires-clause-few c =
@@ -36,22 +32,56 @@ push_besides-requires-clause-reader c =
     λ i. record { characters = c.push_character_runs.ensures.same i; marks = reader.marks } in
     subst (IsPieceReader c.args.part.now.view) (sym same) c.requires.reader
 
-pub returns-clause-chps : goal.returns-clause-chps
-returns-clause-chps c =
+-- the places of the piece
+places_are : (all places : List ℕ) (part_from from to count : ℕ) → places ≡ slice_range all part_from (part_from + count)
+    → part_from ≡ from → from + count ≡ to → places ≡ slice_range all from to
+places_are all places part_from from to count is here behind =
+    is ∙ ap (λ n. slice_range all n (n + count)) here ∙ ap (slice_range all from) behind
+
+pub returns-then-not-right-clause-right : goal.returns-then-not-right-clause-right
+returns-then-not-right-clause-right c =
     let view = c.args.part.now.view in
     let from = c.args.piece.cp in
     let to = c.args.piece.end in
-    let count = to - from in
-    let behind : from + count ≡ to = omega (arith, c.requires.ordered) in
+    let are = places_are view.places c.front-places.result c.args.part.now.from from to (to - from)
+    c.front-places.ensures.places c.requires.from (omega (arith, c.requires.ordered)) in (
+      λ t. absurd (true≢false (sym t)),
+      λ all.
+          absurd
+          (true≢false
+          (sym (c.in_ok-right.ensures.right.1
+          (subst (λ (s : PlaceSource). AreRightPlaces Chpx s.wd s.bin c.front-places.result)
+          (sym c.requires.reader.characters)
+          (subst (AreRightPlaces Chpx view.wd view.characters) (sym are) all))) ∙ c.if-not-right.true)),
+    )
+
+pub returns-clause-right : goal.returns-clause-right
+returns-clause-right c =
+    let view = c.args.part.now.view in
+    let from = c.args.piece.cp in
+    let to = c.args.piece.end in
+    let are = places_are view.places c.front-places.result c.args.part.now.from from to (to - from)
+    c.front-places.ensures.places c.requires.from (omega (arith, c.requires.ordered)) in (
+      λ _.
+          subst (AreRightPlaces Chpx view.wd view.characters) are
+          (subst (λ (s : PlaceSource). AreRightPlaces Chpx s.wd s.bin c.front-places.result) c.requires.reader.characters
+          (c.in_ok-right.ensures.right.0 c.if-not-right.false)),
+      λ _. refl,
+    )
+
+pub returns-clause-chps : goal.returns-clause-chps
+returns-clause-chps c = λ _.
+    let view = c.args.part.now.view in
+    let from = c.args.piece.cp in
+    let to = c.args.piece.end in
     let within : to ≤ length view.places =
     omega (arith, c.requires.ordered, c.requires.from, c.front-places.ensures.within) in
-    let are : c.front-places.result ≡ slice_range view.places from to =
-    c.front-places.ensures.places
-    ∙ ap (λ n. slice_range view.places n (n + count)) c.requires.from
-    ∙ ap (slice_range view.places from) behind in
+    let are = places_are view.places c.front-places.result c.args.part.now.from from to (to - from)
+    c.front-places.ensures.places c.requires.from (omega (arith, c.requires.ordered)) in
     let read = subst
     (λ (s : PlaceSource). AddsCharacters s.wd s.bin c.front-places.result s.modifier c.args.read.now.chps
-    c.push_character_runs.new.runs) c.requires.reader.characters c.in_ok-push_character_runs.ensures.ok in
+    c.push_character_runs.new.runs) c.requires.reader.characters
+    (c.in_ok-right.ensures.added c.if-not-right.false) in
     let adds = subst
     (λ (l : List ℕ). AddsCharacters view.wd view.characters l c.args.reader.now.characters.modifier
     c.args.read.now.chps c.push_character_runs.new.runs) are read in
@@ -59,7 +89,7 @@ returns-clause-chps c =
     c.push_character_runs.new.runs c.requires.chps c.requires.ordered within c.requires.reader.formed adds
 
 pub returns-clause-besides : goal.returns-clause-besides
-returns-clause-besides c =
+returns-clause-besides c = λ _.
     subst
     (λ (s : PlaceSource). AddsEach (IsBesideAt c.args.part.now.view s.modifier)
     (c.args.piece.end - c.args.piece.cp) c.args.read.now.besides c.push_besides.new.besides)

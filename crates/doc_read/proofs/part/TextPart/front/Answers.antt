@@ -1,10 +1,7 @@
-use Rattle.std.proofs.Common.{◌≡◌, ◌∙◌, ◌≤◌, ◌+◌, ◌-◌, sym, ap, subst, length, take, drop, arith}
+use Rattle.std.proofs.Common.{◌≡◌, ◌∙◌, ◌+◌, ◌-◌, ap, subst, length, take, drop, arith}
 use Rattle.std.specs.Prelude.{slice_range}
 use Rattle.std.proofs.lemmas.List.{length-drop}
-use Rattle.fkp_pages.specs.declared.kind.PageKind.TheVariants.{Chpx}
-use Rattle.direct_props.specs.PageRules.{AreRightPlaces}
 use Rattle.doc_read.specs.Reading.{IsReadable, TextRest}
-use Rattle.doc_read.proofs.ReaderLemmas.{right_range}
 use Rattle.doc_read.proofs.part.TextPart.front.Goals as goal
 
 pub front-requires : goal.front-requires
@@ -40,21 +37,3 @@ returns-clause-places c =
     ∙ ap (take count) c.self.invariant.places_are
     ∙ ap (λ n. take n (drop inside.from all)) behind
     ∙ ap (λ (p : TextRest). slice_range p.view.places p.from (p.from + count)) c.self.view_is
-
-pub returns-clause-right : goal.returns-clause-right
-returns-clause-right c =
-    let inside = c.self.inside in
-    let view = c.args.self.now.view in
-    let from = c.args.self.now.from in
-    let count = c.args.count in
-    let all = inside.text.now.places in
-    let behind : count ≡ inside.from + count - inside.from = omega arith in
-    let places : c.front.result ≡ slice_range view.places from (from + count) =
-    c.front.ensures
-    ∙ ap (take count) c.self.invariant.places_are
-    ∙ ap (λ n. take n (drop inside.from all)) behind
-    ∙ ap (λ (p : TextRest). slice_range p.view.places p.from (p.from + count)) c.self.view_is in
-    let readable = subst (λ (p : TextRest). IsReadable p.view) c.self.view_is c.self.invariant.readable in
-    let within : from + count ≤ length view.places = omega (arith, readable.same, c.requires) in
-    subst (AreRightPlaces Chpx view.wd view.characters) (sym places)
-    (right_range view.wd view.characters view.places from (from + count) within readable.right_characters)
