@@ -5,3 +5,4 @@ pub mod RightLemmas
 pub mod EqualityLemmas
 pub mod WalkLemmas
 pub mod SeenLemmas
+pub mod EndLemmas

@@ -10,10 +10,10 @@ ghost use Rattle.doc_columns.specs.Columns.{item_of, items_of, bare_items};
 
 use crate::Beside;
 use crate::ranges::{are_ranged, are_words, is_ranged, is_word};
-use doc_bits::Memory;
+use doc_bits::{Memory, splice_list};
 use plain_doc::Item;
 use prop_map::PropMap;
-use run_lists::{Run, Runs, Shared, splice_list};
+use run_lists::{Run, Runs, Shared};
 use std::alloc::Global;
 use std::marker::Model;
 

@@ -5,8 +5,7 @@ ghost use Rattle.std.specs.List.{splice};
 ghost use Rattle.plain_doc.specs.Document.{AreFormedTexts};
 
 use crate::Columns;
-use doc_bits::Memory;
-use run_lists::splice_list;
+use doc_bits::{Memory, splice_list};
 use std::alloc::Global;
 use std::marker::Model;
 use std::mem;

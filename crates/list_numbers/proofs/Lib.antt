@@ -9,7 +9,6 @@ pub mod AlikeLemmas
 pub mod NumberedLemmas
 pub mod OneLemmas
 pub mod RomanLemmas
-pub mod EndLemmas
 pub mod ParagraphLemmas
 pub mod DocumentValueLemmas
 pub mod FitLemmas

@@ -18,8 +18,17 @@ use Rattle.plain_doc.specs.Stretches.{stretches, joins_next, joins_at, BeginsStr
 use Rattle.plain_doc.proofs.MainLemmas.{some_end}
 use Rattle.plain_doc.proofs.RightLemmas.{sound_is_right}
 use Rattle.plain_doc.proofs.StretchLemmas.{one_more, stretches-first, stretches-nil}
+use Rattle.doc_columns.proofs.EndLemmas.{EndsAt}
 use Rattle.list_numbers.specs.Places.{paragraphs, EndsBefore}
 use Rattle.list_numbers.specs.Outline.{bare_units}
+
+-- a paragraph that ends at the last place before one ends before it
+pub ends_before : (items : List Item) (at end : ℕ) (found : Option (Bor Mark)) →
+    MatchOption found (HasNoParagraphEnd items at) (λ mark. EndsAt items at (end - 1) mark.now)
+    → MatchOption found (HasNoParagraphEnd items at) (λ mark. EndsBefore items at end mark.now)
+ends_before items at end None none = none
+ends_before items at end (Some mark) there =
+    record { is_end = there.is_end; marked = record { item = there.item; here = there.here; has = there.has } }
 
 -- a paragraph of the main text of a sound document ends with a mark
 pub mark_there : (document : Document) (items : List Item) (at end : ℕ) (found : Option (Bor Mark)) → IsSound document →

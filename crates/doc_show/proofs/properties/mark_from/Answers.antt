@@ -1,10 +1,11 @@
 -- The mark is found beside the last item of the paragraph.
-use Rattle.std.proofs.Common.{◌≡◌, length, arith}
+use Rattle.std.proofs.Common.{◌≡◌, ◌-◌, length, arith}
 use Rattle.run_lists.specs.Spread.{spread, extent}
 use Rattle.doc_columns.specs.Beside.{beside_of}
 use Rattle.doc_columns.proofs.CollectLemmas.{start_at}
 use Rattle.doc_columns.proofs.EqualityLemmas.{column_long}
-use Rattle.doc_show.proofs.ParagraphLemmas.{mark_beside}
+use Rattle.doc_columns.proofs.EndLemmas.{end_beside}
+use Rattle.doc_show.proofs.ParagraphLemmas.{mark_from}
 use Rattle.doc_show.proofs.properties.mark_from.Goals as goal
 
 pub paragraph_end-end-requires-clause-long : goal.paragraph_end-end-requires-clause-long
@@ -26,7 +27,8 @@ pub returns : goal.returns
 returns c =
     let found = c.paragraph_end-end.ensures in
     let long : c.len-len.result ≡ length c.args.columns.now = c.len-len.ensures.len in
-    mark_beside c.args.columns.now (spread c.besides-besides.result.now) c.args.pos c.paragraph_end-end.result
+    mark_from c.args.columns.now c.args.pos (c.paragraph_end-end.result - 1) c.as_ref.result
+    (end_beside c.args.columns.now (spread c.besides-besides.result.now) c.args.pos c.paragraph_end-end.result
     c.seek-last.result.now c.as_ref.result c.besides-besides.ensures found.some
     (omega (arith, found.within, long)) found.inside (λ more. found.ends (omega (arith, more, long)))
-    c.seek-last.ensures.value c.as_ref.ensures.value
+    c.seek-last.ensures.value c.as_ref.ensures.value)

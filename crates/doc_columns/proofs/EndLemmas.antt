@@ -8,10 +8,16 @@ use Rattle.std.proofs.lemmas.Option.{same_Some, slice_get_within}
 use Rattle.doc_bits.proofs.ListLemmas.{there_is, get-map}
 use Rattle.plain_doc.specs.declared.item.Item.{Item}
 use Rattle.plain_doc.specs.declared.item.Mark.{Mark}
-use Rattle.plain_doc.specs.Paragraphs.{EndsParagraph, HasNoParagraphEnd}
+use Rattle.plain_doc.specs.Paragraphs.{EndsParagraph, IsParagraphEnd, HasNoParagraphEnd}
 use Rattle.doc_columns.specs.declared.beside.Beside.{Beside}
 use Rattle.doc_columns.specs.Beside.{beside_of}
-use Rattle.list_numbers.specs.Places.{EndsBefore}
+
+-- the paragraph of an item ends at a place, with this mark
+pub record EndsAt (text : List Item) (from place : ℕ) (mark : Mark) : Type 0 where
+  pub is_end : IsParagraphEnd text from place
+  pub item : Item
+  pub here : slice_get text place ≡ Some item
+  pub has : item.mark ≡ Some mark
 
 no_mark : (beside : Beside) → beside.mark ≡ None → IsSome beside.mark → ⊥
 no_mark beside none some = false≢true (sym (ap is_some none) ∙ some)
@@ -36,7 +42,7 @@ pub end_beside : (text : List Item) (besides : List Beside) (pos end : ℕ) (las
     ((k : ℕ) (beside : Beside) → pos ≤ k → k + 1 < end → slice_get besides k ≡ Some beside → beside.mark ≡ None) →
     (end < length text → (beside : Beside) → slice_get besides (end - 1) ≡ Some beside → IsSome beside.mark) →
     slice_get besides (end - 1) ≡ Some last → option_copied found ≡ last.mark →
-    MatchOption found (HasNoParagraphEnd text pos) (λ mark. EndsBefore text pos end mark.now)
+    MatchOption found (HasNoParagraphEnd text pos) (λ mark. EndsAt text pos (end - 1) mark.now)
 end_beside text besides pos end last None is some within inside ends here mark = λ at le paragraph.
     elim (cases_lt (at + 1) end) [
       | inl low ↦ none_before text besides pos end at is inside le low paragraph
@@ -69,5 +75,7 @@ end_beside text besides pos end last (Some found) is some within inside ends her
                   | inr high ↦ omega (arith, high)
                 ];
           };
-      marked = record { item = one.0; here = one.1; has = has };
+      item = one.0;
+      here = one.1;
+      has = has;
     }
