@@ -1,5 +1,5 @@
 -- Runs of paragraphs, some items with the same mark further.
-use Rattle.std.proofs.Common.{◌≡◌, ◌∙◌, ap, sym, subst, ℕ, zero, suc, ◌+◌, ◌*◌, ◌<◌, ◌≤◌, List, [], ◌∷◌, ◌++◌, length}
+use Rattle.std.proofs.Common.{◌≡◌, subst, ℕ, zero, suc, ◌+◌, ◌*◌, ◌<◌, ◌≤◌, List, [], ◌∷◌, ◌++◌, length}
 use Rattle.std.proofs.Common.{take, Option, Some, None, arith, length-append}
 use Rattle.std.proofs.lemmas.List.{length-take}
 use Rattle.doc_bits.proofs.ListLemmas.{there_is}

@@ -1,7 +1,7 @@
 -- The sections that end in a run of what stands beside units, of which some have their settings in an old stream.
 use Rattle.std.proofs.Common.{◌≡◌, ◌∙◌, ap, sym, subst, ℕ, zero, suc, ◌+◌, ◌-◌, ◌*◌, ◌<◌, ◌≤◌, List, [], ◌∷◌, ◌++◌}
 use Rattle.std.proofs.Common.{refl, length, get_or, Option, Some, None, arith}
-use Rattle.std.specs.Prelude.{slice_get, All, IsSome}
+use Rattle.std.specs.Prelude.{slice_get, IsSome}
 use Rattle.std.proofs.lemmas.List.{length-append}
 use Rattle.prop_map.specs.Settings.{Settings}
 use Rattle.doc_parts.specs.declared.lists.Sed.{Sed}
@@ -13,7 +13,7 @@ use Rattle.full_save.specs.Alike.{HaveAlike}
 use Rattle.full_save.specs.Sections.{left_from}
 use Rattle.full_save.proofs.AlikeLemmas.{alike_fewer, alike_rest, alike_of}
 use Rattle.full_save.proofs.ColumnLists.{there_at}
-use Rattle.append_save.specs.PlannedSections.{new_sepx, planned_fc, planned_seds, planned_sepxes}
+use Rattle.append_save.specs.PlannedSections.{new_sepx, planned_fc, planned_seds}
 use Rattle.append_save.specs.PlannedSections.{PlannedSections, ArePlannedUpTo}
 use Rattle.append_save.specs.declared.sections.SectionPlaces.{SectionPlaces}
 use Rattle.append_save.proofs.PlannedLemmas.{planned_skip, planned_more, left_some}

@@ -19,7 +19,6 @@ use Rattle.fib_form.specs.Fib.{form_size}
 use Rattle.fib_form.specs.FibBytes.{written_fib}
 use Rattle.save_laws.specs.Places.{fib_end}
 use Rattle.append_save.specs.Saves.{FastSave}
-use Rattle.append_save.specs.RenewedStreams.{chain_named}
 use Rattle.append_save.specs.Appended.{table_name_of, old_wd, old_table, added_bytes, fast_table, fast_wd, change_of}
 use Rattle.append_save.specs.Answers.{IsAppended, NeedsTooMany, sectors_anew, sectors_in_place, sectors_of}
 use Rattle.append_save.proofs.FilledTable.{table_long}

@@ -1,7 +1,5 @@
 // What a save finds in the file that is there.
-ghost use Rattle.std.specs.Prelude.{◌≡◌, ◌+◌, ◌≤◌, length, slice_range};
-ghost use Rattle.fib_form.specs.FibFields.{pair_at};
-ghost use Rattle.fib_form.specs.TableParts.{pair_of};
+ghost use Rattle.std.specs.Prelude.{◌≡◌, ◌+◌};
 ghost use Rattle.cfb_streams.specs.Names.{table_name as name_of_table};
 ghost use Rattle.append_save.specs.RenewedStreams.{bytes_named as bytes_of_stream};
 ghost use Rattle.append_save.specs.OldParts.{StaysWithin, named_part};

@@ -14,8 +14,8 @@ use prop_map::PropMap;
 use run_lists::Run;
 use std::alloc::Global;
 
-/// The places of the settings of sections, or none where they are still to be written, in a stream that has `base` bytes
-/// before those that are added.
+/// The places of the settings of sections, or none where they are still to be written, in a stream that has `base`
+/// bytes before those that are added.
 #[derive(Drop)]
 pub(crate) struct SectionPlaces<'a> {
     pub(crate) places: &'a [Option<u32>],

@@ -1,7 +1,7 @@
 -- Texts one behind the other, column by column.
 use Rattle.std.specs.Prelude.{slice_get, replicate}
-use Rattle.std.proofs.Common.{◌≡◌, ◌∙◌, ◌++◌, ◌∷◌, ◌+◌, ◌<◌, ◌≤◌, ◌^◌, [], Bool, true, false, Some, take, ℕ, List, refl, sym, ap, subst}
-use Rattle.std.proofs.Common.{length, map, arith, append_assoc}
+use Rattle.std.proofs.Common.{◌≡◌, ◌∙◌, ◌++◌, ◌∷◌, ◌+◌, ◌<◌, ◌≤◌, ◌^◌, [], Bool, true, false, Some, take}
+use Rattle.std.proofs.Common.{ℕ, List, refl, sym, ap, subst, length, map, arith, append_assoc}
 use Rattle.std.proofs.lemmas.List.{length-map, length-append, map-append, append-nil}
 use Rattle.std.proofs.lemmas.Option.{slice_get_within}
 use Rattle.std.proofs.lemmas.List.Elements.{All-append}
@@ -47,7 +47,8 @@ pub joined_are : (units : List ℕ) (chps : List Settings) (besides : List Besid
     AreColumns new_units new_chps new_besides
 joined_are units chps besides new_units new_chps new_besides text are first second third few formed =
     let front : List Item = items_of units chps besides in
-    let made = joined_columns units chps besides new_units new_chps new_besides front text are refl first second third in
+    let made = joined_columns units chps besides new_units new_chps new_besides front text are refl first second
+    third in
     let all = length-items_of units chps besides are.chps_long are.besides_long in
     let unit : Item → ℕ = λ item. item.unit in
     let chp : Item → Settings = λ item. item.chp in

@@ -3,15 +3,15 @@ use Rattle.std.specs.Prelude.{slice_get, slice_range, is_some, min}
 use Rattle.std.specs.Option.{option_map}
 use Rattle.std.specs.List.{All, take-map, drop-map}
 use Rattle.std.proofs.Common.{◌≡◌, ◌∙◌, ◌++◌, ◌∷◌, ◌+◌, ◌-◌, ◌<◌, ◌≤◌, [], ℕ, List, refl, sym, ap}
-use Rattle.std.proofs.Common.{Option, Some, None, zero, suc, length, map, take, drop, get_or, inl, inr, arith, append_assoc}
-use Rattle.std.proofs.lemmas.Bool.{cases_lt}
-use Rattle.std.proofs.lemmas.List.{append-nil, length-append, length-map, map-append, take_all, length-take, length-drop}
-use Rattle.std.proofs.lemmas.List.{drop-drop, drop_min}
+use Rattle.std.proofs.Common.{Option, Some, None, zero, suc, length, map, take, drop, get_or}
+use Rattle.std.proofs.Common.{arith, append_assoc}
+use Rattle.std.proofs.lemmas.List.{append-nil, length-append, length-map, map-append, length-take}
+use Rattle.std.proofs.lemmas.List.{length-drop, drop-drop}
 use Rattle.std.proofs.lemmas.List.Elements.{All-append, All-nil, All-weaker}
 use Rattle.std.proofs.lemmas.List.Sums.{sum_by-cons, sum_by-append, sum_by-take-le}
 use Rattle.std.proofs.lemmas.Option.{slice_get_within, slice_get-get_or, same_Some, none-some}
 use Rattle.prop_map.specs.Settings.{Settings}
-use Rattle.block_lists.proofs.RangeLemmas.{range-append}
+use Rattle.block_lists.proofs.RangeLemmas.{range-append, range_clamped}
 use Rattle.piece_table.specs.declared.pieces.Piece.{Piece}
 use Rattle.piece_table.specs.Piece.{TextPiece, bare_piece, total_length}
 use Rattle.plain_doc.specs.declared.item.Item.{Item}
@@ -43,7 +43,8 @@ renewed_values-push {A = A} (first ∷ places) (front ∷ pieces) place piece va
     let one : List A = values_for (is_some first) (take front.len values) in
     let rest : List A = drop front.len values in
     let total : ℕ = total_length pieces in
-    let begin : total_length (front ∷ pieces) ≡ front.len + total = sum_by-cons (λ (p : TextPiece). p.len) front pieces in
+    let begin : total_length (front ∷ pieces) ≡ front.len + total =
+    sum_by-cons (λ (p : TextPiece). p.len) front pieces in
     let width : total + piece.len - total ≡ total_length (front ∷ pieces) + piece.len - total_length (front ∷ pieces) =
     omega arith in
     let range : slice_range rest total (total + piece.len) ≡ slice_range values (total_length (front ∷ pieces))
@@ -155,7 +156,8 @@ picked_more {A = A} places pieces number begin stretch values is at len =
     ∙ ap (λ l. renewed_values (take number places) (take number pieces) values ++ l)
     (ap (λ b. values_for b (slice_range values total (total + is.piece.len))) (sym is.chosen)
     ∙ ap (values_for stretch.again)
-    (ap (λ n. slice_range values n (total + is.piece.len)) (sym from) ∙ ap (slice_range values stretch.from) (sym to)))))
+    (ap (λ n. slice_range values n (total + is.piece.len)) (sym from)
+    ∙ ap (slice_range values stretch.from) (sym to)))))
 
 -- where it ends
 pub next_total : (places : List (Option ℕ)) (pieces : List TextPiece) (number begin : ℕ) (stretch : Stretch) →
@@ -203,21 +205,6 @@ pub length-range : {A : Type 0} (values : List A) (from to : ℕ) → from ≤ t
     length (slice_range values from to) ≡ to - from
 length-range values from to order within =
     omega (arith, length-take (to - from) (drop from values), length-drop from values, order, within)
-
-range_clamped : {A : Type 0} (xs : List A) (a b : ℕ) → a ≤ b →
-    slice_range xs (min a (length xs)) (min b (length xs)) ≡ slice_range xs a b
-range_clamped {A = A} xs a b order =
-    let long = length-drop a xs in
-    ap (λ (t : List A). take (min b (length xs) - min a (length xs)) t) (drop_min a xs)
-    ∙ elim (cases_lt (length xs) b) [
-      | inl beyond ↦
-          let one : length (drop a xs) ≤ min b (length xs) - min a (length xs) = omega (arith, long) in
-          let two : length (drop a xs) ≤ b - a = omega (arith, long) in
-          take_all (min b (length xs) - min a (length xs)) (drop a xs) one ∙ sym (take_all (b - a) (drop a xs) two)
-      | inr inside ↦
-          let same : min b (length xs) - min a (length xs) ≡ b - a = omega arith in
-          ap (λ (n : ℕ). take n (drop a xs)) same
-    ]
 
 pub range_of_two : {A : Type 0} (first second : List A) (from to front end : ℕ) → from ≤ to →
     front ≡ min from (length first) → end ≡ min to (length first) →

@@ -47,8 +47,8 @@ use Rattle.edited_text.specs.declared.added.Added.{Added}
 use Rattle.edited_text.specs.declared.session_text.SessionText.{SessionText}
 use Rattle.edited_text.specs.AddedText.{plan_of, IsAddedFor, added_piece}
 use Rattle.piece_table.specs.Renewals.{renewed_piece, renewed_pieces, HasRoomAt}
-use Rattle.edited_text.specs.WrittenAgain.{SetsMarks, IsRewritten, IsChosen, renewed_units, slot_item, place_at, len_for}
-use Rattle.edited_text.specs.WrittenAgain.{values_for}
+use Rattle.edited_text.specs.WrittenAgain.{SetsMarks, IsRewritten, IsChosen, renewed_units, slot_item}
+use Rattle.edited_text.specs.WrittenAgain.{place_at, len_for, values_for}
 use Rattle.edited_text.specs.WrittenAgain.{AreWritten, AreChosen, IsWrittenAgain, renewed_values}
 use Rattle.edited_text.specs.SessionText.{HaveFitModifiers, HaveNoModifiers, HaveModifiersWithin}
 use Rattle.edited_text.proofs.BlockLemmas.{blocks_stand}
@@ -206,7 +206,8 @@ units_few (Some at ∷ places) (piece ∷ pieces) =
 
 -- a piece that is written again has as many units at its new place, and no other has any
 units_for : (base number : ℕ) (again : Bool) (piece : TextPiece) (slots : List Slot) → length slots ≡ piece.len →
-    length (values_for again (map slot_item slots)) ≡ renewed_units (place_at again (base + 2 * number) ∷ []) (piece ∷ [])
+    length (values_for again (map slot_item slots))
+    ≡ renewed_units (place_at again (base + 2 * number) ∷ []) (piece ∷ [])
 units_for base number true piece slots len = omega (arith, length-map slots slot_item, len)
 units_for base number false piece slots len = refl
 
@@ -247,13 +248,14 @@ piece_stands stream added items marks true piece slots is stand =
     fresh_stand stream added.base items piece slots (omega (arith, stand.len, length-unit_places piece))
 piece_stands stream added items marks false piece slots is stand =
     kept_stand stream (plan_of added)
-    (plan_of (record { base = added.base; items = items ++ values_for false (map slot_item slots) })) (unit_places piece)
-    slots (old_units piece added.base (kept_end added.base marks piece is)) stand
+    (plan_of (record { base = added.base; items = items ++ values_for false (map slot_item slots) }))
+    (unit_places piece) slots (old_units piece added.base (kept_end added.base marks piece is)) stand
 
 -- the units of a piece, which are bounded where they are old, at its new place or where it was
 old_for : (stream : PagedStream) (base number : ℕ) (again : Bool) (piece : TextPiece) (slots : List Slot) →
     piece.len ≡ length slots → AreTogether (IsOldBounded stream base) (unit_places piece) slots →
-    AreTogether (IsOldBounded stream base) (unit_places (renewed_piece (place_at again (base + 2 * number)) piece)) slots
+    AreTogether (IsOldBounded stream base)
+    (unit_places (renewed_piece (place_at again (base + 2 * number)) piece)) slots
 old_for stream base number true piece slots len old =
     new_units stream base (renewed_piece (Some (base + 2 * number)) piece) slots (omega arith) len
 old_for stream base number false piece slots len old = old

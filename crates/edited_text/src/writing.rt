@@ -1,7 +1,6 @@
 // A text that is written again: the items of its pieces, in the order of the text, in fresh added text.
-ghost use Rattle.std.specs.Prelude.{◌≡◌, ◌↔◌, ◌+◌, ◌*◌, ◌^◌, ◌<◌, ◌≤◌, ◌++◌, length, map, IsTrue, MatchOption};
+ghost use Rattle.std.specs.Prelude.{◌≡◌, ◌↔◌, ◌+◌, ◌*◌, ◌^◌, ◌<◌, ◌++◌, length, map, IsTrue, MatchOption};
 ghost use Rattle.std.specs.Prelude.{slice_get, IfOk};
-ghost use Rattle.prop_map.specs.declared.modifiers.Modifier.{Modifier as ModifierValue};
 ghost use Rattle.piece_table.specs.Piece.{total_length};
 ghost use Rattle.plain_doc.specs.Sound.{IsSound};
 ghost use Rattle.save_laws.specs.Slots.{whole_text};

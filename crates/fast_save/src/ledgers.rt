@@ -163,8 +163,9 @@ fn raised(count: u64, more: u64) -> u64
 fn has_modifier(pieces: &PieceList) -> bool
     ensures { result ≡ false ↔ AreUnmodified pieces.now.pieces }
 {
+    let mut walk = pieces.walk();
     for i in 0..pieces.len() {
-        if !pieces.modifier(i).is_none() {
+        if !walk.modifier(i).is_none() {
             return true;
         }
     }
@@ -175,9 +176,10 @@ fn has_modifier(pieces: &PieceList) -> bool
 fn most_printed(pieces: &PieceList) -> u64
     ensures { result ≡ longest_printed pieces.now.pieces }
 {
+    let mut walk = pieces.walk();
     let mut most = 0;
     for i in 0..pieces.len() {
-        most = pieces.modifier(i).printed_len().max(most);
+        most = walk.modifier(i).printed_len().max(most);
     }
     most
 }

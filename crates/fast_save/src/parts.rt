@@ -1,9 +1,6 @@
 // What a session has beside its document: the text, and what a save reads of the file.
 ghost use Rattle.std.specs.Prelude.{◌≡◌, ℕ, ◌+◌, ◌^◌, ◌<◌, ◌≤◌, [], List, length, slice_range, IfOk};
 ghost use Rattle.cfb_streams.specs.Contents.{HasNamed};
-ghost use Rattle.plain_doc.specs.Sound.{IsSound};
-ghost use Rattle.save_laws.specs.Slots.{StoryEnds, story_counts};
-ghost use Rattle.save_laws.specs.Ends.{ends_of};
 ghost use Rattle.edited_text.specs.SessionText.{unwritten_count};
 ghost use Rattle.fast_save.specs.Session.{IsSession, text_base as base_behind, bin_length};
 ghost use Rattle.fast_save.specs.Started.{IsOpenFile, IsReadFile, written_places};

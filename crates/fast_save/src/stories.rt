@@ -1,5 +1,5 @@
 // Which stories of a file have a mark behind them.
-ghost use Rattle.std.specs.Prelude.{◌≡◌, ◌^◌, ◌<◌, ◌≤◌, Bool, length};
+ghost use Rattle.std.specs.Prelude.{◌≡◌, ◌^◌, ◌<◌, Bool, length};
 ghost use Rattle.plain_doc.specs.Sound.{IsSound};
 ghost use Rattle.plain_doc.specs.Collected.{joined_texts};
 ghost use Rattle.save_laws.specs.Slots.{StoryEnds, story_slots, story_counts};

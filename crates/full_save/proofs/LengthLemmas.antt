@@ -293,9 +293,11 @@ made_of d =
       note_cuts = printed_texts (cuts_of (joined_texts d.notes) d.notes) notes;
       sections = printed_sections text.seds main;
       head_cuts = printed_texts (cuts_of (joined_texts d.heads) d.heads) heads;
-      main_fields = printed_fields (fields_of d.main) main;
-      head_fields = printed_fields (fields_of (joined_texts d.heads)) heads;
-      note_fields = printed_fields (fields_of (joined_texts d.notes)) notes;
+      fields = record {
+        main = printed_fields (fields_of d.main) main;
+        heads = printed_fields (fields_of (joined_texts d.heads)) heads;
+        notes = printed_fields (fields_of (joined_texts d.notes)) notes;
+      };
       marks = record {
         names = printed_names d.bookmarks;
         starts = printed_starts d.bookmarks main;
@@ -341,9 +343,7 @@ made_so d = record {
   note_cuts = refl;
   sections = refl;
   head_cuts = refl;
-  main_fields = refl;
-  head_fields = refl;
-  note_fields = refl;
+  fields = record { main = refl; heads = refl; notes = refl };
   marks = record { names = refl; starts = refl; ends = refl };
 }
 

@@ -24,9 +24,9 @@ made_are document text made are = λ i.
     ∷ entry (pair_of PlcfBteChpx) text.characters
     ∷ entry (pair_of PlcfBtePapx) text.paragraphs
     ∷ entry (pair_of SttbfFfn) document.carried.fonts
-    ∷ entry (pair_of PlcfFldMom) (are.main_fields i)
-    ∷ entry (pair_of PlcfFldHdr) (are.head_fields i)
-    ∷ entry (pair_of PlcfFldFtn) (are.note_fields i)
+    ∷ entry (pair_of PlcfFldMom) (are.fields.main i)
+    ∷ entry (pair_of PlcfFldHdr) (are.fields.heads i)
+    ∷ entry (pair_of PlcfFldFtn) (are.fields.notes i)
     ∷ entry (pair_of SttbfBkmk) (are.marks.names i)
     ∷ entry (pair_of PlcfBkf) (are.marks.starts i)
     ∷ entry (pair_of PlcfBkl) (are.marks.ends i)

@@ -18,6 +18,7 @@ use Rattle.plain_doc.specs.declared.document.Document.{Document}
 use Rattle.plain_doc.specs.Collected.{joined_texts, fields_of, refs_of}
 use Rattle.plain_doc.specs.TextLists.{cuts_of}
 use Rattle.full_save.specs.declared.table_text.TableText.{TableText}
+use Rattle.full_save.specs.declared.made_parts.FieldParts.{FieldParts}
 use Rattle.full_save.specs.declared.made_parts.MadeParts.{MadeParts}
 use Rattle.full_save.specs.declared.mark_parts.MarkParts.{MarkParts}
 use Rattle.full_save.specs.declared.word_document.WordBody.{WordBody}
@@ -29,6 +30,12 @@ pub record AreMarkParts (bookmarks : List Bookmark) (end : ℕ) (parts : MarkPar
   pub starts : parts.starts ≡ printed_starts bookmarks end
   pub ends : parts.ends ≡ printed_ends bookmarks end
 
+-- the three parts of field characters, where the main text, the header texts and the notes end
+pub record AreFieldParts (document : Document) (text : TableText) (parts : FieldParts) : Type 0 where
+  pub main : parts.main ≡ printed_fields (fields_of document.main) (slice_index text.counts 0)
+  pub heads : parts.heads ≡ printed_fields (fields_of (joined_texts document.heads)) (slice_index text.counts 2)
+  pub notes : parts.notes ≡ printed_fields (fields_of (joined_texts document.notes)) (slice_index text.counts 1)
+
 -- the parts of the table stream that are made of a document, with what is said of its text
 pub record AreMadeOf (document : Document) (text : TableText) (made : MadeParts) : Type 0 where
   pub sheet : made.sheet ≡ written_sheet document.sheet
@@ -38,11 +45,7 @@ pub record AreMadeOf (document : Document) (text : TableText) (made : MadeParts)
   pub sections : made.sections ≡ printed_sections text.seds (slice_index text.counts 0)
   pub head_cuts : made.head_cuts ≡ printed_texts (cuts_of (joined_texts document.heads) document.heads) (slice_index
       text.counts 2)
-  pub main_fields : made.main_fields ≡ printed_fields (fields_of document.main) (slice_index text.counts 0)
-  pub head_fields : made.head_fields ≡ printed_fields (fields_of (joined_texts document.heads)) (slice_index
-      text.counts 2)
-  pub note_fields : made.note_fields ≡ printed_fields (fields_of (joined_texts document.notes)) (slice_index
-      text.counts 1)
+  pub fields : AreFieldParts document text made.fields
   pub marks : AreMarkParts document.bookmarks (slice_index text.counts 0) made.marks
 
 -- the parts in the order of their pairs
@@ -56,9 +59,9 @@ made_entries carried text made =
     ∷ entry (pair_of PlcfBteChpx) text.characters
     ∷ entry (pair_of PlcfBtePapx) text.paragraphs
     ∷ entry (pair_of SttbfFfn) carried.fonts
-    ∷ entry (pair_of PlcfFldMom) made.main_fields
-    ∷ entry (pair_of PlcfFldHdr) made.head_fields
-    ∷ entry (pair_of PlcfFldFtn) made.note_fields
+    ∷ entry (pair_of PlcfFldMom) made.fields.main
+    ∷ entry (pair_of PlcfFldHdr) made.fields.heads
+    ∷ entry (pair_of PlcfFldFtn) made.fields.notes
     ∷ entry (pair_of SttbfBkmk) made.marks.names
     ∷ entry (pair_of PlcfBkf) made.marks.starts
     ∷ entry (pair_of PlcfBkl) made.marks.ends
@@ -73,6 +76,10 @@ made_entries carried text made =
 abbrev pub marks_length : MarkParts → ℕ
 marks_length marks = length marks.names + length marks.starts + length marks.ends
 
+-- the number of bytes of these three
+abbrev pub fields_length : FieldParts → ℕ
+fields_length fields = length fields.main + length fields.heads + length fields.notes
+
 -- the number of bytes of all
 abbrev pub made_length : MadeParts → ℕ
 made_length made =
@@ -81,9 +88,7 @@ made_length made =
     + length made.note_cuts
     + length made.sections
     + length made.head_cuts
-    + length made.main_fields
-    + length made.head_fields
-    + length made.note_fields
+    + fields_length made.fields
     + marks_length made.marks
 
 -- the number of bytes of the parts that are carried along

@@ -8,7 +8,7 @@ ghost use Rattle.plain_doc.specs.Collected.{joined_texts, fields_of, refs_of};
 ghost use Rattle.plain_doc.specs.TextLists.{cuts_of};
 ghost use Rattle.full_save.specs.TableText.{FitParts, table_entries};
 ghost use Rattle.full_save.specs.TableStream.{entries_bytes, AreWritten};
-ghost use Rattle.full_save.specs.Made.{AreMadeOf, made_entries, carried_length};
+ghost use Rattle.full_save.specs.Made.{AreFieldParts, AreMadeOf, made_entries, carried_length};
 
 use crate::lists::{cuts_of, fields_of, fields_of_texts, refs_of};
 use crate::mark_parts::MarkParts;
@@ -21,6 +21,30 @@ use fib_form::TablePart;
 use plain_doc::Carried;
 use std::alloc::Global;
 
+/// The parts that hold field characters: those of the main text, of the header texts and of the notes.
+#[derive(Drop)]
+struct FieldParts {
+    main: Bytes,
+    heads: Bytes,
+    notes: Bytes,
+}
+
+impl FieldParts {
+    /// Those of a document.
+    fn of(alloc: Global, document: &ColumnDocument, text: &TableText) -> Result<FieldParts, Memory>
+        requires notes { length (joined_texts document.now.notes) < 2 ^ 32 }
+        requires heads { length (joined_texts document.now.heads) < 2 ^ 32 }
+        ensures { IfOk result (AreFieldParts document.now text.now) }
+    {
+        let [main, notes, heads] = text.counts;
+        Ok(FieldParts {
+            main: fields_part(alloc, &document.main, main)?,
+            heads: texts_fields_part(alloc, &document.heads, heads)?,
+            notes: texts_fields_part(alloc, &document.notes, notes)?,
+        })
+    }
+}
+
 /// The parts that are made of a document.
 #[derive(Drop)]
 struct MadeParts {
@@ -29,9 +53,7 @@ struct MadeParts {
     note_cuts: Bytes,
     sections: Bytes,
     head_cuts: Bytes,
-    main_fields: Bytes,
-    head_fields: Bytes,
-    note_fields: Bytes,
+    fields: FieldParts,
     marks: MarkParts,
 }
 
@@ -45,16 +67,13 @@ impl MadeParts {
         ensures { IfOk result (AreMadeOf document.now text.now) }
     {
         let [main, notes, heads] = text.counts;
-        let items = &document.main;
         Ok(MadeParts {
             sheet: document.sheet.print(alloc)?,
-            refs: refs_part(alloc, items, main)?,
+            refs: refs_part(alloc, &document.main, main)?,
             note_cuts: cuts_part(alloc, &document.notes, notes)?,
             sections: print_sections(alloc, &text.seds, main)?,
             head_cuts: cuts_part(alloc, &document.heads, heads)?,
-            main_fields: fields_part(alloc, items, main)?,
-            head_fields: texts_fields_part(alloc, &document.heads, heads)?,
-            note_fields: texts_fields_part(alloc, &document.notes, notes)?,
+            fields: FieldParts::of(alloc, document, text)?,
             marks: MarkParts::of(alloc, &document.bookmarks, main)?,
         })
     }
@@ -138,9 +157,9 @@ fn table_of(
         (TablePart::PlcfBteChpx, text.characters.as_slice()),
         (TablePart::PlcfBtePapx, text.paragraphs.as_slice()),
         (TablePart::SttbfFfn, carried.fonts.as_slice()),
-        (TablePart::PlcfFldMom, made.main_fields.as_slice()),
-        (TablePart::PlcfFldHdr, made.head_fields.as_slice()),
-        (TablePart::PlcfFldFtn, made.note_fields.as_slice()),
+        (TablePart::PlcfFldMom, made.fields.main.as_slice()),
+        (TablePart::PlcfFldHdr, made.fields.heads.as_slice()),
+        (TablePart::PlcfFldFtn, made.fields.notes.as_slice()),
         (TablePart::SttbfBkmk, marks.names.as_slice()),
         (TablePart::PlcfBkf, marks.starts.as_slice()),
         (TablePart::PlcfBkl, marks.ends.as_slice()),

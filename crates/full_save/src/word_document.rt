@@ -1,5 +1,5 @@
 // `WordDocument` of a full save.
-ghost use Rattle.std.specs.Prelude.{◌≡◌, ◌+◌, ◌-◌, ◌*◌, ◌/◌, ◌^◌, ◌<◌, ◌≤◌, ◌++◌, max, length, replicate, OnOk, IfOk};
+ghost use Rattle.std.specs.Prelude.{◌≡◌, ◌+◌, ◌-◌, ◌*◌, ◌/◌, ◌^◌, ◌<◌, ◌≤◌, ◌++◌, length, replicate, OnOk, IfOk};
 ghost use Rattle.fib_form.specs.FibBytes.{written_fib};
 ghost use Rattle.cfb_layout.specs.Sectors.{units_for, filled, padded};
 ghost use Rattle.full_save.specs.WordDocument.{units_bytes, items_bytes, text_bytes, one_piece_clx, least_length};

@@ -9,7 +9,6 @@ use Rattle.doc_bits.proofs.ListLemmas.{there_is, get-map, All_at}
 use Rattle.fib_form.specs.FibFields.{text_length}
 use Rattle.fib_form.proofs.FibLemmas.{sum-three}
 use Rattle.text_codes.specs.Paragraph.{paragraph_mark}
-use Rattle.doc_parts.specs.declared.bookmark_order.Bookmark.{Bookmark}
 use Rattle.plain_doc.specs.declared.item.Item.{Item}
 use Rattle.plain_doc.specs.declared.document.Document.{Document}
 use Rattle.plain_doc.specs.Collected.{joined_texts}
@@ -50,12 +49,6 @@ length-story_slots texts end =
 length-last : (slots : List Slot) → length (last_slots slots) ≡ min 1 (length slots)
 length-last [] = omega arith
 length-last (slot ∷ slots) = omega arith
-
--- the whole text does not see bookmarks
-pub same_whole : (document : Document) (bookmarks : List Bookmark) (ends : StoryEnds) →
-    whole_text (record document { bookmarks = bookmarks }) ends ≡ whole_text document ends
-unfolding whole_text
-same_whole document bookmarks ends = refl
 
 pub length-whole : (document : Document) (ends : StoryEnds) →
     length (whole_text document ends) ≡ text_length (story_counts document ends)

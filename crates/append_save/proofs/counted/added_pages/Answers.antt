@@ -1,9 +1,7 @@
 use Rattle.std.proofs.Common.{◌∙◌, ap, subst, sym, List, ℕ, arith}
-use Rattle.fkp_pages.specs.declared.kind.PageKind.TheVariants.{Chpx, Papx}
+use Rattle.fkp_pages.specs.declared.kind.PageKind.TheVariants.{Papx}
 use Rattle.fkp_pages.specs.Bin.{IsBinTable}
 use Rattle.fkp_pages.specs.Runs.{AreRuns}
-use Rattle.plain_doc.specs.declared.item.Item.{Item}
-use Rattle.full_save.specs.Runs.{text_runs}
 use Rattle.save_bounds.specs.SharedPages.{pages_taken}
 use Rattle.append_save.specs.AddedPages.{paragraph_bins}
 use Rattle.append_save.specs.MarkRuns.{mark_runs}

@@ -1,17 +1,15 @@
-use Rattle.std.proofs.Common.{◌≡◌, ◌∙◌, inl, inr, List, ℕ, length, sym, ap, subst, ◌≤◌, ◌<◌, arith}
+use Rattle.std.proofs.Common.{◌∙◌, inl, inr, List, length, sym, ap, subst, arith}
 use Rattle.doc_bits.specs.declared.places.Where.TheVariants.{File}
 use Rattle.cfb_streams.specs.Contents.{NamedBytes, AreStreams}
 use Rattle.cfb_streams.specs.Container.{container_rules}
 use Rattle.cfb_layout.specs.Counts.{Fits, sectors_needed}
-use Rattle.cfb_layout.specs.Faults.{IsLayoutFault}
 use Rattle.cfb_layout.specs.declared.faults.LayoutFault.TheVariants.{TooLarge}
 use Rattle.cfb_layout.specs.Layout.{lengths_of, compound_file}
 use Rattle.cfb_append.specs.Change.{StreamChange}
 use Rattle.cfb_append.specs.Contract.{CanBeAppended as CanBePut, IsSavedInPlace, NeedsTooMany as NeedTooMany}
 use Rattle.doc_load.proofs.RightPlaces.{hold_out}
 use Rattle.append_save.specs.Saves.{FastSave, save_of}
-use Rattle.append_save.specs.Appended.{table_name_of, fast_streams}
-use Rattle.append_save.specs.Answers.{IsAppended, NeedsTooMany}
+use Rattle.append_save.specs.Appended.{table_name_of}
 use Rattle.append_save.specs.Bodies.{IsWriteFault}
 use Rattle.append_save.proofs.ReadyLemmas.{long_wd}
 use Rattle.append_save.proofs.WrittenLemmas.{Made, made_of, sizes}

@@ -12,7 +12,8 @@ use Rattle.append_save.proofs.sections.append_sections.Goals as goal
 pub loop-run-init : goal.loop-run-init
 loop-run-init c = (
   sym (extent-nil Beside),
-  planned_begin c.args.main.now c.args.plan.now.places.now c.args.plan.now.base c.args.out.now _ c.requires.count c.new.ensures,
+  planned_begin c.args.main.now c.args.plan.now.places.now c.args.plan.now.base c.args.out.now _ c.requires.count
+      c.new.ensures,
 )
 
 pub overflow_add-place : goal.overflow_add-place
@@ -61,8 +62,8 @@ add_run-requires-clause-places c =
     slice_get_read runs (length runs) c.loop-run.run-index run refl below c.run-item.is in
     let alike = run_inside c.args.main.now runs c.loop-run.run-index c.loop-run.place run c.besides-run-items.ensures is
     c.loop-run.invariant.0 in
-    λ some. places_within c.args.main.now c.args.plan.now.places.now c.args.plan.now.base c.args.out.now run.value c.loop-run.place
-    run.count _ alike some c.loop-run.invariant.1
+    λ some. places_within c.args.main.now c.args.plan.now.places.now c.args.plan.now.base c.args.out.now run.value
+    c.loop-run.place run.count _ alike some c.loop-run.invariant.1
 
 pub add_run-requires-clause-room : goal.add_run-requires-clause-room
 add_run-requires-clause-room c =

@@ -5,5 +5,6 @@ use Rattle.append_save.proofs.sections.append_sections.Given as goal
 
 abbrev pub invariant-loop-run : goal.invariant-loop-run
 invariant-loop-run l =
-    (l.place ≡ extent (take l.run-index l.run-items)) × ArePlannedUpTo l.fn.main l.plan.places.now l.plan.base l.fn.out l.place
+    (l.place ≡ extent (take l.run-index l.run-items))
+    × ArePlannedUpTo l.fn.main l.plan.places.now l.plan.base l.fn.out l.place
     (record { number = l.sections.number; start = l.sections.start; out = l.out; seds = l.sections.seds })

@@ -1,7 +1,7 @@
-use Rattle.std.proofs.Common.{◌≡◌, ◌∙◌, ◌+◌, ◌≤◌, ap, sym, take, replicate, List, ℕ, arith}
+use Rattle.std.proofs.Common.{◌∙◌, ◌+◌, ap, sym, List, arith}
 use Rattle.std.proofs.lemmas.List.{take_all}
 use Rattle.run_lists.specs.declared.runs.Run.{Run}
-use Rattle.run_lists.specs.Spread.{spread, extent}
+use Rattle.run_lists.specs.Spread.{spread}
 use Rattle.doc_columns.specs.declared.beside.Beside.{Beside}
 use Rattle.doc_edit.specs.GeneratedRuns.{marks_beside}
 use Rattle.doc_edit.proofs.MarkCountLemmas.{marks_none, marks_more, marks_within}

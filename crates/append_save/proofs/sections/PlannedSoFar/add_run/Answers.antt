@@ -1,6 +1,6 @@
-use Rattle.std.specs.Prelude.{slice_get, IsSome}
-use Rattle.std.proofs.Common.{◌≡◌, ◌+◌, ◌*◌, ◌≤◌, ◌<◌, ◌∙◌, ◌++◌, ℕ, [], ◌∷◌, Option, Some, None, length, ap, sym, subst}
-use Rattle.std.proofs.Common.{refl, arith}
+use Rattle.std.specs.Prelude.{IsSome}
+use Rattle.std.proofs.Common.{◌≡◌, ◌+◌, ◌<◌, ◌∙◌, ◌++◌, ℕ, [], ◌∷◌}
+use Rattle.std.proofs.Common.{Option, Some, None, length, ap, sym, subst, refl, arith}
 use Rattle.std.proofs.lemmas.Option.{slice_get-get_or}
 use Rattle.prop_map.specs.Settings.{Settings}
 use Rattle.plain_doc.specs.declared.item.Item.{Item}

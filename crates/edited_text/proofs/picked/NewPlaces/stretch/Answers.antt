@@ -1,4 +1,4 @@
-use Rattle.std.proofs.Common.{◌≡◌, ap, refl, sym, subst, List, Some}
+use Rattle.std.proofs.Common.{◌≡◌, refl, subst, List, Some}
 use Rattle.std.specs.Prelude.{slice_get}
 use Rattle.std.specs.Option.{option_map}
 use Rattle.piece_table.specs.Piece.{TextPiece, bare_piece}

@@ -43,8 +43,8 @@ pub from_parts-requires-clause-chps : goal.from_parts-requires-clause-chps
 from_parts-requires-clause-chps c =
     let placed = c.args.placed.now in
     let whole = c.args.self.now in
-    let are = picked_columns placed.places.now placed.pieces.now.pieces whole.main.now whole.behind.now _ _ _ _ _ _ _ _ _
-    c.units.ensures c.units-2.ensures c.chps.ensures c.chps-2.ensures c.besides.ensures c.besides-2.ensures
+    let are = picked_columns placed.places.now placed.pieces.now.pieces whole.main.now whole.behind.now _ _ _ _ _ _ _ _
+    _ c.units.ensures c.units-2.ensures c.chps.ensures c.chps-2.ensures c.besides.ensures c.besides-2.ensures
     c.in_ok-units.ensures c.in_ok-chps.ensures c.in_ok-besides.ensures in
     are.chps_long
 
@@ -52,8 +52,8 @@ pub from_parts-requires-clause-besides : goal.from_parts-requires-clause-besides
 from_parts-requires-clause-besides c =
     let placed = c.args.placed.now in
     let whole = c.args.self.now in
-    let are = picked_columns placed.places.now placed.pieces.now.pieces whole.main.now whole.behind.now _ _ _ _ _ _ _ _ _
-    c.units.ensures c.units-2.ensures c.chps.ensures c.chps-2.ensures c.besides.ensures c.besides-2.ensures
+    let are = picked_columns placed.places.now placed.pieces.now.pieces whole.main.now whole.behind.now _ _ _ _ _ _ _ _
+    _ c.units.ensures c.units-2.ensures c.chps.ensures c.chps-2.ensures c.besides.ensures c.besides-2.ensures
     c.in_ok-units.ensures c.in_ok-chps.ensures c.in_ok-besides.ensures in
     are.besides_long
 
@@ -61,8 +61,8 @@ pub from_parts-requires-clause-maps : goal.from_parts-requires-clause-maps
 from_parts-requires-clause-maps c =
     let placed = c.args.placed.now in
     let whole = c.args.self.now in
-    let are = picked_columns placed.places.now placed.pieces.now.pieces whole.main.now whole.behind.now _ _ _ _ _ _ _ _ _
-    c.units.ensures c.units-2.ensures c.chps.ensures c.chps-2.ensures c.besides.ensures c.besides-2.ensures
+    let are = picked_columns placed.places.now placed.pieces.now.pieces whole.main.now whole.behind.now _ _ _ _ _ _ _ _
+    _ c.units.ensures c.units-2.ensures c.chps.ensures c.chps-2.ensures c.besides.ensures c.besides-2.ensures
     c.in_ok-units.ensures c.in_ok-chps.ensures c.in_ok-besides.ensures in
     subst (All HasPropertyMaps) (sym are.is)
     (picked_maps placed.places.now placed.pieces.now.pieces whole.main.now whole.behind.now
@@ -72,7 +72,7 @@ pub returns : goal.returns
 returns c =
     let placed = c.args.placed.now in
     let whole = c.args.self.now in
-    let are = picked_columns placed.places.now placed.pieces.now.pieces whole.main.now whole.behind.now _ _ _ _ _ _ _ _ _
-    c.units.ensures c.units-2.ensures c.chps.ensures c.chps-2.ensures c.besides.ensures c.besides-2.ensures
+    let are = picked_columns placed.places.now placed.pieces.now.pieces whole.main.now whole.behind.now _ _ _ _ _ _ _ _
+    _ c.units.ensures c.units-2.ensures c.chps.ensures c.chps-2.ensures c.besides.ensures c.besides-2.ensures
     c.in_ok-units.ensures c.in_ok-chps.ensures c.in_ok-besides.ensures in
     c.from_parts.ensures ∙ are.is
