@@ -1,10 +1,11 @@
 // Documents by columns as JSON.
 use crate::edits::EACH;
-use crate::scripted::edited;
+use crate::lent::is_made;
+use crate::scripted::{is_edited, is_same};
 use doc_bits::{Memory, Text};
 use doc_columns::ColumnDocument;
 use json_doc::{JsonFault, columns_from_json, columns_json_out, to_json};
-use plain_doc::{Document, blank, equal};
+use plain_doc::{Document, blank};
 use std::alloc::Global;
 use std::test::Fail;
 
@@ -16,8 +17,15 @@ fn text_of(alloc: Global, columns: &ColumnDocument, most: u64) -> Result<Text, M
 
 /// Whether a document has one text by columns and item by item, and is read from it as it was.
 fn goes_as_json(alloc: Global, plain: &Document) -> Result<bool, Memory> {
-    let columns = ColumnDocument::from_document(alloc, plain)?;
-    let text = text_of(alloc, &columns, u64::MAX)?;
+    is_made(
+        ColumnDocument::from_document(alloc, plain),
+        |columns: &ColumnDocument| -> Result<bool, Memory> { has_one_text(alloc, columns, plain) },
+    )
+}
+
+/// The same of a document that is put by columns.
+fn has_one_text(alloc: Global, columns: &ColumnDocument, plain: &Document) -> Result<bool, Memory> {
+    let text = text_of(alloc, columns, u64::MAX)?;
     let same = text.as_str() == to_json(alloc, plain)?.as_str();
     let back = comes_back(alloc, text.as_str(), plain)?;
     Ok(same && back)
@@ -25,13 +33,10 @@ fn goes_as_json(alloc: Global, plain: &Document) -> Result<bool, Memory> {
 
 /// Whether a document is read from its JSON.
 fn comes_back(alloc: Global, text: &str, plain: &Document) -> Result<bool, Memory> {
-    match columns_from_json(alloc, text.as_bytes()) {
-        Ok(columns) => {
-            let expanded = columns.expand(alloc)?;
-            Ok(equal(plain, &expanded))
-        }
-        Err(_) => Ok(false),
-    }
+    is_made(
+        columns_from_json(alloc, text.as_bytes()),
+        |columns: &ColumnDocument| -> Result<bool, Memory> { is_same(alloc, columns, plain) },
+    )
 }
 
 /// Why a text is read as no document by columns.
@@ -42,8 +47,14 @@ fn fault(alloc: Global, text: &[u8]) -> Option<JsonFault> {
 #[test]
 fn documents_go_as_json_by_columns(rt: HostRuntime) -> Result<(), Fail> {
     let alloc = rt.alloc();
-    assert!(rt; goes_as_json(alloc, &blank(alloc)?)?);
-    assert!(rt; goes_as_json(alloc, &edited(alloc, EACH)?)?);
+    let empty = is_made(blank(alloc), |plain: &Document| -> Result<bool, Memory> {
+        goes_as_json(alloc, plain)
+    });
+    let each = is_edited(alloc, EACH, |plain: &Document| -> Result<bool, Memory> {
+        goes_as_json(alloc, plain)
+    });
+    assert!(rt; empty?);
+    assert!(rt; each?);
     Ok(())
 }
 

@@ -1,22 +1,16 @@
 // Documents put by columns, and back.
 use crate::edits::EACH;
-use crate::scripted::edited;
+use crate::lent::is_made;
+use crate::scripted::{is_edited, is_same};
 use doc_bits::Memory;
 use doc_columns::{ColumnDocument, is_sound};
 use doc_show::{columns_accepted_line, columns_main_text};
-use plain_doc::{Document, blank, equal};
+use plain_doc::{Document, blank};
 use std::alloc::Global;
 use std::test::Fail;
 
-/// Whether a document by columns and its copy hold the items of a plain one.
-fn are_same(alloc: Global, plain: &Document, columns: &ColumnDocument) -> Result<bool, Memory> {
-    let copy = columns.copy(alloc)?;
-    let expanded = copy.expand(alloc)?;
-    Ok(equal(plain, &expanded))
-}
-
 /// Whether the main text and the line of counts of both are the same.
-fn are_shown_alike(
+pub(crate) fn are_shown_alike(
     alloc: Global,
     plain: &Document,
     columns: &ColumnDocument,
@@ -28,25 +22,41 @@ fn are_shown_alike(
     Ok(same_text && same_line)
 }
 
-/// Whether a document put by columns is known to be sound, comes back as it was, and is shown as it is.
-fn goes_by_columns(alloc: Global, plain: &Document) -> Result<bool, Memory> {
-    let columns = ColumnDocument::from_document(alloc, plain)?;
-    let sound = is_sound(alloc, &columns)?;
-    let same = are_same(alloc, plain, &columns)?;
-    let alike = are_shown_alike(alloc, plain, &columns)?;
+/// Whether a document by columns is known to be sound, and its copy and what is shown of it are those of a plain one.
+fn is_as(alloc: Global, plain: &Document, columns: &ColumnDocument) -> Result<bool, Memory> {
+    let sound = is_sound(alloc, columns)?;
+    let same = is_made(
+        columns.copy(alloc),
+        |copy: &ColumnDocument| -> Result<bool, Memory> { is_same(alloc, copy, plain) },
+    )?;
+    let alike = are_shown_alike(alloc, plain, columns)?;
     Ok(sound && same && alike)
+}
+
+/// Whether a document is so put by columns.
+fn goes_by_columns(alloc: Global, plain: &Document) -> Result<bool, Memory> {
+    is_made(
+        ColumnDocument::from_document(alloc, plain),
+        |columns: &ColumnDocument| -> Result<bool, Memory> { is_as(alloc, plain, columns) },
+    )
 }
 
 #[test]
 fn the_blank_document_goes_by_columns(rt: HostRuntime) -> Result<(), Fail> {
-    let document = blank(rt.alloc())?;
-    assert!(rt; goes_by_columns(rt.alloc(), &document)?);
+    let alloc = rt.alloc();
+    let goes = is_made(blank(alloc), |plain: &Document| -> Result<bool, Memory> {
+        goes_by_columns(alloc, plain)
+    });
+    assert!(rt; goes?);
     Ok(())
 }
 
 #[test]
 fn a_document_of_all_kinds_of_edits_goes_by_columns(rt: HostRuntime) -> Result<(), Fail> {
-    let document = edited(rt.alloc(), EACH)?;
-    assert!(rt; goes_by_columns(rt.alloc(), &document)?);
+    let alloc = rt.alloc();
+    let goes = is_edited(alloc, EACH, |plain: &Document| -> Result<bool, Memory> {
+        goes_by_columns(alloc, plain)
+    });
+    assert!(rt; goes?);
     Ok(())
 }

@@ -1,9 +1,12 @@
 // Edits of each kind on a document by columns. docs/COMMANDS.md tells what each does; the outcomes are those of an
 // independent model of edits.
 use crate::played::Answer::{Breaks, Code, Made, Range};
-use crate::played::{Outcome, of_script};
-use crate::scripted::edited;
-use plain_doc::equal;
+use crate::played::{Outcome, plays};
+use crate::scripted::{is_edited, is_same};
+use doc_bits::Memory;
+use doc_columns::ColumnDocument;
+use plain_doc::Document;
+use std::alloc::Global;
 use std::test::Fail;
 
 /// An edit of each kind, on texts, notes, header texts, styles and bookmarks, and some that are refused.
@@ -71,20 +74,35 @@ pub const EACH_OUTCOMES: [Outcome; 29] = [
     Outcome(Made(0, 0, 0, 0), 10),
 ];
 
+/// Nothing more is asked.
+fn any(_columns: &ColumnDocument) -> Result<bool, Memory> {
+    Ok(true)
+}
+
+/// Whether columns on which each edit is made hold the items of a plain document.
+fn are_kept(alloc: Global, plain: &Document) -> Result<bool, Memory> {
+    plays(
+        alloc,
+        EACH,
+        &EACH_OUTCOMES,
+        |columns: &ColumnDocument| -> Result<bool, Memory> { is_same(alloc, columns, plain) },
+    )
+}
+
 #[test]
 fn an_edit_of_each_kind_is_made_by_columns(rt: HostRuntime) -> Result<(), Fail> {
-    let both = of_script(rt.alloc(), EACH, &EACH_OUTCOMES)?;
-    assert!(rt; both.expected);
+    assert!(rt; plays(rt.alloc(), EACH, &EACH_OUTCOMES, any)?);
     Ok(())
 }
 
 // `apply_plain` puts columns anew of the items for each edit.
 #[test]
 fn columns_that_are_kept_hold_the_same_items(rt: HostRuntime) -> Result<(), Fail> {
-    let kept = of_script(rt.alloc(), EACH, &EACH_OUTCOMES)?;
-    let document = edited(rt.alloc(), EACH)?;
-    let expanded = kept.columns.expand(rt.alloc())?;
-    assert!(rt; equal(&expanded, &document));
+    let alloc = rt.alloc();
+    let same = is_edited(alloc, EACH, |plain: &Document| -> Result<bool, Memory> {
+        are_kept(alloc, plain)
+    });
+    assert!(rt; same?);
     Ok(())
 }
 
@@ -115,7 +133,6 @@ const REFUSED_OUTCOMES: [Outcome; 8] = [
 // The field and the save are made.
 #[test]
 fn what_is_refused_leaves_columns_as_they_were(rt: HostRuntime) -> Result<(), Fail> {
-    let both = of_script(rt.alloc(), REFUSED, &REFUSED_OUTCOMES)?;
-    assert!(rt; both.expected);
+    assert!(rt; plays(rt.alloc(), REFUSED, &REFUSED_OUTCOMES, any)?);
     Ok(())
 }

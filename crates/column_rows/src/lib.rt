@@ -12,6 +12,8 @@ mod files;
 #[cfg(test)]
 mod joins;
 #[cfg(test)]
+mod lent;
+#[cfg(test)]
 mod marks;
 #[cfg(test)]
 mod outlines;

@@ -1,8 +1,11 @@
 // Bookmarks of a document by columns, as edits put, move and take them. The outcomes are those of an independent model
 // of edits.
 use crate::played::Answer::{Breaks, Code, Made, Range};
-use crate::played::{Outcome, of_script};
+use crate::played::{Outcome, plays};
+use doc_bits::Memory;
+use doc_columns::ColumnDocument;
 use doc_parts::Bookmarks;
+use std::alloc::Global;
 use std::test::Fail;
 
 /// The unit of a name, and the range.
@@ -21,6 +24,23 @@ fn are(list: &Bookmarks, expected: &[Expected]) -> bool {
         }
     }
     true
+}
+
+/// Whether the commands of a script answer as is expected, and leave these bookmarks.
+fn leaves(
+    alloc: Global,
+    json: &str,
+    outcomes: &[Outcome],
+    expected: &[Expected],
+) -> Result<bool, Memory> {
+    plays(
+        alloc,
+        json,
+        outcomes,
+        |columns: &ColumnDocument| -> Result<bool, Memory> {
+            Ok(are(&columns.bookmarks, expected))
+        },
+    )
 }
 
 /// Two bookmarks, of which the erasure takes both texts away.
@@ -42,9 +62,8 @@ const ERASED_OUTCOMES: [Outcome; 5] = [
 
 #[test]
 fn bookmarks_whose_texts_go_stand_by_name(rt: HostRuntime) -> Result<(), Fail> {
-    let both = of_script(rt.alloc(), ERASED, &ERASED_OUTCOMES)?;
-    assert!(rt; both.expected);
-    assert!(rt; are(&both.columns.bookmarks, &[(0x61, 0, 0), (0x7A, 0, 0)]));
+    let expected = [(0x61, 0, 0), (0x7A, 0, 0)];
+    assert!(rt; leaves(rt.alloc(), ERASED, &ERASED_OUTCOMES, &expected)?);
     Ok(())
 }
 
@@ -79,10 +98,8 @@ const MOVED_OUTCOMES: [Outcome; 11] = [
 
 #[test]
 fn bookmarks_go_with_their_text(rt: HostRuntime) -> Result<(), Fail> {
-    let both = of_script(rt.alloc(), MOVED, &MOVED_OUTCOMES)?;
-    assert!(rt; both.expected);
     let expected = [(0x6D, 2, 9), (0x62, 12, 13), (0x65, 19, 19)];
-    assert!(rt; are(&both.columns.bookmarks, &expected));
+    assert!(rt; leaves(rt.alloc(), MOVED, &MOVED_OUTCOMES, &expected)?);
     Ok(())
 }
 
@@ -118,8 +135,6 @@ const REFUSED_OUTCOMES: [Outcome; 11] = [
 
 #[test]
 fn wrong_bookmarks_are_refused(rt: HostRuntime) -> Result<(), Fail> {
-    let both = of_script(rt.alloc(), REFUSED, &REFUSED_OUTCOMES)?;
-    assert!(rt; both.expected);
-    assert!(rt; are(&both.columns.bookmarks, &[(0x62, 1, 1)]));
+    assert!(rt; leaves(rt.alloc(), REFUSED, &REFUSED_OUTCOMES, &[(0x62, 1, 1)])?);
     Ok(())
 }

@@ -2,9 +2,10 @@
 ghost use Rattle.plain_doc.specs.Sound.{IsSound};
 
 use crate::edits::EACH;
-use crate::scripted::{breaks_none, edited};
+use crate::lent::is_made;
+use crate::scripted::{breaks_none, is_edited};
 use doc_bits::Memory;
-use doc_columns::ColumnDocument;
+use doc_columns::{ColumnDocument, is_sound};
 use list_numbers::{Numbers, columns_numbers, columns_outline_lines, numbers, outline_lines};
 use plain_doc::Document;
 use std::alloc::Global;
@@ -42,21 +43,33 @@ fn is_same(some: &Numbers, others: &Numbers, i: usize) -> bool {
 
 /// Whether a document has the same numbers and lines by columns and item by item.
 fn is_numbered_alike(alloc: Global, plain: &Document) -> Result<bool, Memory> {
-    if breaks_none(plain) {
-        is_sound_numbered_alike(alloc, plain)
+    is_made(
+        ColumnDocument::from_document(alloc, plain),
+        |columns: &ColumnDocument| -> Result<bool, Memory> { are_alike(alloc, columns, plain) },
+    )
+}
+
+/// Whether both are known to be sound, and have the same numbers and lines.
+fn are_alike(alloc: Global, columns: &ColumnDocument, plain: &Document) -> Result<bool, Memory> {
+    if is_sound(alloc, columns)? && breaks_none(plain) {
+        are_numbered_alike(alloc, columns, plain)
     } else {
         Ok(false)
     }
 }
 
-/// The same of a sound document.
-fn is_sound_numbered_alike(alloc: Global, plain: &Document) -> Result<bool, Memory>
-    requires { IsSound plain.now }
+/// Whether documents that are sound have the same numbers and lines.
+fn are_numbered_alike(
+    alloc: Global,
+    columns: &ColumnDocument,
+    plain: &Document,
+) -> Result<bool, Memory>
+    requires columns { IsSound columns.now }
+    requires plain { IsSound plain.now }
 {
-    let columns = ColumnDocument::from_document(alloc, plain)?;
-    let lines = columns_outline_lines(alloc, &columns)?;
+    let lines = columns_outline_lines(alloc, columns)?;
     let same_lines = lines.as_str() == outline_lines(alloc, plain)?.as_str();
-    let found = columns_numbers(alloc, &columns)?;
+    let found = columns_numbers(alloc, columns)?;
     let same = are_same(&found, &numbers(alloc, plain)?);
     Ok(same_lines && same)
 }
@@ -64,7 +77,13 @@ fn is_sound_numbered_alike(alloc: Global, plain: &Document) -> Result<bool, Memo
 #[test]
 fn paragraphs_are_numbered_by_columns(rt: HostRuntime) -> Result<(), Fail> {
     let alloc = rt.alloc();
-    assert!(rt; is_numbered_alike(alloc, &edited(alloc, EACH)?)?);
-    assert!(rt; is_numbered_alike(alloc, &edited(alloc, LISTED)?)?);
+    let each = is_edited(alloc, EACH, |plain: &Document| -> Result<bool, Memory> {
+        is_numbered_alike(alloc, plain)
+    });
+    let listed = is_edited(alloc, LISTED, |plain: &Document| -> Result<bool, Memory> {
+        is_numbered_alike(alloc, plain)
+    });
+    assert!(rt; each?);
+    assert!(rt; listed?);
     Ok(())
 }

@@ -1,12 +1,14 @@
 // Commands of a script made on a document by columns, one after another, each beside the outcome that is expected.
 ghost use Rattle.plain_doc.specs.Sound.{IsSound};
 
+use crate::lent::{given, is_made};
 use doc_bits::{Memory, Where};
 use doc_columns::{ColumnDocument, is_sound};
-use edit_ops::{Command, EditFault, Facts, edit_of};
+use edit_ops::{Command, Edit, EditFault, Facts, edit_of};
 use edit_script::{Script, read_script};
 use plain_doc::blank;
 use std::alloc::Global;
+use std::mem;
 
 /// What a command is to answer.
 #[derive(Clone, Copy)]
@@ -44,49 +46,71 @@ fn result_of(answer: Answer) -> Result<Facts, EditFault> {
     }
 }
 
-/// The document that a script left, and whether each command did as expected.
+/// Want of memory, or a command that did not answer as is expected.
 #[derive(Drop)]
-pub struct Played {
-    pub columns: ColumnDocument,
-    pub expected: bool,
+struct Unexpected;
+
+impl From<Memory> for Unexpected {
+    fn from(_: Memory) -> Self {
+        Unexpected
+    }
 }
 
-/// Makes the commands of a script on the blank document. Those that are refused change nothing.
-pub fn of_script(alloc: Global, json: &str, outcomes: &[Outcome]) -> Result<Played, Memory> {
-    let document = blank(alloc)?;
-    let columns = ColumnDocument::from_document(alloc, &document)?;
-    let mut played = Played {
-        columns,
-        expected: false,
-    };
-    play(alloc, &mut played, json, outcomes)?;
-    Ok(played)
-}
-
-/// Makes the commands of a script, where it is one.
-fn play(
+/// Whether the commands of a script answer as is expected on the blank document, and a test holds of what they leave.
+/// Those that are refused change nothing.
+pub fn plays<F: FnOnce(&ColumnDocument) -> Result<bool, Memory>>(
     alloc: Global,
-    played: &mut Played,
     json: &str,
     outcomes: &[Outcome],
-) -> Result<(), Memory> {
-    match read_script(alloc, json.as_bytes()) {
-        Ok(script) => run(alloc, played, &script, outcomes),
-        Err(_) => Ok(()),
+    test: F,
+) -> Result<bool, Memory>
+    requires { F.IsAlwaysCallable test }
+{
+    is_made(played(alloc, json, outcomes), test)
+}
+
+/// The blank document after the commands of a script, where each answers as is expected.
+fn played(alloc: Global, json: &str, outcomes: &[Outcome]) -> Result<ColumnDocument, Unexpected> {
+    let mut columns = blank_columns(alloc)?;
+    let done = play(alloc, &mut columns, json, outcomes);
+    given(columns, done)
+}
+
+/// The blank document by columns.
+fn blank_columns(alloc: Global) -> Result<ColumnDocument, Memory> {
+    let document = blank(alloc)?;
+    let columns = ColumnDocument::from_document(alloc, &document);
+    drop(document);
+    columns
+}
+
+/// Makes the commands of a script.
+fn play(
+    alloc: Global,
+    columns: &mut ColumnDocument,
+    json: &str,
+    outcomes: &[Outcome],
+) -> Result<(), Unexpected> {
+    let script = read_script(alloc, json.as_bytes());
+    match &script {
+        Ok(script) => run(alloc, columns, script, outcomes),
+        Err(_) => Err(Unexpected),
     }
 }
 
 /// Makes each command in order.
 fn run(
     alloc: Global,
-    played: &mut Played,
+    columns: &mut ColumnDocument,
     script: &Script,
     outcomes: &[Outcome],
-) -> Result<(), Memory> {
-    played.expected = script.len() == outcomes.len();
+) -> Result<(), Unexpected> {
+    if script.len() != outcomes.len() {
+        return Err(Unexpected);
+    }
     for k in 0..script.len().min(outcomes.len()) {
-        if !step(alloc, &mut played.columns, script.get(k), &outcomes[k])? {
-            played.expected = false;
+        if !step(alloc, columns, script.get(k), &outcomes[k])? {
+            return Err(Unexpected);
         }
     }
     Ok(())
@@ -110,8 +134,14 @@ fn step(
 fn make(alloc: Global, columns: &mut ColumnDocument, command: &Command) -> Result<Facts, EditFault>
     requires { IsSound columns.old }
 {
-    let edit = edit_of(alloc, columns, command)?;
-    let facts = edit.facts;
-    *columns = edit.document;
+    let mut edit = edit_of(alloc, columns, command)?;
+    let facts = put(columns, &mut edit);
+    drop(edit);
     Ok(facts)
+}
+
+/// Puts the document after an edit in place of the one before, and tells what the edit does.
+fn put(columns: &mut ColumnDocument, edit: &mut Edit) -> Facts {
+    mem::swap(columns, &mut edit.document);
+    edit.facts
 }

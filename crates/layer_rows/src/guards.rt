@@ -3,6 +3,8 @@ ghost use Rattle.std.specs.Prelude.{[]};
 ghost use Rattle.edit_guards.specs.Policies.{lock_of};
 
 use edit_guards::{Facts, Guard, StyleLock, UnitQuota, first_refuser, note_all};
+use std::cell::Cell;
+use std::rc::Rc;
 use std::test::Fail;
 
 /// A guard of a kind of its own, which allows each edit.
@@ -17,6 +19,24 @@ impl Guard for Lenient {
     }
 
     fn note(&mut self, _facts: Facts) {}
+}
+
+/// A guard that allows each edit, and counts how often it is told of one.
+#[derive(Drop)]
+struct Counting {
+    told: Rc<Cell<u32>>,
+}
+
+impl Guard for Counting {
+    ghost policy = { λ _. lock_of [] };
+
+    fn may(&self, _facts: Facts) -> bool {
+        true
+    }
+
+    fn note(&mut self, _facts: Facts) {
+        self.told.set(self.told.get().saturating_add(1));
+    }
 }
 
 /// What an insertion of so many items into a paragraph of this style does.
@@ -93,5 +113,20 @@ fn noted_guards_have_less_left(rt: HostRuntime) -> Result<(), Fail> {
         };
         assert!(rt; may == allowed, "guard {guard}");
     }
+    Ok(())
+}
+
+// The edit adds nothing, so each policy stays, and no clause says that guards are told of it.
+#[test]
+fn guards_are_told_once_of_an_edit_that_adds_nothing(rt: HostRuntime) -> Result<(), Fail> {
+    let alloc = rt.alloc();
+    let told = Rc::new(alloc, Cell::new(0))?;
+    let mut guards: Vec<Box<dyn Guard>> = Vec::new(alloc);
+    let counting = Counting {
+        told: told.clone()?,
+    };
+    guards.push(Box::new(alloc, counting)?)?;
+    assert!(rt; asked(&mut guards, insertion(0, 0)) == None);
+    assert!(rt; told.get() == 1);
     Ok(())
 }

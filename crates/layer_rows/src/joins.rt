@@ -1,5 +1,5 @@
 // Documents joined, where no file is. What each joined document has was worked out by hand.
-use crate::documents::{document_of, is_sound, unit_of};
+use crate::documents::{document_of, given, is_sound, unit_of};
 use doc_bits::Memory;
 use doc_join::{JoinFault, join};
 use doc_parts::{Bookmark, Bookmarks, Name};
@@ -53,22 +53,32 @@ fn name_style(alloc: Global, document: &mut Document, istd: u8) -> Result<(), Me
     Ok(())
 }
 
+/// Gives the first item of the main text this character style, and the text two bookmarks, each by its name and range.
+fn put_style(
+    alloc: Global,
+    document: &mut Document,
+    istd: u8,
+    bookmarks: [(u16, u32, u32); 2],
+) -> Result<(), Memory> {
+    name_style(alloc, document, istd)?;
+    for (name, from, to) in bookmarks {
+        add_bookmark(alloc, &mut document.bookmarks, name, from, to)?;
+    }
+    Ok(())
+}
+
 /// A reference and a section, with a bookmark on each of two letters; the first one names a style that is not there.
 fn first(alloc: Global) -> Result<Document, Memory> {
     let mut document = document_of(alloc, "anP", "ap/", HEADS)?;
-    name_style(alloc, &mut document, 0x14)?;
-    add_bookmark(alloc, &mut document.bookmarks, 0x62, 0, 1)?;
-    add_bookmark(alloc, &mut document.bookmarks, 0x63, 1, 2)?;
-    Ok(document)
+    let done = put_style(alloc, &mut document, 0x14, [(0x62, 0, 1), (0x63, 1, 2)]);
+    given(document, done)
 }
 
 /// Two sections and a reference; the first letter names style 10, and a bookmark has a name that the other has.
 fn second(alloc: Global) -> Result<Document, Memory> {
     let mut document = document_of(alloc, "aBnaP", "p/", MORE_HEADS)?;
-    name_style(alloc, &mut document, 10)?;
-    add_bookmark(alloc, &mut document.bookmarks, 0x64, 0, 5)?;
-    add_bookmark(alloc, &mut document.bookmarks, 0x62, 1, 1)?;
-    Ok(document)
+    let done = put_style(alloc, &mut document, 10, [(0x64, 0, 5), (0x62, 1, 1)]);
+    given(document, done)
 }
 
 /// Whether the items have the units of these letters.
@@ -110,31 +120,34 @@ fn has_bookmark(document: &Document, i: usize, name: u16, from: u32, to: u32) ->
     found.is_named(&[name]) && found.from == from && found.to == to
 }
 
-/// Two documents joined, where both are sound and they can be.
-fn joined(alloc: Global, a: &Document, b: &Document) -> Option<Document> {
+/// What two sound documents are joined to.
+fn joined(alloc: Global, a: &Document, b: &Document) -> Result<Document, JoinFault> {
     if !is_sound(a) || !is_sound(b) {
-        return None;
+        return Err(JoinFault::Memory);
     }
-    join(alloc, a, b).ok()
+    join(alloc, a, b)
 }
 
-/// Why two sound documents are not joined.
+/// Why two documents are not joined, if they are not.
 fn fault(alloc: Global, a: &Document, b: &Document) -> Option<JoinFault> {
-    if !is_sound(a) || !is_sound(b) {
-        return None;
-    }
-    join(alloc, a, b).err()
+    joined(alloc, a, b).err()
 }
 
 /// The blank document with so many slots, most of them empty.
 fn slotted(alloc: Global, slots: usize) -> Result<Document, Memory> {
     let mut document = document_of(alloc, "P", "", "////////////")?;
+    let done = fill(&mut document, slots);
+    given(document, done)
+}
+
+/// Gives a document so many slots, where it has fewer.
+fn fill(document: &mut Document, slots: usize) -> Result<(), Memory> {
     for _slot in 0..4_094 {
         if document.sheet.slots() < slots && document.sheet.slots() < 4_094 {
             document.sheet.add(None)?;
         }
     }
-    Ok(document)
+    Ok(())
 }
 
 /// Whether the main text is both, with the styles renumbered.
@@ -159,22 +172,72 @@ fn has_both_parts(made: &Document) -> bool {
         && has_bookmark(made, 2, 0x64, 3, 8)
 }
 
+/// Whether two documents are joined to one that is both.
+fn are_both(alloc: Global, a: &Document, b: &Document) -> bool {
+    let made = joined(alloc, a, b);
+    let both = match &made {
+        Ok(made) => has_both_texts(&made.main) && has_both_parts(made),
+        Err(_) => false,
+    };
+    drop(made);
+    both
+}
+
+/// Whether the first document and the second are.
+fn is_joined(alloc: Global) -> Result<bool, Memory> {
+    let first = first(alloc)?;
+    let both = second_is_joined(alloc, &first);
+    drop(first);
+    both
+}
+
+/// Whether a document and the second are.
+fn second_is_joined(alloc: Global, first: &Document) -> Result<bool, Memory> {
+    let second = second(alloc)?;
+    let both = are_both(alloc, first, &second);
+    drop(second);
+    Ok(both)
+}
+
 #[test]
 fn a_document_behind_another(rt: HostRuntime) -> Result<(), Fail> {
-    let alloc = rt.alloc();
-    let made = joined(alloc, &first(alloc)?, &second(alloc)?).expect(&rt, "joined");
-    assert!(rt; has_both_texts(&made.main));
-    assert!(rt; has_both_parts(&made));
+    assert!(rt; is_joined(rt.alloc())?);
     Ok(())
+}
+
+/// Why documents of so many slots are not joined, if they are not.
+fn fault_of_slots(alloc: Global, first: usize, second: usize) -> Result<Option<JoinFault>, Memory> {
+    let most = slotted(alloc, first)?;
+    let fault = fault_behind(alloc, &most, second);
+    drop(most);
+    fault
+}
+
+/// Why a document of so many slots is not joined behind another, if it is not.
+fn fault_behind(
+    alloc: Global,
+    first: &Document,
+    slots: usize,
+) -> Result<Option<JoinFault>, Memory> {
+    let second = slotted(alloc, slots)?;
+    let fault = fault(alloc, first, &second);
+    drop(second);
+    Ok(fault)
 }
 
 #[test]
 fn styles_of_two_documents_fit_one_sheet(rt: HostRuntime) -> Result<(), Fail> {
-    let alloc = rt.alloc();
-    let most = slotted(alloc, 2_047)?;
-    let more = slotted(alloc, 2_048)?;
-    assert!(rt; joined(alloc, &most, &most).is_some());
-    assert!(rt; fault(alloc, &most, &more) == Some(JoinFault::Styles { slots: 4_095 }));
-    assert!(rt; fault(alloc, &more, &more) == Some(JoinFault::Styles { slots: 4_096 }));
+    let rows = [
+        (2_047, 2_047, None),
+        (2_047, 2_048, Some(4_095)),
+        (2_048, 2_048, Some(4_096)),
+    ];
+    for (first, second, slots) in rows {
+        let refused = slots.map(|slots: u32| JoinFault::Styles { slots });
+        assert!(rt;
+            fault_of_slots(rt.alloc(), first, second)? == refused,
+            "{first} and {second}"
+        );
+    }
     Ok(())
 }

@@ -10,6 +10,8 @@ mod containers;
 #[cfg(test)]
 mod documents;
 #[cfg(test)]
+mod fields_by_bytes;
+#[cfg(test)]
 mod guards;
 #[cfg(test)]
 mod joins;

@@ -1,6 +1,6 @@
 // Numbers of paragraphs in a document that no file holds. The bytes of the list follow their layouts; the numbers and
 // the lines were worked out by hand.
-use crate::documents::{add_item, is_sound, item_of};
+use crate::documents::{add_item, given, is_sound, item_of};
 use cfb_streams::Streams;
 use doc_bits::{Bytes, Memory};
 use list_numbers::{Numbers, numbers, outline_lines};
@@ -84,9 +84,15 @@ fn text(alloc: Global) -> Result<Items, Memory> {
 /// The blank document with the text and the list.
 fn document(alloc: Global) -> Result<Document, Memory> {
     let mut document = blank(alloc)?;
+    let done = put_list(alloc, &mut document);
+    given(document, done)
+}
+
+/// Gives a document the text and the list.
+fn put_list(alloc: Global, document: &mut Document) -> Result<(), Memory> {
     document.main = text(alloc)?;
     document.carried = carried(alloc)?;
-    Ok(document)
+    Ok(())
 }
 
 /// Whether a paragraph has these units as its number, or none.
@@ -125,11 +131,17 @@ fn has_lines(alloc: Global, document: &Document, lines: &str) -> Result<bool, Me
     Ok(found.as_str() == lines)
 }
 
+/// Whether the document has its numbers and its lines.
+fn is_numbered(alloc: Global) -> Result<bool, Memory> {
+    let document = document(alloc)?;
+    let numbered = are_numbered(alloc, &document);
+    let lines = has_lines(alloc, &document, "0 - 3. | a\n2 0 - | a\n3 0 4. | a\n");
+    drop(document);
+    Ok(numbered? && lines?)
+}
+
 #[test]
 fn paragraphs_of_a_list_are_numbered(rt: HostRuntime) -> Result<(), Fail> {
-    let alloc = rt.alloc();
-    let document = document(alloc)?;
-    assert!(rt; are_numbered(alloc, &document)?);
-    assert!(rt; has_lines(alloc, &document, "0 - 3. | a\n2 0 - | a\n3 0 4. | a\n")?);
+    assert!(rt; is_numbered(rt.alloc())?);
     Ok(())
 }

@@ -1,6 +1,6 @@
-// A property set of one text, and the same with another text. The bytes were worked out by hand from [MS-OLEPS]: the set
-// begins at 48 with its size and one pair (id 2, offset 16); the value is the type 0x1E, the count with the zero, the
-// text, and zeros up to four bytes.
+// A property set of one text, and the same with another text. The bytes were worked out by hand from [MS-OLEPS]: the
+// set begins at 48 with its size and one pair (id 2, offset 16); the value is the type 0x1E, the count with the zero,
+// the text, and zeros up to four bytes.
 use doc_bits::{Bytes, Memory};
 use std::alloc::Global;
 use std::test::Fail;

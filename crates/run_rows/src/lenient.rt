@@ -1,5 +1,5 @@
 // A guard of a kind of its own.
-ghost use Rattle.std.specs.Prelude.{◌≡◌, []};
+ghost use Rattle.std.specs.Prelude.{[]};
 ghost use Rattle.edit_guards.specs.Policies.{lock_of};
 
 use edit_guards::{Facts, Guard};
