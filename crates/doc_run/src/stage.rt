@@ -1,5 +1,5 @@
 // The stages that read a file: they end the run, or hand its bytes or its document on.
-ghost use Rattle.std.specs.Prelude.{◌≡◌, IfOk};
+ghost use Rattle.std.specs.Prelude.{IfOk};
 ghost use Rattle.doc_run.specs.Outcomes.{IsCaused, IsOnlyRead};
 ghost use Rattle.doc_run.specs.Stages.{BreaksLengthRule};
 ghost use Rattle.doc_run.specs.Reading.{IsTaken, IsReached, status_taken};

@@ -238,16 +238,19 @@ changed_is document bytes place carried same other fit =
     subst (λ p. HasOtherBytes document.carried p bytes carried) same other in
     record { fit = fit; is = ap (λ (c : Carried). record document { carried = c }) (there fit) }
 
+-- the streams of a document may be carried with these bytes in their place
+abbrev HasRoomFor : List ℕ → Document → Type 0
+HasRoomFor bytes document =
+    let streams = document.carried.streams in AreCarriedStreams (with_bytes streams (summary_place streams) bytes)
+
 -- the same of the document that columns are seen as
 pub changed_seen : (seen document : Document) (bytes : List ℕ) (place : ℕ) (carried : Carried) → seen ≡ document →
     place ≡ summary_place seen.carried.streams → HasOtherBytes seen.carried place bytes carried →
     AreCarriedStreams (with_bytes document.carried.streams (summary_place document.carried.streams) bytes)
     → HasSummaryBytes document bytes (record seen { carried = carried })
 changed_seen seen document bytes place carried is same other fit =
-    let Room : Document → Type 0 = λ d. AreCarriedStreams (with_bytes d.carried.streams (summary_place d.carried.streams)
-    bytes) in
     subst (λ (d : Document). HasSummaryBytes d bytes (record seen { carried = carried })) is
-    (changed_is seen bytes place carried same other (subst Room (sym is) fit))
+    (changed_is seen bytes place carried same other (subst (HasRoomFor bytes) (sym is) fit))
 
 -- it stays sound
 pub changed_sound : (document : Document) (bytes : List ℕ) (changed : Document) → IsSound document →

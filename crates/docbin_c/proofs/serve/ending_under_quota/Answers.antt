@@ -25,5 +25,6 @@ quota_policies c =
 
 pub returns-clause-ending : goal.returns-clause-ending
 returns-clause-ending c =
-    subst (λ p. IfOk c.ending_of.result (IsEnding p (map string_bytes c.args.words.now) (Some (given_files c.args.files.now))))
+    subst (λ p. IfOk c.ending_of.result
+    (IsEnding p (map string_bytes c.args.words.now) (Some (given_files c.args.files.now))))
     (quota_policies c) c.ending_of.ensures.ending
