@@ -42,8 +42,8 @@ impl<T: Measured> Block<T> {
         let items = Vec::with_capacity(alloc, MOST)?;
         let mut lens = Sums::new(alloc);
         lens.reserve(MOST)?;
-        for _turn in 0..MOST {
-            lens.insert(0, 0);
+        for turn in 0..MOST {
+            lens.insert(turn, 0);
         }
         Ok(Block { items, lens })
     }

@@ -1,5 +1,5 @@
 -- A chain that is judged: the table that it goes by, what says where it starts, and where it is broken.
-use Rattle.std.specs.Prelude.{◌≡◌, ◌≢◌, ◌⊎◌, ℕ, ◌+◌, ◌*◌, ◌/◌, ◌^◌, ◌<◌, ◌≤◌, min, List, length, slice_index}
+use Rattle.std.specs.Prelude.{◌≡◌, ◌≢◌, ◌⊎◌, ℕ, ◌+◌, ◌*◌, ◌^◌, ◌<◌, ◌≤◌, min, List, length, slice_index}
 use Rattle.doc_bits.specs.Number.{u32_at}
 use Rattle.cfb_sectors.specs.Header.{sector_len, mini_sectors_in, table_place, fat_sectors, valid_below}
 use Rattle.cfb_sectors.specs.SectorChain.{IsSectorChain, IsFullPath, last_of, end_of_chain}

@@ -1,5 +1,5 @@
 -- What the code finds by the FAT: the directory, the mini FAT and the mini stream.
-use Rattle.std.specs.Prelude.{ℕ, ◌+◌, ◌*◌, ◌/◌, min, List, length}
+use Rattle.std.specs.Prelude.{ℕ, ◌*◌, min, List, length}
 use Rattle.cfb_sectors.specs.declared.chain.Chain.{Chain}
 use Rattle.cfb_sectors.specs.Judged.{IsFoundBy}
 use Rattle.cfb_directory.specs.Directory.{entry_size}

@@ -1,5 +1,5 @@
 -- Digits in a text, and units of bytes, two bytes a step.
-use Rattle.std.proofs.Common.{◌≡◌, ℕ, ◌+◌, ◌*◌, ◌/◌, ◌%◌, ◌<◌, ◌≤◌, List}
+use Rattle.std.proofs.Common.{◌≡◌, ℕ, ◌+◌, ◌*◌, ◌<◌, ◌≤◌, List}
 use Rattle.std.proofs.Common.{[], ◌∷◌, ◌++◌, length, get_or, take, drop, Option, Some}
 use Rattle.std.proofs.Common.{None, refl, sym, ap, ◌∙◌, arith, append_assoc, ◌-◌, inl, inr}
 use Rattle.std.proofs.Common.{append-nil}
@@ -13,7 +13,6 @@ use Rattle.std.proofs.lemmas.List.{drop_more, drop_all, take_more, take_all}
 use Rattle.std.proofs.lemmas.Grind.{flat_map-append}
 use Rattle.json.specs.Print.{escape, escape_byte, quoted}
 use Rattle.text_codes.specs.Shown.{hex_digit}
-use Rattle.text_codes.specs.Digits.{byte_text, word_text}
 use Rattle.json_values.specs.Digits.{units_of_bytes}
 use Rattle.json_values.proofs.HexLemmas.{hex_small, hex_large}
 

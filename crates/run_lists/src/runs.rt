@@ -74,6 +74,13 @@ impl<T: Shared> Runs<T> {
         Ok(())
     }
 
+    /// The runs themselves. None is moved.
+    pub fn into_runs(self) -> Vec<Run<T>>
+        ensures { spread result.items ≡ self }
+    {
+        self.runs
+    }
+
     /// The runs. A run has one value at least, and neighbours may have the same one.
     pub fn as_runs(&self) -> &[Run<T>]
         ensures runs { spread result.now ≡ self.now }

@@ -153,7 +153,8 @@ range_moved bytes rest at from to e =
 not_counted : (code spra : ℕ) → code / 8192 ≡ spra → ¬ (spra ≡ 6) → (code == 0xD608) ≡ false
 not_counted code spra e other = apart code 0xD608 (λ same. other (omega arith))
 
-by_spra : (code spra : ℕ) → code / 8192 ≡ spra → spra < 8 → ¬ (fixed_len code ≡ 0) → Fixed (fixed_len code) ≡ size_of code
+by_spra : (code spra : ℕ) → code / 8192 ≡ spra → spra < 8 → ¬ (fixed_len code ≡ 0) →
+    Fixed (fixed_len code) ≡ size_of code
 by_spra code zero e lt some = rw (not_counted code 0 e (λ s. omega arith), e) refl
 by_spra code (suc zero) e lt some = rw (not_counted code 1 e (λ s. omega arith), e) refl
 by_spra code (suc (suc zero)) e lt some = rw (not_counted code 2 e (λ s. omega arith), e) refl
@@ -161,7 +162,8 @@ by_spra code (suc (suc (suc zero))) e lt some = rw (not_counted code 3 e (λ s. 
 by_spra code (suc (suc (suc (suc zero)))) e lt some = rw (not_counted code 4 e (λ s. omega arith), e) refl
 by_spra code (suc (suc (suc (suc (suc zero))))) e lt some = rw (not_counted code 5 e (λ s. omega arith), e) refl
 by_spra code (suc (suc (suc (suc (suc (suc zero)))))) e lt some = absurd (some (rw e refl))
-by_spra code (suc (suc (suc (suc (suc (suc (suc zero))))))) e lt some = rw (not_counted code 7 e (λ s. omega arith), e) refl
+by_spra code (suc (suc (suc (suc (suc (suc (suc zero))))))) e lt some =
+    rw (not_counted code 7 e (λ s. omega arith), e) refl
 by_spra code (suc (suc (suc (suc (suc (suc (suc (suc n)))))))) e lt some = absurd (omega arith)
 
 -- an operand of some bytes has this size

@@ -1,4 +1,4 @@
-use Rattle.std.proofs.Common.{length, ◌≡◌, ◌++◌, List, ℕ, take, Bool}
+use Rattle.std.proofs.Common.{◌≡◌, ◌++◌, List, ℕ, take, Bool}
 use Rattle.std.specs.Str.{IsUtf8}
 use Rattle.text_codes.specs.Shown.{shown}
 use Rattle.text_codes.proofs.gathering.narrow.Given as goal
