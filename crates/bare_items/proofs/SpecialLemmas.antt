@@ -21,6 +21,9 @@ use Rattle.style_sheet.specs.Chain.{kind_at, HasSoundBases}
 use Rattle.style_sheet.specs.Written.{IsWritable}
 use Rattle.plain_doc.specs.declared.item.Item.{Item}
 use Rattle.plain_doc.specs.declared.document.Document.{Document}
+use Rattle.plain_doc.specs.declared.rules_texts.ItemRule.{ItemRule}
+use Rattle.plain_doc.specs.declared.rules_texts.ItemRule.TheVariants.{Placing, Styles, Settings}
+use Rattle.plain_doc.specs.declared.text_walk.TextWalk.{TextWalk}
 use Rattle.plain_doc.specs.Nesting.{field_characters, most_open, AreFields}
 use Rattle.plain_doc.specs.Rows.{FitsRow, open_cells, cells_after, is_on, paragraph_value}
 use Rattle.plain_doc.specs.RulesOfItems.{IsPlacedRight, HasShortSettings, IsShortChp, IsShortPap, IsShortSect}
@@ -28,7 +31,10 @@ use Rattle.plain_doc.specs.RulesOfTexts.{EndsRight, HasParagraphStyle, text_of}
 use Rattle.plain_doc.specs.RulesOfSheet.{note_count, section_count, heads_of_sections, item_count, most_items}
 use Rattle.plain_doc.specs.RulesOfSheet.{HasShortStyle}
 use Rattle.plain_doc.specs.RightDocument.{HoldsAtItems, IsRightText}
+use Rattle.plain_doc.specs.OpenFields.{after_unit}
 use Rattle.plain_doc.specs.Sound.{IsSound}
+use Rattle.plain_doc.specs.TextRules.{IsRightItem}
+use Rattle.plain_doc.specs.TextWalk.{PassesItem}
 use Rattle.plain_doc.proofs.RowLemmas.{open_cells_more}
 use Rattle.plain_doc.proofs.TextWalkLemmas.{last_is_mark}
 use Rattle.plain_doc.proofs.RightLemmas.{sound_is_right, right_is_sound}
@@ -414,6 +420,39 @@ short_by false text right i item there is short =
       pap = no_mark item.mark (λ mark. IsShortPap mark.pap) (bare_parts item is).mark;
       sect = no_mark item.sect IsShortSect (bare_parts item is).sect;
     }
+
+-- ---- a walk over a text
+
+bare_right : (rule : ItemRule) (sheet : Sheet) (part : Where) (len place : ℕ) (item : Item) → is_special item ≡ false →
+    IsPlainUnit item.unit → IsShortChp item.chp → (place + 1 ≡ len → ⊥) → IsRightItem rule sheet part len place item
+bare_right Placing sheet part len place item bare plain short inside = bare_placed part len place item bare plain inside
+bare_right Styles sheet part len place item bare plain short inside =
+    no_mark item.mark (λ mark. kind_at sheet mark.istd ≡ 1) (bare_parts item bare).mark
+bare_right Settings sheet part len place item bare plain short inside = record {
+  chp = short;
+  pap = no_mark item.mark (λ mark. IsShortPap mark.pap) (bare_parts item bare).mark;
+  sect = no_mark item.sect IsShortSect (bare_parts item bare).sect;
+}
+
+-- a walk goes past a bare item and carries what it carried
+pub bare_passes : (sheet : Sheet) (part : Where) (len place : ℕ) (item : Item) (walk : TextWalk) →
+    is_special item ≡ false → IsPlainUnit item.unit → IsShortChp item.chp → (place + 1 ≡ len → ⊥)
+    → PassesItem sheet part len place item walk walk
+bare_passes sheet part len place item walk bare plain short inside =
+    let lacks = bare_parts item bare in
+    let no_notes : ◌≡◌ {A = ℕ} (cond (is_some item.note) 1 0) 0 = ap (λ (b : Bool). cond b 1 0) lacks.note in
+    let no_sections : ◌≡◌ {A = ℕ} (cond (is_some item.sect) 1 0) 0 = ap (λ (b : Bool). cond b 1 0) lacks.sect in
+    record {
+      right = λ rule. bare_right rule sheet part len place item bare plain short inside;
+      row = bare_fits walk.cells item bare plain;
+      cells = sym (same_cells walk.cells item plain);
+      fields =
+          ap (λ (b : Bool). cond b (after_unit most_open item.unit walk.fields) (Some walk.fields)) lacks.fld;
+      notes = omega (arith, no_notes);
+      sections = omega (arith, no_sections);
+    }
+
+-- ---- the end of a text
 
 ends_by : (part : Where) (text : List Item) → HasRightBareItems text → EndsRight part (special_items text) →
     EndsRight part text

@@ -1,106 +1,33 @@
--- The special items of a text, run by run.
-use Rattle.std.proofs.Common.{◌≡◌, inl, inr, ℕ, zero, suc, ◌+◌, ◌-◌, ◌<◌, ◌≤◌, Bool, true, false, List, [], ◌∷◌, ◌++◌}
-use Rattle.std.proofs.Common.{length, take, drop, map, get_or, Some, refl, sym, ◌∙◌, ap, subst, arith, append_assoc}
-use Rattle.std.proofs.Common.{length-take}
+-- The items of a text, run by run.
+use Rattle.std.proofs.Common.{◌≡◌, ℕ, ◌+◌, ◌-◌, ◌<◌, ◌≤◌, List, [], ◌∷◌, ◌++◌, length, take, drop, map, get_or}
+use Rattle.std.proofs.Common.{Some, refl, sym, ◌∙◌, ap, subst, arith, append_assoc}
 use Rattle.std.specs.Prelude.{slice_get, slice_range, replicate}
 use Rattle.std.specs.List.{All}
 use Rattle.std.proofs.Math.Seq.{take-add}
 use Rattle.std.proofs.lemmas.Grind.{replicate_next}
-use Rattle.std.proofs.lemmas.List.{append-nil, length-replicate, length-map, take_all}
-use Rattle.std.proofs.lemmas.List.Sums.{length-filter, count_by-le-length}
+use Rattle.std.proofs.lemmas.List.{length-replicate, length-map}
 use Rattle.std.proofs.lemmas.List.Edits.{between_more, length-between}
 use Rattle.std.proofs.lemmas.Option.{slice_get_within, get_or_from_slice_get}
-use Rattle.std.proofs.lemmas.List.Elements.{All-nil, All-cons, All-head, All-tail, All-append, filter-append}
 use Rattle.prop_map.specs.Settings.{Settings}
 use Rattle.doc_bits.proofs.ListLemmas.{All_at}
 use Rattle.run_lists.specs.declared.runs.Run.{Run}
 use Rattle.run_lists.specs.declared.cursor.Cursor.{Cursor}
 use Rattle.run_lists.specs.Places.{IsAt}
 use Rattle.run_lists.specs.Spread.{spread, extent}
-use Rattle.run_lists.proofs.SpreadLemmas.{length-spread, extent-nil, count_within, extent_all}
+use Rattle.run_lists.proofs.SpreadLemmas.{length-spread, extent-nil, count_within}
 use Rattle.run_lists.proofs.CutLemmas.{run_range as range_of_run, value_in_run}
 use Rattle.plain_doc.specs.declared.item.Item.{Item}
 use Rattle.plain_doc.specs.Document.{IsFormedItem}
-use Rattle.bare_items.specs.Specials.{is_special, special_items, IsPlainUnit}
-use Rattle.bare_items.proofs.SpecialLemmas.{special-cons}
 use Rattle.doc_columns.specs.declared.beside.Beside.{Beside}
-use Rattle.doc_columns.specs.Beside.{has_something, beside_of}
+use Rattle.doc_columns.specs.Beside.{beside_of}
 use Rattle.doc_columns.specs.Columns.{item_of, items_of}
-use Rattle.doc_columns.specs.Specials.{HasMapsWith, TakesRun, run_items as items_of_run, run_range}
-use Rattle.doc_columns.proofs.ItemsOfLemmas.{no_besides, items_of-range, items_of-append, items_of-maps, item_at}
-
--- ---- the items of one run
-
-special_run : (count : ℕ) (units : List ℕ) (chps : List Settings) (beside : Beside) → has_something beside ≡ true →
-    special_items (items_of units chps (replicate count beside)) ≡ items_of units chps (replicate count beside)
-special_run zero units chps beside is =
-    subst (λ (items : List Item). special_items items ≡ items) (sym (no_besides units chps)) refl
-special_run (suc count) [] chps beside is = refl
-special_run (suc count) (unit ∷ units) [] beside is = refl
-special_run (suc count) (unit ∷ units) (chp ∷ chps) beside is =
-    special-cons true (item_of unit chp beside) (items_of units chps (replicate count beside)) is
-    ∙ ap (λ (rest : List Item). item_of unit chp beside ∷ rest) (special_run count units chps beside is)
-
-bare_run : (count : ℕ) (units : List ℕ) (chps : List Settings) (beside : Beside) → has_something beside ≡ false →
-    special_items (items_of units chps (replicate count beside)) ≡ []
-bare_run zero units chps beside is = ap special_items (no_besides units chps)
-bare_run (suc count) [] chps beside is = refl
-bare_run (suc count) (unit ∷ units) [] beside is = refl
-bare_run (suc count) (unit ∷ units) (chp ∷ chps) beside is =
-    special-cons false (item_of unit chp beside) (items_of units chps (replicate count beside)) is
-    ∙ bare_run count units chps beside is
-
--- no item of the run is a bare one with the unit of a mark
-abbrev pub ArePlain : List Item → Type 0
-ArePlain text = All (λ item. is_special item ≡ false → IsPlainUnit item.unit) text
-
-plain_units : (units : List ℕ) (chps : List Settings) (besides : List Beside) → All IsPlainUnit units →
-    ArePlain (items_of units chps besides)
-plain_units [] chps besides plain = All-nil (λ (item : Item). is_special item ≡ false → IsPlainUnit item.unit)
-plain_units (unit ∷ units) [] besides plain =
-    All-nil (λ (item : Item). is_special item ≡ false → IsPlainUnit item.unit)
-plain_units (unit ∷ units) (chp ∷ chps) [] plain =
-    All-nil (λ (item : Item). is_special item ≡ false → IsPlainUnit item.unit)
-plain_units (unit ∷ units) (chp ∷ chps) (beside ∷ besides) plain =
-    All-cons (λ (item : Item). is_special item ≡ false → IsPlainUnit item.unit) (item_of unit chp beside)
-    (items_of units chps besides) (λ bare. All-head IsPlainUnit unit units plain)
-    (plain_units units chps besides (All-tail IsPlainUnit unit units plain))
-
-not_both : {A : Type 0} (b : Bool) → b ≡ true → b ≡ false → A
-not_both b is not = absurd (cc)
-
-special_plain : (count : ℕ) (units : List ℕ) (chps : List Settings) (beside : Beside) → has_something beside ≡ true →
-    ArePlain (items_of units chps (replicate count beside))
-special_plain zero units chps beside is =
-    subst ArePlain (sym (no_besides units chps))
-    (All-nil (λ (item : Item). is_special item ≡ false → IsPlainUnit item.unit))
-special_plain (suc count) [] chps beside is =
-    All-nil (λ (item : Item). is_special item ≡ false → IsPlainUnit item.unit)
-special_plain (suc count) (unit ∷ units) [] beside is =
-    All-nil (λ (item : Item). is_special item ≡ false → IsPlainUnit item.unit)
-special_plain (suc count) (unit ∷ units) (chp ∷ chps) beside is =
-    All-cons (λ (item : Item). is_special item ≡ false → IsPlainUnit item.unit) (item_of unit chp beside)
-    (items_of units chps (replicate count beside))
-    (λ bare. not_both (has_something beside) is bare)
-    (special_plain count units chps beside is)
-
--- ---- a run more
-
--- the special items of a front, and that its bare items are plain
-pub record IsCollected (text : List Item) (place : ℕ) (items : List Item) : Type 0 where
-  pub kept : items ≡ special_items (take place text)
-  pub plain : ArePlain (take place text)
+use Rattle.doc_columns.specs.RunItems.{HasMapsWith, run_items as items_of_run}
+use Rattle.doc_columns.proofs.ItemsOfLemmas.{items_of-range, items_of-append, items_of-maps, item_at}
 
 -- a walk begins at the start
 pub start_at : {T : Type 0} (runs : List (Run T)) (cursor : Cursor) → cursor ≡ (record { run = 0; begin = 0 }) →
     IsAt runs cursor
 start_at {T = T} runs cursor is = subst (IsAt runs) (sym is) (record { there = omega arith; begins = extent-nil T })
-
-pub none_collected : (text : List Item) → IsCollected text 0 []
-none_collected text = record {
-  kept = refl;
-  plain = All-nil (λ (item : Item). is_special item ≡ false → IsPlainUnit item.unit);
-}
 
 -- a longer front
 front_more : (text : List Item) (place count : ℕ) →
@@ -134,72 +61,6 @@ run_put text units chps besides place run items new whole range so_far put =
     (run_items text units chps besides place run.count run.value whole range)
     ∙ sym (front_more text place run.count)
 
--- a run of items that have something beside
-pub special_collected : (text : List Item) (units : List ℕ) (chps : List Settings) (besides : List Beside)
-    (place count : ℕ) (beside : Beside) (items : List Item) → items_of units chps besides ≡ text →
-    slice_range besides place (place + count) ≡ replicate count beside → has_something beside ≡ true
-    → IsCollected text place items
-    → IsCollected text (place + count) (items ++ items_of (slice_range units place (place + count))
-    (slice_range chps place (place + count)) (replicate count beside))
-special_collected text units chps besides place count beside items whole range is so_far =
-    let us = slice_range units place (place + count) in
-    let cs = slice_range chps place (place + count) in
-    let fresh = items_of us cs (replicate count beside) in
-    let more : take (place + count) text ≡ take place text ++ fresh =
-    front_more text place count
-    ∙ ap (λ (some : List Item). take place text ++ some)
-    (sym (run_items text units chps besides place count beside whole range)) in
-    record {
-      kept =
-          ap (λ (some : List Item). some ++ fresh) so_far.kept
-          ∙ ap (λ (some : List Item). special_items (take place text) ++ some)
-          (sym (special_run count us cs beside is))
-          ∙ sym (ap special_items more ∙ filter-append is_special (take place text) fresh);
-      plain =
-          subst ArePlain (sym more)
-          (All-append (λ (item : Item). is_special item ≡ false → IsPlainUnit item.unit) (take place text) fresh
-          so_far.plain (special_plain count us cs beside is));
-    }
-
--- a run of bare items
-pub bare_collected : (text : List Item) (units : List ℕ) (chps : List Settings) (besides : List Beside)
-    (place count : ℕ) (beside : Beside) (items : List Item) → items_of units chps besides ≡ text →
-    slice_range besides place (place + count) ≡ replicate count beside → has_something beside ≡ false
-    → All IsPlainUnit (slice_range units place (place + count)) → IsCollected text place items
-    → IsCollected text (place + count) items
-bare_collected text units chps besides place count beside items whole range is plain so_far =
-    let us = slice_range units place (place + count) in
-    let cs = slice_range chps place (place + count) in
-    let fresh = items_of us cs (replicate count beside) in
-    let more : take (place + count) text ≡ take place text ++ fresh =
-    front_more text place count
-    ∙ ap (λ (some : List Item). take place text ++ some)
-    (sym (run_items text units chps besides place count beside whole range)) in
-    record {
-      kept =
-          so_far.kept
-          ∙ sym (append-nil (special_items (take place text)))
-          ∙ ap (λ (some : List Item). special_items (take place text) ++ some) (sym (bare_run count us cs beside is))
-          ∙ sym (ap special_items more ∙ filter-append is_special (take place text) fresh);
-      plain =
-          subst ArePlain (sym more)
-          (All-append (λ (item : Item). is_special item ≡ false → IsPlainUnit item.unit) (take place text) fresh
-          so_far.plain (plain_units us cs (replicate count beside) plain));
-    }
-
--- a run that is taken
-pub taken_collected : (text : List Item) (units : List ℕ) (chps : List Settings) (besides : List Beside) (place : ℕ)
-    (run : Run Beside) (items new : List Item) → items_of units chps besides ≡ text →
-    slice_range besides place (place + run.count) ≡ replicate run.count run.value
-    → TakesRun run (run_range units place run) (items_of_run units chps place run) items new
-    → IsCollected text place items → IsCollected text (place + run.count) new
-taken_collected text units chps besides place run items new whole range (inl puts) so_far =
-    subst (λ (now : List Item). IsCollected text (place + run.count) now) (sym puts.put)
-    (special_collected text units chps besides place run.count run.value items whole range puts.something so_far)
-taken_collected text units chps besides place run items new whole range (inr passes) so_far =
-    subst (λ (now : List Item). IsCollected text (place + run.count) now) (sym passes.same)
-    (bare_collected text units chps besides place run.count run.value items whole range passes.bare passes.plain so_far)
-
 -- ---- the runs of a text
 
 -- items are those of columns that are their own
@@ -226,18 +87,6 @@ run_values runs k place run is begins =
     subst (λ (n : ℕ). slice_range (spread runs) n (n + run.count) ≡ replicate run.count run.value) (sym begins)
     (range_of_run runs k run is)
 
--- collected items are no more than the places
-pub collected_few : (text : List Item) (place : ℕ) (items : List Item) → IsCollected text place items →
-    length items ≤ place
-collected_few text place items so_far =
-    omega (
-      arith,
-      ap length so_far.kept,
-      length-filter is_special (take place text),
-      count_by-le-length is_special (take place text),
-      length-take place text,
-    )
-
 -- the items of a run have maps of their groups
 pub run_maps : (text : List Item) (units : List ℕ) (chps : List Settings) (runs : List (Run Beside)) (k place : ℕ)
     (run : Run Beside) → All IsFormedItem text → items_of units chps (spread runs) ≡ text →
@@ -252,29 +101,6 @@ run_maps text units chps runs k place run formed whole is begins at unit chp fro
     subst (λ (items : List Item). slice_get items at ≡ Some (item_of unit chp run.value)) whole
     (item_at units chps (spread runs) at unit chp run.value unit_there chp_there beside_there) in
     (All_at IsFormedItem text at (item_of unit chp run.value) formed there).maps
-
--- all runs make the whole text
-pub all_collected : (text : List Item) (runs : List (Run Beside)) (k place : ℕ) (items : List Item) →
-    spread runs ≡ map beside_of text → length runs ≤ k → place ≡ extent (take k runs)
-    → IsCollected text place items → IsCollected text (length text) items
-all_collected text runs k place items bs all begins so_far =
-    let long : length (map beside_of text) ≡ length text = length-map text beside_of in
-    let end : place ≡ length text =
-    omega (arith, extent_all runs k all, length-spread runs, ap length bs, long, begins) in
-    subst (λ (n : ℕ). IsCollected text n items) end so_far
-
--- what is collected of the whole text
-pub record IsWholeCollected (text items : List Item) : Type 0 where
-  pub kept : items ≡ special_items text
-  pub plain : ArePlain text
-
-pub whole_collected : (text items : List Item) → IsCollected text (length text) items → IsWholeCollected text items
-whole_collected text items so_far =
-    let all : take (length text) text ≡ text = take_all (length text) text (omega arith) in
-    record {
-      kept = so_far.kept ∙ ap special_items all;
-      plain = subst ArePlain all so_far.plain;
-    }
 
 -- ---- an item more
 

@@ -1,8 +1,10 @@
 pub mod ItemsOfLemmas
 pub mod ChangesLemmas
 pub mod CollectLemmas
+pub mod JudgeLemmas
 pub mod RightLemmas
 pub mod EqualityLemmas
 pub mod WalkLemmas
-pub mod SeenLemmas
 pub mod EndLemmas
+pub mod SeenLemmas
+pub mod WindowLemmas

@@ -20,10 +20,10 @@ use Rattle.doc_columns.proofs.CollectLemmas.{start_at}
 
 -- ---- columns and items
 
-long_chps : (parts : Parts) → AreParts parts → length (spread parts.chps.now) ≡ length parts.units.now
+pub long_chps : (parts : Parts) → AreParts parts → length (spread parts.chps.now) ≡ length parts.units.now
 long_chps parts are = length-spread parts.chps.now ∙ are.chps_long
 
-long_besides : (parts : Parts) → AreParts parts → length (spread parts.besides.now) ≡ length parts.units.now
+pub long_besides : (parts : Parts) → AreParts parts → length (spread parts.besides.now) ≡ length parts.units.now
 long_besides parts are = length-spread parts.besides.now ∙ are.besides_long
 
 pub items_long : (parts : Parts) → AreParts parts → length (items_in parts) ≡ length parts.units.now

@@ -1,5 +1,8 @@
 pub mod Beside
 pub mod Columns
 pub mod Changes
-pub mod Specials
+pub mod Judging
 pub mod Walks
+pub mod RunItems
+pub mod Kept
+pub mod Windows

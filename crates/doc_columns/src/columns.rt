@@ -1,28 +1,37 @@
-// A text by columns. Contracts see the list of its items.
+// A text by columns, which are its own or which it shares with others. Contracts see the list of its items.
 ghost use Rattle.std.specs.Prelude.{◌≡◌, ◌+◌, ◌-◌, ◌^◌, ◌<◌, ◌≤◌};
-ghost use Rattle.std.specs.Prelude.{[], ◌∷◌, ◌++◌, length, map, slice_get, All, Some, IfOk};
+ghost use Rattle.std.specs.Prelude.{[], ◌∷◌, ◌++◌, length, map, slice_get, slice_range, All, Some, IfOk};
 ghost use Rattle.std.specs.List.{splice};
 ghost use Rattle.prop_map.specs.Formed.{IsPropertyMap, character_groups};
+ghost use Rattle.run_lists.specs.Changed.{IsChanged};
 ghost use Rattle.run_lists.specs.Spread.{spread};
 ghost use Rattle.plain_doc.specs.Document.{HasPropertyMaps, IsFormedText};
 ghost use Rattle.doc_columns.specs.Beside.{beside_of};
+ghost use Rattle.doc_columns.specs.Changes.{HasOtherChp, HasOtherBeside, KeepsCharacters, KeepsMaps};
 ghost use Rattle.doc_columns.specs.Columns.{item_of, items_of, bare_items};
 
 use crate::Beside;
-use crate::ranges::{are_ranged, are_words, is_ranged, is_word};
-use doc_bits::{Memory, splice_list};
+use crate::own::OwnColumns;
+use crate::window::Window;
+use doc_bits::Memory;
 use plain_doc::Item;
 use prop_map::PropMap;
-use run_lists::{Run, Runs, Shared};
+use run_lists::{Change, Cursor, Run, Runs, Shared, seek};
 use std::alloc::Global;
 use std::marker::Model;
 
-/// A text: its units, the settings of each as runs, and what stands beside each as runs.
+/// A text: its units, the settings of each as runs, and what stands beside each as runs. A text that was cut out of
+/// another one may share its columns: its first change copies its part of them.
 #[derive(Drop)]
 pub struct Columns {
-    pub(crate) units: Vec<u16>,
-    pub(crate) chps: Runs<PropMap>,
-    pub(crate) besides: Runs<Beside>,
+    kept: Kept,
+}
+
+/// Where the columns of a text are.
+#[derive(Drop)]
+pub(crate) enum Kept {
+    Own(OwnColumns),
+    Shared(Window),
 }
 
 impl Model for Columns {
@@ -30,15 +39,13 @@ impl Model for Columns {
     ghost use Rattle.std.specs.Coded.{coded_list};
     ghost use Rattle.plain_doc.specs.declared.item.Item.{Item};
     ghost use Rattle.plain_doc.specs.contracts.item.Item as item;
-    ghost use Rattle.doc_columns.specs.Columns.{items_of, AreColumns};
+    ghost use Rattle.doc_columns.specs.Kept.{kept_items};
 
     ghost Value = { List Item };
 
     ghost coded = { coded_list item.the_row.coded };
 
-    ghost view = { λ c. items_of c.units.items c.chps c.besides };
-
-    ghost invariant = { λ c. AreColumns c.units.items c.chps c.besides };
+    ghost view = { λ c. kept_items c.kept };
 }
 
 impl Columns {
@@ -47,9 +54,7 @@ impl Columns {
         ensures { result ≡ [] }
     {
         Columns {
-            units: Vec::new(alloc),
-            chps: Runs::new(alloc),
-            besides: Runs::new(alloc),
+            kept: Kept::Own(OwnColumns::new(alloc)),
         }
     }
 
@@ -61,12 +66,36 @@ impl Columns {
         requires maps { All HasPropertyMaps (items_of units.items chps besides) }
         ensures { result ≡ items_of units.items chps besides }
     {
-        are_words(&units);
-        are_ranged(besides.as_runs());
         Columns {
-            units,
-            chps,
-            besides,
+            kept: Kept::Own(OwnColumns::from_parts(units, chps, besides)),
+        }
+    }
+
+    /// The text of columns that it has for itself.
+    pub(crate) fn from_own(own: OwnColumns) -> Columns
+        ensures { result ≡ own }
+    {
+        Columns {
+            kept: Kept::Own(own),
+        }
+    }
+
+    /// The text of a window of columns.
+    pub(crate) fn from_window(window: Window) -> Columns
+        ensures { result ≡ window }
+    {
+        Columns {
+            kept: Kept::Shared(window),
+        }
+    }
+
+    /// The columns of the text, for itself: those of a window are copied.
+    pub(crate) fn into_own(self) -> Result<OwnColumns, Memory>
+        ensures { IfOk result (λ own. own ≡ self) }
+    {
+        match self.kept {
+            Kept::Own(own) => Ok(own),
+            Kept::Shared(window) => Ok(window.own()?),
         }
     }
 
@@ -75,28 +104,40 @@ impl Columns {
         ensures len { result ≡ length self.now }
         ensures formed { IsFormedText self.now }
     {
-        self.units.len()
+        match &self.kept {
+            Kept::Own(own) => own.len(),
+            Kept::Shared(window) => window.len(),
+        }
     }
 
     /// The units of the items.
     pub fn units(&self) -> &[u16]
         ensures { result.now ≡ map (λ item. item.unit) self.now }
     {
-        &self.units
+        match &self.kept {
+            Kept::Own(own) => own.units(),
+            Kept::Shared(window) => window.units(),
+        }
     }
 
     /// The runs of their settings.
     pub fn chps(&self) -> &[Run<PropMap>]
         ensures { spread result.now ≡ map (λ item. item.chp) self.now }
     {
-        self.chps.as_runs()
+        match &self.kept {
+            Kept::Own(own) => own.chps(),
+            Kept::Shared(window) => window.chps(),
+        }
     }
 
     /// The runs of what stands beside them.
     pub fn besides(&self) -> &[Run<Beside>]
         ensures { spread result.now ≡ map beside_of self.now }
     {
-        self.besides.as_runs()
+        match &self.kept {
+            Kept::Own(own) => own.besides(),
+            Kept::Shared(window) => window.besides(),
+        }
     }
 
     /// The item at a place. Its maps are shared. It goes over the runs before it.
@@ -104,9 +145,21 @@ impl Columns {
         requires { place < length self.now }
         ensures { IfOk result (λ item. slice_get self.now place ≡ Some item) }
     {
-        let chp = self.chps.at(place).copy(alloc)?;
-        let beside = self.besides.at(place).copy(alloc)?;
-        Ok(item_with(self.units[place], chp, beside))
+        let chp = seek(self.chps(), &mut Cursor::new(), place).copy(alloc)?;
+        let beside = seek(self.besides(), &mut Cursor::new(), place).copy(alloc)?;
+        Ok(item_with(self.units()[place], chp, beside))
+    }
+
+    /// The items from `from` to before `to`. Their maps are shared, and all of a window shares its columns.
+    pub fn copy(&self, alloc: Global, from: usize, to: usize) -> Result<Columns, Memory>
+        requires ordered { from ≤ to }
+        requires within { to ≤ length self.now }
+        ensures { IfOk result (λ copy. copy ≡ slice_range self.now from to) }
+    {
+        match &self.kept {
+            Kept::Own(own) => Ok(Columns::from_own(own.copy(alloc, from, to)?)),
+            Kept::Shared(window) => Ok(window.cut(alloc, from, to)?),
+        }
     }
 
     /// The text with an item more.
@@ -115,22 +168,8 @@ impl Columns {
         requires maps { HasPropertyMaps item }
         ensures { IfOk result (λ made. made ≡ self ++ item ∷ []) }
     {
-        let Columns {
-            mut units,
-            mut chps,
-            mut besides,
-        } = self;
-        let (unit, chp, beside) = parts_of(item);
-        is_word(unit);
-        is_ranged(&beside);
-        units.push(unit)?;
-        chps.add(1, chp)?;
-        besides.add(1, beside)?;
-        Ok(Columns {
-            units,
-            chps,
-            besides,
-        })
+        let own = self.into_own()?;
+        Ok(Columns::from_own(own.add(item)?))
     }
 
     /// The text with units more, which have the same settings and nothing beside them.
@@ -139,20 +178,8 @@ impl Columns {
         requires map { IsPropertyMap character_groups chp }
         ensures { IfOk result (λ made. made ≡ self ++ bare_items chp more.now) }
     {
-        let Columns {
-            mut units,
-            mut chps,
-            mut besides,
-        } = self;
-        are_words(more);
-        units.extend_from_slice(more)?;
-        chps.add(more.len() as u32, chp)?;
-        besides.add(more.len() as u32, Beside::none())?;
-        Ok(Columns {
-            units,
-            chps,
-            besides,
-        })
+        let own = self.into_own()?;
+        Ok(Columns::from_own(own.add_units(more, chp)?))
     }
 
     /// The text with `fresh` in place of the items from `from` to before `to`.
@@ -168,24 +195,43 @@ impl Columns {
         requires few { length self + length fresh < 2 ^ 32 + (to - from) }
         ensures { IfOk result (λ made. made ≡ splice self from to fresh) }
     {
-        let Columns {
-            mut units,
-            mut chps,
-            mut besides,
-        } = self;
-        let Columns {
-            units: more_units,
-            chps: more_chps,
-            besides: more_besides,
-        } = fresh;
-        splice_list(&mut units, from, to, more_units)?;
-        chps.splice(alloc, from, to, more_chps)?;
-        besides.splice(alloc, from, to, more_besides)?;
-        Ok(Columns {
-            units,
-            chps,
-            besides,
-        })
+        let own = self.into_own()?;
+        let more = fresh.into_own()?;
+        Ok(Columns::from_own(own.splice(alloc, from, to, more)?))
+    }
+
+    /// Changes the settings of the items from `from` to before `to`, run by run.
+    pub fn change_chps<C: Change<PropMap>>(
+        self,
+        alloc: Global,
+        from: usize,
+        to: usize,
+        by: &C,
+    ) -> Result<Columns, Memory>
+        requires ordered { from ≤ to }
+        requires within { to ≤ length self }
+        requires kept { KeepsCharacters (C.becomes by.now) }
+        ensures { IfOk result (IsChanged (HasOtherChp (C.becomes by.now)) from to self) }
+    {
+        let own = self.into_own()?;
+        Ok(Columns::from_own(own.change_chps(alloc, from, to, by)?))
+    }
+
+    /// Changes what stands beside the items from `from` to before `to`, run by run.
+    pub fn change_besides<C: Change<Beside>>(
+        self,
+        alloc: Global,
+        from: usize,
+        to: usize,
+        by: &C,
+    ) -> Result<Columns, Memory>
+        requires ordered { from ≤ to }
+        requires within { to ≤ length self }
+        requires kept { KeepsMaps (C.becomes by.now) }
+        ensures { IfOk result (IsChanged (HasOtherBeside (C.becomes by.now)) from to self) }
+    {
+        let own = self.into_own()?;
+        Ok(Columns::from_own(own.change_besides(alloc, from, to, by)?))
     }
 }
 
@@ -207,28 +253,4 @@ pub(crate) fn item_with(unit: u16, chp: PropMap, beside: Beside) -> Item
         mark,
         sect,
     }
-}
-
-/// What an item has beside its unit and its settings, with these.
-fn parts_of(item: Item) -> (u16, PropMap, Beside)
-    ensures { item ≡ item_of result.0 result.1 result.2 }
-{
-    let Item {
-        unit,
-        fld,
-        note,
-        chp,
-        mark,
-        sect,
-    } = item;
-    (
-        unit,
-        chp,
-        Beside {
-            fld,
-            note,
-            mark,
-            sect,
-        },
-    )
 }

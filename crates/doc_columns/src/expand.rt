@@ -2,7 +2,7 @@
 ghost use Rattle.std.specs.Prelude.{◌≡◌, IfOk};
 ghost use Rattle.plain_doc.specs.Document.{IsFormedText};
 
-use crate::specials::{TextParts, push_run};
+use crate::collect::{TextParts, push_run};
 use crate::{ColumnDocument, ColumnTexts, Columns};
 use doc_bits::Memory;
 use plain_doc::{Document, Item, Items, Texts};

@@ -3,16 +3,21 @@
 
 mod beside;
 mod change;
+mod collect;
 mod columns;
+mod copying;
 mod document;
 mod equality;
 mod expand;
 mod formed;
+mod judge;
+mod own;
 mod ranges;
 mod sound;
-mod specials;
 mod texts;
 mod walk;
+mod whole;
+mod window;
 
 pub use beside::Beside;
 pub use columns::Columns;
@@ -21,3 +26,4 @@ pub use formed::columns_are_formed;
 pub use sound::{all_items, is_sound};
 pub use texts::ColumnTexts;
 pub use walk::{Alike, Parts, Walk, alike_from, paragraph_end};
+pub use whole::WholeText;

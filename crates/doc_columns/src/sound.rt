@@ -1,17 +1,15 @@
 // Whether a document by columns breaks no rule.
-ghost use Rattle.std.specs.Prelude.{◌≡◌, IsTrue, IfOk, IfSome, IsSomeAnd, length};
+ghost use Rattle.std.specs.Prelude.{◌≡◌, ◌<◌, ◌^◌, IsTrue, IfOk, length};
 ghost use Rattle.std.specs.List.{sum_by};
-ghost use Rattle.plain_doc.specs.Marks.{HasFormedBookmarks};
-ghost use Rattle.plain_doc.specs.RulesOfSheet.{item_count};
+ghost use Rattle.plain_doc.specs.RulesOfSheet.{heads_of_sections, item_count};
 ghost use Rattle.plain_doc.specs.Sound.{IsSound};
 ghost use Rattle.bare_items.specs.Marks.{AreRightBookmarks};
-ghost use Rattle.bare_items.specs.Specials.{AreSpecialsOf};
 
-use crate::specials::{special_items, special_texts};
+use crate::judge::{are_right_texts, right_counts};
 use crate::{ColumnDocument, ColumnTexts};
-use doc_bits::Memory;
+use doc_bits::{Memory, Where};
 use doc_parts::Bookmarks;
-use plain_doc::{Carried, Document, blank, check};
+use plain_doc::{Counts, HEADS_A_SECTION, SEPARATORS, Side, is_right_sheet};
 use std::alloc::Global;
 
 /// The most items of all texts.
@@ -31,8 +29,19 @@ pub fn is_sound(alloc: Global, document: &ColumnDocument) -> Result<bool, Memory
     if !are_right(&document.bookmarks, document.main.len()) {
         return Ok(false);
     }
-    let kept = special_document(alloc, document)?;
-    Ok(is_found_sound(&kept))
+    let Some(counts) = right_counts(alloc, &document.sheet, Where::Main, &document.main)? else {
+        return Ok(false);
+    };
+    if !are_right_texts(alloc, &document.sheet, Side::Notes, &document.notes)? {
+        return Ok(false);
+    }
+    if !are_right_texts(alloc, &document.sheet, Side::Heads, &document.heads)? {
+        return Ok(false);
+    }
+    if !fit_counts(document, counts) {
+        return Ok(false);
+    }
+    Ok(is_right_sheet(&document.sheet))
 }
 
 /// Whether the bookmarks of a main text of `len` units are formed, not too many, and none has the
@@ -46,58 +55,16 @@ fn are_right(bookmarks: &Bookmarks, len: usize) -> bool
     bookmarks.same_name().is_none()
 }
 
-/// Whether there is a document, which breaks no rule.
-fn is_found_sound(found: &Option<Document>) -> bool
-    requires { IfSome found.now HasFormedBookmarks }
-    ensures { IsTrue result → IsSomeAnd found.now IsSound }
+/// Whether the numbers of notes and header texts are those that the main text counts.
+fn fit_counts(document: &ColumnDocument, counts: Counts) -> bool
+    requires { counts.sections < 2 ^ 32 }
+    ensures { IsTrue result → (length document.now.notes ≡ counts.notes)
+        × (length document.now.heads ≡ heads_of_sections counts.sections) }
 {
-    match found {
-        None => false,
-        Some(document) => breaks_no_rule(document),
+    if document.notes.len() != counts.notes {
+        return false;
     }
-}
-
-/// The document of the special items of a document. There is none where a bare item may be wrong.
-fn special_document(alloc: Global, document: &ColumnDocument) -> Result<Option<Document>, Memory>
-    ensures specials { IfOk result (λ found. IfSome found (AreSpecialsOf document.now)) }
-    ensures formed { IfOk result (λ found. IfSome found HasFormedBookmarks) }
-{
-    let Some(main) = special_items(alloc, &document.main)? else {
-        return Ok(None);
-    };
-    let Some(notes) = special_texts(alloc, &document.notes)? else {
-        return Ok(None);
-    };
-    let Some(heads) = special_texts(alloc, &document.heads)? else {
-        return Ok(None);
-    };
-    let sheet = document.sheet.copy(alloc)?;
-    let carried = nothing_carried(alloc)?;
-    Ok(Some(Document {
-        main,
-        notes,
-        heads,
-        sheet,
-        carried,
-        bookmarks: Bookmarks::new(alloc),
-    }))
-}
-
-/// What is carried by a document without streams and lists of others.
-fn nothing_carried(alloc: Global) -> Result<Carried, Memory> {
-    let blank = blank(alloc)?;
-    Ok(blank.carried)
-}
-
-/// Whether a document breaks no rule.
-fn breaks_no_rule(document: &Document) -> bool
-    requires { HasFormedBookmarks document.now }
-    ensures { IsTrue result → IsSound document.now }
-{
-    match check(document) {
-        Ok(()) => true,
-        Err(_) => false,
-    }
+    document.heads.len() == SEPARATORS + HEADS_A_SECTION * counts.sections
 }
 
 /// How many items all texts have.

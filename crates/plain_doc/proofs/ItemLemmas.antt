@@ -1,7 +1,5 @@
 -- The first item of a text that is not right.
-use Rattle.std.specs.Prelude.{◌↔◌, IsTrue}
-use Rattle.std.specs.Option.{ForSome}
-use Rattle.std.proofs.Common.{◌≡◌, Bool, Option, Some, ℕ, ◌<◌, List, length, get_or, refl, ◌∙◌, subst}
+use Rattle.std.proofs.Common.{◌≡◌, ℕ, ◌<◌, List, length, get_or, refl, ◌∙◌, subst}
 use Rattle.std.proofs.lemmas.Option.{slice_get_read, slice_get_within, get_or_from_slice_get}
 use Rattle.plain_doc.specs.declared.item.Item.{Item}
 use Rattle.plain_doc.specs.RulesOfItems.{IsWrongItem}
@@ -21,8 +19,3 @@ right_there right text i item is good w =
 -- an item that is not right is within the text
 pub wrong_within : (right : ℕ → Item → Type 0) (text : List Item) (i : ℕ) → IsWrongItem right text i → i < length text
 wrong_within right text i w = slice_get_within text i w.item w.there
-
--- a test of what is there tests what may be there
-pub for_some_iff : {A : Type 0} (P : A → Type 0) (o : Option A) (x : A) (b : Bool) → o ≡ Some x → (IsTrue b ↔ P x) →
-    IsTrue b ↔ ForSome o P
-for_some_iff P o x b is iff = (λ t y e. let same : x ≡ y = cc in subst P same (iff.0 t), λ all. iff.1 (all x is))

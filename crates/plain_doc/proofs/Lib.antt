@@ -27,3 +27,4 @@ pub mod LawLemmas
 pub mod CollectedLemmas
 pub mod TextListLemmas
 pub mod BookmarkRuleLemmas
+pub mod JudgedLemmas

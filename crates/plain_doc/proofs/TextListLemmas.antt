@@ -122,12 +122,6 @@ unfolding starts_from
 first_start [] = refl
 first_start (section ∷ sections) = refl
 
-pub length-starts_from : (start : ℕ) (sections : List (ℕ × Settings)) →
-    length (starts_from start sections) ≡ length sections
-unfolding starts_from
-length-starts_from start [] = refl
-length-starts_from start (section ∷ sections) = ap suc (length-starts_from (section.0 + 1) sections)
-
 -- a later section begins right behind the last CP of the one before it
 pub next_start : (start : ℕ) (sections : List (ℕ × Settings)) (k : ℕ) (section : ℕ × Settings) →
     slice_get sections k ≡ Some section → suc k < length sections →

@@ -12,19 +12,18 @@ use Rattle.text_codes.specs.Paragraph.{paragraph_mark}
 use Rattle.style_sheet.specs.Sheet.{Sheet}
 use Rattle.plain_doc.specs.declared.item.Item.{Item}
 use Rattle.plain_doc.specs.declared.document.Document.{Document}
-use Rattle.plain_doc.specs.declared.rules_texts.ItemRule.{ItemRule}
 use Rattle.plain_doc.specs.declared.rules_texts.ItemRule.TheVariants.{Placing, Styles, Settings}
 use Rattle.plain_doc.specs.declared.rules_texts.TextRule.{TextRule}
 use Rattle.plain_doc.specs.declared.rules_texts.TextRule.TheVariants.{End, Fields, Rows, Each}
 use Rattle.plain_doc.specs.declared.text_walk.TextWalk.{TextWalk}
 use Rattle.plain_doc.specs.Nesting.{most_open, field_characters}
 use Rattle.plain_doc.specs.OpenFields.{Open, after_unit, after_item}
-use Rattle.plain_doc.specs.Rows.{FitsRow, open_cells, cells_after, is_row_mark, is_cell_mark}
+use Rattle.plain_doc.specs.Rows.{FitsRow, cells_after, is_row_mark, is_cell_mark}
 use Rattle.plain_doc.specs.RulesOfItems.{IsWrongItem}
 use Rattle.plain_doc.specs.RulesOfSheet.{note_count, section_count}
 use Rattle.plain_doc.specs.RulesOfTexts.{EndsRight, InTexts, last_unit}
 use Rattle.plain_doc.specs.TextRules.{IsRightItem, BreaksText}
-use Rattle.plain_doc.specs.TextWalk.{PassesItem, KeepsTextRules, AreTextsRight}
+use Rattle.plain_doc.specs.TextWalk.{PassesItem, HasPassed, KeepsTextRules, AreTextsRight}
 use Rattle.plain_doc.proofs.WalkLemmas.{after_all}
 use Rattle.plain_doc.proofs.FieldLemmas.{open_after, open_still, nothing_open}
 use Rattle.plain_doc.proofs.RowLemmas.{RightIn, open_cells-nil, open_cells_more, no_row_open}
@@ -71,16 +70,6 @@ one_or_none false = omega arith
 -- of one item there is at most one
 at_most_one : (such : Item → Bool) (item : Item) → count_by such (item ∷ []) ≤ 1
 at_most_one such item = let few = one_or_none (such item) in omega arith
-
--- the items before `i` are passed, and what the walk carries then
-pub record HasPassed (sheet : Sheet) (part : Where) (text : List Item) (i : ℕ) (walk : TextWalk) : Type 0 where
-  pub right : (rule : ItemRule) (k : ℕ) → k < i → IsWrongItem (IsRightItem rule sheet part (length text)) text k → ⊥
-  pub rows : (k : ℕ) → k < i → IsWrongItem (RightIn text) text k → ⊥
-  pub cells : walk.cells ≡ open_cells (take i text)
-  pub fields : after_all most_open (field_characters (take i text)) (Some []) ≡ Some walk.fields
-  pub notes : walk.notes ≡ note_count (take i text)
-  pub sections : walk.sections ≡ section_count (take i text)
-  pub few : (walk.cells ≤ i) × ((walk.notes ≤ i) × (walk.sections ≤ i))
 
 pub none_passed : (sheet : Sheet) (part : Where) (text : List Item) →
     HasPassed sheet part text 0 (record { fields = []; cells = 0; notes = 0; sections = 0 })

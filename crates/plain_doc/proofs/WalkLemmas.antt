@@ -6,21 +6,13 @@ use Rattle.std.proofs.lemmas.Bool.{lt-ltb}
 use Rattle.std.proofs.lemmas.List.Concat.{flat_map-cons}
 use Rattle.std.proofs.lemmas.List.Elements.{All-head, All-tail}
 use Rattle.plain_doc.specs.Nesting.{result_part, IsField, AreFields}
-use Rattle.plain_doc.specs.OpenFields.{Open, after_unit}
-
-abbrev step : ℕ → ℕ → Option Open → Option Open
-step limit unit None = None
-step limit unit (Some fields) = after_unit limit unit fields
-
--- what is open after the units
-abbrev pub after_all : ℕ → List ℕ → Option Open → Option Open
-after_all limit [] fields = fields
-after_all limit (unit ∷ units) fields = after_all limit units (step limit unit fields)
+use Rattle.plain_doc.specs.OpenFields.{Open, after_unit, after_next}
+pub use Rattle.plain_doc.specs.OpenFields.{after_all}
 
 pub after_both : (limit : ℕ) (front back : List ℕ) (fields : Option Open) →
     after_all limit (front ++ back) fields ≡ after_all limit back (after_all limit front fields)
 after_both limit [] back fields = refl
-after_both limit (unit ∷ front) back fields = after_both limit front back (step limit unit fields)
+after_both limit (unit ∷ front) back fields = after_both limit front back (after_next limit unit fields)
 
 pub after_none : (limit : ℕ) (units : List ℕ) → after_all limit units None ≡ None
 after_none limit [] = refl

@@ -72,7 +72,8 @@ with_bytes-total streams i bytes =
 
 -- streams with names of 1 to 31 units in their order stay so
 pub with_bytes-AreStreams : (streams : List NamedBytes) (i : ℕ) (bytes : List ℕ) → AreStreams streams →
-    sum_by (λ stream. length stream.bytes) (with_bytes streams i bytes) < 2 ^ 48 → AreStreams (with_bytes streams i bytes)
+    sum_by (λ stream. length stream.bytes) (with_bytes streams i bytes) < 2 ^ 48 → AreStreams (with_bytes streams i
+    bytes)
 with_bytes-AreStreams streams i bytes are total = record {
   some =
       λ k stream here. let old = named_before streams i bytes k stream here in

@@ -29,6 +29,16 @@ after_unit limit unit fields =
     if unit == 0x14 then separated fields else
     if unit == 0x15 then ended fields else None
 
+-- after a field character where none was wrong before it
+abbrev pub after_next : ℕ → ℕ → Option Open → Option Open
+after_next limit unit None = None
+after_next limit unit (Some fields) = after_unit limit unit fields
+
+-- after all of these field characters
+abbrev pub after_all : ℕ → List ℕ → Option Open → Option Open
+after_all limit [] fields = fields
+after_all limit (unit ∷ units) fields = after_all limit units (after_next limit unit fields)
+
 -- after an item, which is a field character where it has a byte
 abbrev pub after_item : ℕ → Item → Open → Option Open
 after_item limit item fields = if is_some item.fld then after_unit limit item.unit fields else Some fields

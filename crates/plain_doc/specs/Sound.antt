@@ -1,8 +1,9 @@
 -- The rules on documents, 60 to 71, in their order, and the documents that break none.
 use Rattle.std.specs.Prelude.{ℕ, ◌⊎◌, length}
-use Rattle.doc_bits.specs.Rules.{Rules, rule, ◌then◌, Hold, Breaks, IsLeastOfAll}
+use Rattle.doc_bits.specs.Rules.{Rules, rule, ◌then◌, Hold, Breaks, IsLeastOfAll, Nowhere}
 use Rattle.doc_bits.specs.Places.{Place, Upto, IsFirstPlace}
 use Rattle.style_sheet.specs.Chain.{BreaksBases}
+use Rattle.style_sheet.specs.Sheet.{Sheet}
 use Rattle.style_sheet.specs.Written.{IsWritable}
 use Rattle.plain_doc.specs.declared.judge.DocFault.{DocFault}
 use Rattle.plain_doc.specs.declared.document.Document.{Document}
@@ -55,6 +56,12 @@ document_rules document =
     base_rules document then
     count_rules document then
     size_rules document
+
+-- the styles of the sheet break no rule
+pub record IsRightSheet (sheet : Sheet) : Type 0 where
+  pub bases : Nowhere (BreaksBases sheet)
+  pub short : Nowhere (λ istd. ¬ (HasShortStyle sheet istd))
+  pub writable : Nowhere (λ istd. ¬ (FitsStd sheet istd))
 
 -- the document breaks none of the rules, and its bookmarks are formed, which no type of its parts alone keeps
 pub record IsSound (document : Document) : Type 0 where

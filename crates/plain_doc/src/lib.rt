@@ -33,5 +33,8 @@ pub use laws::{
     sound_documents_are_right, sound_sheet_is_writable, stretches_are_one,
 };
 pub use paragraphs::paragraph_end;
-pub use rules_counts::{HEADS_A_SECTION, SEPARATORS, all_items, notes_in, sections_in};
+pub use rules_counts::{Counts, HEADS_A_SECTION, SEPARATORS, all_items, notes_in, sections_in};
+pub use rules_sheet::is_right_sheet;
+pub use rules_texts::{ItemRule, Side, TextRule, is_head};
+pub use text_walk::TextWalk;
 pub use texts::Texts;

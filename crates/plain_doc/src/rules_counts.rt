@@ -14,9 +14,9 @@ pub const HEADS_A_SECTION: usize = 6;
 
 /// How many items of a text refer to notes, and how many end a section.
 #[derive(Clone, Copy)]
-pub(crate) struct Counts {
-    pub(crate) notes: usize,
-    pub(crate) sections: usize,
+pub struct Counts {
+    pub notes: usize,
+    pub sections: usize,
 }
 
 /// The counts of a text, by a walk for each.

@@ -1,9 +1,11 @@
 // The rules on each style.
 ghost use Rattle.std.specs.Prelude.{◌↔◌, IsTrue};
-ghost use Rattle.doc_bits.specs.Rules.{LeastOrNone};
+ghost use Rattle.doc_bits.specs.Rules.{LeastOrNone, Nowhere};
+ghost use Rattle.style_sheet.specs.Chain.{BreaksBases};
 ghost use Rattle.style_sheet.specs.Formed.{IsFormedSheet, IsFormedKind};
 ghost use Rattle.plain_doc.specs.RulesOfSheet.{HasShortKind, HasShortStyle};
 ghost use Rattle.plain_doc.specs.StyleRules.{IsRightStyle, IsWrongStyle};
+ghost use Rattle.plain_doc.specs.Sound.{IsRightSheet};
 
 use crate::rules_items::{is_short_chp, is_short_pap};
 use style_sheet::{Kind, StyleSheet};
@@ -18,6 +20,39 @@ pub(crate) enum StyleRule {
     Settings,
     /// The style fits an STD.
     Written,
+}
+
+/// Whether the styles of a sheet break no rule.
+pub fn is_right_sheet(sheet: &StyleSheet) -> bool
+    ensures { IsTrue result → IsRightSheet sheet.now }
+{
+    if !has_right_bases(sheet) {
+        return false;
+    }
+    if !are_right_styles(StyleRule::Settings, sheet) {
+        return false;
+    }
+    are_right_styles(StyleRule::Written, sheet)
+}
+
+/// Whether the bases of all styles end.
+fn has_right_bases(sheet: &StyleSheet) -> bool
+    ensures { IsTrue result → Nowhere (BreaksBases sheet.now) }
+{
+    match sheet.broken_base() {
+        None => true,
+        Some(_) => false,
+    }
+}
+
+/// Whether all styles are right by the rule.
+fn are_right_styles(rule: StyleRule, sheet: &StyleSheet) -> bool
+    ensures { IsTrue result → Nowhere (IsWrongStyle rule sheet.now) }
+{
+    match wrong_style(rule, sheet) {
+        None => true,
+        Some(_) => false,
+    }
 }
 
 /// The first style that is not right by the rule.

@@ -18,7 +18,7 @@ use text_codes::PARAGRAPH_MARK;
 
 /// A rule on each item of a text.
 #[derive(Clone, Copy, Debug, PartialEq, Eq)]
-pub(crate) enum ItemRule {
+pub enum ItemRule {
     /// What the item has stands where it may.
     Placing,
     /// The style of a mark is one of paragraphs.
@@ -29,7 +29,7 @@ pub(crate) enum ItemRule {
 
 /// A rule on each text.
 #[derive(Clone, Copy, Debug, PartialEq, Eq)]
-pub(crate) enum TextRule {
+pub enum TextRule {
     /// The text ends with the end of a paragraph.
     End,
     /// Fields nest.
@@ -41,14 +41,14 @@ pub(crate) enum TextRule {
 
 /// The texts beside the main text.
 #[derive(Clone, Copy, Debug, PartialEq, Eq)]
-pub(crate) enum Side {
+pub enum Side {
     Notes,
     Heads,
 }
 
 impl Side {
     /// The place of the text of this number.
-    pub(crate) fn part(self, number: u32) -> Where
+    pub fn part(self, number: u32) -> Where
         ensures { result ≡ part_of self number }
     {
         match self {
@@ -126,7 +126,7 @@ pub(crate) fn ends_right(part: Where, text: &[Item]) -> bool
 }
 
 /// Whether the place is a header text.
-fn is_head(part: Where) -> bool
+pub fn is_head(part: Where) -> bool
     ensures { IsTrue result ↔ IsHead part }
 {
     match part {

@@ -2,13 +2,11 @@
 // are plain ones, which take a few tests.
 ghost use Rattle.std.specs.Prelude.{◌≡◌, ℕ, ◌+◌, ◌^◌, ◌<◌, ◌≤◌};
 ghost use Rattle.std.specs.Prelude.{◌↔◌, [], ◌∷◌, length, IsTrue, IfSome};
-ghost use Rattle.doc_bits.specs.Rules.{Nowhere};
 ghost use Rattle.doc_bits.specs.declared.places.Where.TheVariants.{Main};
-ghost use Rattle.plain_doc.specs.declared.rules_texts.TextRule.{TextRule};
 ghost use Rattle.plain_doc.specs.Document.{IsFormedText, HasPropertyMaps};
 ghost use Rattle.plain_doc.specs.RulesOfSheet.{note_count, section_count};
-ghost use Rattle.plain_doc.specs.TextRules.{BreaksText, InList};
-ghost use Rattle.plain_doc.specs.TextWalk.{IsPlain, PassesItem, KeepsTextRules, AreTextsRight, HasCounts};
+ghost use Rattle.plain_doc.specs.TextWalk.{IsPlain, PassesItem, KeepsTextRules, AreTextsRight, AreRightTexts};
+ghost use Rattle.plain_doc.specs.TextWalk.{EndsWalk, HasCounts};
 
 use crate::fields::OpenFields;
 use crate::rows::{fits_row, next_cells};
@@ -22,7 +20,7 @@ use text_codes::{CELL_MARK, PARAGRAPH_MARK};
 
 /// What a walk carries: the open fields, the cells of the open row, the notes and sections so far.
 #[derive(Drop)]
-struct TextWalk {
+pub struct TextWalk {
     fields: OpenFields,
     cells: usize,
     notes: usize,
@@ -46,7 +44,7 @@ pub(crate) fn right_counts(document: &Document) -> Option<Counts>
 
 /// Whether no text of the list breaks a rule on texts.
 fn are_right(sheet: &StyleSheet, side: Side, texts: &Texts) -> bool
-    ensures { IsTrue result → (rule : TextRule) → Nowhere (InList side texts.now (BreaksText rule sheet.now)) }
+    ensures { IsTrue result → AreRightTexts sheet.now side texts.now }
 {
     for k in 0..texts.len() {
         let part = side.part(k as u32);
@@ -72,19 +70,13 @@ fn walk_text(sheet: &StyleSheet, part: Where, text: &[Item]) -> Option<Counts>
             return None;
         }
     }
-    if walk.cells == 0 && walk.fields.is_empty() {
-        Some(Counts {
-            notes: walk.notes,
-            sections: walk.sections,
-        })
-    } else {
-        None
-    }
+    let counts = walk.counts()?;
+    Some(counts)
 }
 
 impl TextWalk {
     /// What is carried before the first item.
-    fn new() -> TextWalk
+    pub fn new() -> TextWalk
         ensures { result ≡ record { fields = []; cells = 0; notes = 0; sections = 0 } }
     {
         TextWalk {
@@ -118,7 +110,7 @@ impl TextWalk {
 
     /// The same of any item. Most items don't come here, and the loop over those stays small.
     #[inline(never)]
-    fn pass_marked(
+    pub fn pass_marked(
         &mut self,
         sheet: &StyleSheet,
         part: Where,
@@ -142,6 +134,20 @@ impl TextWalk {
         self.notes += usize::from(item.note.is_some());
         self.sections += usize::from(item.sect.is_some());
         self.fields.pass_item(item)
+    }
+
+    /// The counts of the text whose items are passed. There are none where a field or a row is open.
+    pub fn counts(&self) -> Option<Counts>
+        ensures { IfSome result (EndsWalk self.now) }
+    {
+        if self.cells == 0 && self.fields.is_empty() {
+            Some(Counts {
+                notes: self.notes,
+                sections: self.sections,
+            })
+        } else {
+            None
+        }
     }
 }
 

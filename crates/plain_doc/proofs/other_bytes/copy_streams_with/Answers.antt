@@ -10,9 +10,15 @@ pub add-requires : goal.add-requires
 add-requires c =
     let all = with_bytes c.args.streams.now c.args.i c.args.bytes.now in
     let total = c.requires.room.total in
-    let within : c.loop-k.k < length all = omega (arith, length-with_bytes c.args.streams.now c.args.i c.args.bytes.now) in
-    let are = with_bytes-AreStreams c.args.streams.now c.args.i c.args.bytes.now c.count-count.ensures.ordered (omega arith) in
-    subst AreStreams (sym (next_stream all _ _ _ _ c.loop-k.invariant within (with_bytes-name c.args.streams.now c.args.i
+    let within : c.loop-k.k < length all = omega (
+      arith,
+      length-with_bytes c.args.streams.now c.args.i
+          c.args.bytes.now,
+    ) in
+    let are = with_bytes-AreStreams c.args.streams.now c.args.i c.args.bytes.now c.count-count.ensures.ordered
+    (omega arith) in
+    subst AreStreams (sym (next_stream all _ _ _ _ c.loop-k.invariant within (with_bytes-name c.args.streams.now
+    c.args.i
     c.args.bytes.now c.loop-k.k ∙ c.name.ensures)
     c.bytes_with-content.ensures))
     (AreStreams-take (c.loop-k.k + 1) all are)
@@ -20,7 +26,11 @@ add-requires c =
 pub loop-k-preserved : goal.loop-k-preserved
 loop-k-preserved c =
     let all = with_bytes c.args.streams.now c.args.i c.args.bytes.now in
-    let within : c.loop-k.k < length all = omega (arith, length-with_bytes c.args.streams.now c.args.i c.args.bytes.now) in
+    let within : c.loop-k.k < length all = omega (
+      arith,
+      length-with_bytes c.args.streams.now c.args.i
+          c.args.bytes.now,
+    ) in
     c.in_ok-add.ensures.ok
     ∙ next_stream all _ _ _ _ c.loop-k.invariant within (with_bytes-name c.args.streams.now c.args.i
     c.args.bytes.now c.loop-k.k ∙ c.name.ensures)

@@ -1,8 +1,7 @@
-use Rattle.std.proofs.Common.{◌≡◌, ◌∙◌, length, refl, ap, subst, arith}
-use Rattle.std.proofs.Math.Seq.{take-length}
+use Rattle.std.proofs.Common.{◌≡◌, length, refl, subst, arith}
 use Rattle.plain_doc.specs.RulesOfTexts.{EndsRight}
-use Rattle.plain_doc.specs.RulesOfSheet.{note_count, section_count}
-use Rattle.plain_doc.proofs.TextWalkLemmas.{HasPassed, none_passed, one_passed, last_is_mark, all_passed}
+use Rattle.plain_doc.specs.TextWalk.{HasPassed}
+use Rattle.plain_doc.proofs.TextWalkLemmas.{none_passed, one_passed, last_is_mark}
 use Rattle.plain_doc.proofs.text_walk.walk_text.Goals as goal
 
 pub loop-i-init : goal.loop-i-init
@@ -19,16 +18,9 @@ loop-i-preserved c =
     c.pass.new.self (omega arith) c.index-text-i.is
     c.loop-i.invariant (c.if-not-pass.ensures refl)
 
-pub returns-then-is_empty : goal.returns-then-is_empty
-returns-then-is_empty c =
+pub returns : goal.returns
+returns c =
     let text = c.args.text.now in
     let end : c.loop-i.i ≡ length text = omega arith in
-    let passed = subst (λ n. HasPassed c.args.sheet.now c.args.part text n c.loop-i.walk) end c.loop-i.invariant in (
-      all_passed c.args.sheet.now c.args.part text c.loop-i.walk
-          (c.if-not-ends_right.ensures.0 refl) passed c.if-walk-eq0.true (c.if-is_empty.ensures.0 refl),
-      record {
-        notes = passed.notes ∙ ap note_count (take-length text);
-        sections = passed.sections ∙ ap section_count (take-length text);
-        few = omega (arith, passed.few.1.1, c.requires.few);
-      },
-    )
+    let passed = subst (λ n. HasPassed c.args.sheet.now c.args.part text n c.loop-i.walk) end c.loop-i.invariant in
+    c.in_ok-counts.ensures c.args.sheet.now c.args.part text (c.if-not-ends_right.ensures.0 refl) c.requires.few passed

@@ -1,4 +1,4 @@
-use Rattle.plain_doc.proofs.TextWalkLemmas.{HasPassed}
+use Rattle.plain_doc.specs.TextWalk.{HasPassed}
 use Rattle.plain_doc.proofs.text_walk.walk_text.Given as goal
 
 -- the items so far are passed

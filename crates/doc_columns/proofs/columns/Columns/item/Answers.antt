@@ -1,52 +1,64 @@
 -- The item of the three columns at the place.
-use Rattle.std.proofs.Common.{◌≡◌, ◌<◌, ℕ, List, length, Some, sym, ◌∙◌, ap, arith, rules}
+use Rattle.std.proofs.Common.{◌≡◌, ◌<◌, ℕ, List, length, get_or, Some, refl, sym, ◌∙◌, ap, arith}
 use Rattle.std.specs.Prelude.{slice_get}
-use Rattle.std.specs.Vec.{vec_len}
+use Rattle.std.proofs.lemmas.List.{length-map}
 use Rattle.std.proofs.lemmas.Option.{slice_get-get_or}
 use Rattle.prop_map.specs.Settings.{Settings}
+use Rattle.run_lists.specs.declared.cursor.Cursor.{Cursor}
+use Rattle.run_lists.specs.Spread.{spread}
 use Rattle.plain_doc.specs.declared.item.Item.{Item}
 use Rattle.doc_columns.specs.declared.beside.Beside.{Beside}
-use Rattle.doc_columns.proofs.ItemsOfLemmas.{text_long, item_at}
+use Rattle.doc_columns.specs.Beside.{beside_of}
+use Rattle.doc_columns.proofs.ItemsOfLemmas.{item_at}
+use Rattle.doc_columns.proofs.CollectLemmas.{start_at, whole_text}
+use Rattle.doc_columns.proofs.EqualityLemmas.{column_long}
 use Rattle.doc_columns.proofs.columns.Columns.item.Goals as goal
 
-pub at-requires : goal.at-requires
-at-requires c =
-    let own = c.self.inside in
-    let are = c.self.invariant in
-    let long = text_long own.units.items own.chps own.besides c.args.self.now are c.self.view_is in
-    omega (arith, long, are.chps_long, c.requires)
+pub seek-requires-clause-at : goal.seek-requires-clause-at
+seek-requires-clause-at c = start_at c.chps.result.now c.new.result c.new.ensures
 
-pub at-requires-2 : goal.at-requires-2
-at-requires-2 c =
-    let own = c.self.inside in
-    let are = c.self.invariant in
-    let long = text_long own.units.items own.chps own.besides c.args.self.now are c.self.view_is in
-    omega (arith, long, are.besides_long, c.requires)
+pub seek-requires-clause-ahead : goal.seek-requires-clause-ahead
+seek-requires-clause-ahead c = omega (arith, ap (λ (cursor : Cursor). cursor.begin) c.new.ensures)
 
-pub index-requires : goal.index-requires
-index-requires c =
-    let own = c.self.inside in
-    let are = c.self.invariant in
-    let long = text_long own.units.items own.chps own.besides c.args.self.now are c.self.view_is in
-    let len : vec_len own.units ≡ length own.units.items = search rules in
-    omega (arith, long, len, c.requires)
+pub seek-requires-clause-within : goal.seek-requires-clause-within
+seek-requires-clause-within c =
+    let text = c.args.self.now in
+    omega (
+      arith,
+      column_long c.chps.result.now text (λ (item : Item). item.chp) (length text) c.chps.ensures refl,
+      c.requires,
+    )
+
+pub seek-requires-2-clause-at : goal.seek-requires-2-clause-at
+seek-requires-2-clause-at c = start_at c.besides.result.now c.new-2.result c.new-2.ensures
+
+pub seek-requires-2-clause-ahead : goal.seek-requires-2-clause-ahead
+seek-requires-2-clause-ahead c = omega (arith, ap (λ (cursor : Cursor). cursor.begin) c.new-2.ensures)
+
+pub seek-requires-2-clause-within : goal.seek-requires-2-clause-within
+seek-requires-2-clause-within c =
+    let text = c.args.self.now in
+    omega (arith, column_long c.besides.result.now text beside_of (length text) c.besides.ensures refl, c.requires)
 
 pub returns : goal.returns
 returns c =
-    let own = c.self.inside in
-    let are = c.self.invariant in
+    let text = c.args.self.now in
     let place = c.args.place in
-    let long = text_long own.units.items own.chps own.besides c.args.self.now are c.self.view_is in
-    let within : place < length own.units.items = omega (arith, long, c.requires) in
-    let unit : ℕ = c.index.result.now in
+    let units = c.units.result.now in
+    let chps = spread c.chps.result.now in
+    let besides = spread c.besides.result.now in
+    let within : place < length units =
+    omega (arith, ap length c.units.ensures, length-map text (λ (item : Item). item.unit), c.requires) in
+    let unit : ℕ = get_or units place 0 in
     let chp : Settings = c.in_ok-chp.chp in
     let beside : Beside = c.in_ok-beside.beside in
-    let unit_there : slice_get own.units.items place ≡ Some unit =
-    slice_get-get_or own.units.items place unit within ∙ ap (λ (x : ℕ). Some x) (sym c.index.ensures) in
-    let chp_there : slice_get own.chps place ≡ Some chp =
-    c.at.ensures ∙ ap (λ (x : Settings). Some x) (sym c.in_ok-chp.ensures) in
-    let beside_there : slice_get own.besides place ≡ Some beside =
-    c.at-2.ensures ∙ ap (λ (x : Beside). Some x) (sym c.in_ok-beside.ensures) in
-    ap (λ (text : List Item). slice_get text place) (sym c.self.view_is)
-    ∙ item_at own.units.items own.chps own.besides place unit chp beside unit_there chp_there beside_there
+    let unit_there : slice_get units place ≡ Some unit =
+    slice_get-get_or units place 0 within in
+    let chp_there : slice_get chps place ≡ Some chp =
+    c.seek.ensures.value ∙ ap (λ (x : Settings). Some x) (sym c.in_ok-chp.ensures) in
+    let beside_there : slice_get besides place ≡ Some beside =
+    c.seek-2.ensures.value ∙ ap (λ (x : Beside). Some x) (sym c.in_ok-beside.ensures) in
+    ap (λ (items : List Item). slice_get items place)
+    (sym (whole_text text units chps besides c.units.ensures c.chps.ensures c.besides.ensures))
+    ∙ item_at units chps besides place unit chp beside unit_there chp_there beside_there
     ∙ ap (λ (x : Item). Some x) (sym c.item_with.ensures)
