@@ -35,6 +35,8 @@ pub fn read_mark(
     ensures formed { IfOk result (λ mark. IsFormedModifier modifier.now → IsPropertyMap paragraph_groups mark.pap) }
 {
     let mut reader = PlaceReader::new(alloc, PageKind::Papx, wd, bin, modifier)?;
-    let mark = reader.read_mark(alloc, fc)?;
-    Ok(mark)
+    match reader.read_mark(alloc, fc)? {
+        None => unreachable!(),
+        Some(mark) => Ok(mark),
+    }
 }

@@ -1,5 +1,5 @@
 // Readers of the settings of places, which keep what each list makes.
-ghost use Rattle.std.specs.Prelude.{◌≡◌, ◌↔◌, ◌+◌, ◌<◌, ◌^◌, length, IsTrue, IfOk, MatchOption};
+ghost use Rattle.std.specs.Prelude.{◌≡◌, ◌↔◌, ◌+◌, ◌<◌, ◌^◌, length, IsTrue, IfOk, IfSome, MatchOption};
 ghost use Rattle.prop_map.specs.Formed.{IsPropertyMap, paragraph_groups};
 ghost use Rattle.prop_map.specs.Modifiers.{IsFormedModifier};
 ghost use Rattle.fkp_pages.specs.declared.kind.PageKind.TheVariants.{Chpx, Papx};
@@ -124,21 +124,21 @@ impl<'a> PlaceReader<'a> {
         }
     }
 
-    /// Reads the mark at a place.
-    pub fn read_mark(&mut self, alloc: Global, fc: u32) -> Result<DirectMark, Memory>
+    /// Reads the mark at a place; nothing where the place is not right.
+    pub fn read_mark(&mut self, alloc: Global, fc: u32) -> Result<Option<DirectMark>, Memory>
         requires kind { self.old.kind ≡ Papx }
-        requires right { IsRightPlace Papx self.old.wd self.old.bin fc }
         ensures same { self.new ≡ self.old }
-        ensures mark { IfOk result
-            (λ mark. IsDirectMark self.old.wd self.old.bin fc self.old.modifier mark.istd mark.pap) }
-        ensures formed { IfOk result
-            (λ mark. IsFormedModifier self.old.modifier → IsPropertyMap paragraph_groups mark.pap) }
+        ensures mark { IfOk result (λ mark. MatchOption mark
+            (¬ (IsRightPlace Papx self.old.wd self.old.bin fc))
+            (λ mark. IsRightPlace Papx self.old.wd self.old.bin fc
+            × IsDirectMark self.old.wd self.old.bin fc self.old.modifier mark.istd mark.pap)) }
+        ensures formed { IfOk result (λ mark. IfSome mark
+            (λ mark. IsFormedModifier self.old.modifier → IsPropertyMap paragraph_groups mark.pap)) }
     {
-        let Some(stretch) = self.made_around(alloc, fc)? else {
-            unreachable!()
-        };
-        let Made { istd, map } = stretch.made;
-        Ok(DirectMark { istd, pap: map })
+        match self.made_around(alloc, fc)? {
+            None => Ok(None),
+            Some(stretch) => Ok(Some(direct_mark(stretch))),
+        }
     }
 
     /// What the list of a place makes, where it is right, and how far around the place it is the list.
@@ -178,6 +178,19 @@ fn characters_of(stretch: MadeStretch) -> CharacterStretch
     let MadeStretch { first, last, made } = stretch;
     let Made { istd: _, map } = made;
     CharacterStretch { first, last, map }
+}
+
+/// The mark that a stretch makes.
+fn direct_mark(stretch: MadeStretch) -> DirectMark
+    ensures { result ≡ record { istd = stretch.made.istd; pap = stretch.made.map } }
+{
+    let MadeStretch {
+        first: _,
+        last: _,
+        made,
+    } = stretch;
+    let Made { istd, map } = made;
+    DirectMark { istd, pap: map }
 }
 
 /// The places from `first` to `last`, and the settings that characters have there.

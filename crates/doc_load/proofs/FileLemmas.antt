@@ -27,7 +27,7 @@ use Rattle.doc_load.specs.FileRules.{table_stream_name, clx_of, source_of, table
 use Rattle.doc_load.specs.FileRules.{contents_rules, file_rules}
 use Rattle.cfb_streams.specs.Names.{wd_name}
 use Rattle.doc_load.proofs.RefusalLemmas.{single_in}
-use Rattle.doc_load.proofs.OneLemmas.{sections_one, notes_one, heads_one}
+use Rattle.doc_load.proofs.OneLemmas.{sections_one, sections_single, notes_one, heads_one}
 use Rattle.doc_load.proofs.NameLemmas.{named_one}
 use Rattle.doc_load.proofs.TextLemmas.{text_one}
 
@@ -40,7 +40,7 @@ ascends_in place (first then next) low high up =
 ascends_in place (given is rules) low high up = (up.0, λ x h. ascends_in place (rules x) low high (up.1 x h))
 
 layout_single : (source : DocSource) → IsSingle (layout_rules source)
-layout_single source = ((tt, ((λ a b ha hb. sections_one source a b ha hb), λ list h. (tt, (tt, tt)))), (tt, tt))
+layout_single source = (sections_single source, (tt, tt))
 
 format_single : (source : DocSource) → IsSingle (rules_of_formats source)
 format_single source = (

@@ -1,5 +1,5 @@
 -- Sepxs that were judged.
-use Rattle.std.proofs.Common.{◌≡◌, ℕ, ◌<◌, List, [], ◌∷◌, ◌++◌, refl, length, Option, Some, slice_get, get_or, arith}
+use Rattle.std.proofs.Common.{◌≡◌, ℕ, List, [], ◌∷◌, ◌++◌, refl, length, Option, Some, slice_get, get_or, arith}
 use Rattle.std.proofs.lemmas.Option.{none-some, slice_get_within, slice_get_read}
 use Rattle.doc_bits.specs.Rules.{LeastOrNone}
 use Rattle.doc_bits.proofs.TogetherLemmas.{together_joined}

@@ -15,7 +15,7 @@ pub mod OneLemmas
 pub mod TextLemmas
 pub mod FileLemmas
 pub mod RightPlaces
-pub mod CharacterRules
+pub mod PageLemmas
 pub mod FormatLemmas
 pub mod EndLemmas
 pub mod StretchLemmas

@@ -1,6 +1,7 @@
 -- A document has one list of each kind.
 use Rattle.std.proofs.Common.{◌≡◌, inl, inr, ℕ, ◌+◌, List, length, sym, ap, ◌∙◌, arith}
 use Rattle.std.specs.List.{slice_range}
+use Rattle.doc_bits.specs.Rules.{IsSingle}
 use Rattle.doc_parts.specs.declared.lists.Sed.{Sed}
 use Rattle.doc_parts.specs.declared.lists.Fld.{Fld}
 use Rattle.doc_parts.specs.declared.lists.NoteRef.{NoteRef}
@@ -17,7 +18,7 @@ use Rattle.fib_form.specs.declared.stories.StoryKind.TheVariants.{Main, Notes, H
 use Rattle.doc_load.specs.Source.{DocSource, part_bytes, part_place, story_length}
 use Rattle.style_sheet.specs.Sheet.{Sheet}
 use Rattle.style_sheet.proofs.UniqueLemmas.{sheets_agree}
-use Rattle.doc_load.specs.SectionRules.{HasSections}
+use Rattle.doc_load.specs.SectionRules.{HasSections, rules_of_sections}
 use Rattle.doc_load.specs.SheetRules.{HasSheet}
 use Rattle.doc_load.specs.FieldRules.{field_part, HasFields}
 use Rattle.doc_load.specs.NoteRules.{HasRefs, HasNoteCuts}
@@ -29,6 +30,10 @@ use Rattle.doc_load.specs.PartRules.{PartLists, HasPartLists}
 pub sections_one : (source : DocSource) (a b : List Sed) → HasSections source a → HasSections source b → a ≡ b
 sections_one source a b ha hb =
     AreEntries-unique sed_form (sed_cps (story_length source Main)) (plc_part 12 (part_bytes source PlcfSed)) a b ha hb
+
+-- the rules on sections speak of single ones
+pub sections_single : (source : DocSource) → IsSingle (rules_of_sections source)
+sections_single source = (tt, ((λ a b ha hb. sections_one source a b ha hb), λ list h. (tt, (tt, tt))))
 
 fields_one : (source : DocSource) (story : StoryKind) (a b : List Fld) → HasFields source story a → HasFields source
     story b → a ≡ b

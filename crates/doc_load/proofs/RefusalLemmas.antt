@@ -3,8 +3,8 @@ use Rattle.std.proofs.Common.{inl, inr, refl, ℕ, ◌≤◌, List, arith}
 use Rattle.doc_bits.specs.declared.places.Where.{Where}
 use Rattle.doc_bits.specs.declared.places.Where.TheVariants.{File, Wd, Table}
 use Rattle.doc_bits.specs.Rules.{Rules, Hold, ◌then◌, given, rule, Nowhere, IsLeast, IsFirst, IsSingle}
-use Rattle.doc_bits.specs.Places.{Place, rules_in}
-use Rattle.doc_bits.proofs.RuleLemmas.{first_in, hold_in}
+use Rattle.doc_bits.specs.Places.{Place, Upto, rules_in}
+use Rattle.doc_bits.proofs.RuleLemmas.{first_in, hold_in, hold_or_first}
 use Rattle.cfb_sectors.specs.declared.faults.CfbFault.{CfbFault}
 use Rattle.cfb_sectors.specs.declared.faults.CfbFault.TheVariants as cfb
 use Rattle.cfb_streams.specs.Contents.{Contents, HasNamed, HasNoNamed}
@@ -45,6 +45,13 @@ pub refused-next : (first next : Rules Place) (fault : ReadFault) → Hold first
     IsReadFault (first then next) fault
 refused-next first next (Refused number place offset) holds refused = inr (holds, refused)
 refused-next first next Memory holds refused = tt
+
+-- rules that hold are not refused, but for memory
+pub none-refused : (rules others : Rules Place) (fault : ReadFault) → IsSingle rules → Hold rules →
+    IsReadFault rules fault → IsReadFault others fault
+none-refused rules others (Refused number place offset) single holds refused =
+    absurd (hold_or_first Upto rules number (place, offset) single holds refused)
+none-refused rules others Memory single holds refused = tt
 
 -- the object is there
 pub refused-given : {A : Type 0} (is : A → Type 0) (rules : A → Rules Place) (x : A) (fault : ReadFault) → is x →

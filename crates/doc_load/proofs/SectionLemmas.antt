@@ -8,7 +8,10 @@ use Rattle.doc_bits.specs.Rules.{Nowhere, IsLeast}
 use Rattle.doc_bits.proofs.RuleLemmas.{least_from}
 use Rattle.sprm_table.specs.Sprm.{HasSprmFaultAt}
 use Rattle.doc_parts.specs.Sections.{AreSections}
-use Rattle.doc_load.specs.SectionRules.{section_begin, sepx_list, HasSepxFault}
+use Rattle.sprm_table.proofs.FaultLemmas.{accepted_no_fault}
+use Rattle.list_walks.specs.declared.ranges.ListRange.{ListRange}
+use Rattle.list_walks.specs.Walks.{IsRightList}
+use Rattle.doc_load.specs.SectionRules.{section_begin, sepx_list, HasSepxFault, IsSepxPlace}
 use Rattle.prop_map.specs.Formed.{section_groups}
 
 -- a section begins in the main text, and a later one not at its first unit
@@ -44,3 +47,9 @@ settings_first wd fc from to at settings begins ends least =
       broken = record { settings = settings; fault = moved.broken };
       least = λ q w. moved.least q w.fault;
     })
+
+-- the list of a Sepx that is right
+pub right_list : (wd : List ℕ) (range : ListRange) (fc : ℕ) → IsSepxPlace wd range fc →
+    IsRightList wd section_groups range → Nowhere (HasSepxFault wd fc)
+right_list wd range fc is right = settings_none wd fc range.from range.to is.from is.to
+    (λ place fault. accepted_no_fault (slice_range wd range.from range.to) section_groups place right fault)

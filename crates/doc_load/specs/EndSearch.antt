@@ -1,5 +1,5 @@
 -- The search for the units that end a paragraph: what it has found, and which sections it has met.
-use Rattle.std.specs.Prelude.{◌≡◌, ℕ, ◌+◌, ◌<◌, ◌≤◌, Bool, true, false, List, map, slice_index}
+use Rattle.std.specs.Prelude.{◌≡◌, ◌⊎◌, ℕ, ◌+◌, ◌<◌, ◌≤◌, Bool, true, false, List, map, slice_index}
 use Rattle.doc_bits.specs.Rules.{IsLeast}
 use Rattle.doc_parts.specs.declared.lists.Sed.{Sed}
 use Rattle.doc_parts.specs.Cps.{AreCpsInOrder}
@@ -35,3 +35,8 @@ pub record AreMet (sections : List Sed) (number cp : ℕ) : Type 0 where
 abbrev pub IsNextEnd : List Sed → ℕ → ℕ → ℕ → Type 0
 IsNextEnd sections main_len cp =
     IsLeast (λ a b. a ≤ b) (IsSoIn (is_end (section_ends sections main_len)) (cp + 1) (main_len + 1))
+
+-- where the stretch of so many units from a CP on ends: with the next section, and behind the main text with the last
+abbrev pub IsStretchEnd : List Sed → ℕ → ℕ → ℕ → ℕ → Type 0
+IsStretchEnd sections main_len len cp stop =
+    IsNextEnd sections main_len cp stop ⊎ ((main_len ≤ cp) × (stop ≡ len))

@@ -66,7 +66,3 @@ format_rules source sections = character_rules source then mark_rules source sec
 
 abbrev pub rules_of_formats : DocSource → Rules Place
 rules_of_formats source = given (HasSections source) (format_rules source)
-
--- those of them that are not on characters
-abbrev pub rules_of_marks : DocSource → Rules Place
-rules_of_marks source = given (HasSections source) (mark_rules source)

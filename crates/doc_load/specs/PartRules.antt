@@ -11,7 +11,7 @@ use Rattle.fib_form.specs.declared.stories.StoryKind.TheVariants.{Main, Notes, H
 use Rattle.doc_load.specs.Source.{DocSource}
 use Rattle.doc_load.specs.SectionRules.{rules_of_sections, HasSections}
 use Rattle.doc_load.specs.BinRules.{rules_of_bins}
-use Rattle.doc_load.specs.FormatRules.{rules_of_formats, rules_of_marks}
+use Rattle.doc_load.specs.FormatRules.{rules_of_formats}
 use Rattle.doc_load.specs.SheetRules.{rules_of_sheet, HasSheet}
 use Rattle.doc_load.specs.FieldRules.{rules_of_fields, HasFields}
 use Rattle.doc_load.specs.NoteRules.{rules_of_notes, HasRefs, HasNoteCuts}
@@ -33,12 +33,12 @@ story_rules source =
 abbrev pub part_rules : DocSource → Rules Place
 part_rules source = layout_rules source then rules_of_formats source then rules_of_sheet source then story_rules source
 
--- the rules 44 to 57
+-- the rules 49 to 57
 abbrev pub rest_rules : DocSource → Rules Place
-rest_rules source = rules_of_marks source then rules_of_sheet source then story_rules source
+rest_rules source = rules_of_sheet source then story_rules source
 
--- none of the rules 33 to 57 is broken but for those on the pages of characters
-pub record HoldButCharacters (source : DocSource) : Type 0 where
+-- none of the rules 33 to 57 is broken but for those on the pages
+pub record HoldButFormats (source : DocSource) : Type 0 where
   pub layout : Hold (layout_rules source)
   pub rest : Hold (rest_rules source)
 

@@ -1,5 +1,5 @@
 -- The rules on the sections, 33 to 36: their table, the unit before each, and their settings.
-use Rattle.std.specs.Prelude.{◌≢◌, ℕ, ◌+◌, ◌-◌, ◌*◌, ◌≤◌, List, length, map, slice_index, slice_range, Option}
+use Rattle.std.specs.Prelude.{◌≡◌, ◌≢◌, ℕ, ◌+◌, ◌-◌, ◌*◌, ◌≤◌, List, length, map, slice_index, slice_range, Option}
 use Rattle.doc_bits.specs.declared.places.Where.TheVariants as stands
 use Rattle.doc_bits.specs.Number.{u16_at}
 use Rattle.doc_bits.specs.Rules.{Rules, rule, ◌then◌, given, Among, From, LeastOrNone}
@@ -7,6 +7,7 @@ use Rattle.doc_bits.specs.Together.{AreTogether}
 use Rattle.doc_bits.specs.Places.{Place, rules_in}
 use Rattle.sprm_table.specs.Sprm.{HasSprmFaultAt}
 use Rattle.prop_map.specs.Formed.{section_groups}
+use Rattle.list_walks.specs.declared.ranges.ListRange.{ListRange}
 use Rattle.doc_parts.specs.declared.lists.Sed.{Sed}
 use Rattle.doc_parts.specs.Sections.{section_rules, AreSections, HasSepx, place_of_fc_sepx}
 use Rattle.fib_form.specs.declared.table_parts.TablePart.TheVariants.{PlcfSed}
@@ -35,6 +36,16 @@ pub record LacksSepx (wd : List ℕ) (fc : ℕ) : Type 0 where
 -- [MS-DOC] Sepx, grpprl
 abbrev pub sepx_list : List ℕ → ℕ → List ℕ
 sepx_list wd fc = slice_range wd (fc + 2) (fc + 2 + u16_at wd fc)
+
+-- the list of the Sepx at this place is that range of WordDocument
+pub record IsSepxPlace (wd : List ℕ) (range : ListRange) (fc : ℕ) : Type 0 where
+  pub from : range.from ≡ fc + 2
+  pub to : range.to ≡ fc + 2 + u16_at wd fc
+
+-- the range is that of the list of some Sepx
+pub record IsSepxRange (wd : List ℕ) (range : ListRange) : Type 0 where
+  pub place : ℕ
+  pub is : IsSepxPlace wd range place
 
 -- the list of a Sepx has a fault, at this place of WordDocument
 pub record HasSepxFault (wd : List ℕ) (fc place : ℕ) : Type 0 where

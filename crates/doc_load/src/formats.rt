@@ -1,20 +1,52 @@
-// The rules on the pages: the units of the text, and those that end a paragraph.
+// The rules on the pages: the units of the text, and those that end a paragraph. Who reads the settings judges the
+// pages while it reads; this names the first broken rule.
 ghost use Rattle.std.specs.Prelude.{◌≡◌, ◌+◌, ◌-◌, ◌<◌, ◌≤◌, drop, length, slice_index, IfOk, MatchResult};
 ghost use Rattle.doc_bits.specs.Rules.{Hold};
 ghost use Rattle.doc_load.specs.Faults.{IsReadFault};
 ghost use Rattle.doc_load.specs.SectionRules.{HasSections};
 ghost use Rattle.doc_load.specs.BinRules.{rules_of_bins};
 ghost use Rattle.doc_load.specs.FormatRules.{character_rules, mark_rules, paragraph_places as places_of_paragraphs};
+ghost use Rattle.doc_load.specs.FormatRules.{rules_of_formats};
+ghost use Rattle.doc_load.specs.PartRules.{layout_rules};
 
 use crate::fault::refused_page;
 use crate::paragraph_ends::{SectionEnds, next_end};
-use crate::{ReadFault, Source};
+use crate::{ReadFault, Source, read_sections};
 use direct_props::{Places, judge_places, judge_rows};
 use doc_bits::Memory;
 use doc_parts::Seds;
 use fib_form::{StoryKind, TablePart};
 use fkp_pages::PageKind;
 use std::alloc::Global;
+
+/// Judges the pages of a text whose sections and bin tables are right. The sections are read anew: this is called only
+/// where something is refused.
+pub fn judge_formats(alloc: Global, source: &Source<'_>) -> Result<(), ReadFault>
+    requires { Hold (layout_rules source.now) }
+    ensures { MatchResult result
+        (λ _. Hold (rules_of_formats source.now))
+        (IsReadFault (rules_of_formats source.now)) }
+{
+    let sections = read_sections(alloc, source)?;
+    judge_pages(alloc, source, &sections)
+}
+
+/// Judges the pages of a text with these sections: those of its characters, and those of the units that end a
+/// paragraph.
+pub(crate) fn judge_pages(
+    alloc: Global,
+    source: &Source<'_>,
+    sections: &Seds,
+) -> Result<(), ReadFault>
+    requires sections { HasSections source.now sections.now }
+    requires bins { Hold (rules_of_bins source.now) }
+    ensures { MatchResult result
+        (λ _. Hold (rules_of_formats source.now))
+        (IsReadFault (rules_of_formats source.now)) }
+{
+    judge_characters(alloc, source)?;
+    judge_marks(alloc, source, sections)
+}
 
 /// Judges the pages of the characters: those of all units.
 pub fn judge_characters(alloc: Global, source: &Source<'_>) -> Result<(), ReadFault>

@@ -2,7 +2,7 @@
 // made.
 ghost use Rattle.std.specs.Prelude.{◌≡◌, ◌<◌, ◌≤◌, ⊤, length, MatchOption};
 ghost use Rattle.doc_bits.specs.Rules.{LeastOrNone};
-ghost use Rattle.doc_load.specs.EndSearch.{AreInOrder, AreMet, IsSoIn, IsNextEnd, ends_at};
+ghost use Rattle.doc_load.specs.EndSearch.{AreInOrder, AreMet, IsSoIn, IsNextEnd, IsStretchEnd, ends_at};
 
 use doc_parts::Seds;
 use text_codes::{bare_len, ends_paragraph};
@@ -37,6 +37,26 @@ impl<'a> SectionEnds<'a> {
         }
         self.main_len
     }
+
+    /// Where the stretch of the units from a CP on ends: with a section, or behind the main text with the last unit.
+    fn stretch_end(&mut self, cp: usize, len: usize) -> usize
+        requires order { AreInOrder self.old.sections.now self.old.main_len }
+        requires met { AreMet self.old.sections.now self.old.met cp }
+        requires main { self.old.main_len ≤ len }
+        requires within { cp < len }
+        ensures behind { cp < result }
+        ensures within { result ≤ len }
+        ensures end { IsStretchEnd self.old.sections.now self.old.main_len len cp result }
+        ensures met { AreMet self.new.sections.now self.new.met cp }
+        ensures sections { self.new.sections.now ≡ self.old.sections.now }
+        ensures main { self.new.main_len ≡ self.old.main_len }
+    {
+        if cp < self.main_len {
+            self.behind(cp)
+        } else {
+            len
+        }
+    }
 }
 
 /// The first CP from `from` on whose unit ends a paragraph.
@@ -52,17 +72,15 @@ pub(crate) fn next_end(units: &[u16], ends: &mut SectionEnds<'_>, from: usize) -
     ensures main { ends.new.main_len ≡ ends.old.main_len }
 {
     let mut cp = from;
-    while cp < ends.main_len {
-        let stop = ends.behind(cp);
-        let at = cp + bare_len(&units[cp..stop]);
-        if at < stop {
+    while cp < units.len() {
+        let in_main = cp < ends.main_len;
+        let stop = ends.stretch_end(cp, units.len());
+        // With the last unit of a stretch of the main text a section ends; those before it end no section.
+        let at = (cp + bare_len(&units[cp..stop])).min(stop - 1);
+        if ends_paragraph(units[at], in_main) {
             return Some(at);
-        }
-        if ends_paragraph(units[stop - 1], true) {
-            return Some(stop - 1);
         }
         cp = stop;
     }
-    let at = cp + bare_len(&units[cp..]);
-    if at < units.len() { Some(at) } else { None }
+    None
 }

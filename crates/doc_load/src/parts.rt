@@ -4,13 +4,13 @@ ghost use Rattle.doc_bits.specs.Rules.{Hold};
 ghost use Rattle.doc_load.specs.Faults.{IsReadFault};
 ghost use Rattle.doc_load.specs.SectionRules.{HasSections};
 ghost use Rattle.doc_load.specs.SheetRules.{HasSheet};
-ghost use Rattle.doc_load.specs.BinRules.{rules_of_bins};
 ghost use Rattle.doc_load.specs.PartRules.{layout_rules, rest_rules, story_rules, part_rules};
-ghost use Rattle.doc_load.specs.PartRules.{HasPartLists, HoldButCharacters};
+ghost use Rattle.doc_load.specs.PartRules.{HasPartLists, HoldButFormats};
 
+use crate::formats::judge_pages;
 use crate::{
-    Notes, ReadFault, Source, StoryFields, judge_bins, judge_characters, judge_ends, judge_marks,
-    read_bookmarks, read_fields, read_heads, read_levels, read_notes, read_sections, read_sheet,
+    Notes, ReadFault, Source, StoryFields, judge_bins, judge_ends, judge_formats, read_bookmarks,
+    read_fields, read_heads, read_levels, read_notes, read_sections, read_sheet,
 };
 use doc_parts::{Bookmarks, Cuts, Seds};
 use std::alloc::Global;
@@ -60,41 +60,39 @@ pub fn read_parts<'a>(alloc: Global, source: &Source<'a>) -> Result<DocParts<'a>
         (IsReadFault (part_rules source.now)) }
 {
     let sections = read_layout(alloc, source)?;
-    judge_characters(alloc, source)?;
+    judge_pages(alloc, source, &sections)?;
     read_rest(alloc, source, sections)
 }
 
-/// Reads the parts of a document, and judges the pages of its characters only where another part is refused: who reads
-/// the settings of the characters judges the pages there.
+/// Reads the parts of a document, and judges its pages only where another part is refused: who reads the settings
+/// judges the pages there.
 pub fn read_unjudged<'a>(alloc: Global, source: &Source<'a>) -> Result<DocParts<'a>, ReadFault>
     ensures { MatchResult result
-        (λ parts. HoldButCharacters source.now × HasPartLists source.now parts)
+        (λ parts. HoldButFormats source.now × HasPartLists source.now parts)
         (IsReadFault (part_rules source.now)) }
 {
     let sections = read_layout(alloc, source)?;
     match read_rest(alloc, source, sections) {
         Ok(parts) => Ok(parts),
         Err(fault) => {
-            // Their rules stand before those of the other part.
-            judge_characters(alloc, source)?;
+            // The rules on pages stand before those of the other part.
+            judge_formats(alloc, source)?;
             Err(fault)
         }
     }
 }
 
-/// Judges the pages of the ends of paragraphs, and reads the styles and what belongs to the stories.
+/// Reads the styles and what belongs to the stories.
 fn read_rest<'a>(
     alloc: Global,
     source: &Source<'a>,
     sections: Seds,
 ) -> Result<DocParts<'a>, ReadFault>
-    requires sections { HasSections source.now sections }
-    requires bins { Hold (rules_of_bins source.now) }
+    requires { HasSections source.now sections }
     ensures { MatchResult result
         (λ parts. Hold (rest_rules source.now) × HasPartLists source.now parts)
         (IsReadFault (rest_rules source.now)) }
 {
-    judge_marks(alloc, source, &sections)?;
     let sheet = read_sheet(alloc, source)?;
     read_stories(alloc, source, sections, sheet)
 }

@@ -1,6 +1,7 @@
 // The rules on the sections, one function a rule.
 ghost use Rattle.std.specs.Prelude.{◌≡◌, ◌↔◌, ◌≤◌, ◌<◌, ◌^◌};
-ghost use Rattle.std.specs.Prelude.{◌+◌, ℕ, List, length, IsTrue, MatchResult, IfOk, OnOk};
+ghost use Rattle.std.specs.Prelude.{◌+◌, ℕ, List, length, IsTrue, MatchResult, IfSome, IfOk, OnOk};
+ghost use Rattle.std.specs.List.{All};
 ghost use Rattle.doc_bits.specs.Rules.{Hold, LeastOrNone, Nowhere};
 ghost use Rattle.fib_form.specs.declared.table_parts.TablePart.TheVariants.{PlcfSed};
 ghost use Rattle.fib_form.specs.declared.stories.StoryKind.TheVariants.{Main};
@@ -8,13 +9,16 @@ ghost use Rattle.doc_load.specs.Source.{part_place, story_units};
 ghost use Rattle.doc_load.specs.Faults.{IsReadFault};
 ghost use Rattle.doc_load.specs.SectionRules.{LacksSepx, HasSepxFault, BreaksSectionMarks, BreaksSepxs};
 ghost use Rattle.doc_load.specs.SectionRules.{BreaksSepxLists, HasSections, sed_rules, rules_of_sections};
-ghost use Rattle.doc_load.specs.SectionRules.{AreJudgedSepxs};
+ghost use Rattle.doc_load.specs.SectionRules.{AreJudgedSepxs, IsSepxPlace, IsSepxRange};
+ghost use Rattle.list_walks.specs.Walks.{IsRightList};
+ghost use Rattle.prop_map.specs.Formed.{section_groups};
 
 use crate::fault::refused_part;
 use crate::{ReadFault, Source};
-use doc_bits::{Memory, Where, lesser};
+use doc_bits::{Memory, Where, get16, lesser};
 use doc_parts::{NO_SEPX, Seds, fc_sepx_place, sections, sepx};
 use fib_form::{StoryKind, TablePart};
+use list_walks::{ListRange, right_lists};
 use prop_map::{ListPlaces, SECTION_GROUPS};
 use sprm_table::list_fault;
 use std::alloc::Global;
@@ -25,6 +29,9 @@ const RULE_SECTION_MARK: u8 = 34;
 const RULE_SEPX: u8 = 35;
 
 const RULE_SEPX_LIST: u8 = 36;
+
+/// The bytes of a Sepx before its list: how many bytes the list has.
+const SEPX_HEAD: usize = 2;
 
 /// Reads the sections of the main text.
 pub fn read_sections(alloc: Global, source: &Source<'_>) -> Result<Seds, ReadFault>
@@ -119,13 +126,14 @@ fn lacks_sepx(wd: &[u8], fc: u32) -> bool
     sepx(wd, fc).is_none()
 }
 
-/// The least place of a fault in the settings of a section. They stand in any order, and each Sepx is judged once.
+/// The least place of a fault in the settings of a section. They stand in any order, and each Sepx is judged once: those
+/// that lie over one another in one walk.
 fn sepx_fault(alloc: Global, source: &Source<'_>, list: &Seds) -> Result<Option<u32>, Memory>
     requires { Nowhere (BreaksSepxs source.now.wd list.now (part_place source.now PlcfSed)) }
     ensures { IfOk result (LeastOrNone (BreaksSepxLists source.now.wd list.now)) }
 {
     let wd = source.wd();
-    let mut judged = JudgedSepxs::new(alloc);
+    let mut judged = walked_sepxs(alloc, wd, list)?;
     let mut least = None;
     for k in 0..list.len() {
         let (_, fc) = list.get(k);
@@ -133,6 +141,60 @@ fn sepx_fault(alloc: Global, source: &Source<'_>, list: &Seds) -> Result<Option<
         least = lesser(least, fault);
     }
     Ok(least)
+}
+
+/// The Sepxs that lie over one another and are right, so far as few walks tell.
+fn walked_sepxs(alloc: Global, wd: &[u8], list: &Seds) -> Result<JudgedSepxs, Memory>
+    ensures { IfOk result (λ judged. AreJudgedSepxs wd.now judged.places judged.faults.items) }
+{
+    let ranges = sepx_ranges(alloc, wd, list)?;
+    let right = right_lists(alloc, wd, &ranges, SECTION_GROUPS)?;
+    let mut judged = JudgedSepxs::new(alloc);
+    for range in &right {
+        judged.add_right(wd, *range)?;
+    }
+    Ok(judged)
+}
+
+/// Where the lists of the Sepxs stand in `WordDocument`.
+pub fn sepx_ranges(alloc: Global, wd: &[u8], list: &Seds) -> Result<Vec<ListRange>, Memory>
+    ensures { IfOk result (λ ranges. All (IsSepxRange wd.now) ranges.items) }
+{
+    let mut ranges = Vec::new(alloc);
+    for k in 0..list.len() {
+        let (_, fc) = list.get(k);
+        push_range(&mut ranges, wd, fc)?;
+    }
+    Ok(ranges)
+}
+
+/// Adds where the list of the Sepx at `fc` stands, if it stands there.
+fn push_range(ranges: &mut Vec<ListRange>, wd: &[u8], fc: u32) -> Result<(), Memory>
+    requires { All (IsSepxRange wd.now) ranges.old.items }
+    ensures { OnOk result (All (IsSepxRange wd.now) ranges.new.items) }
+{
+    if fc == NO_SEPX {
+        return Ok(());
+    }
+    let Some((from, to)) = sepx(wd, fc) else {
+        return Ok(());
+    };
+    ranges.push(ListRange { from, to })?;
+    Ok(())
+}
+
+/// Where the Sepx stands whose list this is. Nothing where it is that of none.
+pub fn sepx_place(wd: &[u8], range: ListRange) -> Option<usize>
+    ensures { IfSome result (IsSepxPlace wd.now range) }
+{
+    if range.from < SEPX_HEAD || wd.len() < range.from {
+        return None;
+    }
+    let place = range.from - SEPX_HEAD;
+    if range.from + get16(wd, place) as usize != range.to {
+        return None;
+    }
+    Some(place)
 }
 
 /// The first faults of Sepxs that were judged, by their places.
@@ -151,6 +213,23 @@ impl JudgedSepxs {
             places: ListPlaces::new(alloc),
             faults: Vec::new(alloc),
         }
+    }
+
+    /// Notes that the list of a Sepx is right.
+    fn add_right(&mut self, wd: &[u8], range: ListRange) -> Result<(), Memory>
+        requires right { IsRightList wd.now section_groups range }
+        requires judged { AreJudgedSepxs wd.now self.old.places self.old.faults.items }
+        ensures { OnOk result (AreJudgedSepxs wd.now self.new.places self.new.faults.items) }
+    {
+        let Some(place) = sepx_place(wd, range) else {
+            return Ok(());
+        };
+        if self.places.number_of(place, place).is_some() {
+            return Ok(());
+        }
+        self.faults.push(None)?;
+        self.places.add(place, place)?;
+        Ok(())
     }
 
     /// The first fault in the settings of a section, as `settings_fault` has it. A Sepx is judged once.

@@ -1,13 +1,14 @@
 -- What stands beside the CPs of a stretch.
 use Rattle.std.proofs.Common.{◌≡◌, ◌∙◌, refl, sym, ap, subst, ℕ, ◌<◌, ◌≤◌, ◌+◌, ◌-◌, false, List, ◌++◌}
-use Rattle.std.proofs.Common.{inl, inr, length, Some, None, arith, length-append}
-use Rattle.std.proofs.lemmas.Bool.{cases_lt}
-use Rattle.std.specs.Prelude.{slice_get, slice_index, replicate}
+use Rattle.std.proofs.Common.{inl, inr, length, Option, Some, None, arith, length-append}
+use Rattle.std.proofs.lemmas.Bool.{cases_lt, true≢false}
+use Rattle.std.specs.Prelude.{slice_get, slice_index, is_some, replicate}
 use Rattle.std.proofs.lemmas.List.{length-replicate}
 use Rattle.std.proofs.lemmas.List.Elements.{All-replicate}
 use Rattle.std.proofs.lemmas.Option.{slice_get_within}
 use Rattle.doc_bits.proofs.ListLemmas.{slice_get_before, All_at}
 use Rattle.doc_bits.proofs.TogetherLemmas.{from_behind}
+use Rattle.prop_map.specs.Settings.{Settings}
 use Rattle.prop_map.specs.declared.modifiers.Modifier.{Modifier}
 use Rattle.prop_map.specs.Formed.{IsPropertyMap, paragraph_groups, section_groups}
 use Rattle.text_codes.specs.Paragraph.{is_paragraph_end}
@@ -17,7 +18,7 @@ use Rattle.doc_columns.specs.Beside.{nothing}
 use Rattle.doc_read.specs.declared.reading.Passed.{Passed}
 use Rattle.doc_read.specs.Items.{IsMarkAt}
 use Rattle.doc_read.specs.Passing.{AddsEach, IsPassed, IsNotAmong}
-use Rattle.doc_read.specs.Reading.{ArePassed, TextView}
+use Rattle.doc_read.specs.Reading.{ArePassed, HaveRightMarks, TextView, ends_at}
 use Rattle.doc_read.proofs.EntryLemmas.{entry_none}
 use Rattle.doc_read.specs.Beside.{IsBesideAt}
 
@@ -72,6 +73,24 @@ bare_beside view modifier passed cp goes_on here later = record {
     sect = ForSome-from_cases None (IsPropertyMap section_groups) tt;
   };
 }
+
+-- the unit of such a CP ends no paragraph
+bare_goes_on : (view : TextView) (passed : Passed) (cp : ℕ) →
+    is_paragraph_end (slice_index view.units cp) false ≡ false → ArePassed view.marks passed cp
+    → ArePassed view.marks passed (cp + 1) → ends_at view cp ≡ false
+bare_goes_on view passed cp goes_on here later =
+    let none = entry_none view.marks.section_cps view.maps cp
+    (none_at view.marks.section_cps passed.section cp here.sections later.sections) in
+    ap (λ (o : Option Settings). is_paragraph_end (slice_index view.units cp) (is_some o)) none ∙ goes_on
+
+-- so no mark is looked for in a stretch where nothing stands
+pub bare_marks : (view : TextView) (passed : Passed) (cp until : ℕ) →
+    ((at : ℕ) → cp ≤ at → at < until → is_paragraph_end (slice_index view.units at) false ≡ false)
+    → ((at : ℕ) → cp ≤ at → at ≤ until → ArePassed view.marks passed at) → HaveRightMarks view cp until
+bare_marks view passed cp until bare passes = λ at upper lower ends.
+    absurd
+    (true≢false (sym ends ∙ bare_goes_on view passed at (bare at upper lower) (passes at upper (omega (arith, lower)))
+    (passes (at + 1) (omega (arith, upper)) (omega (arith, lower)))))
 
 -- nothing came for each CP of a stretch where nothing stands
 pub bare_stretch : (view : TextView) (modifier : Modifier) (passed : Passed) (cp until : ℕ) (old new : List Beside) →

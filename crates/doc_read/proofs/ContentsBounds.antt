@@ -1,5 +1,5 @@
 -- The streams of a file that breaks no rule of its container are within bounds.
-use Rattle.std.proofs.Common.{◌≡◌, ◌≢◌, inl, inr, ℕ, ◌<◌, ◌≤◌, List, [], ◌∷◌, ◌++◌, length, slice_index, sym}
+use Rattle.std.proofs.Common.{◌≡◌, inl, inr, ℕ, ◌<◌, ◌≤◌, List, [], ◌∷◌, ◌++◌, length, slice_index, sym}
 use Rattle.std.proofs.Common.{ap, ◌∙◌, subst, arith}
 use Rattle.std.proofs.lemmas.Bool.{cases_lt}
 use Rattle.std.proofs.lemmas.List.{length-take}
@@ -8,36 +8,22 @@ use Rattle.doc_bits.specs.Rules.{Nowhere, Hold}
 use Rattle.cfb_sectors.specs.Opening.{IsWhole}
 use Rattle.cfb_sectors.specs.Header.{valid_below}
 use Rattle.cfb_sectors.specs.Chain.{fat_table}
-use Rattle.cfb_directory.specs.Directory.{upper_case, entry_name_length, IsNameOf, EntryBefore, ComesBefore}
+use Rattle.cfb_directory.specs.Directory.{entry_name_length}
 use Rattle.cfb_directory.specs.Reach.{entry_place, IsEntry, BreaksName}
 use Rattle.cfb_streams.specs.StreamRules.{Parts}
 use Rattle.cfb_directory.specs.StreamEntries.{stream_head}
-use Rattle.cfb_directory.specs.Order.{AreOrdered, ListsStreams}
+use Rattle.cfb_directory.specs.Order.{ListsStreams}
 use Rattle.cfb_streams.specs.Contents.{Stream, Contents}
 use Rattle.cfb_streams.specs.Container.{container_rules, IsStreamOf, HasContents}
 use Rattle.cfb_sectors.proofs.ChainLemmas.{pushed_before, pushed_last, length_pushed, length_below, path_short}
 use Rattle.cfb_sectors.proofs.StreamLemmas.{length-cut}
 use Rattle.cfb_directory.proofs.ReachLemmas.{reached_there}
 use Rattle.cfb_streams.proofs.ContentLemmas.{chain_inside}
-use Rattle.cfb_directory.proofs.OrderLemmas.{name_length, name_short, name_some}
+use Rattle.cfb_directory.proofs.NameLemmas.{ComesBefore-entries}
+use Rattle.cfb_directory.proofs.OrderLemmas.{streams_apart, name_length, name_short, name_some}
 use Rattle.cfb_sectors.proofs.OpeningLemmas.{whole_length}
 use Rattle.cfb_streams.proofs.SingleLemmas.{directory_unique}
 use Rattle.doc_read.specs.CarriedParts.{AreWithinBounds}
-
--- no name comes before itself
-not_itself : (file : List ℕ) (at : ℕ) → ¬ EntryBefore file at at
-not_itself file at before = elim before [
-  | inl shorter ↦ omega arith
-  | inr same ↦ let differs = same.1.1 in let less = differs.less in omega arith
-]
-
--- entries in the order of their names are distinct
-entries-apart : (file directory entries : List ℕ) → AreOrdered file directory entries → (i j : ℕ) → i < j →
-    j < length entries → slice_index entries i ≢ slice_index entries j
-entries-apart file directory entries order i j less below same =
-    not_itself file (entry_place directory (slice_index entries j))
-    (subst (λ entry. EntryBefore file (entry_place directory entry) (entry_place directory (slice_index entries j)))
-    same (order i j less below))
 
 -- a directory has at most 1,024 entries, and entry 0 is the root
 entries-few : (file directory entries : List ℕ) → length directory ≤ 256 → ListsStreams file directory entries →
@@ -52,7 +38,7 @@ entries-few file directory entries short lists =
       | inr high ↦ rw (pushed_last entries 0 i (omega arith)) (omega arith)
     ])
     (λ i j less below same. elim (cases_lt j (length entries)) [
-      | inl low ↦ entries-apart file directory entries lists.order i j less low
+      | inl low ↦ streams_apart file directory entries lists i j less low
           (sym (pushed_before entries 0 i (omega arith)) ∙ (same ∙ pushed_before entries 0 j low))
       | inr high ↦
           let low : i < length entries = omega arith in
@@ -82,35 +68,6 @@ stream-short file parts entry stream whole is =
           in omega arith) long.body.joined in
           let most = whole.most in
           omega arith
-    ]
-
--- names come in the order of their entries
-comes-before : (file : List ℕ) (at other : ℕ) (name later : List ℕ) → IsNameOf file at name →
-    IsNameOf file other later → EntryBefore file at other → ComesBefore name later
-comes-before file at other name later is is_later before =
-    let long = is.long in
-    let long_later = is_later.long in
-    elim before [
-      | inl shorter ↦ inl (omega arith)
-      | inr same ↦
-          let even = same.0 in
-          let differs = same.1.1 in
-          let place = same.1.0 in
-          let inside = differs.inside in
-          let within : place < length name = omega arith in
-          let within_later : place < length later = omega arith in
-          inr (
-            omega arith,
-            (
-              place,
-              record {
-                inside = within;
-                front = λ i low. ap upper_case (is.units i (omega arith)) ∙ (differs.front i low ∙ ap upper_case
-                    (sym (is_later.units i (omega arith))));
-                less = rw (is.units place within, is_later.units place within_later) differs.less;
-              },
-            ),
-          )
     ]
 
 -- the length of a stream's name in bytes, with its terminator
@@ -143,7 +100,7 @@ contents-bounded file contents holds has =
       fit = λ i stream here. (stream-name file has.parts (slice_index entries i) stream names (has.streams.each i
           stream here)).1;
       order = λ i j stream later less here there.
-          comes-before file (entry_place directory (slice_index entries i)) (entry_place directory (slice_index
+          ComesBefore-entries file (entry_place directory (slice_index entries i)) (entry_place directory (slice_index
           entries j)) stream.name later.name
           (has.streams.each i stream here).name (has.streams.each j later there).name
           (has.lists.order i j less (let within = slice_get_within contents.streams j later there in omega arith));

@@ -2,17 +2,10 @@
 use Rattle.std.proofs.Common.{◌≡◌, ◌≢◌, ◌∙◌, refl, sym, ap, ℕ, zero, suc, ◌<◌, true, List, [], ◌∷◌, length, map}
 use Rattle.std.proofs.Common.{Some, None, slice_get, arith, inl, inr}
 use Rattle.std.specs.Prelude.{slice_index, zip, is_some}
-use Rattle.std.proofs.lemmas.Bool.{cases_eq, eq-eqb, ne_eqb}
+use Rattle.std.proofs.lemmas.Bool.{cases_eq}
 use Rattle.plain_doc.specs.Entries.{entry_at}
+use Rattle.plain_doc.proofs.CollectedLemmas.{entry_here, entry_later}
 use Rattle.doc_read.specs.Passing.{AreUp, IsNotAmong}
-
--- the first entry has the CP, or not
-entry_here : {A : Type 0} (c cp : ℕ) (v : A) (rest : List (ℕ × A)) → c ≡ cp → entry_at ((c, v) ∷ rest) cp ≡ Some v
-entry_here c cp v rest e = rw (eq-eqb c cp e) refl
-
-entry_later : {A : Type 0} (c cp : ℕ) (v : A) (rest : List (ℕ × A)) → c ≢ cp →
-    entry_at ((c, v) ∷ rest) cp ≡ entry_at rest cp
-entry_later c cp v rest other = rw (ne_eqb c cp other) refl
 
 -- the CPs behind the first one ascend too
 pub up_tail : (c : ℕ) (cps : List ℕ) → AreUp (c ∷ cps) → AreUp cps

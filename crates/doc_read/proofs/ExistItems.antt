@@ -1,11 +1,12 @@
 -- Each CP of a text has its item, which is well formed.
-use Rattle.std.proofs.Common.{◌≡◌, ◌∙◌, refl, ap, subst, ℕ, ◌+◌, ◌<◌, ◌≤◌, ◌^◌, Bool, true, false, List, []}
-use Rattle.std.proofs.Common.{◌∷◌, length, map, Option, Some, None, is_some, get_or, min, arith, length-take}
-use Rattle.std.specs.Prelude.{slice_get, slice_index}
+use Rattle.std.proofs.Common.{◌≡◌, ◌∙◌, refl, ap, subst, ℕ, ◌+◌, ◌<◌, ◌≤◌, ◌^◌, Bool, true, false, List}
+use Rattle.std.proofs.Common.{length, map, Option, Some, None, is_some, min, arith, length-take}
+use Rattle.std.specs.Prelude.{slice_index}
 use Rattle.std.specs.List.{All}
 use Rattle.std.specs.Option.{ForSome}
 use Rattle.std.proofs.lemmas.List.{length-map}
-use Rattle.std.proofs.lemmas.Option.{same_Some, slice_get-get_or}
+use Rattle.std.proofs.lemmas.Option.{same_Some}
+use Rattle.doc_bits.proofs.ListLemmas.{there_is}
 use Rattle.doc_bits.specs.Number.{AreBytes}
 use Rattle.prop_map.specs.Settings.{Settings}
 use Rattle.prop_map.specs.Formed.{IsPropertyMap, paragraph_groups, section_groups}
@@ -53,10 +54,6 @@ pub record AreReady (text : FileText) (lists : PartLists) (maps : List Settings)
   pub maps_formed : All (IsPropertyMap section_groups) maps
   pub fields : AreByteFields lists
 
-get_there : {A : Type 0} (xs : List A) (k : ℕ) → k < length xs → (x : A) × (slice_get xs k ≡ Some x)
-get_there [] k below = absurd (omega arith)
-get_there (x ∷ xs) k below = (get_or (x ∷ xs) k x, slice_get-get_or (x ∷ xs) k x below)
-
 record HasMarkOf (end : Bool) (source : DocSource) (place : UnitPlace) : Type 0 where
   mark : Option Mark
   is : IsMarkAt end source.wd (part_bytes source PlcfBtePapx) place.at place.modifier mark
@@ -97,7 +94,7 @@ item_there text lists maps ready cp below =
     let main_len = story_length source Main in
     let flat = flat_pieces text.pieces in
     let long = ready.long in
-    let found = get_there flat cp (omega arith) in
+    let found = there_is flat cp (omega arith) in
     let place = found.0 in
     let here = found.1 in
     let modifier = ready.modifiers cp place here in

@@ -14,6 +14,7 @@ pub mod PlaceLemmas
 pub mod ReaderLemmas
 pub mod AddLemmas
 pub mod RightLemmas
+pub mod PageLemmas
 pub mod ReadableLemmas
 pub mod PlacedLemmas
 pub mod CollectLemmas
@@ -38,7 +39,5 @@ pub mod ExistCuts
 pub mod ExistCarried
 pub mod BesideLemmas
 pub mod MeetLemmas
-pub mod CutLemmas
-mod FrontLemmas
 mod PartsLemmas
 pub mod ShortStreams

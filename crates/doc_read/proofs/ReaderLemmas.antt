@@ -1,21 +1,15 @@
 -- Readers of pieces with one modifier.
-use Rattle.std.proofs.Common.{◌≡◌, ◌∙◌, ◌<◌, ◌≤◌, ◌+◌, ◌-◌, refl, sym, ap, subst, ℕ, List, [], ◌∷◌, ◌++◌, length}
-use Rattle.std.proofs.Common.{Some, slice_get, get_or, inl, inr, arith}
-use Rattle.std.specs.Prelude.{slice_index, slice_range}
-use Rattle.std.proofs.lemmas.Bool.{cases_lt}
+use Rattle.std.proofs.Common.{◌≡◌, ◌∙◌, ◌<◌, refl, sym, ap, subst, ℕ, List, [], ◌∷◌, ◌++◌, length}
+use Rattle.std.proofs.Common.{Some, slice_get, get_or}
 use Rattle.std.proofs.lemmas.Option.{slice_get_read, slice_get_within}
 use Rattle.std.proofs.lemmas.List.Elements.{All-set}
 use Rattle.std.proofs.Math.ListN.{set}
 use Rattle.doc_bits.proofs.ListLemmas.{All_at, slice_get_push}
 use Rattle.prop_map.specs.declared.modifiers.Modifier.{Modifier}
 use Rattle.fkp_pages.specs.declared.kind.PageKind.{PageKind}
-use Rattle.fkp_pages.specs.declared.kind.PageKind.TheVariants.{Chpx}
-use Rattle.direct_props.specs.PageRules.{IsRightPlace, AreRightPlaces}
 use Rattle.direct_props.specs.Kept.{PlaceSource}
-use Rattle.doc_bits.proofs.ListLemmas.{length-range}
 use Rattle.doc_read.specs.declared.reading.PieceReader.{PieceReader}
 use Rattle.doc_read.specs.Reading.{TextView, IsPieceReader, ArePieceReaders, HasReaderFor}
-use Rattle.doc_read.proofs.PlaceLemmas.{range_at}
 
 -- a source has the modifier of another, where both have one
 pub source_as : (source other : PlaceSource) (kind : PageKind) (wd bin : List ℕ) (modifier : Modifier) →
@@ -28,31 +22,6 @@ source_as source other kind wd bin modifier e m = e ∙ (λ i. record {
   modifier = sym m
       i;
 })
-
--- some of the places are right where all are
-pub right_range : (wd bin places : List ℕ) (from to : ℕ) → to ≤ length places → AreRightPlaces Chpx wd bin places →
-    AreRightPlaces Chpx wd bin (slice_range places from to)
-right_range wd bin places from to within right k below =
-    let len = length-range places from to within in
-    let inside : k < to - from = omega (arith, below, len) in
-    subst (λ fc. IsRightPlace Chpx wd bin fc) (sym (range_at places from to k inside)) (right (from + k)
-    (omega (arith, inside, within)))
-
--- the places before a CP and those of the next ones are right, so all before the next CP are
-pub right_more : (wd bin places : List ℕ) (from to : ℕ) → to ≤ length places →
-    ((k : ℕ) → k < from → IsRightPlace Chpx wd bin (slice_index places k))
-    → AreRightPlaces Chpx wd bin (slice_range places from to)
-    → (k : ℕ) → k < to → IsRightPlace Chpx wd bin (slice_index places k)
-right_more wd bin places from to within done more k below = elim (cases_lt k from) [
-  | inl before ↦ done k before
-  | inr now ↦
-      let j : ℕ = k - from in
-      let here : from + j ≡ k = omega (arith, now) in
-      let inside : j < to - from = omega (arith, now, below) in
-      let len = length-range places from to within in
-      subst (λ fc. IsRightPlace Chpx wd bin fc)
-      (range_at places from to j inside ∙ ap (slice_index places) here) (more j (omega (arith, inside, len)))
-]
 
 -- the reader at a number
 pub reader_there : (readers : List PieceReader) (number : ℕ) (reader : PieceReader) (modifier : Modifier) →

@@ -9,11 +9,14 @@ use Rattle.std.proofs.lemmas.Option.{none-some, slice_get_within, slice_get_read
 use Rattle.doc_bits.specs.declared.places.Where.TheVariants.{Wd, Table}
 use Rattle.doc_bits.specs.Number.{u16_at}
 use Rattle.doc_bits.specs.Rules.{Hold, Nowhere}
-use Rattle.sprm_table.specs.Sprm.{HasSprmFaultAt, IsAcceptedList}
+use Rattle.sprm_table.specs.Sprm.{HasSprmFaultAt, IsAcceptedList, SpellsSprmList}
 use Rattle.prop_map.specs.Settings.{Settings}
 use Rattle.prop_map.specs.Formed.{IsPropertyMap}
 use Rattle.prop_map.specs.declared.acting.Acted.{Acted}
-use Rattle.prop_map.specs.Acting.{IsActedBy}
+use Rattle.prop_map.specs.Acting.{IsActedBy, style_of}
+use Rattle.list_walks.specs.declared.ranges.ListRange.{ListRange}
+use Rattle.list_walks.specs.Walks.{list_at}
+use Rattle.list_walks.specs.Keeping.{IsMadeBy}
 use Rattle.direct_props.proofs.CharacterLemmas.{makes_settings}
 use Rattle.doc_parts.specs.declared.lists.Sed.{Sed}
 use Rattle.doc_parts.specs.Sections.{place_of_fc_sepx}
@@ -21,7 +24,7 @@ use Rattle.doc_parts.proofs.TableLemmas.{slice_get_before, slice_get_push}
 use Rattle.fib_form.specs.declared.table_parts.TablePart.TheVariants.{PlcfSed}
 use Rattle.doc_load.specs.Source.{DocSource, part_place}
 use Rattle.doc_load.specs.SectionRules.{section_fc, sepx_list, LacksSepx, HasSepxFault, HasSections, sed_rules}
-use Rattle.doc_load.specs.SectionRules.{rules_of_sections}
+use Rattle.doc_load.specs.SectionRules.{rules_of_sections, IsSepxPlace}
 use Rattle.prop_map.specs.Formed.{section_groups}
 use Rattle.doc_load.proofs.OneLemmas.{sections_one}
 use Rattle.doc_bits.proofs.TogetherLemmas.{together_joined}
@@ -71,6 +74,25 @@ is-made wd list fc none acted settings e accepted bare act = record {
       makes_settings list (sepx_list wd fc) section_groups section_groups none acted e refl bare
       (subst (λ bytes. IsAcceptedList bytes section_groups) e accepted) act;
 }
+
+-- the settings that were made in a walk
+pub walked_section : (wd : List ℕ) (range : ListRange) (fc : ℕ) (made : Settings) → fc ≢ 0xFFFFFFFF →
+    IsSepxPlace wd range fc → IsMadeBy (list_at wd range) section_groups made → IsMetSection wd (fc, fc) made
+walked_section wd range fc made there place is =
+    let list : list_at wd range ≡ sepx_list wd fc = cc (place.from, place.to) in
+    record {
+      is = inr (record {
+        there = there;
+        style = style_of is.prls section_groups;
+        makes = record {
+          prls = is.prls;
+          spelt = subst (λ (l : List ℕ). SpellsSprmList l is.prls) list is.spelt;
+          map = is.acted;
+          style_is = refl;
+        };
+      });
+      formed = is.formed;
+    }
 
 -- an element of a list with one more is one of the list, or the last
 pub pushed : {X : Type 0} (xs : List X) (x y : X) (j : ℕ) → slice_get (xs ++ x ∷ []) j ≡ Some y →

@@ -124,6 +124,18 @@ cut_as items begin other cuts list count many texts begin_is cuts_are count_is c
     (subst (λ cs. AreCutFrom items begin cs many texts) cuts_are (subst (λ n. AreCutFrom items begin cuts n texts)
     count_is cut))
 
+-- the same texts are cut out of the same items
+pub cut_same : (items other : List Item) (begin : ℕ) (cuts : List ℕ) (count : ℕ) (texts : List (List Item)) →
+    items ≡ other → AreCutFrom items begin cuts count texts → AreCutFrom other begin cuts count texts
+cut_same items other begin cuts count texts same cut =
+    subst (λ (xs : List Item). AreCutFrom xs begin cuts count texts) same cut
+
+-- and the cuts are within as many of them
+pub within_same : (items other : List Item) (begin : ℕ) (cuts : List ℕ) → items ≡ other →
+    AreCutsWithin begin cuts (length other) → AreCutsWithin begin cuts (length items)
+within_same items other begin cuts same within =
+    subst (λ (xs : List Item). AreCutsWithin begin cuts (length xs)) (sym same) within
+
 pub within_as : (begin other : ℕ) (cuts list : List ℕ) (len : ℕ) → other ≡ begin → list ≡ cuts →
     AreCutsWithin begin cuts len → AreCutsWithin other list len
 within_as begin other cuts list len begin_is cuts_are within =

@@ -4,7 +4,6 @@ pub mod Passing
 pub mod Reading
 pub mod Items
 pub mod Beside
-pub mod Walk
 pub mod ReadParts
 pub mod ReadTexts
 pub mod Texts

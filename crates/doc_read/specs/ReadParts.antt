@@ -2,8 +2,6 @@
 use Rattle.std.specs.Prelude.{◌≡◌, ℕ, ◌<◌, ◌^◌, List, length, All}
 use Rattle.prop_map.specs.Settings.{Settings}
 use Rattle.cfb_streams.specs.Contents.{Contents}
-use Rattle.fkp_pages.specs.declared.kind.PageKind.TheVariants.{Chpx}
-use Rattle.direct_props.specs.PageRules.{AreRightPlaces}
 use Rattle.piece_table.specs.Piece.{TextPiece}
 use Rattle.plain_doc.specs.Document.{HasPropertyMaps}
 use Rattle.doc_load.specs.FormatRules.{judged_units, text_count}
@@ -12,7 +10,7 @@ use Rattle.doc_load.specs.FileRules.{FileText, source_of}
 use Rattle.doc_columns.specs.Columns.{items_of}
 use Rattle.doc_read.specs.Sections.{AreSectionMaps}
 use Rattle.doc_read.specs.Items.{TextParts, HoldsItems}
-use Rattle.doc_read.specs.Reading.{TextView, ArePlacedItems}
+use Rattle.doc_read.specs.Reading.{TextView, ArePlacedItems, HaveRightPages}
 use Rattle.doc_read.specs.CarriedParts.{HoldsCarried}
 use Rattle.doc_read.specs.Holds.{head_texts}
 use Rattle.doc_read.specs.declared.columns.ReadColumns.{ReadColumns}
@@ -26,9 +24,9 @@ pub record FitUnits (units : List ℕ) (read : ReadColumns) : Type 0 where
   pub besides : length read.besides ≡ length units
   pub maps : All HasPropertyMaps (items_of units read.chps read.besides)
 
--- the columns of all units of a text, each of which has its page for characters
+-- the columns of all units of a text, each of which has its pages
 pub record AreReadColumns (view : TextView) (pieces : List TextPiece) (read : ReadColumns) : Type 0 where
-  pub right : AreRightPlaces Chpx view.wd view.characters view.places
+  pub right : HaveRightPages view 0 (length view.units)
   pub chps : length read.chps ≡ length view.units
   pub besides : length read.besides ≡ length view.units
   pub each : ArePlacedItems view pieces (items_of view.units read.chps read.besides)

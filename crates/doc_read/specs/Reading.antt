@@ -88,16 +88,25 @@ abbrev pub ends_at : TextView → ℕ → Bool
 ends_at view cp =
     is_paragraph_end (slice_index view.units cp) (is_some (section_at view.marks.section_cps view.maps cp))
 
--- each unit that ends a paragraph has its page, and what stands at CPs ascends
+-- each unit from one CP to before another that ends a paragraph has its page for a mark
+abbrev pub HaveRightMarks : TextView → ℕ → ℕ → Type 0
+HaveRightMarks view from to =
+    (cp : ℕ) → from ≤ cp → cp < to → IsTrue (ends_at view cp) →
+    IsRightPlace Papx view.wd view.paragraphs (slice_index view.places cp)
+
+-- each unit from one CP to before another has its page for characters, and for a mark where it ends a paragraph
+pub record HaveRightPages (view : TextView) (from to : ℕ) : Type 0 where
+  pub characters :
+      (cp : ℕ) → from ≤ cp → cp < to → IsRightPlace Chpx view.wd view.characters (slice_index view.places cp)
+  pub marks : HaveRightMarks view from to
+
+-- the bin tables are tables, and what stands at CPs ascends
 pub record IsReadable (view : TextView) : Type 0 where
   pub character_bins : IsBinTable view.characters
   pub paragraph_bins : IsBinTable view.paragraphs
   pub small : length view.wd < 2 ^ 32
   pub few : length view.units ≤ 500000
   pub same : length view.places ≡ length view.units
-  pub right_paragraphs :
-      (cp : ℕ) → cp < length view.units → IsTrue (ends_at view cp) →
-      IsRightPlace Papx view.wd view.paragraphs (slice_index view.places cp)
   pub fields : AreListed view.marks.field_cps view.marks.field_bytes
   pub notes : AreListed view.marks.note_cps view.marks.note_kinds
   pub sections : AreListed view.marks.section_cps view.maps

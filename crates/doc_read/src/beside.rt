@@ -1,16 +1,19 @@
 // What stands beside the units of a piece, stretch by stretch.
-ghost use Rattle.std.specs.Prelude.{◌≡◌, ◌+◌, ◌-◌, ◌<◌, ◌≤◌, ℕ, false, length, slice_index};
-ghost use Rattle.std.specs.Prelude.{IfOk, IfSome, OnOk};
+ghost use Rattle.std.specs.Prelude.{◌≡◌, ◌↔◌, ◌+◌, ◌-◌, ◌<◌, ◌≤◌, ℕ, false, length, slice_index};
+ghost use Rattle.std.specs.Prelude.{IfOk, IfSome, IsTrue, MatchOption, OnOk};
 ghost use Rattle.prop_map.specs.Formed.{IsPropertyMap, paragraph_groups};
 ghost use Rattle.prop_map.specs.declared.modifiers.Modifier.{Modifier as ModifierValue};
 ghost use Rattle.text_codes.specs.Paragraph.{is_paragraph_end};
+ghost use Rattle.fkp_pages.specs.declared.kind.PageKind.TheVariants.{Papx};
+ghost use Rattle.direct_props.specs.Direct.{IsDirectMark};
+ghost use Rattle.direct_props.specs.PageRules.{IsRightPlace};
 ghost use Rattle.doc_read.specs.Passing.{AddsEach};
-ghost use Rattle.doc_read.specs.Items.{IsMarkAt};
-ghost use Rattle.doc_read.specs.Reading.{ArePassed, IsPieceReader, ends_at};
+ghost use Rattle.doc_read.specs.Reading.{ArePassed, HaveRightMarks, IsPieceReader};
 ghost use Rattle.doc_read.specs.Beside.{IsBesideAt};
 
 use crate::part::TextPart;
-use crate::reading::{Passed, PieceReader, mark_at};
+use crate::reading::{Passed, PieceReader};
+use direct_props::DirectMark;
 use doc_bits::Memory;
 use doc_columns::Beside;
 use plain_doc::Mark;
@@ -25,7 +28,8 @@ pub(crate) struct Left {
     pub(crate) end: usize,
 }
 
-/// Appends what stands beside the units of a piece.
+/// Appends what stands beside the units of a piece, and answers whether each that ends a paragraph has a right page for
+/// its mark.
 pub(crate) fn push_besides(
     alloc: Global,
     part: &TextPart<'_>,
@@ -33,7 +37,7 @@ pub(crate) fn push_besides(
     reader: &mut PieceReader<'_>,
     besides: &mut Runs<Beside>,
     passed: &mut Passed,
-) -> Result<(), Memory>
+) -> Result<bool, Memory>
     requires from { part.now.from ≤ piece.cp }
     requires reader { IsPieceReader part.now.view reader.old }
     requires ordered { piece.cp ≤ piece.end }
@@ -41,19 +45,25 @@ pub(crate) fn push_besides(
     requires here { length besides.old ≡ piece.cp }
     requires passed { ArePassed part.now.view.marks passed.old piece.cp }
     ensures same { reader.new ≡ reader.old }
-    ensures passed { OnOk result (ArePassed part.now.view.marks passed.new piece.end) }
-    ensures besides { OnOk result (AddsEach (IsBesideAt part.now.view reader.old.characters.modifier)
+    ensures right { IfOk result (λ right. IsTrue right ↔ HaveRightMarks part.now.view piece.cp piece.end) }
+    ensures passed { IfOk result (λ right. IsTrue right → ArePassed part.now.view.marks passed.new piece.end) }
+    ensures besides { IfOk result (λ right. IsTrue right
+        → AddsEach (IsBesideAt part.now.view reader.old.characters.modifier)
         (piece.end - piece.cp) besides.old besides.new) }
 {
     let mut cp = piece.cp;
     while cp < piece.end {
         let left = Left { cp, end: piece.end };
-        cp = push_stretch(alloc, part, left, reader, besides, passed)?;
+        let Some(next) = push_stretch(alloc, part, left, reader, besides, passed)? else {
+            return Ok(false);
+        };
+        cp = next;
     }
-    Ok(())
+    Ok(true)
 }
 
-/// Appends what stands beside the units up to where something stands, and what stands there. It answers the next CP.
+/// Appends what stands beside the units up to where something stands, and what stands there. It answers the next CP;
+/// nothing where a unit ends a paragraph that has no right page for its mark.
 fn push_stretch(
     alloc: Global,
     part: &TextPart<'_>,
@@ -61,7 +71,7 @@ fn push_stretch(
     reader: &mut PieceReader<'_>,
     besides: &mut Runs<Beside>,
     passed: &mut Passed,
-) -> Result<usize, Memory>
+) -> Result<Option<usize>, Memory>
     requires from { part.now.from ≤ left.cp }
     requires reader { IsPieceReader part.now.view reader.old }
     requires some { left.cp < left.end }
@@ -69,20 +79,25 @@ fn push_stretch(
     requires here { length besides.old ≡ left.cp }
     requires passed { ArePassed part.now.view.marks passed.old left.cp }
     ensures same { reader.new ≡ reader.old }
-    ensures on { IfOk result (λ next. left.cp < next) }
-    ensures inside { IfOk result (λ next. next ≤ left.end) }
-    ensures passed { IfOk result (ArePassed part.now.view.marks passed.new) }
-    ensures besides { IfOk result (λ next.
+    ensures right { IfOk result (λ next. MatchOption next
+        (¬ (HaveRightMarks part.now.view left.cp left.end))
+        (HaveRightMarks part.now.view left.cp)) }
+    ensures on { IfOk result (λ next. IfSome next (λ next. left.cp < next)) }
+    ensures inside { IfOk result (λ next. IfSome next (λ next. next ≤ left.end)) }
+    ensures passed { IfOk result (λ next. IfSome next (ArePassed part.now.view.marks passed.new)) }
+    ensures besides { IfOk result (λ next. IfSome next (λ next.
         AddsEach (IsBesideAt part.now.view reader.old.characters.modifier)
-        (next - left.cp) besides.old besides.new) }
+        (next - left.cp) besides.old besides.new)) }
 {
     let bare = push_bare(part, left, besides, passed)?;
     if bare == left.end {
-        return Ok(bare);
+        return Ok(Some(bare));
     }
-    let beside = beside_at(alloc, part, bare as u32, reader, passed)?;
+    let Some(beside) = beside_at(alloc, part, bare as u32, reader, passed)? else {
+        return Ok(None);
+    };
     besides.add(1, beside)?;
-    Ok(bare + 1)
+    Ok(Some(bare + 1))
 }
 
 /// Appends nothing for each unit before the first where something may stand, and answers the CP of that one.
@@ -100,6 +115,7 @@ fn push_bare(
     ensures inside { IfOk result (λ bare. bare ≤ left.end) }
     ensures few { IfOk result (λ bare. bare ≤ 500000) }
     ensures here { IfOk result (λ bare. length besides.new ≡ bare) }
+    ensures right { IfOk result (HaveRightMarks part.now.view left.cp) }
     ensures passed { IfOk result (ArePassed part.now.view.marks passed.now) }
     ensures besides { IfOk result (λ bare. (modifier : ModifierValue)
         → AddsEach (IsBesideAt part.now.view modifier) (bare - left.cp) besides.old besides.new) }
@@ -125,21 +141,25 @@ fn bare_until(units: &[u16], cp: usize, until: usize) -> usize
     cp + bare_len(&units[cp..until])
 }
 
-/// Reads what stands beside the unit of a CP, which stands in a piece of the reader.
+/// Reads what stands beside the unit of a CP, which stands in a piece of the reader; nothing where it ends a paragraph
+/// that has no right page for its mark.
 fn beside_at(
     alloc: Global,
     part: &TextPart<'_>,
     cp: u32,
     reader: &mut PieceReader<'_>,
     passed: &mut Passed,
-) -> Result<Beside, Memory>
+) -> Result<Option<Beside>, Memory>
     requires within { cp < length part.now.view.units }
     requires from { part.now.from ≤ cp }
     requires reader { IsPieceReader part.now.view reader.old }
     requires passed { ArePassed part.now.view.marks passed.old cp }
     ensures same { reader.new ≡ reader.old }
     ensures passed { OnOk result (ArePassed part.now.view.marks passed.new (cp + 1)) }
-    ensures beside { IfOk result (IsBesideAt part.now.view reader.old.characters.modifier cp) }
+    ensures beside { IfOk result (λ beside. MatchOption beside
+        (¬ (HaveRightMarks part.now.view cp (cp + 1)))
+        (λ beside. HaveRightMarks part.now.view cp (cp + 1)
+        × IsBesideAt part.now.view reader.old.characters.modifier cp beside)) }
 {
     let text = part.text();
     let unit = text.units[cp as usize];
@@ -149,36 +169,47 @@ fn beside_at(
         .marks
         .section_at(alloc, text.maps, &mut passed.section, cp)?;
     let ends = ends_paragraph(unit, sect.is_some());
-    let mark = mark_of(alloc, part, cp, ends, reader)?;
-    Ok(Beside {
+    if !ends {
+        return Ok(Some(Beside {
+            fld,
+            note,
+            mark: None,
+            sect,
+        }));
+    }
+    let Some(mark) = mark_of(alloc, part, cp, reader)? else {
+        return Ok(None);
+    };
+    Ok(Some(Beside {
         fld,
         note,
-        mark,
+        mark: Some(mark),
         sect,
-    })
+    }))
 }
 
-/// Reads the mark of a CP, where its unit ends a paragraph. No place is looked for where it does not.
+/// Reads the mark of a CP; nothing where it has no right page for one.
 fn mark_of(
     alloc: Global,
     part: &TextPart<'_>,
     cp: u32,
-    ends: bool,
     reader: &mut PieceReader<'_>,
 ) -> Result<Option<Mark>, Memory>
     requires within { cp < length part.now.view.units }
     requires from { part.now.from ≤ cp }
     requires reader { IsPieceReader part.now.view reader.old }
-    requires ends { ends ≡ ends_at part.now.view cp }
     ensures same { reader.new ≡ reader.old }
-    ensures mark { IfOk result (IsMarkAt ends part.now.view.wd part.now.view.paragraphs
-        (slice_index part.now.view.places cp) reader.old.characters.modifier) }
+    ensures mark { IfOk result (λ mark. MatchOption mark
+        (¬ (IsRightPlace Papx part.now.view.wd part.now.view.paragraphs (slice_index part.now.view.places cp)))
+        (λ mark. IsRightPlace Papx part.now.view.wd part.now.view.paragraphs (slice_index part.now.view.places cp)
+        × IsDirectMark part.now.view.wd part.now.view.paragraphs (slice_index part.now.view.places cp)
+        reader.old.characters.modifier mark.istd mark.pap)) }
     ensures formed { IfOk result (λ mark. IfSome mark (λ mark. IsPropertyMap paragraph_groups mark.pap)) }
 {
-    if !ends {
-        return Ok(None);
-    }
     let place = part.place(cp as usize);
-    let mark = mark_at(alloc, place, ends, &mut reader.marks)?;
-    Ok(mark)
+    let Some(direct) = reader.marks.read_mark(alloc, place)? else {
+        return Ok(None);
+    };
+    let DirectMark { istd, pap } = direct;
+    Ok(Some(Mark { istd, pap }))
 }

@@ -1,7 +1,7 @@
 // What a document carries along unread.
 ghost use Rattle.std.specs.Prelude.{◌≡◌, ◌<◌, ◌^◌, length, IfOk};
 ghost use Rattle.doc_load.specs.Source.{part_bytes};
-ghost use Rattle.doc_load.specs.PartRules.{HasPartLists, HoldButCharacters};
+ghost use Rattle.doc_load.specs.PartRules.{HasPartLists, HoldButFormats};
 ghost use Rattle.doc_load.specs.FileRules.{HasText, source_of};
 ghost use Rattle.doc_read.specs.CarriedParts.{AreWithinBounds, HoldsCarried, carried_streams, is_carried as is_other};
 
@@ -21,7 +21,7 @@ pub fn read_carried(
 ) -> Result<Carried, Memory>
     requires bounds { AreWithinBounds container.now }
     requires text { HasText container.now text.now }
-    requires rules { HoldButCharacters (source_of text.now) }
+    requires rules { HoldButFormats (source_of text.now) }
     requires lists { HasPartLists (source_of text.now) parts.now }
     ensures { IfOk result (HoldsCarried container.now (source_of text.now) parts.now.levels) }
 {

@@ -7,8 +7,8 @@ ghost use Rattle.cfb_streams.specs.Container.{container_rules, HasContents};
 ghost use Rattle.plain_doc.specs.Marks.{HasFormedBookmarks};
 ghost use Rattle.plain_doc.specs.Sound.{IsSound, document_rules};
 ghost use Rattle.doc_load.specs.Faults.{IsReadFault};
-ghost use Rattle.doc_load.specs.BinRules.{rules_of_bins};
-ghost use Rattle.doc_load.specs.FormatRules.{character_rules};
+ghost use Rattle.doc_load.specs.FormatRules.{rules_of_formats};
+ghost use Rattle.doc_load.specs.PartRules.{layout_rules};
 ghost use Rattle.doc_load.specs.FileRules.{contents_rules};
 ghost use Rattle.doc_read.specs.CarriedParts.{AreWithinBounds};
 ghost use Rattle.doc_read.specs.Holds.{all_rules};
@@ -17,7 +17,7 @@ ghost use Rattle.doc_read.specs.Opened.{IsFoundIn, IsOpened};
 use crate::document::{document_with, read_document_parts};
 use cfb_streams::Container;
 use doc_columns::{ColumnDocument, is_sound};
-use doc_load::{ReadFault, Source, judge_characters, load_text, read_unjudged, refused_container};
+use doc_load::{ReadFault, Source, judge_formats, load_text, read_unjudged, refused_container};
 use fib_form::Fib;
 use piece_table::PieceList;
 use plain_doc::{Document, check};
@@ -139,7 +139,7 @@ fn read_contents(alloc: Global, container: &Container) -> Result<Found, ReadFaul
     let source = text.source();
     let parts = read_unjudged(alloc, &source)?;
     let Some(read) = read_document_parts(alloc, container, &text, parts)? else {
-        return Err(character_fault(alloc, &source));
+        return Err(format_fault(alloc, &source));
     };
     let (fib, pieces, units) = text.into_parts_with_units();
     let document = document_with(alloc, &fib, units, read)?;
@@ -150,13 +150,13 @@ fn read_contents(alloc: Global, container: &Container) -> Result<Found, ReadFaul
     })
 }
 
-/// The first broken rule on the pages of characters, one of which is broken.
-fn character_fault(alloc: Global, source: &Source<'_>) -> ReadFault
-    requires bins { Hold (rules_of_bins source.now) }
-    requires wrong { ¬ (Hold (character_rules source.now)) }
-    ensures { IsReadFault (character_rules source.now) result }
+/// The first broken rule on the pages, one of which is broken.
+fn format_fault(alloc: Global, source: &Source<'_>) -> ReadFault
+    requires layout { Hold (layout_rules source.now) }
+    requires wrong { ¬ (Hold (rules_of_formats source.now)) }
+    ensures { IsReadFault (rules_of_formats source.now) result }
 {
-    match judge_characters(alloc, source) {
+    match judge_formats(alloc, source) {
         Ok(()) => unreachable!(),
         Err(fault) => fault,
     }

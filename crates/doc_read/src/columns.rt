@@ -1,15 +1,13 @@
 // What stands with the units of all three stories, by columns, piece by piece.
-ghost use Rattle.std.specs.Prelude.{◌≡◌, ◌↔◌, ◌-◌, ◌≤◌, length, slice_range, IfOk, IsTrue, MatchOption};
+ghost use Rattle.std.specs.Prelude.{◌≡◌, ◌↔◌, ◌-◌, ◌≤◌, length, IfOk, IsTrue, MatchOption};
 ghost use Rattle.doc_bits.specs.Rules.{Hold};
-ghost use Rattle.fkp_pages.specs.declared.kind.PageKind.TheVariants.{Chpx};
-ghost use Rattle.direct_props.specs.PageRules.{AreRightPlaces};
 ghost use Rattle.piece_table.specs.Piece.{total_length};
 ghost use Rattle.doc_load.specs.FileRules.{source_of};
-ghost use Rattle.doc_load.specs.FormatRules.{character_rules, text_count};
-ghost use Rattle.doc_load.specs.PartRules.{HasPartLists, HoldButCharacters};
+ghost use Rattle.doc_load.specs.FormatRules.{rules_of_formats, text_count};
+ghost use Rattle.doc_load.specs.PartRules.{HasPartLists, HoldButFormats};
 ghost use Rattle.doc_read.specs.Sections.{AreSectionMaps};
 ghost use Rattle.doc_read.specs.Passing.{AddsEach};
-ghost use Rattle.doc_read.specs.Reading.{ArePassed, IsReadable, IsReadCharacter};
+ghost use Rattle.doc_read.specs.Reading.{ArePassed, HaveRightPages, IsReadable, IsReadCharacter};
 ghost use Rattle.doc_read.specs.Reading.{IsPieceReader, text_view};
 ghost use Rattle.doc_read.specs.Beside.{IsBesideAt};
 ghost use Rattle.doc_read.specs.ReadParts.{AreColumnsOf, AreReadColumns};
@@ -36,19 +34,19 @@ pub(crate) struct ReadColumns {
     pub(crate) besides: Runs<Beside>,
 }
 
-/// Reads what stands with the units of the CPs of all three stories; nothing where one has no right page for characters.
+/// Reads what stands with the units of the CPs of all three stories, where each has its right pages.
 pub(crate) fn read_columns(
     alloc: Global,
     text: &LoadedText<'_>,
     parts: &DocParts<'_>,
     sections: &SectionMaps,
 ) -> Result<Option<ReadColumns>, Memory>
-    requires rules { HoldButCharacters (source_of text.now) }
+    requires rules { HoldButFormats (source_of text.now) }
     requires lists { HasPartLists (source_of text.now) parts.now }
     requires sections { AreSectionMaps text.now.wd parts.now.sections sections.now }
     ensures { IfOk result (λ read. MatchOption read
-        (¬ (Hold (character_rules (source_of text.now))))
-        (λ read. Hold (character_rules (source_of text.now)) × AreColumnsOf (record {
+        (¬ (Hold (rules_of_formats (source_of text.now))))
+        (λ read. Hold (rules_of_formats (source_of text.now)) × AreColumnsOf (record {
           source = source_of text.now;
           pieces = text.now.pieces;
           lists = parts.now;
@@ -80,8 +78,8 @@ fn has_units(source: &Source<'_>)
     let _begin = source.story_begin(StoryKind::Heads);
 }
 
-/// The columns of all pieces, one after the other, as far as there are units; nothing where one of these has no right
-/// page for characters.
+/// The columns of all pieces, one after the other, as far as there are units; nothing where one of these has not its
+/// right pages.
 fn columns_of_pieces(
     alloc: Global,
     text: &TextSource<'_>,
@@ -90,7 +88,7 @@ fn columns_of_pieces(
     requires readable { IsReadable (text_view text.now) }
     requires enough { length text.now.units.now ≤ total_length pieces.now.pieces }
     ensures { IfOk result (λ read. MatchOption read
-        (¬ (AreRightPlaces Chpx text.now.wd.now text.now.characters.now text.now.places))
+        (¬ (HaveRightPages (text_view text.now) 0 (length text.now.units.now)))
         (AreReadColumns (text_view text.now) pieces.now.pieces)) }
 {
     let count = text.units.len();
@@ -130,8 +128,8 @@ fn columns_of_pieces(
     Ok(Some(read))
 }
 
-/// Appends the settings of the units of a piece, and what stands beside them, and answers whether each of these has a
-/// right page for characters.
+/// Appends the settings of the units of a piece, and what stands beside them, and answers whether each of these has its
+/// right pages.
 fn push_piece(
     alloc: Global,
     part: &TextPart<'_>,
@@ -148,8 +146,7 @@ fn push_piece(
     requires besides { length read.old.besides ≡ piece.cp }
     requires passed { ArePassed part.now.view.marks passed.old piece.cp }
     ensures same { reader.new ≡ reader.old }
-    ensures right { IfOk result (λ right. IsTrue right ↔ AreRightPlaces Chpx part.now.view.wd
-        part.now.view.characters (slice_range part.now.view.places piece.cp piece.end)) }
+    ensures right { IfOk result (λ right. IsTrue right ↔ HaveRightPages part.now.view piece.cp piece.end) }
     ensures passed { IfOk result (λ right. IsTrue right
         → ArePassed part.now.view.marks passed.new piece.end) }
     ensures chps { IfOk result (λ right. IsTrue right
@@ -166,6 +163,5 @@ fn push_piece(
     if !right {
         return Ok(false);
     }
-    push_besides(alloc, part, piece, reader, &mut read.besides, passed)?;
-    Ok(true)
+    push_besides(alloc, part, piece, reader, &mut read.besides, passed)
 }

@@ -1,8 +1,8 @@
 // The document of the parts of a file, by columns. What borrows from its text is read before the units are taken over.
-ghost use Rattle.std.specs.Prelude.{◌≡◌, ◌≤◌, length, take, IfOk, MatchOption};
+ghost use Rattle.std.specs.Prelude.{◌≡◌, length, IfOk, MatchOption};
 ghost use Rattle.doc_bits.specs.Rules.{Hold};
-ghost use Rattle.doc_load.specs.FormatRules.{character_rules};
-ghost use Rattle.doc_load.specs.PartRules.{HasPartLists, HoldButCharacters};
+ghost use Rattle.doc_load.specs.FormatRules.{rules_of_formats};
+ghost use Rattle.doc_load.specs.PartRules.{HasPartLists, HoldButFormats};
 ghost use Rattle.doc_load.specs.FileRules.{HasText, source_of};
 ghost use Rattle.doc_read.specs.CarriedParts.{AreWithinBounds};
 ghost use Rattle.doc_read.specs.ReadParts.{AreDocumentParts, FitUnits};
@@ -11,10 +11,10 @@ ghost use Rattle.doc_read.specs.ReadTexts.{AreCutsOf, AreTextsOf, IsDocumentWith
 use crate::carried::read_carried;
 use crate::columns::{ReadColumns, read_columns};
 use crate::sections::read_section_maps;
-use crate::texts::cut_columns;
+use crate::texts::{cut_columns, push_ends};
 use cfb_streams::Container;
 use doc_bits::Memory;
-use doc_columns::{ColumnDocument, ColumnTexts, Columns};
+use doc_columns::{ColumnDocument, ColumnTexts, Columns, WholeText};
 use doc_load::{DocParts, LoadedText};
 use doc_parts::{Bookmarks, Cuts};
 use fib_form::{Fib, StoryKind};
@@ -48,8 +48,8 @@ struct ReadTexts {
     heads: ColumnTexts,
 }
 
-/// Reads what the document of a file is made of, whose parts have been read; nothing where a unit has no right page for
-/// characters.
+/// Reads what the document of a file is made of, whose parts have been read; nothing where a unit has not its right
+/// pages.
 pub(crate) fn read_document_parts(
     alloc: Global,
     container: &Container,
@@ -58,11 +58,11 @@ pub(crate) fn read_document_parts(
 ) -> Result<Option<DocumentParts>, Memory>
     requires bounds { AreWithinBounds container.now }
     requires text { HasText container.now text.now }
-    requires rules { HoldButCharacters (source_of text.now) }
+    requires rules { HoldButFormats (source_of text.now) }
     requires lists { HasPartLists (source_of text.now) parts }
     ensures { IfOk result (λ read. MatchOption read
-        (¬ (Hold (character_rules (source_of text.now))))
-        (λ read. Hold (character_rules (source_of text.now))
+        (¬ (Hold (rules_of_formats (source_of text.now))))
+        (λ read. Hold (rules_of_formats (source_of text.now))
         × AreDocumentParts container.now text.now parts.entry read)) }
 {
     let sections = read_section_maps(alloc, text, &parts.sections)?;
@@ -104,41 +104,46 @@ pub(crate) fn document_with(
         bookmarks,
     } = parts;
     let all = Columns::from_parts(units, columns.chps, columns.besides);
-    let texts = read_texts(alloc, fib, all, &cuts)?;
+    let ends = text_ends(alloc, fib, &cuts)?;
+    let mut whole = WholeText::new(alloc, all, &ends)?;
+    let texts = read_texts(alloc, fib, &mut whole, &cuts)?;
     Ok(document_of(texts, sheet, carried, bookmarks))
 }
 
+/// The places where the texts of the document begin and end, as far as they are known.
+fn text_ends(alloc: Global, fib: &Fib, cuts: &StoryCuts) -> Result<Vec<u32>, Memory> {
+    let mut ends = vec![in alloc; fib.story_len(StoryKind::Main)]?;
+    push_ends(fib.story_begin(StoryKind::Notes), &cuts.notes, &mut ends)?;
+    push_ends(fib.story_begin(StoryKind::Heads), &cuts.heads, &mut ends)?;
+    Ok(ends)
+}
+
 /// Cuts the text into the texts of the document.
-fn read_texts(alloc: Global, fib: &Fib, all: Columns, cuts: &StoryCuts) -> Result<ReadTexts, Memory>
-    requires { AreCutsOf fib.now cuts.now (length all) }
-    ensures { IfOk result (AreTextsOf fib.now cuts.now all) }
+fn read_texts(
+    alloc: Global,
+    fib: &Fib,
+    whole: &mut WholeText,
+    cuts: &StoryCuts,
+) -> Result<ReadTexts, Memory>
+    requires { AreCutsOf fib.now cuts.now (length whole.old) }
+    ensures { IfOk result (AreTextsOf fib.now cuts.now whole.old) }
 {
+    let main = whole.cut(alloc, 0, fib.story_len(StoryKind::Main) as usize)?;
     let notes = cut_columns(
         alloc,
-        &all,
+        whole,
         fib.story_begin(StoryKind::Notes),
         &cuts.notes,
         cuts.notes.len().saturating_sub(1),
     )?;
     let heads = cut_columns(
         alloc,
-        &all,
+        whole,
         fib.story_begin(StoryKind::Heads),
         &cuts.heads,
         cuts.head_count,
     )?;
-    let main = front(alloc, all, fib.story_len(StoryKind::Main) as usize)?;
     Ok(ReadTexts { main, notes, heads })
-}
-
-/// The first items of a text. None is moved.
-fn front(alloc: Global, text: Columns, len: usize) -> Result<Columns, Memory>
-    requires { len ≤ length text }
-    ensures { IfOk result (λ front. front ≡ take len text) }
-{
-    let all = text.len();
-    let front = text.splice(alloc, len, all, Columns::new(alloc))?;
-    Ok(front)
 }
 
 /// The document of its parts. It takes no memory.

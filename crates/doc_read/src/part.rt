@@ -1,8 +1,6 @@
 // A text from a CP on.
-ghost use Rattle.std.specs.Prelude.{◌≡◌, ◌+◌, ◌<◌, ◌≤◌, ℕ, drop, length, slice_index, slice_range, IsTrue};
-ghost use Rattle.fkp_pages.specs.declared.kind.PageKind.TheVariants.{Papx};
-ghost use Rattle.direct_props.specs.PageRules.{IsRightPlace};
-ghost use Rattle.doc_read.specs.Reading.{IsReadable, ArePassed, ends_at, text_view};
+ghost use Rattle.std.specs.Prelude.{◌≡◌, ◌+◌, ◌<◌, ◌≤◌, ℕ, drop, length, slice_index, slice_range};
+ghost use Rattle.doc_read.specs.Reading.{IsReadable, ArePassed, text_view};
 
 use crate::entries::next_cp;
 use crate::reading::{Passed, TextSource};
@@ -50,13 +48,11 @@ impl<'a> TextPart<'a> {
         self.text
     }
 
-    /// The place of the unit of a CP, which has a page for a mark where the unit ends a paragraph.
+    /// The place of the unit of a CP.
     pub(crate) fn place(&self, cp: usize) -> u32
         requires from { self.now.from ≤ cp }
         requires within { cp < length self.now.view.units }
-        ensures place { result ≡ slice_index self.now.view.places cp }
-        ensures right { IsTrue (ends_at self.now.view cp)
-            → IsRightPlace Papx self.now.view.wd self.now.view.paragraphs result }
+        ensures { result ≡ slice_index self.now.view.places cp }
     {
         self.places.get(cp - self.from)
     }

@@ -1,10 +1,6 @@
-// What a text is read from, and what is read at one CP.
-ghost use Rattle.std.specs.Prelude.{◌≡◌, IsTrue, IfOk, IfSome, OnOk};
-ghost use Rattle.prop_map.specs.Formed.{IsPropertyMap, paragraph_groups};
+// What a text is read from.
+ghost use Rattle.std.specs.Prelude.{◌≡◌, IsTrue, IfOk, OnOk};
 ghost use Rattle.prop_map.specs.Modifiers.{IsFormedModifier};
-ghost use Rattle.fkp_pages.specs.declared.kind.PageKind.TheVariants.{Papx};
-ghost use Rattle.direct_props.specs.PageRules.{IsRightPlace};
-ghost use Rattle.doc_read.specs.Items.{IsMarkAt};
 ghost use Rattle.doc_read.specs.Reading.{IsReadable, text_view};
 ghost use Rattle.doc_read.specs.Reading.{ArePieceReaders, HasReaderFor, IsPieceReader};
 
@@ -13,7 +9,6 @@ use crate::sections::SectionMaps;
 use direct_props::{PlaceReader, Places};
 use doc_bits::Memory;
 use fkp_pages::PageKind;
-use plain_doc::Mark;
 use prop_map::{Modifier, PropMap};
 use std::alloc::Global;
 use std::collections::BTreeMap;
@@ -140,29 +135,4 @@ pub struct Passed {
     pub field: usize,
     pub note: usize,
     pub section: usize,
-}
-
-/// Reads the mark of a unit that ends a paragraph.
-pub(crate) fn mark_at(
-    alloc: Global,
-    fc: u32,
-    ends: bool,
-    marks: &mut PlaceReader<'_>,
-) -> Result<Option<Mark>, Memory>
-    requires kind { marks.old.kind ≡ Papx }
-    requires right { IsTrue ends → IsRightPlace Papx marks.old.wd marks.old.bin fc }
-    requires formed { IsFormedModifier marks.old.modifier }
-    ensures same { marks.new ≡ marks.old }
-    ensures mark { IfOk result (λ mark. IsMarkAt ends marks.old.wd marks.old.bin fc marks.old.modifier mark) }
-    ensures formed { IfOk result (λ mark. IfSome mark (λ mark. IsPropertyMap paragraph_groups mark.pap)) }
-{
-    if ends {
-        let mark = marks.read_mark(alloc, fc)?;
-        Ok(Some(Mark {
-            istd: mark.istd,
-            pap: mark.pap,
-        }))
-    } else {
-        Ok(None)
-    }
 }

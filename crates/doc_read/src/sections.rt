@@ -6,11 +6,13 @@ ghost use Rattle.prop_map.specs.Formed.{IsPropertyMap};
 ghost use Rattle.doc_load.specs.FileRules.{source_of};
 ghost use Rattle.doc_load.specs.SectionRules.{HasSections, HasSepxFault, LacksSepx, rules_of_sections, sepx_list};
 ghost use Rattle.prop_map.specs.Formed.{section_groups};
+ghost use Rattle.list_walks.specs.Keeping.{IsWalkedMap};
 ghost use Rattle.doc_read.specs.Sections.{AreMetSections, AreSectionMaps, IsSectionSettings};
 
 use doc_bits::Memory;
-use doc_load::LoadedText;
+use doc_load::{LoadedText, sepx_place, sepx_ranges};
 use doc_parts::{NO_SEPX, Seds, sepx};
+use list_walks::{WalkedMap, walked_maps};
 use prop_map::{ListPlaces, PropMap, SECTION_GROUPS, act};
 use std::alloc::Global;
 use std::marker::Model;
@@ -56,12 +58,25 @@ pub fn read_section_maps(
     let source = text.source();
     let wd = source.wd();
     let mut maps = Vec::with_capacity(alloc, sections.len())?;
-    let mut met = MetSections::new(alloc);
+    let mut met = walked_sections(alloc, wd, sections)?;
     for k in 0..sections.len() {
         let (_, fc) = sections.get(k);
         maps.push(met.settings(alloc, wd, fc)?)?;
     }
     Ok(SectionMaps { maps })
+}
+
+/// The settings of sections whose Sepxs lie over one another, so far as few walks make them.
+fn walked_sections(alloc: Global, wd: &[u8], sections: &Seds) -> Result<MetSections, Memory>
+    ensures { IfOk result (λ met. AreMetSections wd.now met.places met.maps.items) }
+{
+    let ranges = sepx_ranges(alloc, wd, sections)?;
+    let mut left = walked_maps(alloc, wd, &ranges, SECTION_GROUPS)?;
+    let mut met = MetSections::new(alloc);
+    while let Some(walked) = left.pop() {
+        met.add(wd, walked)?;
+    }
+    Ok(met)
 }
 
 /// The settings of sections that were met, by the places of their Sepxs.
@@ -80,6 +95,24 @@ impl MetSections {
             places: ListPlaces::new(alloc),
             maps: Vec::new(alloc),
         }
+    }
+
+    /// Adds the settings that the list of a Sepx makes.
+    fn add(&mut self, wd: &[u8], walked: WalkedMap) -> Result<(), Memory>
+        requires walked { IsWalkedMap wd.now section_groups walked }
+        requires met { AreMetSections wd.now self.old.places self.old.maps.items }
+        ensures { OnOk result (AreMetSections wd.now self.new.places self.new.maps.items) }
+    {
+        let WalkedMap { range, map } = walked;
+        let Some(place) = sepx_place(wd, range) else {
+            return Ok(());
+        };
+        if place == NO_SEPX as usize {
+            return Ok(());
+        }
+        self.maps.push(map)?;
+        self.places.add(place, place)?;
+        Ok(())
     }
 
     /// The settings of the section whose Sepx stands at `fc`. A Sepx is read once.

@@ -1,18 +1,15 @@
 -- Each unit of a saved document has its pages: none of the rules 39 to 48 is broken.
-use Rattle.std.specs.Prelude.{slice_get, slice_index, is_some, All, ◌&&◌, nat_lt}
-use Rattle.std.specs.List.{list_any, range_with_len}
-use Rattle.std.proofs.Common.{get_or-take, ◌≡◌, ◌∙◌, refl, sym, ap, subst, ℕ, zero, suc, ◌+◌, ◌-◌, ◌<◌, ◌≤◌, ◌==◌}
-use Rattle.std.proofs.Common.{Bool, true, false, List, [], ◌∷◌, length, map, filter, Option, Some, None, arith, inl}
-use Rattle.std.proofs.Common.{inr}
+use Rattle.std.specs.Prelude.{slice_get, slice_index, is_some, nat_lt}
+use Rattle.std.proofs.Common.{get_or-take, ◌≡◌, ◌∙◌, refl, sym, ap, subst, ℕ, ◌+◌, ◌-◌, ◌<◌, ◌≤◌, ◌==◌}
+use Rattle.std.proofs.Common.{true, List, length, map, Option, Some, None, arith}
 use Rattle.std.proofs.lemmas.Option.{same_Some}
-use Rattle.std.proofs.lemmas.Bool.{cases_Bool, ltb-true, eqb-true}
+use Rattle.std.proofs.lemmas.Bool.{ltb-true, eqb-true}
 use Rattle.std.proofs.lemmas.List.{length-map, length-take, get_or-map}
-use Rattle.std.proofs.lemmas.List.Elements.{All-nil, All-cons, All-filter}
-use Rattle.std.proofs.lemmas.List.FromFn.{get_or-range_with_len, length-range_with_len}
 use Rattle.doc_bits.specs.declared.places.Where.TheVariants.{Wd}
 use Rattle.doc_bits.specs.Rules.{Hold}
 use Rattle.doc_bits.proofs.RuleLemmas.{hold_in}
 use Rattle.doc_bits.proofs.ListLemmas.{there_is, All_at}
+use Rattle.doc_bits.proofs.TestLemmas.{both_true}
 use Rattle.prop_map.specs.Settings.{Settings}
 use Rattle.fib_form.specs.declared.table_parts.TablePart.TheVariants.{PlcfBteChpx, PlcfBtePapx}
 use Rattle.fib_form.specs.declared.stories.StoryKind.TheVariants.{Main}
@@ -26,9 +23,9 @@ use Rattle.plain_doc.specs.Collected.{sections_of}
 use Rattle.doc_load.proofs.RowLemmas.{index_of_get}
 use Rattle.doc_load.specs.Source.{part_bytes, story_length}
 use Rattle.doc_load.specs.FormatRules.{text_count, judged_units, judged_places, section_ends, is_end, ends_section}
-use Rattle.doc_load.specs.FormatRules.{ends_paragraph, paragraph_ends, paragraph_places, rules_of_formats}
+use Rattle.doc_load.specs.FormatRules.{ends_paragraph, paragraph_places, rules_of_formats}
 use Rattle.doc_read.proofs.PlaceLemmas.{read_at_place}
-use Rattle.doc_read.proofs.RightLemmas.{ends_more}
+use Rattle.doc_read.proofs.RightLemmas.{paragraphs_right as ends_right, any_index, ends_more}
 use Rattle.doc_read.specs.Sections.{section_lasts}
 use Rattle.save_laws.specs.Places.{IsMarkedAfter, StandsInside, GivesAt}
 use Rattle.save_laws.specs.Slots.{Slot, shown, loose, last, IsPlaced}
@@ -104,21 +101,6 @@ characters_right s =
 
 -- ---- where sections end
 
-any_index : (test : ℕ → Bool) (xs : List ℕ) → list_any test xs ≡ true →
-    (k : ℕ) × ((k < length xs) × (test (slice_index xs k) ≡ true))
-any_index test [] any = absurd (cc (any))
-any_index test (x ∷ xs) any = elim (cases_Bool (test x)) [
-  | inl here ↦ (zero, (omega arith, here))
-  | inr not_here ↦
-      let later = any_index test xs (rw not_here at any) in
-      let below = later.1.0 in
-      (suc later.0, (omega arith, later.1.1))
-]
-
-both_true : (a b : Bool) → (a && b) ≡ true → (a ≡ true) × (b ≡ true)
-both_true true b e = (refl, e)
-both_true false b e = absurd (cc (e))
-
 -- a section that is read to end at a CP is one that the item has
 section_there : (s : Save) (cp : ℕ) (item : Item) → slice_get (the_whole s) cp ≡ Some (shown item) →
     ends_section s.saved.seds (story_length (the_source s) Main) cp ≡ true → is_some item.sect ≡ true
@@ -176,20 +158,6 @@ paragraph_right s cp place loose here judged placed ends saved =
     right_lists_are_right Papx stream.wd stream.paragraphs place.at given.list s.is.paragraphs.table given.has
 paragraph_right s cp place last here judged placed ends saved = absurd judged
 
--- the CPs that are kept pass the test, and are among the others
-kept_true : (test : ℕ → Bool) (xs : List ℕ) → All (λ x. test x ≡ true) (filter test xs)
-kept_true test [] = All-nil (λ x. test x ≡ true)
-kept_true test (x ∷ xs) = elim (cases_Bool (test x)) [
-  | inl passes ↦ rw passes (All-cons (λ x. test x ≡ true) x (filter test xs) passes (kept_true test xs))
-  | inr fails ↦ rw fails (kept_true test xs)
-]
-
-all_below : (n : ℕ) → All (λ c. c < n) (range_with_len 0 n)
-all_below n = λ k d below.
-    let len = length-range_with_len 0 n in
-    let at = get_or-range_with_len 0 n k d (omega (arith, below, len)) in
-    omega (arith, at, below, len)
-
 end_right : (s : Save) (cp : ℕ) → cp < text_count (the_source s) →
     ends_paragraph (the_source s) s.saved.seds cp ≡ true →
     IsRightPlace Papx s.saved.stream.wd s.saved.stream.paragraphs (slice_index (judged_places (the_source s)) cp)
@@ -209,19 +177,11 @@ paragraphs_right : (s : Save) →
 paragraphs_right s =
     let source = the_source s in
     let seds = s.saved.seds in
-    let test = ends_paragraph source seds in
-    let ends = paragraph_ends source seds in
-    let n = length (judged_units source) in
+    let wd = s.saved.stream.wd in
+    let bin = s.saved.stream.paragraphs in
     let most = length-take (text_count source) source.text.units in
-    right_places_hold Papx s.saved.stream.wd s.saved.stream.paragraphs (paragraph_places source seds) (λ k below.
-    let inside : k < length ends = omega (arith, below, length-map ends (slice_index (judged_places source))) in
-    let found = there_is ends k inside in
-    let passes = All_at (λ x. test x ≡ true) ends k found.0 (kept_true test (range_with_len 0 n)) found.1 in
-    let within =
-    All_at (λ c. c < n) ends k found.0 (All-filter test (λ c. c < n) (range_with_len 0 n) (all_below n)) found.1 in
-    subst (IsRightPlace Papx s.saved.stream.wd s.saved.stream.paragraphs)
-    (sym (index_of_get (slice_index (judged_places source)) ends k found.0 found.1))
-    (end_right s found.0 (omega (arith, within, most)) passes))
+    right_places_hold Papx wd bin (paragraph_places source seds)
+    (ends_right wd bin source seds (λ cp below ends. end_right s cp (omega (arith, below, most)) ends))
 
 pub formats_hold : (s : Save) → Hold (rules_of_formats (the_source s))
 formats_hold s =

@@ -57,7 +57,8 @@ returns c =
     let len = length (judged_units source) in
     let main = c.story_len-main_len.ensures.count in
     let units = c.judged_units-units.ensures.units in
-    let none : Nowhere (IsSoIn ends cp len) = rw (so_far.same, so_far.main, main, units) at c.in_default.ensures.first in
+    let none : Nowhere (IsSoIn ends cp len) =
+    rw (so_far.same, so_far.main, main, units) at c.in_default.ensures.first in
     let units_len = ap length units in
     let within : cp ≤ len = omega (arith, so_far.within) in
     so_far.found ∙ none_up_to ends (slice_index (judged_places source)) cp len within (none_nowhere ends cp len none)

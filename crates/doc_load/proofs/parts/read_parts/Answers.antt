@@ -1,22 +1,20 @@
 use Rattle.std.proofs.lemmas.Result.{err_from_is_err_and, MatchResult-weaker}
-use Rattle.doc_load.proofs.CharacterRules.{all_hold, characters_refused, rest_refused}
+use Rattle.doc_load.proofs.PageLemmas.{all_hold, formats_refused, rest_refused}
 use Rattle.doc_load.proofs.parts.read_parts.Goals as goal
 
-pub returns-in_err-judge_characters : goal.returns-in_err-judge_characters
-returns-in_err-judge_characters c =
-    let fault = c.in_err-judge_characters.field-0.0 in
-    let p = err_from_is_err_and c.from_residual-in_err-judge_characters.result
-    c.from_residual-in_err-judge_characters.ensures.1 in
-    let sections = c.in_ok-sections.ensures in
+pub returns-in_err-judge_pages : goal.returns-in_err-judge_pages
+returns-in_err-judge_pages c =
+    let fault = c.in_err-judge_pages.field-0.0 in
+    let p = err_from_is_err_and c.from_residual-in_err-judge_pages.result
+    c.from_residual-in_err-judge_pages.ensures.1 in
     rw (p.1, p.2)
-    (characters_refused c.args.source.now c.in_ok-sections.sections fault sections.0 sections.1
-    c.in_err-judge_characters.ensures)
+    (formats_refused c.args.source.now fault c.in_ok-sections.ensures.0 c.in_err-judge_pages.ensures)
 
 pub returns : goal.returns
 returns c =
     let source = c.args.source.now in
     let layout = c.in_ok-sections.ensures.0 in
-    let characters = c.in_ok-judge_characters.ensures in
+    let formats = c.in_ok-judge_pages.ensures in
     MatchResult-weaker c.read_rest.result c.read_rest.ensures
-    (λ parts read. (all_hold source layout read.0 characters, read.1))
-    (λ fault refused. rest_refused source fault layout characters refused)
+    (λ parts read. (all_hold source (record { layout = layout; rest = read.0 }) formats, read.1))
+    (λ fault refused. rest_refused source fault layout formats refused)

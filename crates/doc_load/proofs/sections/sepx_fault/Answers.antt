@@ -31,7 +31,7 @@ loop-k-init c =
     let source = c.args.source.now in
     record {
       least = least_none (λ k. HasSepxFault source.wd (section_fc c.args.list.now k));
-      judged = c.new-judged.ensures c.wd-wd.result.now;
+      judged = c.in_ok-judged.ensures;
     }
 
 pub loop-k-preserved : goal.loop-k-preserved

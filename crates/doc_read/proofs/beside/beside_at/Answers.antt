@@ -1,12 +1,24 @@
 -- What stands at the CP.
-use Rattle.std.proofs.Common.{◌≡◌, ◌∙◌, sym, ap, subst}
-use Rattle.std.specs.Prelude.{slice_index, is_some}
+use Rattle.std.proofs.Common.{◌≡◌, ◌∙◌, ◌+◌, sym, ap, subst, ℕ, Bool, true, false, Option, Some, None, MatchOption}
+use Rattle.std.proofs.Common.{arith}
+use Rattle.std.proofs.lemmas.Bool.{true≢false}
+use Rattle.std.specs.Prelude.{slice_index, is_some, IfSome}
+use Rattle.prop_map.specs.Settings.{Settings}
+use Rattle.prop_map.specs.declared.modifiers.Modifier.{Modifier}
 use Rattle.prop_map.specs.Formed.{IsPropertyMap, paragraph_groups, section_groups}
-use Rattle.doc_read.specs.Items.{IsMarkAt}
+use Rattle.fkp_pages.specs.declared.kind.PageKind.TheVariants.{Papx}
+use Rattle.direct_props.specs.Direct.{IsDirectMark}
+use Rattle.direct_props.specs.PageRules.{IsRightPlace}
 use Rattle.text_codes.specs.Paragraph.{is_paragraph_end}
+use Rattle.plain_doc.specs.declared.item.Mark.{Mark}
 use Rattle.plain_doc.proofs.FormedLemmas.{ForSome-from_cases}
-use Rattle.doc_read.specs.Reading.{ArePassed, TextView, ends_at, text_view}
+use Rattle.doc_columns.specs.declared.beside.Beside.{Beside}
+use Rattle.doc_columns.specs.Changes.{HasBesideMaps}
+use Rattle.doc_read.specs.Items.{IsMarkAt}
+use Rattle.doc_read.specs.Reading.{ArePassed, HaveRightMarks, TextView, ends_at, field_at, note_at, section_at}
+use Rattle.doc_read.specs.Reading.{text_view}
 use Rattle.doc_read.specs.Beside.{IsBesideAt}
+use Rattle.doc_read.proofs.PageLemmas.{one_mark}
 use Rattle.doc_read.proofs.beside.beside_at.Goals as goal
 
 pub byte_at-fld-requires-clause-passed : goal.byte_at-fld-requires-clause-passed
@@ -24,13 +36,65 @@ section_at-requires-clause-passed c =
     (subst (λ (v : TextView). ArePassed v.marks c.args.passed.now c.args.cp) (sym c.text-text.ensures.view)
     c.requires.passed).sections
 
-pub mark_of-requires-clause-ends : goal.mark_of-requires-clause-ends
-mark_of-requires-clause-ends c =
+-- what stands at a CP, by its parts
+stands : (view : TextView) (modifier : Modifier) (cp : ℕ) (ends : Bool) (beside : Beside) →
+    ends ≡ is_paragraph_end (slice_index view.units cp) (is_some beside.sect) →
+    beside.sect ≡ section_at view.marks.section_cps view.maps cp → beside.fld ≡ field_at view.marks cp →
+    beside.note ≡ note_at view.marks cp →
+    IsMarkAt ends view.wd view.paragraphs (slice_index view.places cp) modifier beside.mark →
+    HasBesideMaps beside → IsBesideAt view modifier cp beside
+stands view modifier cp ends beside ends_are sect fld note mark maps = record {
+  sect_is = sect;
+  mark_is =
+      subst (λ b. IsMarkAt b view.wd view.paragraphs (slice_index view.places cp) modifier beside.mark) ends_are mark;
+  fld_is = fld;
+  note_is = note;
+  maps = maps;
+}
+
+-- what is known of a mark
+abbrev IsMarkOf : TextView → Modifier → ℕ → Option Mark → Type 0
+IsMarkOf view modifier cp mark =
+    MatchOption mark (¬ (IsRightPlace Papx view.wd view.paragraphs (slice_index view.places cp)))
+    (λ (m : Mark). IsRightPlace Papx view.wd view.paragraphs (slice_index view.places cp)
+    × IsDirectMark view.wd view.paragraphs (slice_index view.places cp) modifier m.istd m.pap)
+
+pub returns-then-not-ends-clause-beside : goal.returns-then-not-ends-clause-beside
+returns-then-not-ends-clause-beside c =
     let text = c.text-text.result.now in
-    let unit = slice_index text.units.now c.args.cp in
-    subst (λ (v : TextView). c.ends_paragraph-ends.result ≡ ends_at v c.args.cp) c.text-text.ensures.view
-    (c.ends_paragraph-ends.ensures ∙ ap (is_paragraph_end unit)
-    (c.is_some.ensures ∙ ap is_some c.in_ok-sect.ensures.section))
+    let view = c.args.part.now.view in
+    let cp = c.args.cp in
+    let unit = slice_index text.units.now cp in
+    let sect = c.in_ok-sect.sect in
+    let modifier = c.args.reader.now.characters.modifier in
+    let beside : Beside =
+    record { fld = c.byte_at-fld.result; note = c.kind_at-note.result; mark = None; sect = sect } in
+    let goes_on : is_paragraph_end unit (is_some sect) ≡ false =
+    sym (c.ends_paragraph-ends.ensures ∙ ap (is_paragraph_end unit) c.is_some.ensures) ∙ c.if-not-ends.true in
+    let here : ends_at (text_view text) cp ≡ false =
+    ap (λ (o : Option Settings). is_paragraph_end unit (is_some o)) (sym c.in_ok-sect.ensures.section) ∙ goes_on in
+    let there = stands (text_view text) modifier cp false beside (sym goes_on) c.in_ok-sect.ensures.section
+    c.byte_at-fld.ensures.byte c.kind_at-note.ensures.kind tt
+    (record {
+      pap = ForSome-from_cases None (λ (mark : Mark). IsPropertyMap paragraph_groups mark.pap) tt;
+      sect = ForSome-from_cases sect (IsPropertyMap section_groups) c.in_ok-sect.ensures.formed;
+    }) in
+    subst (λ (v : TextView). HaveRightMarks v cp (cp + 1) × IsBesideAt v modifier cp beside) c.text-text.ensures.view
+    (one_mark (text_view text) cp (λ ends. absurd (true≢false (sym ends ∙ here))), there)
+
+pub returns-in_default-clause-beside : goal.returns-in_default-clause-beside
+returns-in_default-clause-beside c = λ all.
+    let text = c.text-text.result.now in
+    let view = c.args.part.now.view in
+    let cp = c.args.cp in
+    let unit = slice_index text.units.now cp in
+    let ends : is_paragraph_end unit (is_some c.in_ok-sect.sect) ≡ true =
+    sym (c.ends_paragraph-ends.ensures ∙ ap (is_paragraph_end unit) c.is_some.ensures) ∙ c.if-not-ends.false in
+    let here : ends_at (text_view text) cp ≡ true =
+    ap (λ (o : Option Settings). is_paragraph_end unit (is_some o)) (sym c.in_ok-sect.ensures.section) ∙ ends in
+    let there = subst (λ (v : TextView). ends_at v cp ≡ true) c.text-text.ensures.view here in
+    subst (IsMarkOf view c.args.reader.now.characters.modifier cp) c.in_default.is c.in_ok-mark.ensures.mark
+    (all cp (omega arith) (omega arith) there)
 
 pub returns-clause-beside : goal.returns-clause-beside
 returns-clause-beside c =
@@ -39,25 +103,24 @@ returns-clause-beside c =
     let cp = c.args.cp in
     let unit = slice_index text.units.now cp in
     let sect = c.in_ok-sect.sect in
-    let mark = c.in_ok-mark.mark in
-    let ends : c.ends_paragraph-ends.result ≡ is_paragraph_end unit (is_some sect) =
-    c.ends_paragraph-ends.ensures ∙ ap (is_paragraph_end unit) c.is_some.ensures in
+    let mark = c.in-Some.mark in
     let modifier = c.args.reader.now.characters.modifier in
-    let read = subst (λ (v : TextView). IsMarkAt c.ends_paragraph-ends.result v.wd v.paragraphs
-    (slice_index v.places cp) modifier mark) (sym c.text-text.ensures.view) c.in_ok-mark.ensures.mark in
-    let there : IsBesideAt (text_view text) modifier cp
-    (record { fld = c.byte_at-fld.result; note = c.kind_at-note.result; mark = mark; sect = sect }) =
-    record {
-      sect_is = c.in_ok-sect.ensures.section;
-      mark_is =
-          subst (λ b. IsMarkAt b text.wd.now text.paragraphs.now (slice_index text.places cp) modifier mark) ends read;
-      fld_is = c.byte_at-fld.ensures.byte;
-      note_is = c.kind_at-note.ensures.kind;
-      maps = record {
-        pap = ForSome-from_cases mark (λ mark. IsPropertyMap paragraph_groups mark.pap) c.in_ok-mark.ensures.formed;
-        sect = ForSome-from_cases sect (IsPropertyMap section_groups) c.in_ok-sect.ensures.formed;
-      };
-    } in
-    subst (λ (v : TextView). IsBesideAt v modifier cp
-    (record { fld = c.byte_at-fld.result; note = c.kind_at-note.result; mark = mark; sect = sect }))
-    c.text-text.ensures.view there
+    let beside : Beside =
+    record { fld = c.byte_at-fld.result; note = c.kind_at-note.result; mark = Some mark; sect = sect } in
+    let ends : is_paragraph_end unit (is_some sect) ≡ true =
+    sym (c.ends_paragraph-ends.ensures ∙ ap (is_paragraph_end unit) c.is_some.ensures) ∙ c.if-not-ends.false in
+    let known = subst (IsMarkOf view modifier cp) c.in-Some.is c.in_ok-mark.ensures.mark in
+    let formed = subst (λ (o : Option Mark). IfSome o (λ (m : Mark). IsPropertyMap paragraph_groups m.pap)) c.in-Some.is
+    c.in_ok-mark.ensures.formed in
+    let direct = subst
+    (λ (v : TextView). IsDirectMark v.wd v.paragraphs (slice_index v.places cp) modifier mark.istd mark.pap)
+    (sym c.text-text.ensures.view) known.1 in
+    let there = stands (text_view text) modifier cp true beside (sym ends) c.in_ok-sect.ensures.section
+    c.byte_at-fld.ensures.byte c.kind_at-note.ensures.kind direct
+    (record {
+      pap = ForSome-from_cases (Some mark) (λ (mark : Mark). IsPropertyMap paragraph_groups mark.pap) formed;
+      sect = ForSome-from_cases sect (IsPropertyMap section_groups) c.in_ok-sect.ensures.formed;
+    }) in (
+      one_mark view cp (λ _. known.0),
+      subst (λ (v : TextView). IsBesideAt v modifier cp beside) c.text-text.ensures.view there,
+    )

@@ -8,7 +8,7 @@ use Rattle.doc_read.specs.Passing.{AddsEach}
 use Rattle.doc_read.specs.Reading.{TextView}
 use Rattle.doc_read.proofs.AddLemmas.{adds_none}
 use Rattle.doc_read.specs.Beside.{IsBesideAt}
-use Rattle.doc_read.proofs.BesideLemmas.{bare_stretch}
+use Rattle.doc_read.proofs.BesideLemmas.{bare_marks, bare_stretch}
 use Rattle.doc_read.proofs.beside.push_bare.Goals as goal
 
 pub bare_until-until-requires : goal.bare_until-until-requires
@@ -35,6 +35,19 @@ returns-clause-few c =
 pub returns-clause-passed : goal.returns-clause-passed
 returns-clause-passed c =
     c.next_marked.ensures c.args.left.cp c.bare_until-until.result c.requires.passed (omega arith) (omega arith)
+
+pub returns-then-until-left-clause-right : goal.returns-then-until-left-clause-right
+returns-then-until-left-clause-right c = λ at upper lower _. absurd (omega (arith, upper, lower))
+
+pub returns-clause-right : goal.returns-clause-right
+returns-clause-right c =
+    let cp = c.args.left.cp in
+    let until = c.bare_until-until.result in
+    let bare = subst
+    (λ (v : TextView). (at : ℕ) → cp ≤ at → at < until → is_paragraph_end (slice_index v.units at) false ≡ false)
+    c.text.ensures.view c.bare_until-until.ensures.bare in
+    bare_marks c.args.part.now.view c.args.passed.now cp until bare
+    (λ at upper lower. c.next_marked.ensures cp at c.requires.passed upper (omega (arith, lower)))
 
 pub returns-clause-here : goal.returns-clause-here
 returns-clause-here c =

@@ -1,10 +1,13 @@
 -- A stretch more.
-use Rattle.std.proofs.Common.{◌≡◌, ◌∙◌, refl, sym, subst, ◌-◌, ◌+◌, arith}
+use Rattle.std.proofs.Common.{◌≡◌, ◌∙◌, refl, sym, subst, ℕ, ◌<◌, ◌≤◌, ◌-◌, ◌+◌, Option, MatchOption, arith}
+use Rattle.std.proofs.lemmas.Bool.{true≢false}
+use Rattle.std.specs.Prelude.{IfSome}
 use Rattle.doc_read.specs.declared.reading.PieceReader.{PieceReader}
 use Rattle.doc_read.specs.Passing.{AddsEach}
-use Rattle.doc_read.specs.Reading.{IsPieceReader}
+use Rattle.doc_read.specs.Reading.{ArePassed, HaveRightMarks, IsPieceReader, TextView}
 use Rattle.doc_read.proofs.AddLemmas.{adds_more, adds_none}
 use Rattle.doc_read.specs.Beside.{IsBesideAt}
+use Rattle.doc_read.proofs.PageLemmas.{marks_join, marks_within}
 use Rattle.doc_read.proofs.beside.push_besides.Goals as goal
 
 pub loop-cp-init : goal.loop-cp-init
@@ -15,6 +18,7 @@ loop-cp-init c =
       begun = omega arith;
       within = c.requires.ordered;
       same = refl;
+      right = λ at upper lower _. absurd (omega (arith, upper, lower));
       added = subst (λ n. AddsEach is n c.args.besides.now c.args.besides.now) none (adds_none is c.args.besides.now);
       passed = c.requires.passed;
     }
@@ -27,22 +31,54 @@ pub push_stretch-requires-clause-here : goal.push_stretch-requires-clause-here
 push_stretch-requires-clause-here c =
     omega (arith, c.loop-cp.invariant.added.len, c.requires.here, c.loop-cp.invariant.begun)
 
+-- what is known of the next CP
+abbrev IsRightNext : TextView → ℕ → ℕ → Option ℕ → Type 0
+IsRightNext view cp end next = MatchOption next (¬ (HaveRightMarks view cp end)) (HaveRightMarks view cp)
+
 pub loop-cp-preserved : goal.loop-cp-preserved
 loop-cp-preserved c =
     let view = c.args.part.now.view in
     let cp = c.loop-cp.cp in
-    let next = c.in_ok-cp.cp in
+    let next = c.in-Some.next in
+    let on = subst (λ (o : Option ℕ). IfSome o (λ n. cp < n)) c.in-Some.is c.in_ok-next.ensures.on in
+    let inside = subst (λ (o : Option ℕ). IfSome o (λ n. n ≤ c.args.piece.end)) c.in-Some.is
+    c.in_ok-next.ensures.inside in
+    let added = subst
+    (λ (o : Option ℕ). IfSome o (λ n. AddsEach (IsBesideAt view c.loop-cp.reader.characters.modifier) (n - cp)
+    c.loop-cp.besides c.push_stretch.new.besides)) c.in-Some.is c.in_ok-next.ensures.besides in
     let more = subst
     (λ (r : PieceReader). AddsEach (IsBesideAt view r.characters.modifier) (next - cp) c.loop-cp.besides
-    c.push_stretch.new.besides) c.loop-cp.invariant.same c.in_ok-cp.ensures.besides in
+    c.push_stretch.new.besides) c.loop-cp.invariant.same added in
     let sum : next - c.args.piece.cp ≡ (cp - c.args.piece.cp) + (next - cp) =
-    omega (arith, c.loop-cp.invariant.begun, c.in_ok-cp.ensures.on) in
+    omega (arith, c.loop-cp.invariant.begun, on) in
     record {
-      begun = omega (arith, c.loop-cp.invariant.begun, c.in_ok-cp.ensures.on);
-      within = c.in_ok-cp.ensures.inside;
-      same = c.in_ok-cp.ensures.same ∙ c.loop-cp.invariant.same;
+      begun = omega (arith, c.loop-cp.invariant.begun, on);
+      within = inside;
+      same = c.in_ok-next.ensures.same ∙ c.loop-cp.invariant.same;
+      right = marks_join view c.args.piece.cp cp next c.loop-cp.invariant.right
+          (subst (IsRightNext view cp c.args.piece.end) c.in-Some.is c.in_ok-next.ensures.right);
       added =
           adds_more (IsBesideAt view c.args.reader.now.characters.modifier) (cp - c.args.piece.cp) (next - cp) _
           c.args.besides.now c.loop-cp.besides c.push_stretch.new.besides c.loop-cp.invariant.added more sum;
-      passed = c.in_ok-cp.ensures.passed;
+      passed =
+          subst (λ (o : Option ℕ). IfSome o (ArePassed view.marks c.push_stretch.new.passed)) c.in-Some.is
+          c.in_ok-next.ensures.passed;
     }
+
+pub returns-in_default-clause-right : goal.returns-in_default-clause-right
+returns-in_default-clause-right c = (
+  λ t. absurd (true≢false (sym t)),
+  λ all.
+      let view = c.args.part.now.view in
+      absurd
+      (subst (IsRightNext view c.loop-cp.cp c.args.piece.end) c.in_default.is c.in_ok-next.ensures.right
+      (marks_within view c.args.piece.cp c.args.piece.end c.loop-cp.cp c.args.piece.end c.loop-cp.invariant.begun
+      (omega arith) all)),
+)
+
+pub returns-clause-right : goal.returns-clause-right
+returns-clause-right c =
+    let all : c.loop-cp.cp ≡ c.args.piece.end = omega (arith, c.loop-cp.invariant.within) in (
+      λ _. subst (HaveRightMarks c.args.part.now.view c.args.piece.cp) all c.loop-cp.invariant.right,
+      λ _. refl,
+    )

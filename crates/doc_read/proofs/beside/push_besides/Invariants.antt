@@ -1,6 +1,6 @@
 use Rattle.std.proofs.Common.{◌≡◌, ◌≤◌, ◌-◌}
 use Rattle.doc_read.specs.Passing.{AddsEach}
-use Rattle.doc_read.specs.Reading.{ArePassed}
+use Rattle.doc_read.specs.Reading.{ArePassed, HaveRightMarks}
 use Rattle.doc_read.specs.Beside.{IsBesideAt}
 use Rattle.doc_read.proofs.beside.push_besides.Given as goal
 
@@ -10,6 +10,7 @@ invariant-loop-cp l = record {
   begun : l.piece.cp ≤ l.cp;
   within : l.cp ≤ l.piece.end;
   same : l.reader ≡ l.fn.reader;
+  right : HaveRightMarks l.part.view l.piece.cp l.cp;
   added : AddsEach (IsBesideAt l.part.view l.fn.reader.characters.modifier) (l.cp - l.piece.cp)
       l.fn.besides l.besides;
   passed : ArePassed l.part.view.marks l.passed l.cp;

@@ -36,7 +36,7 @@ invariant_of-result-clause-lists c =
       c.in_ok-from_slice.ensures,
       ap (λ (p : PartLists). p.levels) c.parts.view_is,
     )
-    (lists-with_levels (source_of c.args.text.now) c.args.parts.now.levels c.requires.rules.rest.1.1.1.1.1.1.0
+    (lists-with_levels (source_of c.args.text.now) c.args.parts.now.levels c.requires.rules.rest.1.1.1.1.1.0
     c.requires.lists.has_levels)
 
 pub invariant_of-result-clause-others : goal.invariant_of-result-clause-others

@@ -5,10 +5,10 @@ use Rattle.doc_bits.specs.Rules.{Hold, given}
 use Rattle.cfb_streams.specs.Contents.{Contents}
 use Rattle.doc_load.specs.Faults.{IsReadFault}
 use Rattle.doc_load.specs.Source.{DocSource}
-use Rattle.doc_load.specs.FormatRules.{character_rules, judged_units}
+use Rattle.doc_load.specs.FormatRules.{judged_units, rules_of_formats}
 use Rattle.doc_load.specs.PartRules.{PartLists, part_rules}
 use Rattle.doc_load.specs.FileRules.{FileText, HasText, source_of, loading_rules}
-use Rattle.doc_load.proofs.CharacterRules.{all_hold, characters_refused}
+use Rattle.doc_load.proofs.PageLemmas.{all_hold, formats_refused}
 use Rattle.doc_load.proofs.RefusalLemmas.{refused-next, refused-given}
 use Rattle.doc_read.specs.declared.document.DocumentParts.{DocumentParts}
 use Rattle.doc_read.specs.ReadParts.{AreDocumentParts, FitUnits}
@@ -37,31 +37,29 @@ read_document_parts-requires-clause-lists c = rw c.source-source.ensures at c.in
 -- what is read of the parts
 abbrev IsReadOf : Contents → FileText → PartLists → Option DocumentParts → Type 0
 IsReadOf contents text lists read =
-    MatchOption read (¬ (Hold (character_rules (source_of text))))
-    (λ (r : DocumentParts). Hold (character_rules (source_of text)) × AreDocumentParts contents text lists r)
+    MatchOption read (¬ (Hold (rules_of_formats (source_of text))))
+    (λ (r : DocumentParts). Hold (rules_of_formats (source_of text)) × AreDocumentParts contents text lists r)
 
-pub character_fault-requires-clause-bins : goal.character_fault-requires-clause-bins
-character_fault-requires-clause-bins c = c.in_ok-parts.ensures.0.layout.1
+pub format_fault-requires-clause-layout : goal.format_fault-requires-clause-layout
+format_fault-requires-clause-layout c = c.in_ok-parts.ensures.0.layout
 
-pub character_fault-requires-clause-wrong : goal.character_fault-requires-clause-wrong
-character_fault-requires-clause-wrong c =
+pub format_fault-requires-clause-wrong : goal.format_fault-requires-clause-wrong
+format_fault-requires-clause-wrong c =
     let none = subst (IsReadOf c.args.container.now c.in_ok-text.text c.in_ok-parts.parts) c.in_default.is
     c.in_ok-read.ensures in
-    subst (λ (source : DocSource). ¬ (Hold (character_rules source))) (sym c.source-source.ensures) none
+    subst (λ (source : DocSource). ¬ (Hold (rules_of_formats source))) (sym c.source-source.ensures) none
 
 pub returns-in_default : goal.returns-in_default
 returns-in_default c =
     let contents = c.args.container.now in
-    let fault = c.character_fault.result in
+    let fault = c.format_fault.result in
     let text = c.in_ok-text.ensures in
     let source = source_of c.in_ok-text.text in
     let parts = λ (text : FileText). part_rules (source_of text) in
     let but = rw c.source-source.ensures at c.in_ok-parts.ensures.0 in
-    let lists = rw c.source-source.ensures at c.in_ok-parts.ensures.1 in
-    let characters = subst (λ (s : DocSource). IsReadFault (character_rules s) fault) c.source-source.ensures
-    c.character_fault.ensures in
-    let refused = characters_refused source c.in_ok-parts.parts.sections fault but.layout lists.has_sections characters
-    in
+    let formats = subst (λ (s : DocSource). IsReadFault (rules_of_formats s) fault) c.source-source.ensures
+    c.format_fault.ensures in
+    let refused = formats_refused source fault but.layout formats in
     refused-next (loading_rules contents) (given (HasText contents) parts) fault text.0
     (refused-given (HasText contents) parts c.in_ok-text.text fault text.1 refused)
 
@@ -93,7 +91,7 @@ returns c =
     let made = c.into_parts_with_units-fib in
     let document = c.in_ok-document.document in
     let but = rw c.source-source.ensures at c.in_ok-parts.ensures.0 in
-    let holds = all_hold (source_of text) but.layout but.rest read_is.0 in
+    let holds = all_hold (source_of text) but read_is.0 in
     let lists = rw c.source-source.ensures at c.in_ok-parts.ensures.1 in
     let with_units = subst (λ (us : List ℕ). IsDocumentWith made.result.0 us read document) made.ensures.units
     c.in_ok-document.ensures in

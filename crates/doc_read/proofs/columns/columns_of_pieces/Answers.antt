@@ -1,21 +1,19 @@
 -- A piece more.
 use Rattle.std.proofs.Common.{rules, ◌≡◌, ◌∙◌, sym, ap, subst, ◌+◌, ◌-◌, ◌≤◌}
 use Rattle.std.proofs.Common.{drop, length, take, min, slice_get, Some, arith}
-use Rattle.std.specs.Prelude.{slice_range}
 use Rattle.std.proofs.lemmas.Bool.{true≢false}
 use Rattle.std.proofs.lemmas.List.{drop-drop, length-drop, take_all}
 use Rattle.std.proofs.lemmas.Option.{slice_get_within}
 use Rattle.std.specs.Option.{option_map}
-use Rattle.fkp_pages.specs.declared.kind.PageKind.TheVariants.{Chpx}
-use Rattle.direct_props.specs.PageRules.{AreRightPlaces}
 use Rattle.piece_table.specs.declared.pieces.Piece.{Piece}
 use Rattle.piece_table.specs.Piece.{TextPiece, total_length}
 use Rattle.doc_load.proofs.UnitLemmas.{piece_read}
 use Rattle.doc_columns.specs.Columns.{items_of}
 use Rattle.doc_read.specs.Passing.{AddsEach}
-use Rattle.doc_read.specs.Reading.{ArePassed, IsPieceReader, IsReadCharacter, TextRest, text_view}
+use Rattle.doc_read.specs.Reading.{ArePassed, HaveRightPages, IsPieceReader, IsReadCharacter, TextRest, text_view}
 use Rattle.doc_read.proofs.PlacedLemmas.{placed_more, length-more}
-use Rattle.doc_read.proofs.ReaderLemmas.{reader_at, reader_right, readers_same, right_more, right_range}
+use Rattle.doc_read.proofs.ReaderLemmas.{reader_at, reader_right, readers_same}
+use Rattle.doc_read.proofs.PageLemmas.{pages_join, pages_within}
 use Rattle.doc_read.specs.Beside.{IsBesideAt}
 use Rattle.doc_read.proofs.MeetLemmas.{length-read, adds_items, none_placed}
 use Rattle.doc_read.proofs.columns.columns_of_pieces.Goals as goal
@@ -29,7 +27,10 @@ loop-i-init c =
     (omega arith) in
     record {
       len = omega arith;
-      right = λ k below. absurd (omega (arith, below));
+      right = record {
+        characters = λ at upper lower. absurd (omega (arith, upper, lower));
+        marks = λ at upper lower _. absurd (omega (arith, upper, lower));
+      };
       chps = ap length c.new.ensures;
       besides = ap length c.new-2.ensures;
       placed = none_placed view c.args.pieces.now.pieces (items_of view.units chps besides) none;
@@ -126,11 +127,9 @@ loop-i-preserved c =
     record {
       len = length-more pieces i added count piece (length old_items) (cp + added) here front added_is
           (ap (λ n. n + added) (sym old_long));
-      right = right_more view.wd view.characters view.places cp (cp + added)
-          (omega (arith, within, c.requires.readable.same)) c.loop-i.invariant.right
-          (subst
-          (λ (p : TextRest). AreRightPlaces Chpx p.view.wd p.view.characters (slice_range p.view.places cp (cp + added)))
-          c.new-part.ensures (c.in_ok-right.ensures.right.0 went));
+      right = pages_join view 0 cp (cp + added) c.loop-i.invariant.right
+          (subst (λ (p : TextRest). HaveRightPages p.view cp (cp + added)) c.new-part.ensures
+          (c.in_ok-right.ensures.right.0 went));
       chps = omega (arith, chps.len, c.loop-i.invariant.chps);
       besides = omega (arith, besides.len, c.loop-i.invariant.besides);
       placed = placed_more view pieces i added count piece old_items new_items here front added_is
@@ -149,11 +148,8 @@ returns-then-not-right c = λ all.
     let cp = c.loop-i.cp in
     let added = c.min.result in
     let within : cp + added ≤ length view.units = omega (arith, c.min.ensures, c.loop-i.invariant.len) in
-    let some = right_range view.wd view.characters view.places cp (cp + added)
-    (omega (arith, within, c.requires.readable.same)) all in
-    let here = subst
-    (λ (p : TextRest). AreRightPlaces Chpx p.view.wd p.view.characters (slice_range p.view.places cp (cp + added)))
-    (sym c.new-part.ensures) some in
+    let some = pages_within view 0 (length view.units) cp (cp + added) (omega arith) within all in
+    let here = subst (λ (p : TextRest). HaveRightPages p.view cp (cp + added)) (sym c.new-part.ensures) some in
     true≢false (sym (c.in_ok-right.ensures.right.1 here) ∙ c.if-not-right.true)
 
 pub returns : goal.returns
@@ -162,11 +158,14 @@ returns c =
     let pieces = c.args.pieces.now.pieces in
     let cp = c.loop-i.cp in
     let count = length view.units in
-    let whole : take c.loop-i.i pieces ≡ pieces = take_all c.loop-i.i pieces (omega (arith, c.len-i-end.ensures.value)) in
+    let whole : take c.loop-i.i pieces ≡ pieces = take_all c.loop-i.i pieces (omega (
+      arith,
+      c.len-i-end.ensures.value,
+    )) in
     let all : cp ≡ count =
     omega (arith, c.loop-i.invariant.len, ap total_length whole, c.requires.enough) in
     record {
-      right = λ k below. c.loop-i.invariant.right k (omega (arith, below, all, c.requires.readable.same));
+      right = subst (HaveRightPages view 0) all c.loop-i.invariant.right;
       chps = c.loop-i.invariant.chps ∙ all;
       besides = c.loop-i.invariant.besides ∙ all;
       each = c.loop-i.invariant.placed;

@@ -1,18 +1,14 @@
-use Rattle.std.proofs.Common.{ℕ, ◌≡◌, ◌<◌, drop, length, take, min}
-use Rattle.std.specs.Prelude.{slice_index}
-use Rattle.fkp_pages.specs.declared.kind.PageKind.TheVariants.{Chpx}
-use Rattle.direct_props.specs.PageRules.{IsRightPlace}
+use Rattle.std.proofs.Common.{◌≡◌, drop, length, take, min}
 use Rattle.piece_table.specs.Piece.{total_length}
 use Rattle.doc_columns.specs.Columns.{items_of}
-use Rattle.doc_read.specs.Reading.{ArePassed, ArePieceReaders, ArePlacedItems, mark_lists, text_view}
+use Rattle.doc_read.specs.Reading.{ArePassed, ArePieceReaders, ArePlacedItems, HaveRightPages, mark_lists, text_view}
 use Rattle.doc_read.proofs.columns.columns_of_pieces.Given as goal
 
 -- the columns of the first pieces
 abbrev pub invariant-loop-i : goal.invariant-loop-i
 invariant-loop-i l = record {
   len : l.cp ≡ min (total_length (take l.i l.pieces.pieces)) (length l.text.units.now);
-  right :
-      (k : ℕ) → k < l.cp → IsRightPlace Chpx l.text.wd.now l.text.characters.now (slice_index l.text.places k);
+  right : HaveRightPages (text_view l.text) 0 l.cp;
   chps : length l.read.chps ≡ l.cp;
   besides : length l.read.besides ≡ l.cp;
   placed : ArePlacedItems (text_view l.text) l.pieces.pieces (items_of l.text.units.now l.read.chps l.read.besides);

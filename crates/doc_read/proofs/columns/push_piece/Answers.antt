@@ -1,6 +1,7 @@
 -- The settings of the places of a piece, and what stands beside its units.
-use Rattle.std.proofs.Common.{◌≡◌, ◌∙◌, refl, ℕ, List, sym, ap, subst, ◌+◌, ◌-◌, ◌≤◌, length, arith}
+use Rattle.std.proofs.Common.{◌≡◌, ◌∙◌, ℕ, List, sym, ap, subst, ◌+◌, ◌-◌, ◌≤◌, length, arith}
 use Rattle.std.proofs.lemmas.Bool.{true≢false}
+use Rattle.std.proofs.lemmas.Result.{IfOk-weaker}
 use Rattle.std.specs.Prelude.{slice_range}
 use Rattle.fkp_pages.specs.declared.kind.PageKind.TheVariants.{Chpx}
 use Rattle.direct_props.specs.PageRules.{AreRightPlaces}
@@ -11,6 +12,7 @@ use Rattle.doc_read.specs.Passing.{AddsEach}
 use Rattle.doc_read.specs.Reading.{IsPieceReader}
 use Rattle.doc_read.specs.Beside.{IsBesideAt}
 use Rattle.doc_read.proofs.MeetLemmas.{adds_characters}
+use Rattle.doc_read.proofs.PageLemmas.{pages_of_places, places_of_pages}
 use Rattle.doc_read.proofs.columns.push_piece.Goals as goal
 
 pub push_character_runs-requires-clause-kind : goal.push_character_runs-requires-clause-kind
@@ -33,7 +35,8 @@ push_besides-requires-clause-reader c =
     subst (IsPieceReader c.args.part.now.view) (sym same) c.requires.reader
 
 -- the places of the piece
-places_are : (all places : List ℕ) (part_from from to count : ℕ) → places ≡ slice_range all part_from (part_from + count)
+places_are : (all places : List ℕ) (part_from from to count : ℕ) → places ≡ slice_range all part_from (part_from +
+    count)
     → part_from ≡ from → from + count ≡ to → places ≡ slice_range all from to
 places_are all places part_from from to count is here behind =
     is ∙ ap (λ n. slice_range all n (n + count)) here ∙ ap (slice_range all from) behind
@@ -43,6 +46,8 @@ returns-then-not-right-clause-right c =
     let view = c.args.part.now.view in
     let from = c.args.piece.cp in
     let to = c.args.piece.end in
+    let within : to ≤ length view.places =
+    omega (arith, c.requires.ordered, c.requires.from, c.front-places.ensures.within) in
     let are = places_are view.places c.front-places.result c.args.part.now.from from to (to - from)
     c.front-places.ensures.places c.requires.from (omega (arith, c.requires.ordered)) in (
       λ t. absurd (true≢false (sym t)),
@@ -52,7 +57,8 @@ returns-then-not-right-clause-right c =
           (sym (c.in_ok-right.ensures.right.1
           (subst (λ (s : PlaceSource). AreRightPlaces Chpx s.wd s.bin c.front-places.result)
           (sym c.requires.reader.characters)
-          (subst (AreRightPlaces Chpx view.wd view.characters) (sym are) all))) ∙ c.if-not-right.true)),
+          (subst (AreRightPlaces Chpx view.wd view.characters) (sym are)
+          (places_of_pages view from to within all.characters)))) ∙ c.if-not-right.true)),
     )
 
 pub returns-clause-right : goal.returns-clause-right
@@ -60,17 +66,22 @@ returns-clause-right c =
     let view = c.args.part.now.view in
     let from = c.args.piece.cp in
     let to = c.args.piece.end in
+    let within : to ≤ length view.places =
+    omega (arith, c.requires.ordered, c.requires.from, c.front-places.ensures.within) in
     let are = places_are view.places c.front-places.result c.args.part.now.from from to (to - from)
-    c.front-places.ensures.places c.requires.from (omega (arith, c.requires.ordered)) in (
-      λ _.
-          subst (AreRightPlaces Chpx view.wd view.characters) are
-          (subst (λ (s : PlaceSource). AreRightPlaces Chpx s.wd s.bin c.front-places.result) c.requires.reader.characters
-          (c.in_ok-right.ensures.right.0 c.if-not-right.false)),
-      λ _. refl,
-    )
+    c.front-places.ensures.places c.requires.from (omega (arith, c.requires.ordered)) in
+    let characters = pages_of_places view from to within
+    (subst (AreRightPlaces Chpx view.wd view.characters) are
+    (subst (λ (s : PlaceSource). AreRightPlaces Chpx s.wd s.bin c.front-places.result) c.requires.reader.characters
+    (c.in_ok-right.ensures.right.0 c.if-not-right.false))) in
+    IfOk-weaker c.push_besides.result _ _
+    (λ right marks. (
+      λ t. record { characters = characters; marks = marks.0 t },
+      λ all. marks.1 all.marks,
+    )) c.push_besides.ensures.right
 
 pub returns-clause-chps : goal.returns-clause-chps
-returns-clause-chps c = λ _.
+returns-clause-chps c =
     let view = c.args.part.now.view in
     let from = c.args.piece.cp in
     let to = c.args.piece.end in
@@ -85,15 +96,17 @@ returns-clause-chps c = λ _.
     let adds = subst
     (λ (l : List ℕ). AddsCharacters view.wd view.characters l c.args.reader.now.characters.modifier
     c.args.read.now.chps c.push_character_runs.new.runs) are read in
-    adds_characters view c.args.reader.now.characters.modifier from to c.args.read.now.chps
-    c.push_character_runs.new.runs c.requires.chps c.requires.ordered within c.requires.reader.formed adds
+    let read_are = adds_characters view c.args.reader.now.characters.modifier from to c.args.read.now.chps
+    c.push_character_runs.new.runs c.requires.chps c.requires.ordered within c.requires.reader.formed adds in
+    IfOk-weaker c.push_besides.result _ _ (λ right _ _. read_are) c.push_besides.ensures.right
 
 pub returns-clause-besides : goal.returns-clause-besides
-returns-clause-besides c = λ _.
-    subst
+returns-clause-besides c =
+    IfOk-weaker c.push_besides.result _ _
+    (λ right adds t. subst
     (λ (s : PlaceSource). AddsEach (IsBesideAt c.args.part.now.view s.modifier)
     (c.args.piece.end - c.args.piece.cp) c.args.read.now.besides c.push_besides.new.besides)
-    c.push_character_runs.ensures.same c.in_ok-push_besides.ensures.besides
+    c.push_character_runs.ensures.same (adds t)) c.push_besides.ensures.besides
 
 pub front-places-requires : goal.front-places-requires
 front-places-requires c = omega (arith, c.requires.ordered, c.requires.from, c.requires.within)

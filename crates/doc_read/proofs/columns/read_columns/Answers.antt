@@ -3,17 +3,14 @@ use Rattle.std.proofs.Common.{◌≡◌, ◌∙◌, refl, sym, ap, subst, ℕ, �
 use Rattle.std.proofs.Common.{Option, MatchOption}
 use Rattle.std.proofs.lemmas.List.{length-take-le}
 use Rattle.fib_form.specs.declared.table_parts.TablePart.TheVariants.{PlcfBteChpx, PlcfBtePapx}
-use Rattle.fkp_pages.specs.declared.kind.PageKind.TheVariants.{Chpx}
-use Rattle.direct_props.specs.PageRules.{AreRightPlaces}
 use Rattle.piece_table.specs.Piece.{TextPiece}
 use Rattle.doc_load.specs.Source.{DocSource, part_bytes}
 use Rattle.doc_load.specs.FileRules.{source_of}
 use Rattle.doc_load.specs.FormatRules.{text_count, judged_units, judged_places}
 use Rattle.doc_columns.specs.Columns.{items_of}
-use Rattle.doc_load.proofs.CharacterRules.{characters_hold, characters_right}
 use Rattle.doc_read.specs.declared.columns.ReadColumns.{ReadColumns}
-use Rattle.doc_read.specs.Reading.{AreMarksOf, ArePlacedItems, IsReadable, TextView, mark_lists}
-use Rattle.doc_read.proofs.ReadableLemmas.{view_of, view_same, readable_of}
+use Rattle.doc_read.specs.Reading.{AreMarksOf, ArePlacedItems, HaveRightPages, IsReadable, TextView, mark_lists}
+use Rattle.doc_read.proofs.ReadableLemmas.{pages_hold, pages_right, readable_of, view_of, view_same}
 use Rattle.doc_read.proofs.PlacedLemmas.{enough_units, held}
 use Rattle.doc_read.specs.ReadParts.{AreReadColumns}
 use Rattle.doc_read.proofs.MeetLemmas.{length-read, placed_maps}
@@ -51,7 +48,7 @@ columns_of_pieces-requires-clause-enough c =
 -- what is read of a text
 abbrev IsReadOf : TextView → List TextPiece → Option ReadColumns → Type 0
 IsReadOf view pieces read =
-    MatchOption read (¬ (AreRightPlaces Chpx view.wd view.characters view.places)) (AreReadColumns view pieces)
+    MatchOption read (¬ (HaveRightPages view 0 (length view.units))) (AreReadColumns view pieces)
 
 pub returns-in_default : goal.returns-in_default
 returns-in_default c = λ holds.
@@ -67,8 +64,13 @@ returns-in_default c = λ holds.
     (c.judged_places.ensures.places ∙ ap judged_places same) in
     let in_view = subst (λ (v : TextView). IsReadOf v c.pieces.result.now.pieces c.in_ok-read.field-0) view_is
     c.in_ok-read.ensures in
+    let count : length (judged_places source) ≡ length (judged_units source) =
+    ap length (sym (c.judged_places.ensures.places ∙ ap judged_places same))
+    ∙ (c.judged_places.ensures.count ∙ ap (λ s. length (judged_units s)) same) in
+    let are = rw same at c.in_ok-marks.ensures in
     subst (IsReadOf (view_of source marks maps) c.pieces.result.now.pieces) c.in_default.is in_view
-    (characters_right source holds)
+    (pages_right source c.args.parts.now marks maps c.requires.rules c.requires.lists c.requires.sections are count
+    holds)
 
 pub returns : goal.returns
 returns c =
@@ -98,8 +100,12 @@ returns c =
     length-read view.units read.chps read.besides (length view.units) here.chps here.besides (omega arith) ∙ all in
     let few = subst (λ (l : List ℕ). length l ≤ 500000) (c.judged_units.ensures.units ∙ ap judged_units same)
     c.judged_units.ensures.few in
+    let same_count : length (judged_places source) ≡ length (judged_units source) =
+    ap length (sym (c.judged_places.ensures.places ∙ ap judged_places same))
+    ∙ (c.judged_places.ensures.count ∙ ap (λ s. length (judged_units s)) same) in
     let are : AreMarksOf source lists marks = rw same at c.in_ok-marks.ensures in (
-      characters_hold source here.right,
+      pages_hold source lists marks maps c.requires.rules c.requires.lists c.requires.sections are same_count
+          here.right,
       record {
         fit = record {
           few = omega (arith, few);

@@ -2,7 +2,7 @@
 use Rattle.std.proofs.Common.{◌≡◌, ◌∙◌, ap, subst, ◌+◌, ◌*◌, length, Option, MatchOption}
 use Rattle.doc_bits.specs.Rules.{Hold}
 use Rattle.doc_load.specs.Source.{DocSource}
-use Rattle.doc_load.specs.FormatRules.{character_rules}
+use Rattle.doc_load.specs.FormatRules.{rules_of_formats}
 use Rattle.doc_load.specs.FileRules.{source_of}
 use Rattle.doc_load.specs.PartRules.{PartLists}
 use Rattle.doc_read.specs.declared.columns.ReadColumns.{ReadColumns}
@@ -15,8 +15,8 @@ use Rattle.doc_read.proofs.document.read_document_parts.Goals as goal
 -- what is read of the columns
 abbrev IsReadOf : DocSource → TextParts → Option ReadColumns → Type 0
 IsReadOf source parts read =
-    MatchOption read (¬ (Hold (character_rules source)))
-    (λ (r : ReadColumns). Hold (character_rules source) × AreColumnsOf parts r)
+    MatchOption read (¬ (Hold (rules_of_formats source)))
+    (λ (r : ReadColumns). Hold (rules_of_formats source) × AreColumnsOf parts r)
 
 pub returns-in_default : goal.returns-in_default
 returns-in_default c =

@@ -11,7 +11,7 @@ use Rattle.doc_read.proofs.sections.read_section_maps.Goals as goal
 pub loop-k-init : goal.loop-k-init
 loop-k-init c = record {
   so_far = rw c.in_ok-maps.ensures.items (maps_none c.args.text.now.wd c.args.sections.now);
-  met = c.new-met.ensures c.wd-wd.result.now;
+  met = c.in_ok-met.ensures;
 }
 
 pub settings-requires-clause-there : goal.settings-requires-clause-there

@@ -6,7 +6,8 @@ use Rattle.fkp_pages.specs.declared.kind.RunAnswer.TheVariants.{Found}
 use Rattle.fkp_pages.specs.Bin.{page_at}
 use Rattle.direct_props.specs.Kept.{AreKept, IsMadeOf, IsMadeByAnswer}
 use Rattle.direct_props.proofs.StretchLemmas.{in_page}
-use Rattle.direct_props.proofs.KeptLemmas.{faultless_in_stream, kept_answer, like_faultless, made_of_like, right_in_page}
+use Rattle.direct_props.proofs.KeptLemmas.{faultless_in_stream, kept_answer, like_faultless, made_of_like}
+use Rattle.direct_props.proofs.KeptLemmas.{right_in_page}
 use Rattle.direct_props.proofs.kept.KeptLists.made_at.Goals as goal
 
 pub index-requires : goal.index-requires

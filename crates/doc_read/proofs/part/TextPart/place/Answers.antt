@@ -1,9 +1,7 @@
-use Rattle.std.proofs.Common.{◌≡◌, ◌∙◌, ◌≤◌, sym, ap, subst, length, arith}
+use Rattle.std.proofs.Common.{◌∙◌, ◌≤◌, ap, length, arith}
 use Rattle.std.specs.Prelude.{slice_index}
 use Rattle.std.proofs.lemmas.List.{length-drop}
-use Rattle.fkp_pages.specs.declared.kind.PageKind.TheVariants.{Papx}
-use Rattle.direct_props.specs.PageRules.{IsRightPlace}
-use Rattle.doc_read.specs.Reading.{IsReadable, TextRest}
+use Rattle.doc_read.specs.Reading.{TextRest}
 use Rattle.doc_read.proofs.PlaceLemmas.{part_at}
 use Rattle.doc_read.proofs.part.TextPart.place.Goals as goal
 
@@ -21,25 +19,11 @@ get-requires c =
       c.requires.within,
     )
 
-pub returns-clause-place : goal.returns-clause-place
-returns-clause-place c =
+pub returns : goal.returns
+returns c =
     let inside = c.self.inside in
     let cp = c.args.cp in
     let from : inside.from ≤ cp = omega (arith, ap (λ (p : TextRest). p.from) c.self.view_is, c.requires.from) in
     c.get.ensures
     ∙ part_at inside.text.now.places inside.places inside.from cp from c.self.invariant.places_are
     ∙ ap (λ (p : TextRest). slice_index p.view.places cp) c.self.view_is
-
-pub returns-clause-right : goal.returns-clause-right
-returns-clause-right c = λ ends.
-    let inside = c.self.inside in
-    let cp = c.args.cp in
-    let view = c.args.self.now.view in
-    let from : inside.from ≤ cp = omega (arith, ap (λ (p : TextRest). p.from) c.self.view_is, c.requires.from) in
-    let place : c.get.result ≡ slice_index view.places cp =
-    c.get.ensures
-    ∙ part_at inside.text.now.places inside.places inside.from cp from c.self.invariant.places_are
-    ∙ ap (λ (p : TextRest). slice_index p.view.places cp) c.self.view_is in
-    let readable = subst (λ (p : TextRest). IsReadable p.view) c.self.view_is c.self.invariant.readable in
-    subst (IsRightPlace Papx view.wd view.paragraphs) (sym place)
-    (readable.right_paragraphs cp c.requires.within ends)

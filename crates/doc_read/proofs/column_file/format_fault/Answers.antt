@@ -1,4 +1,4 @@
-use Rattle.doc_read.proofs.column_file.character_fault.Goals as goal
+use Rattle.doc_read.proofs.column_file.format_fault.Goals as goal
 
 pub unreachable-requires : goal.unreachable-requires
 unreachable-requires c = c.requires.wrong c.in-Ok.ensures
