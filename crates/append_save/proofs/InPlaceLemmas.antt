@@ -1,10 +1,10 @@
 -- A save in the file's own sectors: what is changed there, and what is read of the file after.
 use Rattle.std.specs.Prelude.{slice_get, slice_index}
 use Rattle.std.specs.Option.{unwrap_or}
-use Rattle.std.proofs.Common.{◌≡◌, ◌∙◌, refl, sym, ap, subst, inl, inr, ◌⊎◌, ℕ, zero, suc, ◌*◌, ◌≤◌, true, false}
+use Rattle.std.proofs.Common.{◌≡◌, ◌∙◌, refl, sym, ap, subst, inl, inr, ◌⊎◌, ℕ, suc, ◌*◌, ◌≤◌, true, false}
 use Rattle.std.proofs.Common.{cond, eqb, min, List, [], ◌∷◌, length, map, filter, take, Some, length-take, arith}
-use Rattle.std.proofs.lemmas.Bool.{cases_Bool, cases_eq, cases_order}
-use Rattle.std.proofs.lemmas.Option.{same_Some, none-some}
+use Rattle.std.proofs.lemmas.Bool.{cases_eq}
+use Rattle.std.proofs.lemmas.Option.{same_Some}
 use Rattle.cfb_sectors.specs.Chain.{fat_table}
 use Rattle.cfb_sectors.proofs.JudgeLemmas.{holds_unique}
 use Rattle.cfb_directory.specs.Directory.{AreSameNames}
@@ -12,71 +12,17 @@ use Rattle.cfb_directory.specs.Reach.{entry_place}
 use Rattle.cfb_directory.specs.StreamEntries.{stream_head}
 use Rattle.cfb_streams.specs.Contents.{Stream, NamedBytes, Contents, HasNamed}
 use Rattle.cfb_streams.specs.Container.{HasContents, IsStreamOf, IsLongStream}
-use Rattle.cfb_streams.specs.Names.{wd_name, table_name, is_same_name}
-use Rattle.cfb_streams.proofs.SameNameLemmas.{same_name-is}
+use Rattle.cfb_streams.specs.Names.{wd_name, table_name}
 use Rattle.cfb_append.specs.Change.{StreamChange, OldChains}
 use Rattle.cfb_append.specs.Contract.{AreNamedChains, IsSavedInPlace}
-use Rattle.cfb_append.proofs.PlaceLemmas.{named_once}
+use Rattle.doc_load.proofs.NameLemmas.{one_stream}
 use Rattle.doc_read.specs.CarriedParts.{is_carried, carried_streams}
 use Rattle.doc_read.proofs.CarriedLemmas.{without_chain}
 use Rattle.doc_read.proofs.NameLemmas.{wd-not_carried, table-not_carried}
 use Rattle.append_save.specs.RenewedStreams.{chain_named}
+use Rattle.append_save.proofs.StreamLemmas.{first_named}
 
 -- ---- the chain of a stream by its name
-
--- where the first stream with a name stands
-record IsFirstNamed (streams : List Stream) (name : List ℕ) : Type 0 where
-  index : ℕ
-  stream : Stream
-  here : slice_get streams index ≡ Some stream
-  named : AreSameNames stream.name name
-  chain : chain_named streams name ≡ unwrap_or stream.chain []
-
-first_here : (stream : Stream) (streams : List Stream) (name : List ℕ) → is_same_name stream.name name ≡ true →
-    IsFirstNamed (stream ∷ streams) name
-unfolding chain_named
-first_here stream streams name same = record {
-  index = 0;
-  stream = stream;
-  here = refl;
-  named = (same_name-is stream.name name).0 same;
-  chain = ap (λ b. cond b (unwrap_or stream.chain []) (chain_named streams name)) same;
-}
-
-first_later : (stream : Stream) (streams : List Stream) (name : List ℕ) → is_same_name stream.name name ≡ false →
-    IsFirstNamed streams name → IsFirstNamed (stream ∷ streams) name
-unfolding chain_named
-first_later stream streams name other is = record {
-  index = suc is.index;
-  stream = is.stream;
-  here = is.here;
-  named = is.named;
-  chain = ap (λ b. cond b (unwrap_or stream.chain []) (chain_named streams name)) other ∙ is.chain;
-}
-
-first_named : (streams : List Stream) (name : List ℕ) (i : ℕ) (stream : Stream) → slice_get streams i ≡ Some stream →
-    AreSameNames stream.name name → IsFirstNamed streams name
-first_named [] name i stream here named = absurd (none-some stream here)
-first_named (first ∷ streams) name zero stream here named =
-    first_here first streams name ((same_name-is first.name name).1
-    (subst (λ (s : Stream). AreSameNames s.name name) (sym (same_Some first stream here)) named))
-first_named (first ∷ streams) name (suc i) stream here named = elim (cases_Bool (is_same_name first.name name)) [
-  | inl same ↦ first_here first streams name same
-  | inr other ↦ first_later first streams name other (first_named streams name i stream here named)
-]
-
--- a file has one stream of a name
-one_named : (file : List ℕ) (contents : Contents) (name : List ℕ) (i j : ℕ) (one other : Stream) →
-    HasContents file contents → slice_get contents.streams i ≡ Some one → slice_get contents.streams j ≡ Some other →
-    AreSameNames one.name name → AreSameNames other.name name → one ≡ other
-one_named file contents name i j one other has here there first second = elim (cases_order i j) [
-  | inl same ↦
-      same_Some one other (sym here ∙ (ap (λ (k : ℕ). slice_get contents.streams k) same ∙ there))
-  | inr apart ↦ elim apart [
-    | inl less ↦ absurd (named_once file contents has name i j one other less here there first second)
-    | inr more ↦ absurd (named_once file contents has name j i other one more there here second first)
-  ]
-]
 
 chain_is : (file : List ℕ) (contents : Contents) (name : List ℕ) (i : ℕ) (stream : Stream) →
     HasContents file contents → slice_get contents.streams i ≡ Some stream → AreSameNames stream.name name →
@@ -85,7 +31,7 @@ chain_is file contents name i stream has here named =
     let first = first_named contents.streams name i stream here named in
     first.chain
     ∙ ap (λ (s : Stream). unwrap_or s.chain [])
-    (one_named file contents name first.index i first.stream stream has first.here here first.named named)
+    (one_stream file contents name first.index i first.stream stream has first.here here first.named named)
 
 -- ---- a stream of 4,096 bytes or more has sectors of its own, which hold it
 

@@ -3,7 +3,7 @@ use Rattle.std.specs.Prelude.{slice_get, slice_index, nat_lt, filter}
 use Rattle.std.specs.List.{range_with_len}
 use Rattle.std.proofs.Common.{◌≡◌, ◌∙◌, refl, sym, ap, subst, inl, inr, ℕ, zero, suc, ◌+◌, ◌-◌, ◌<◌, ◌≤◌, ◌^◌}
 use Rattle.std.proofs.Math.Nat.{min-le_right, le-min}
-use Rattle.std.proofs.Common.{true, false, Bool, cond, List, ◌∷◌, ◌++◌, length, map, Some, All, arith}
+use Rattle.std.proofs.Common.{Bool, cond, List, ◌∷◌, ◌++◌, length, map, Some, All, arith}
 use Rattle.std.proofs.lemmas.Bool.{cases_lt, lt-ltb, le-ltb}
 use Rattle.std.proofs.lemmas.List.{length-append}
 use Rattle.std.proofs.lemmas.List.Elements.{All-append}
@@ -37,12 +37,6 @@ record KeptFrom (table : List ℕ) (before from n : ℕ) : Type 0 where
   low : (k : ℕ) → from ≤ k → k < from + count → plc_cp table k < before
   high : (k : ℕ) → from + count ≤ k → k < from + n → before ≤ plc_cp table k
 
-lt_true : (a b : ℕ) → a < b → nat_lt a b ≡ true
-lt_true a b low = lt-ltb a b low
-
-lt_false : (a b : ℕ) → b ≤ a → nat_lt a b ≡ false
-lt_false a b high = le-ltb a b high
-
 kept_from : (table : List ℕ) (before from n : ℕ) → Ascends table (from + n) → KeptFrom table before from n
 kept_from table before from zero up = record {
   count = 0;
@@ -61,7 +55,7 @@ kept_from table before from (suc n) up =
         count = suc rest.count;
         few = omega (arith, few);
         are =
-            ap (λ b. cond b (own ∷ others) others) (lt_true (plc_cp table from) before low)
+            ap (λ b. cond b (own ∷ others) others) (lt-ltb (plc_cp table from) before low)
             ∙ ap (λ (more : List Bin). own ∷ more) rest.are;
         low = λ k a b. elim (cases_lt from k) [
           | inl behind ↦ rest.low k (omega (arith, behind)) (omega (arith, b))
@@ -83,7 +77,7 @@ kept_from table before from (suc n) up =
             count = 0;
             few = omega arith;
             are =
-                ap (λ b. cond b (own ∷ others) others) (lt_false (plc_cp table from) before high)
+                ap (λ b. cond b (own ∷ others) others) (le-ltb (plc_cp table from) before high)
                 ∙ (rest.are ∙ ap (ranges_from table (from + 1)) none);
             low = λ k a b. absurd (omega (arith, a, b));
             high = λ k a b. elim (cases_lt from k) [

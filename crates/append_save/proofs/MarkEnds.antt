@@ -17,7 +17,7 @@ use Rattle.plain_doc.specs.Stretches.{stretch_from, stretches}
 use Rattle.full_save.specs.Runs.{run_at, runs_from, text_runs}
 use Rattle.full_save.proofs.BodyLemmas.{last_fc-text_runs}
 use Rattle.full_save.proofs.StreamLengths.{length-runs_from}
-use Rattle.save_bounds.proofs.RunLemmas.{Leads, leads}
+use Rattle.plain_doc.proofs.StretchLemmas.{Leads, leads}
 use Rattle.append_save.specs.KeptBins.{kept_end}
 use Rattle.append_save.specs.MarkRuns.{is_open, leaves_open, longer, reached, begun}
 use Rattle.append_save.specs.MarkEnds.{RunsEndWithMarks}

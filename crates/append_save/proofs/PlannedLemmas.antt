@@ -166,7 +166,7 @@ planned_starts start at (place ∷ places) (section ∷ sections) same =
     ap (λ rest. start ∷ rest)
     (planned_starts (section.0 + 1) (at + length (new_sepx place section.1)) places sections (omega (arith, same)))
 
-length-planned_seds : (start at : ℕ) (places : List (Option ℕ)) (sections : List (ℕ × Settings)) →
+pub length-planned_seds : (start at : ℕ) (places : List (Option ℕ)) (sections : List (ℕ × Settings)) →
     length places ≡ length sections → length (planned_seds start at places sections) ≡ length sections
 unfolding planned_seds
 length-planned_seds start at [] [] same = refl

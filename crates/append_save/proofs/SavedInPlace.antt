@@ -26,7 +26,8 @@ use Rattle.append_save.proofs.InPlaceLemmas.{named_chain, carried_stay}
 use Rattle.append_save.proofs.ReadyLemmas.{Ready, form_is}
 use Rattle.append_save.proofs.StreamLengths.{has_wd, has_table}
 use Rattle.append_save.proofs.WrittenLemmas.{Made, the_save, new_fib, old_rest, sizes, table_small, fib_read}
-use Rattle.append_save.proofs.SavedLemmas.{HasSavedStreams, fast_saved, has_contents, name_six, small_wd}
+use Rattle.save_bounds.proofs.RenewedLemmas.{name_six}
+use Rattle.append_save.proofs.SavedLemmas.{HasSavedStreams, fast_saved, has_contents, small_wd}
 
 -- WordDocument grows to the new one
 grown_is : (m : Made) → grown_bytes (change_of (the_save m) m.clx) (old_wd (the_save m)) ≡ fast_wd (the_save m) m.clx

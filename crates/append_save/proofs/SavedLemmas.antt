@@ -1,14 +1,14 @@
 -- What is written behind an old stream is a fast save of the document, and the file holds its streams.
 use Rattle.std.specs.Prelude.{slice_get, slice_index, take}
-use Rattle.std.proofs.Common.{◌≡◌, ◌∙◌, refl, sym, ap, subst, inl, inr, ℕ, ◌+◌, ◌<◌, ◌≤◌, ◌^◌, cond}
-use Rattle.std.proofs.Common.{List, [], ◌++◌, length, map, Some, Bool, true, false, eqb, arith}
+use Rattle.std.proofs.Common.{◌≡◌, ◌∙◌, refl, sym, ap, subst, inl, inr, ℕ, ◌+◌, ◌<◌, ◌≤◌, ◌^◌}
+use Rattle.std.proofs.Common.{List, [], ◌++◌, length, map, Some, Bool, eqb, arith}
 use Rattle.std.proofs.lemmas.List.{length-map}
 use Rattle.std.proofs.lemmas.Option.{slice_get_within}
 use Rattle.doc_bits.proofs.ListLemmas.{All_at, All-from_slice_get, there_is}
 use Rattle.doc_bits.specs.declared.places.Where.TheVariants.{File}
 use Rattle.cfb_streams.specs.Contents.{Contents, NamedBytes, HasNamed, AreStreams}
 use Rattle.cfb_streams.specs.Container.{container_rules, HasContents}
-use Rattle.cfb_streams.specs.Names.{wd_name, table_name, first_table_name, second_table_name}
+use Rattle.cfb_streams.specs.Names.{wd_name, table_name}
 use Rattle.cfb_layout.specs.Counts.{Fits}
 use Rattle.cfb_layout.specs.Layout.{lengths_of, compound_file}
 use Rattle.cfb_layout.specs.Laws.{IsLayout}
@@ -36,6 +36,7 @@ use Rattle.save_laws.specs.Places.{Given, given_of}
 use Rattle.save_laws.specs.Slots.{Slot, shown, loose, last, IsPlaced, whole_text}
 use Rattle.save_laws.specs.Saves.{saved_entries, KeepsFields, IsFileOf}
 use Rattle.save_laws.specs.FastSaves.{StandsInEither, IsGivenBy, IsFastSaved}
+use Rattle.save_bounds.proofs.RenewedLemmas.{name_six}
 use Rattle.append_save.specs.Saves.{plan_of}
 use Rattle.append_save.specs.Answers.{IsAppended}
 use Rattle.append_save.specs.PlannedSections.{planned_seds}
@@ -181,10 +182,6 @@ bounds r =
 
 pub has_contents : (r : Ready) → HasContents r.save.file r.save.contents
 has_contents r = subst (HasContents r.save.file) (sym r.can.contents) r.can.held.has_parts.has_contents
-
-pub name_six : (which : ℕ) → length (table_name which) ≡ 6
-name_six which =
-    elim (eqb which 1) as (λ b. length (cond b second_table_name first_table_name) ≡ 6) [ true ↦ refl | false ↦ refl ]
 
 pub old_has_wd : (r : Ready) → HasNamed r.save.contents.streams wd_name (the_text r).wd
 old_has_wd r =

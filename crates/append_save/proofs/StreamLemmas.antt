@@ -1,9 +1,10 @@
 -- The streams of a container, of which two have new bytes.
 use Rattle.std.specs.Prelude.{slice_get, slice_index, slice_index_or, filter}
 use Rattle.std.specs.List.{range_with_len}
+use Rattle.std.specs.Option.{unwrap_or}
 use Rattle.std.proofs.Common.{◌≡◌, ◌∙◌, refl, sym, ap, subst, inl, inr, ℕ, zero, suc, ◌+◌, ◌*◌, ◌<◌, ◌≤◌, ◌^◌}
 use Rattle.std.proofs.Common.{true, false, Bool, cond, List, [], ◌∷◌, length, map, Some, All, arith}
-use Rattle.std.proofs.lemmas.Bool.{cases_Bool, cases_lt, true≢false}
+use Rattle.std.proofs.lemmas.Bool.{cases_Bool, cases_lt, false_from_ne_true, true≢false}
 use Rattle.std.proofs.lemmas.List.{length-map, get_or_past}
 use Rattle.std.proofs.lemmas.List.Sums.{sum_by-le}
 use Rattle.std.proofs.lemmas.Option.{same_Some, none-some}
@@ -17,68 +18,67 @@ use Rattle.cfb_directory.specs.Reach.{entry_place}
 use Rattle.cfb_streams.specs.Names.{wd_name, first_table_name, second_table_name, is_same_name}
 use Rattle.cfb_streams.proofs.SameNameLemmas.{same_name-is}
 use Rattle.cfb_layout.specs.Layout.{no_stream, stream_at, contents_of}
-use Rattle.doc_load.proofs.NameLemmas.{named_one}
+use Rattle.doc_load.proofs.NameLemmas.{one_stream}
 use Rattle.doc_read.specs.CarriedParts.{is_carried, carried_streams, AreWithinBounds}
 use Rattle.doc_read.proofs.CarriedLemmas.{without_chain}
 use Rattle.doc_read.proofs.NameLemmas.{wd-not_carried, table-not_carried}
 use Rattle.full_save.proofs.PutStreams.{filter-map}
-use Rattle.append_save.specs.RenewedStreams.{bytes_named, renewed_bytes, renewed_streams}
+use Rattle.append_save.specs.RenewedStreams.{bytes_named, chain_named, renewed_bytes, renewed_streams}
 
 -- ---- streams by name
 
-by_name : (P : List ℕ → Type 0) (stream : Stream) (streams : List Stream) (name : List ℕ) →
-    (is_same_name stream.name name ≡ true → P stream.bytes) →
-    (is_same_name stream.name name ≡ false → P (bytes_named streams name)) → P (bytes_named (stream ∷ streams) name)
-unfolding bytes_named
-by_name P stream streams name same other = elim (cases_Bool (is_same_name stream.name name)) [
-  | inl is ↦ subst (λ b. P (cond b stream.bytes (bytes_named streams name))) (sym is) (same is)
-  | inr not ↦ subst (λ b. P (cond b stream.bytes (bytes_named streams name))) (sym not) (other not)
-]
+-- where the first stream with a name stands: the bytes and the sectors by the name are its own
+pub record IsFirstNamed (streams : List Stream) (name : List ℕ) : Type 0 where
+  pub index : ℕ
+  pub stream : Stream
+  pub here : slice_get streams index ≡ Some stream
+  pub named : AreSameNames stream.name name
+  pub bytes : bytes_named streams name ≡ stream.bytes
+  pub chain : chain_named streams name ≡ unwrap_or stream.chain []
 
-later_named : (stream : Stream) (streams : List Stream) (name bytes : List ℕ) → HasNamed streams name bytes →
-    HasNamed (stream ∷ streams) name bytes
-later_named stream streams name bytes has = record {
-  index = suc has.index;
-  stream = has.stream;
-  here = has.here;
-  named = has.named;
-  same = has.same;
+first_here : (stream : Stream) (streams : List Stream) (name : List ℕ) → is_same_name stream.name name ≡ true →
+    IsFirstNamed (stream ∷ streams) name
+unfolding bytes_named chain_named
+first_here stream streams name same = record {
+  index = 0;
+  stream = stream;
+  here = refl;
+  named = (same_name-is stream.name name).0 same;
+  bytes = ap (λ b. cond b stream.bytes (bytes_named streams name)) same;
+  chain = ap (λ b. cond b (unwrap_or stream.chain []) (chain_named streams name)) same;
 }
 
--- the bytes by name are those of a stream with the name, if there is one
-found_named : (streams : List Stream) (name : List ℕ) (i : ℕ) (stream : Stream) → slice_get streams i ≡ Some stream →
-    AreSameNames stream.name name → HasNamed streams name (bytes_named streams name)
-found_named [] name i stream here named = absurd (none-some stream here)
-found_named (first ∷ streams) name zero stream here named =
-    by_name (HasNamed (first ∷ streams) name) first streams name
-    (λ is. record {
-      index = 0;
-      stream = first;
-      here = refl;
-      named = (same_name-is first.name name).0 is;
-      same = refl;
-    })
-    (λ other.
-    let own : AreSameNames first.name name =
-    subst (λ (s : Stream). AreSameNames s.name name) (sym (same_Some first stream here)) named in
-    absurd (true≢false (sym ((same_name-is first.name name).1 own) ∙ other)))
-found_named (first ∷ streams) name (suc i) stream here named =
-    by_name (HasNamed (first ∷ streams) name) first streams name
-    (λ is. record {
-      index = 0;
-      stream = first;
-      here = refl;
-      named = (same_name-is first.name name).0 is;
-      same = refl;
-    })
-    (λ other.
-    later_named first streams name (bytes_named streams name) (found_named streams name i stream here named))
+first_later : (stream : Stream) (streams : List Stream) (name : List ℕ) → is_same_name stream.name name ≡ false →
+    IsFirstNamed streams name → IsFirstNamed (stream ∷ streams) name
+unfolding bytes_named chain_named
+first_later stream streams name other is = record {
+  index = suc is.index;
+  stream = is.stream;
+  here = is.here;
+  named = is.named;
+  bytes = ap (λ b. cond b stream.bytes (bytes_named streams name)) other ∙ is.bytes;
+  chain = ap (λ b. cond b (unwrap_or stream.chain []) (chain_named streams name)) other ∙ is.chain;
+}
 
+pub first_named : (streams : List Stream) (name : List ℕ) (i : ℕ) (stream : Stream) →
+    slice_get streams i ≡ Some stream → AreSameNames stream.name name → IsFirstNamed streams name
+first_named [] name i stream here named = absurd (none-some stream here)
+first_named (first ∷ streams) name zero stream here named =
+    first_here first streams name ((same_name-is first.name name).1
+    (subst (λ (s : Stream). AreSameNames s.name name) (sym (same_Some first stream here)) named))
+first_named (first ∷ streams) name (suc i) stream here named = elim (cases_Bool (is_same_name first.name name)) [
+  | inl same ↦ first_here first streams name same
+  | inr other ↦ first_later first streams name other (first_named streams name i stream here named)
+]
+
+-- the bytes by name are those of a stream with the name, if there is one
 pub named_is : (file : List ℕ) (contents : Contents) (name bytes : List ℕ) → HasContents file contents →
     HasNamed contents.streams name bytes → bytes_named contents.streams name ≡ bytes
 named_is file contents name bytes has named =
-    named_one file contents name (bytes_named contents.streams name) bytes has
-    (found_named contents.streams name named.index named.stream named.here named.named) named
+    let first = first_named contents.streams name named.index named.stream named.here named.named in
+    let one = one_stream file contents name first.index named.index first.stream named.stream has first.here named.here
+    first.named named.named in
+    first.bytes ∙ (ap (λ (s : Stream). s.bytes) one ∙ sym named.same)
 
 -- ---- the container of streams has them
 
@@ -132,7 +132,8 @@ contents_carried streams clsid =
 
 -- ---- the renewed streams
 
-abbrev renewed : List ℕ → List ℕ → List ℕ → Stream → NamedBytes
+-- a stream with its new bytes
+abbrev pub renewed : List ℕ → List ℕ → List ℕ → Stream → NamedBytes
 renewed name wd table stream = record { name = stream.name; bytes = renewed_bytes name wd table stream }
 
 wd_renewed : (name wd table : List ℕ) (stream : Stream) → AreSameNames stream.name wd_name →
@@ -141,15 +142,11 @@ wd_renewed name wd table stream same =
     ap (λ b. cond b wd (cond (is_same_name stream.name name) table stream.bytes))
     ((same_name-is stream.name wd_name).1 same)
 
-false_of : (b : Bool) → ¬ (b ≡ true) → b ≡ false
-false_of true h = absurd (h refl)
-false_of false h = refl
-
 table_renewed : (name wd table : List ℕ) (stream : Stream) → length name ≡ 6 → AreSameNames stream.name name →
     renewed_bytes name wd table stream ≡ table
 table_renewed name wd table stream six same =
     let other : is_same_name stream.name wd_name ≡ false =
-    false_of (is_same_name stream.name wd_name) (λ is.
+    false_from_ne_true (is_same_name stream.name wd_name) (λ is.
     let long = ((same_name-is stream.name wd_name).0 is).long in
     let own = same.long in
     absurd (omega (arith, long, own, six))) in
@@ -182,10 +179,10 @@ carried_stays : (first : Bool) (wd table : List ℕ) (stream : Stream) → is_ca
 carried_stays first wd table stream carried =
     let name = cond first second_table_name first_table_name in
     let no_wd : is_same_name stream.name wd_name ≡ false =
-    false_of (is_same_name stream.name wd_name) (λ is.
+    false_from_ne_true (is_same_name stream.name wd_name) (λ is.
     absurd (true≢false (sym carried ∙ wd-not_carried stream.name ((same_name-is stream.name wd_name).0 is)))) in
     let no_table : is_same_name stream.name name ≡ false =
-    false_of (is_same_name stream.name name) (λ is.
+    false_from_ne_true (is_same_name stream.name name) (λ is.
     absurd (true≢false (sym carried ∙ table-not_carried stream.name first ((same_name-is stream.name name).0 is)))) in
     let bytes : renewed_bytes name wd table stream ≡ stream.bytes =
     ap (λ b. cond b wd (cond (is_same_name stream.name name) table stream.bytes)) no_wd

@@ -1,20 +1,17 @@
 -- How long the streams are that are written, and that they are those of the file with two of them longer.
-use Rattle.std.proofs.Common.{◌≡◌, ◌∙◌, refl, sym, ap, subst, inl, inr, ℕ, suc, ◌+◌, ◌*◌, ◌/◌, ◌<◌, ◌≤◌, Bool, true}
-use Rattle.std.proofs.Common.{false, cond}
-use Rattle.std.proofs.Common.{List, [], ◌∷◌, ◌++◌, length, drop, Option, arith, eqb, length-append}
-use Rattle.std.proofs.lemmas.Bool.{cases_Bool}
+use Rattle.std.proofs.Common.{◌≡◌, ◌∙◌, sym, ap, subst, ℕ, ◌+◌, ◌*◌, ◌/◌, ◌<◌, ◌≤◌, Bool}
+use Rattle.std.proofs.Common.{cond}
+use Rattle.std.proofs.Common.{List, ◌++◌, length, drop, arith, length-append}
 use Rattle.std.proofs.lemmas.List.{length-map, length-drop}
 use Rattle.std.proofs.lemmas.Option.{same_Some}
 use Rattle.std.proofs.Math.Nat.{mul-le-mul_left}
 use Rattle.doc_bits.proofs.ListLemmas.{from_map, length-range}
 use Rattle.doc_bits.specs.Together.{AreTogether}
 use Rattle.doc_bits.specs.declared.places.Where.TheVariants.{File}
-use Rattle.prop_map.specs.Settings.{Settings}
 use Rattle.cfb_streams.specs.Contents.{Stream, NamedBytes, Contents, HasNamed}
 use Rattle.cfb_streams.specs.Container.{container_rules, HasContents}
-use Rattle.cfb_directory.specs.Directory.{AreSameNames}
-use Rattle.cfb_streams.specs.Names.{wd_name, table_name, first_table_name, second_table_name, is_same_name}
-use Rattle.cfb_streams.proofs.SameNameLemmas.{same_name-is}
+use Rattle.cfb_streams.specs.Names.{wd_name, table_name, is_same_name}
+use Rattle.cfb_streams.proofs.SameNameLemmas.{same_name-is, same_name-false}
 use Rattle.cfb_layout.specs.Sectors.{filled}
 use Rattle.cfb_layout.proofs.BytesLemmas.{length-filled}
 use Rattle.fib_form.specs.Fib.{kept_pairs, form_size}
@@ -37,10 +34,11 @@ use Rattle.save_bounds.specs.FastSizes.{SaveCounts, WrittenLengths, AreCounted, 
 use Rattle.save_bounds.specs.FastFiles.{AreFastStreams}
 use Rattle.save_bounds.proofs.BinLemmas.{longer_tables_are_short}
 use Rattle.save_bounds.proofs.ClxLemmas.{clx_is_short}
+use Rattle.save_bounds.proofs.RenewedLemmas.{name_six}
 use Rattle.save_bounds.proofs.TableLemmas.{tables_are_short}
 use Rattle.append_save.specs.Saves.{FastSave}
 use Rattle.append_save.specs.OldParts.{named_pair, named_part, StaysWithin}
-use Rattle.append_save.specs.PlannedSections.{new_sepx, planned_seds, planned_sepxes}
+use Rattle.append_save.specs.PlannedSections.{planned_sepxes}
 use Rattle.append_save.specs.RenewedStreams.{renewed_bytes, renewed_streams}
 use Rattle.append_save.specs.Appended.{table_name_of, old_wd, old_table, old_bins, bins_end, added_pages, first_page}
 use Rattle.append_save.specs.Appended.{page_count, pages_end, added_bytes, fast_bin_table, fast_text, fast_entries}
@@ -54,6 +52,7 @@ use Rattle.append_save.proofs.ReadyLemmas.{characters_within, paragraphs_within,
 use Rattle.append_save.proofs.ReadyLemmas.{form_stays}
 use Rattle.append_save.proofs.BodyLemmas.{text_and_pages, body_sizes, body_is}
 use Rattle.append_save.proofs.WrittenLemmas.{sections_fit}
+use Rattle.append_save.proofs.PlannedLemmas.{length-planned_seds}
 use Rattle.append_save.proofs.RunLengths.{sepxes_are_counted}
 
 -- ---- WordDocument
@@ -133,20 +132,11 @@ new_bins_length r = omega (arith, table_longer Chpx r, table_longer Papx r, old_
 
 -- ---- the table stream
 
-pub length-seds : (start at : ℕ) (places : List (Option ℕ)) (sections : List (ℕ × Settings)) →
-    length places ≡ length sections → length (planned_seds start at places sections) ≡ length sections
-unfolding planned_seds
-length-seds start at [] [] same = refl
-length-seds start at [] (section ∷ sections) same = absurd (omega (arith, same))
-length-seds start at (place ∷ places) [] same = absurd (omega (arith, same))
-length-seds start at (place ∷ places) (section ∷ sections) same =
-    ap suc (length-seds (section.0 + 1) (at + length (new_sepx place section.1)) places sections (omega (arith, same)))
-
 table_short : (r : Ready) (clx : List ℕ) →
     length (table_parts r.save clx) ≤ length (table_stream r.save.document) + new_bin_bytes r + length clx
 table_short r clx =
     let save = r.save in
-    let seds = length-seds 0 (pages_end save) save.places (sections_of save.document.main) r.can.sections.len in
+    let seds = length-planned_seds 0 (pages_end save) save.places (sections_of save.document.main) r.can.sections.len in
     let short = tables_are_short save.document (fast_text save clx) seds in
     omega (arith, short)
 
@@ -212,16 +202,6 @@ has_table r =
     subst (λ (c : Contents). HasNamed c.streams (table_name_of r.save) (old_table r.save)) (sym r.can.contents)
     (subst (HasNamed streams (table_name_of r.save)) (sym (table_is r)) named)
 
-name_of_six : (which : ℕ) → length (table_name which) ≡ 6
-name_of_six which =
-    elim (eqb which 1) as (λ b. length (cond b second_table_name first_table_name) ≡ 6) [ true ↦ refl | false ↦ refl ]
-
-no_name : (own name : List ℕ) → ¬ AreSameNames own name → is_same_name own name ≡ false
-no_name own name other = elim (cases_Bool (is_same_name own name)) [
-  | inl is ↦ absurd (other ((same_name-is own name).0 is))
-  | inr not ↦ not
-]
-
 bytes_anew : (which : ℕ) (two : TwoStreams) (old : Stream) (new : NamedBytes) →
     renewed_bytes (table_name which) two.wd two.table old ≡ new.bytes → HasBytesAnew which two old new
 bytes_anew which two old new is =
@@ -231,11 +211,13 @@ bytes_anew which two old new is =
     record {
       wd_is = λ same. sym is ∙ ap by_wd ((same_name-is old.name wd_name).1 same);
       table_is = λ same.
-          let other = no_name old.name wd_name (λ wd. absurd (omega (arith, wd.long, same.long, name_of_six which))) in
+          let other = sym (same_name-false old.name wd_name
+          (λ wd. absurd (omega (arith, wd.long, same.long, name_six which)))) in
           sym is ∙ (ap by_wd other ∙ ap by_table ((same_name-is old.name name).1 same));
       own = λ no_wd no_table.
           sym is
-          ∙ (ap by_wd (no_name old.name wd_name no_wd) ∙ ap by_table (no_name old.name name no_table));
+          ∙ (ap by_wd (sym (same_name-false old.name wd_name no_wd))
+          ∙ ap by_table (sym (same_name-false old.name name no_table)));
     }
 
 -- where none are put there the streams are laid out anew

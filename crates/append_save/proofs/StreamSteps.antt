@@ -9,6 +9,7 @@ use Rattle.cfb_streams.specs.Contents.{Stream, NamedBytes, AreStreams}
 use Rattle.cfb_streams.specs.Names.{wd_name, is_same_name}
 use Rattle.full_save.proofs.PlaceLemmas.{add_next}
 use Rattle.append_save.specs.RenewedStreams.{bytes_named, renewed_bytes, renewed_streams}
+use Rattle.append_save.proofs.StreamLemmas.{renewed}
 
 -- a stream by its name and its bytes
 pub record IsStreamAt (streams : List Stream) (i : ℕ) (name bytes : List ℕ) : Type 0 where
@@ -63,9 +64,6 @@ named_nowhere streams i name all = ap (λ (xs : List Stream). bytes_named xs nam
 
 -- ---- renewed
 
-abbrev pub renewed_one : List ℕ → List ℕ → List ℕ → Stream → NamedBytes
-renewed_one name wd table stream = record { name = stream.name; bytes = renewed_bytes name wd table stream }
-
 pub none_renewed : (name wd table : List ℕ) → renewed_streams name wd table [] ≡ []
 unfolding renewed_streams
 none_renewed name wd table = refl
@@ -73,15 +71,15 @@ none_renewed name wd table = refl
 take_map : (name wd table : List ℕ) (streams : List Stream) (i : ℕ) → i ≤ length streams →
     renewed_streams name wd table (take i streams) ≡ take i (renewed_streams name wd table streams)
 unfolding renewed_streams
-take_map name wd table streams i within = sym (take-map (renewed_one name wd table) i streams)
+take_map name wd table streams i within = sym (take-map (renewed name wd table) i streams)
 
 pub renewed_more : (name wd table : List ℕ) (streams : List Stream) (i : ℕ) (s : Stream) →
     slice_get streams i ≡ Some s →
     renewed_streams name wd table (take (i + 1) streams)
-    ≡ renewed_streams name wd table (take i streams) ++ renewed_one name wd table s ∷ []
+    ≡ renewed_streams name wd table (take i streams) ++ renewed name wd table s ∷ []
 unfolding renewed_streams
 renewed_more name wd table streams i s here =
-    let f = renewed_one name wd table in
+    let f = renewed name wd table in
     ap (map f)
     (take_more streams i s (slice_get_within streams i s here)
     ∙ ap (λ (x : Stream). take i streams ++ x ∷ []) (get_or_from_slice_get streams i s s here))
@@ -90,10 +88,10 @@ renewed_more name wd table streams i s here =
 -- a stream that comes next may be put last
 pub renewed_next : (name wd table : List ℕ) (streams : List Stream) (i : ℕ) (s : Stream) →
     slice_get streams i ≡ Some s → AreStreams (renewed_streams name wd table streams) →
-    AreStreams (renewed_streams name wd table (take i streams) ++ renewed_one name wd table s ∷ [])
+    AreStreams (renewed_streams name wd table (take i streams) ++ renewed name wd table s ∷ [])
 unfolding renewed_streams
 renewed_next name wd table streams i s here are =
-    let f = renewed_one name wd table in
+    let f = renewed name wd table in
     let all : List NamedBytes = map f streams in
     let below = slice_get_within streams i s here in
     let len = length-map streams f in
@@ -134,7 +132,7 @@ is_other name wd table own s is other neither =
 pub record IsNext (streams : List Stream) (i : ℕ) (name wd table : List ℕ) (next : NamedBytes) : Type 0 where
   pub stream : Stream
   pub here : slice_get streams i ≡ Some stream
-  pub is : renewed_one name wd table stream ≡ next
+  pub is : renewed name wd table stream ≡ next
 
 -- its name
 name_at : (streams : List Stream) (i : ℕ) (own : List ℕ) → i < length streams →

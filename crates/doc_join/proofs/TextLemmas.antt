@@ -4,7 +4,7 @@ use Rattle.std.proofs.Common.{length, take, drop, map, get_or, Option, Some, Non
 use Rattle.std.proofs.Common.{length-drop, is_some}
 use Rattle.std.proofs.Math.Seq.{drop-cons}
 use Rattle.std.proofs.lemmas.List.{take_more, map-append, set_split, drop_all, take_all, get_or-drop}
-use Rattle.std.proofs.lemmas.List.Elements.{All-map, All-weaker, All-append, All-take, All-drop}
+use Rattle.std.proofs.lemmas.List.Elements.{All-map, All-weaker}
 use Rattle.std.proofs.lemmas.Option.{get_or_from_slice_get, same_Some}
 use Rattle.std.specs.Prelude.{All, slice_set, slice_get, slice_range}
 use Rattle.std.specs.Option.{ForSome}
@@ -14,7 +14,7 @@ use Rattle.prop_map.specs.Formed.{IsPropertyMap, paragraph_groups}
 use Rattle.plain_doc.specs.Document.{HasPropertyMaps, IsFormedItem, IsFormedText}
 use Rattle.doc_join.specs.declared.renumbering.Renumbering.{Renumbering}
 use Rattle.doc_join.specs.Texts.{renumbered_mark, renumbered_item, renumbered_text, renumbered_texts, ending_section}
-use Rattle.doc_join.specs.Texts.{section_ended, joined_main}
+use Rattle.doc_join.specs.Texts.{section_ended}
 use Rattle.doc_join.proofs.SettingLemmas.{renumbered_formed}
 
 -- ---- marks

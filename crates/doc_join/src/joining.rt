@@ -56,8 +56,9 @@ fn joined_items(
     ensures { MatchResult result (IsJoined a.now b.now) (IsJoinFault a.now b.now) }
 {
     let made = columns_join(alloc, a, b)?;
-    let items = made.expand(alloc)?;
-    Ok(items)
+    let items = made.expand(alloc);
+    drop(made);
+    Ok(items?)
 }
 
 /// The same of documents by columns.

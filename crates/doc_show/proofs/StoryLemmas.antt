@@ -7,7 +7,7 @@ use Rattle.std.specs.List.{flat_map}
 use Rattle.std.proofs.lemmas.Bool.{cases_lt}
 use Rattle.std.proofs.lemmas.List.{take-map, drop-map, take_all}
 use Rattle.std.proofs.lemmas.Option.{same_Some}
-use Rattle.doc_bits.proofs.ListLemmas.{there_is, get-map}
+use Rattle.doc_bits.proofs.ListLemmas.{there_is}
 use Rattle.prop_map.specs.Settings.{Settings}
 use Rattle.run_lists.specs.Spread.{spread}
 use Rattle.plain_doc.specs.declared.item.Item.{Item}

@@ -1,21 +1,13 @@
 -- What a walk over columns says of their items.
-use Rattle.std.proofs.Common.{◌≡◌, ℕ, sym, ap, subst, ◌∙◌, ◌+◌, ◌-◌, ◌<◌, ◌≤◌, List, [], ◌∷◌, ◌++◌, length, map}
-use Rattle.std.proofs.Common.{take, drop, Option, Some, None, Bool, true, false, arith, length-take, length-drop}
-use Rattle.std.proofs.Common.{inl, inr, append_assoc}
-use Rattle.std.specs.Prelude.{slice_get, slice_range, option_map}
+use Rattle.std.proofs.Common.{◌≡◌, ℕ, sym, ap, ◌∙◌, ◌+◌, ◌-◌, ◌≤◌, List, [], ◌∷◌, ◌++◌, length}
+use Rattle.std.proofs.Common.{take, drop, Bool, arith, length-drop}
+use Rattle.std.proofs.Common.{append_assoc}
+use Rattle.std.specs.Prelude.{slice_range}
 use Rattle.std.specs.List.{flat_map}
-use Rattle.std.proofs.lemmas.Bool.{cases_lt}
 use Rattle.std.proofs.lemmas.List.{append-nil, drop-drop, drop-take}
 use Rattle.std.proofs.lemmas.List.Concat.{flat_map-cons}
-use Rattle.std.proofs.lemmas.Option.{same_Some, slice_get-map, slice_get_past}
-use Rattle.doc_bits.proofs.ListLemmas.{there_is, slice_get-take}
-use Rattle.doc_bits.proofs.TogetherLemmas.{got_drop}
-use Rattle.run_lists.specs.declared.runs.Run.{Run}
-use Rattle.run_lists.specs.declared.cursor.Cursor.{Cursor}
-use Rattle.run_lists.specs.Spread.{spread, extent}
-use Rattle.run_lists.specs.Places.{IsAt}
-use Rattle.run_lists.proofs.CutLemmas.{value_in_run, same_front}
-use Rattle.plain_doc.specs.Stretches.{stretches, joins_at, joins_next, BeginsStretch}
+use Rattle.run_lists.proofs.CutLemmas.{same_front}
+use Rattle.plain_doc.specs.Stretches.{stretches, BeginsStretch}
 use Rattle.plain_doc.proofs.StretchLemmas.{stretches-first, stretches-nil}
 
 -- the front of a range, and what is behind it

@@ -1,5 +1,6 @@
 -- Places of a document that commands speak of. None is searched for: a place is a number of items before it.
-use Rattle.std.specs.Prelude.{ℕ, ◌+◌, ◌<◌, ◌≤◌, List, [], Option, Some, length, take, drop, slice_get, is_some, option_map}
+use Rattle.std.specs.Prelude.{ℕ, ◌+◌, ◌<◌, ◌≤◌, List, [], Option, Some, length, take, drop, slice_get, is_some}
+use Rattle.std.specs.Prelude.{option_map}
 use Rattle.std.specs.Prelude.{MatchOption}
 use Rattle.std.specs.Option.{unwrap_or, option_and_then}
 use Rattle.std.specs.List.{position_or_len}

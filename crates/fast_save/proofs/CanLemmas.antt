@@ -47,9 +47,9 @@ use Rattle.append_save.specs.KeptBins.{bin_of, bins_of, kept_bins}
 use Rattle.append_save.specs.RenewedStreams.{bytes_named}
 use Rattle.append_save.specs.Saves.{FastSave}
 use Rattle.append_save.proofs.FilledTable.{table_within}
+use Rattle.append_save.proofs.PlannedLemmas.{length-planned_seds}
 use Rattle.append_save.proofs.RunLengths.{pages_are_few}
 use Rattle.append_save.proofs.StreamLemmas.{named_is}
-use Rattle.append_save.proofs.StreamLengths.{length-seds}
 use Rattle.edited_text.specs.SessionText.{IsSectionPlan}
 use Rattle.edited_text.proofs.StartLemmas.{settings_are_listed}
 use Rattle.fast_save.specs.declared.ledgers.Counts.{Counts}
@@ -260,7 +260,7 @@ module _ {old : List ℕ} (document : Document) (parts : SessionParts) (can : Ca
   pub table_small : (clx : List ℕ) → IsPrintedClx parts.text.pieces.pieces clx → length (fast_table the_save clx) < 2
       ^ 31
   table_small clx printed =
-      let seds = length-seds 0 (pages_end the_save) parts.text.sections.items (sections_of document.main)
+      let seds = length-planned_seds 0 (pages_end the_save) parts.text.sections.items (sections_of document.main)
       settings_of.len in
       let short = tables_are_short document (fast_text the_save clx) seds in
       let text = small.text in

@@ -1,5 +1,5 @@
 -- Pieces that are read one behind the other are the stretches of their items.
-use Rattle.std.proofs.Common.{◌≡◌, ◌≢◌, ◌+◌, ◌-◌, ◌<◌, ◌≤◌, ◌^◌, ℕ, zero, suc, false, List, [], ◌∷◌, ◌++◌}
+use Rattle.std.proofs.Common.{◌≡◌, ◌≢◌, ◌+◌, ◌-◌, ◌<◌, ◌^◌, ℕ, zero, suc, false, List, [], ◌∷◌, ◌++◌}
 use Rattle.std.proofs.Common.{Option, Some, None, length, map, take, drop, get_or, slice_get, All, length-append}
 use Rattle.std.proofs.Common.{refl, sym, ap, ◌∙◌, subst, arith, append_assoc, append-nil}
 use Rattle.std.specs.Prelude.{⊤}
@@ -20,7 +20,7 @@ use Rattle.plain_doc.proofs.LawLemmas.{cut_into_stretches}
 use Rattle.json_values.specs.Plain.{ItemsHaveKeysInOrder}
 use Rattle.json_doc.specs.declared.pieces.Piece.{Piece}
 use Rattle.json_doc.specs.Pieces.{is_one_piece, piece_from, piece_json, stretch_json, text_json}
-use Rattle.json_doc.specs.PieceReading.{piece_of, piece_items, IsFormedPiece, IsPieceAdded, IsNoPiece, MayFollow}
+use Rattle.json_doc.specs.PieceReading.{piece_of, piece_items, IsFormedPiece, IsPieceAdded, IsNoPiece}
 use Rattle.json_doc.proofs.PieceReadLemmas.{pieces_one, piece_spelt}
 use Rattle.json_doc.proofs.ReadLemmas.{All-cons, same_items}
 use Rattle.json_doc.proofs.TextReadLemmas.{from_items, formed_from, items_joined, units_again, formed_items}

@@ -1,16 +1,14 @@
 -- A document is read from its six values, and has no other.
 use Rattle.std.proofs.Common.{◌≡◌, ◌≢◌, ℕ, zero, suc, List, [], ◌∷◌, Option, Some, None}
 use Rattle.std.proofs.Common.{length, map, drop, get_or, refl, sym, ap, ◌∙◌, subst, arith, All, is_some}
-use Rattle.std.specs.Prelude.{codes, MatchResult, Result, Ok, Err}
+use Rattle.std.specs.Prelude.{codes, Err}
 use Rattle.std.proofs.Props.{props}
 use Rattle.std.proofs.lemmas.Option.{none-some, same_Some}
 use Rattle.serde_json.specs.Data.{Data, null, object, no_members, member}
 use Rattle.serde_json.specs.Find.{as_object, as_null}
 use Rattle.serde_json.specs.Read.{read}
-use Rattle.doc_bits.specs.declared.places.Where.{Where}
 use Rattle.edit_script.specs.declared.faults.Misfit.{Misfit}
 use Rattle.edit_script.specs.declared.faults.Misfit.TheVariants.{Shape, Memory}
-use Rattle.edit_script.specs.Json.{IsJson}
 use Rattle.fib_form.specs.FibFields.{IsKeptFlags}
 use Rattle.cfb_streams.specs.Contents.{NamedBytes, IsStored}
 use Rattle.style_sheet.specs.declared.styles.Style.{Style}
@@ -22,12 +20,7 @@ use Rattle.plain_doc.specs.declared.document.Document.{Document}
 use Rattle.plain_doc.specs.Carried.{ArePartsShort, AreListsWithLevels, AreCarriedStreams}
 use Rattle.plain_doc.specs.Document.{IsFormedText, AreFormedTexts}
 use Rattle.plain_doc.specs.Formed.{IsFormed, IsFormedCarried}
-use Rattle.plain_doc.specs.Marks.{HasFormedBookmarks}
-use Rattle.plain_doc.specs.Sound.{IsSound, NamesFirstRule, document_rules}
 use Rattle.json_values.specs.Plain.{HasKeysInOrder}
-use Rattle.json_values.proofs.OrderLemmas.{keys_ascend}
-use Rattle.json_doc.specs.declared.fault.JsonFault.{JsonFault}
-use Rattle.json_doc.specs.declared.fault.JsonFault.TheVariants.{Unsound}
 use Rattle.json_doc.specs.CarriedParts.{stream_json, streams_json, carried_json}
 use Rattle.json_doc.specs.declared.carried_reading.CarriedFields.{CarriedFields}
 use Rattle.json_doc.specs.CarriedReading.{carried_values}
@@ -37,7 +30,7 @@ use Rattle.json_doc.specs.DocumentReading.{AreMarks, SixValues, document_values}
 use Rattle.json_doc.specs.Documents.{bookmarks_json, json_value}
 use Rattle.json_doc.specs.Pieces.{text_json, texts_json}
 use Rattle.json_doc.specs.ReadValues.{Reads}
-use Rattle.json_doc.specs.Reading.{IsWhole, IsReadAs, IsJsonFault}
+use Rattle.json_doc.specs.Reading.{IsWhole}
 use Rattle.json_doc.specs.Styles.{slot_json, slots_json, sheet_json}
 use Rattle.json_doc.proofs.CarriedLemmas.{fields_of, carried_known, streams_are_one, stored_all}
 use Rattle.json_doc.proofs.CutTextLemmas.{texts_same}

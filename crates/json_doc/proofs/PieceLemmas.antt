@@ -23,7 +23,7 @@ use Rattle.doc_columns.specs.Walks.{items_in, AreParts}
 use Rattle.doc_columns.proofs.WalkLemmas.{items_long, units_are, range_got, range_long, begins_range}
 use Rattle.json_values.specs.Digits.{units_json}
 use Rattle.json_values.specs.Out.{Output, Adds}
-use Rattle.json_values.specs.Rows.{number_json, member_if}
+use Rattle.json_values.specs.Rows.{member_if}
 use Rattle.json_values.specs.Settings.{settings_json}
 use Rattle.json_doc.specs.Frames.{piece_with}
 use Rattle.json_doc.specs.Pieces.{is_one_piece, mark_json, note_json, piece_json, stretch_json}

@@ -1,12 +1,14 @@
 -- What is read of a row of members, and that what was put there is read again.
 use Rattle.std.proofs.Common.{◌≡◌, ℕ, Bool, true, false, List, Option, Some, None}
 use Rattle.std.proofs.Common.{refl, sym, ap, ◌∙◌, subst}
-use Rattle.std.specs.Prelude.{⊤, bytes_eq, option_map, if◌then◌else◌}
+use Rattle.std.specs.Prelude.{⊤, bytes_eq, option_map, if◌then◌else◌, Err}
 use Rattle.std.specs.Option.{ForSome}
 use Rattle.std.proofs.lemmas.Slice.Eq.{bytes_eq-Decides}
 use Rattle.std.proofs.lemmas.Option.{none-some, same_Some}
 use Rattle.serde_json.specs.Data.{Data, Members, no_members, member}
-use Rattle.edit_script.specs.Json.{◌>>=◌}
+use Rattle.edit_script.specs.declared.faults.Misfit.{Misfit}
+use Rattle.edit_script.specs.declared.faults.Misfit.TheVariants.{Shape}
+use Rattle.edit_script.specs.Json.{◌>>=◌, Gives}
 use Rattle.json_values.specs.Plain.{HasKeysInOrder, MembersHaveKeysInOrder}
 use Rattle.json_values.specs.Rows.{member_if, taken, taken_if, each_if, need, may, ended}
 
@@ -22,6 +24,20 @@ step_found (Some a) f made e = (a, refl, e)
 pub then_found : {A B : Type 0} (o : Option A) (f : A → Option B) (a : A) (made : B) → o ≡ Some a → f a ≡ Some made →
     (o >>= f) ≡ Some made
 then_found o f a made found more = ap (λ x. x >>= f) found ∙ more
+
+-- a step on which others follow
+pub then_goes : {A B : Type 0} {o : Option A} {a : A} {made : Option B} (f : A → Option B) → o ≡ Some a →
+    f a ≡ made → (o >>= f) ≡ made
+then_goes f found more = ap (λ x. x >>= f) found ∙ more
+
+-- a step that finds nothing
+pub then_lost : {A B : Type 0} {o : Option A} (f : A → Option B) → o ≡ None → (o >>= f) ≡ None
+then_lost f lost = ap (λ x. x >>= f) lost
+
+-- a reader that gives nothing, since the shape is wrong
+pub gives_lost : {A : Type 0} {found : Option A} {fault : Misfit} → Gives (Err fault) found → fault ≡ Shape →
+    found ≡ None
+gives_lost {found = found} lost shape = subst (λ f. Gives (Err f) found) shape lost
 
 -- ---- what may be there
 

@@ -1,7 +1,7 @@
 -- What a document carries along unread: parts and the CLSID as bytes, three numbers, and the streams, each a name and
 -- bytes.
 use Rattle.std.specs.Prelude.{List, map, codes}
-use Rattle.serde_json.specs.Data.{Data, array, object, Items, no_items, item, Members, no_members, member}
+use Rattle.serde_json.specs.Data.{Data, array, object, no_items, item, Members, no_members, member}
 use Rattle.serde_json.specs.View.{items_of}
 use Rattle.cfb_streams.specs.Contents.{NamedBytes}
 use Rattle.plain_doc.specs.declared.carried.Carried.{Carried}

@@ -1,5 +1,5 @@
 -- Laws on documents as JSON.
-use Rattle.std.specs.Prelude.{◌≡◌, ◌≤◌, false, List}
+use Rattle.std.specs.Prelude.{◌≡◌, ◌≤◌, false}
 use Rattle.serde_json.specs.Data.{depth}
 use Rattle.serde_json.specs.Written.{has_float}
 use Rattle.edit_script.specs.Json.{IsJson}

@@ -1,11 +1,9 @@
 -- Texts as arrays of pieces: an item with a mark, a section, a field byte or a note is one, and so are all that stand
 -- beside one another without these and have the same settings.
-use Rattle.std.specs.Prelude.{◌≡◌, ℕ, ◌+◌, ◌^◌, ◌<◌, ◌≤◌, ◌&&◌, not, Bool, true, List, [], ◌∷◌, length, map, codes}
-use Rattle.std.specs.Prelude.{Some, None, option_map, slice_get, All}
-use Rattle.std.specs.Option.{ForSome}
+use Rattle.std.specs.Prelude.{◌&&◌, not, Bool, List, [], ◌∷◌, map, codes}
+use Rattle.std.specs.Prelude.{option_map}
 use Rattle.serde_json.specs.Data.{Data, null, string, array, object, Members, no_members, member}
 use Rattle.serde_json.specs.View.{items_of}
-use Rattle.prop_map.specs.Formed.{IsPropertyMap, character_groups, paragraph_groups, section_groups}
 use Rattle.plain_doc.specs.declared.item.Item.{Item}
 use Rattle.plain_doc.specs.declared.item.Mark.{Mark}
 use Rattle.plain_doc.specs.declared.item.NoteKind.{NoteKind}
@@ -13,7 +11,7 @@ use Rattle.plain_doc.specs.declared.item.NoteKind.TheVariants.{Auto, Custom}
 use Rattle.plain_doc.specs.Settings.{same_settings}
 use Rattle.plain_doc.specs.Stretches.{stretches}
 use Rattle.bare_items.specs.Specials.{is_special}
-use Rattle.json_values.specs.Digits.{units_json, AreUnits}
+use Rattle.json_values.specs.Digits.{units_json}
 use Rattle.json_values.specs.Settings.{settings_json}
 use Rattle.json_values.specs.Rows.{number_json, member_if}
 use Rattle.json_doc.specs.declared.pieces.Piece.{Piece}

@@ -1,5 +1,5 @@
 -- What a reader answers of a value that is to stand for something well formed.
-use Rattle.std.specs.Prelude.{◌≡◌, ◌≢◌, ⊤, List, [], ◌∷◌, Result, Ok, Err}
+use Rattle.std.specs.Prelude.{◌≡◌, ◌≢◌, ⊤, Result, Ok, Err}
 use Rattle.serde_json.specs.Data.{Data}
 use Rattle.edit_script.specs.declared.faults.Misfit.{Misfit}
 use Rattle.edit_script.specs.declared.faults.Misfit.TheVariants.{Shape, Memory}

@@ -1,5 +1,5 @@
 -- What the values of a sheet are read as.
-use Rattle.std.specs.Prelude.{◌≡◌, ◌≤◌, ℕ, List, length, codes, Option, Some, None, is_some, option_map, All}
+use Rattle.std.specs.Prelude.{◌≤◌, ℕ, List, length, codes, Option, Some, None, is_some, option_map, All}
 use Rattle.std.specs.Prelude.{if◌then◌else◌}
 use Rattle.serde_json.specs.Data.{Data}
 use Rattle.serde_json.specs.Find.{as_array, as_null, as_object}

@@ -30,8 +30,9 @@ pub fn json_out(alloc: Global, document: &Document, most: u64) -> Result<JsonOut
     ensures { IfOk result (IsOutput most (json_text document.now)) }
 {
     let columns = ColumnDocument::from_document(alloc, document)?;
-    let out = columns_json_out(alloc, &columns, most)?;
-    Ok(out)
+    let out = columns_json_out(alloc, &columns, most);
+    drop(columns);
+    Ok(out?)
 }
 
 /// The same of a document by columns.

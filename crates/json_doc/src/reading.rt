@@ -33,8 +33,9 @@ pub fn from_json(alloc: Global, bytes: &[u8]) -> Result<Document, JsonFault>
     ensures { MatchResult result (IsReadAs bytes.now) (IsJsonFault bytes.now) }
 {
     let columns = columns_from_json(alloc, bytes)?;
-    let document = columns.expand(alloc)?;
-    Ok(document)
+    let document = columns.expand(alloc);
+    drop(columns);
+    Ok(document?)
 }
 
 /// The same document by columns.

@@ -17,7 +17,7 @@ use Rattle.plain_doc.specs.Stretches.{stretch_from, stretches}
 use Rattle.full_save.specs.Runs.{mark_settings, item_settings, runs_from, text_runs}
 use Rattle.edit_ops.specs.Runs.{paragraph_count}
 use Rattle.save_bounds.specs.SharedPages.{marks_of}
-use Rattle.save_bounds.proofs.RunLemmas.{Leads, leads}
+use Rattle.plain_doc.proofs.StretchLemmas.{Leads, leads}
 
 -- ---- the marks
 

@@ -1,67 +1,31 @@
 -- The streams of a file of which two have new bytes: names are apart, so each of the two is one stream.
-use Rattle.std.specs.Prelude.{slice_get, slice_index, if◌then◌else◌, ◌==◌}
-use Rattle.std.proofs.Common.{◌≡◌, ◌≢◌, ◌∙◌, inl, inr, refl, sym, ap, subst, ℕ, zero, suc, ◌<◌, Bool, true}
+use Rattle.std.specs.Prelude.{slice_get, if◌then◌else◌, ◌==◌}
+use Rattle.std.proofs.Common.{◌≡◌, ◌≢◌, ◌∙◌, inl, inr, refl, sym, ap, subst, ℕ, zero, suc, ◌<◌, true}
 use Rattle.std.proofs.Common.{false, List, [], ◌∷◌, length, Some, option_map, arith}
 use Rattle.std.proofs.lemmas.Bool.{cases_lt}
 use Rattle.std.proofs.lemmas.List.{length-map}
 use Rattle.std.proofs.lemmas.Option.{slice_get_within, slice_get-map, slice_get_past, same_Some}
 use Rattle.cfb_streams.specs.Contents.{Stream, NamedBytes, Contents}
 use Rattle.cfb_streams.specs.Container.{HasContents}
-use Rattle.cfb_directory.specs.Directory.{AreSameNames, IsNameOf, EntryBefore, upper_case, entry_unit}
+use Rattle.cfb_directory.specs.Directory.{AreSameNames}
 use Rattle.cfb_streams.specs.Names.{wd_name, first_table_name, second_table_name, table_name}
-use Rattle.cfb_directory.specs.Reach.{entry_place}
+use Rattle.cfb_streams.proofs.SameNameLemmas.{named_place}
 use Rattle.cfb_layout.specs.Layout.{lengths_of}
 use Rattle.save_bounds.specs.SectorCounts.{AreAnew, lengths_in, NamedStreamsAreRenewed}
 
 -- ---- names
 
--- an entry that comes before another has not its name
-earlier : (file : List ℕ) (at other : ℕ) (a b name : List ℕ) → IsNameOf file at a → IsNameOf file other b →
-    AreSameNames a name → AreSameNames b name → EntryBefore file at other → ⊥
-earlier file at other a b name na nb sa sb (inl shorter) = omega (arith, shorter, na.long, nb.long, sa.long, sb.long)
-earlier file at other a b name na nb sa sb (inr (len, (place, less))) =
-    let in_a : place < length a = omega (arith, less.inside, na.long) in
-    let in_b : place < length b = omega (arith, in_a, sa.long, sb.long) in
-    let ua : upper_case (entry_unit file at place) ≡ upper_case (slice_index name place) =
-    ap upper_case (sym (na.units place in_a)) ∙ sa.units place in_a in
-    let ub : upper_case (entry_unit file other place) ≡ upper_case (slice_index name place) =
-    ap upper_case (sym (nb.units place in_b)) ∙ sb.units place in_b in
-    let lower = rw (ua, ub) at less.less in
-    omega (arith, lower)
-
-not_before : (file : List ℕ) (contents : Contents) (name : List ℕ) (i j : ℕ) (a b : Stream) →
-    HasContents file contents → slice_get contents.streams i ≡ Some a → slice_get contents.streams j ≡ Some b →
-    AreSameNames a.name name → AreSameNames b.name name → i < j → ⊥
-not_before file contents name i j a b has ha hb sa sb less =
-    let entries = has.entries in
-    let place : ℕ → ℕ = λ (k : ℕ). entry_place has.parts.directory (slice_index entries k) in
-    let within = slice_get_within contents.streams j b hb in
-    let len = has.streams.len in
-    let inside : j < length entries = omega (arith, within, len) in
-    earlier file (place i) (place j) a.name b.name name (has.streams.each i a ha).name (has.streams.each j b hb).name
-    sa sb (has.lists.order i j less inside)
-
--- streams with one name stand at one place
-pub one_place : (file : List ℕ) (contents : Contents) (name : List ℕ) (i j : ℕ) (a b : Stream) →
-    HasContents file contents → slice_get contents.streams i ≡ Some a → slice_get contents.streams j ≡ Some b →
-    AreSameNames a.name name → AreSameNames b.name name → i ≡ j
-one_place file contents name i j a b has ha hb sa sb = elim (cases_lt i j) [
-  | inl less ↦ absurd (not_before file contents name i j a b has ha hb sa sb less)
-  | inr rest ↦ elim (cases_lt j i) [
-    | inl less ↦ absurd (not_before file contents name j i b a has hb ha sb sa less)
-    | inr more ↦ omega (arith, rest, more)
-  ]
-]
+-- a table stream's name has six units
+pub name_six : (which : ℕ) → length (table_name which) ≡ 6
+name_six which =
+    elim (which == 1) as (λ b. length (if b then second_table_name else first_table_name) ≡ 6)
+    [ true ↦ refl | false ↦ refl ]
 
 -- the two names have not one length
-six : (first : Bool) → length (if first then second_table_name else first_table_name) ≡ 6
-six true = refl
-six false = refl
-
 pub two_names : (name : List ℕ) (which : ℕ) → AreSameNames name wd_name → AreSameNames name (table_name which) → ⊥
 two_names name which wd table =
     let twelve : length wd_name ≡ 12 = refl in
-    omega (arith, wd.long, table.long, twelve, six (which == 1))
+    omega (arith, wd.long, table.long, twelve, name_six which)
 
 -- ---- lengths
 
@@ -103,9 +67,9 @@ other_kept file contents streams has anew k no_wd no_table =
           let old = stands contents.streams k (omega (arith, low, len)) in
           let same : new.value.bytes ≡ old.value.bytes =
           (anew.bytes.each k old.value new.value old.here new.here).own
-          (λ named. no_wd (one_place file contents wd_name k wd.index old.value wd.stream has old.here wd.here named
+          (λ named. no_wd (named_place file contents has wd_name k wd.index old.value wd.stream old.here wd.here named
           wd.named))
-          (λ named. no_table (one_place file contents (table_name anew.which) k table.index old.value table.stream has
+          (λ named. no_table (named_place file contents has (table_name anew.which) k table.index old.value table.stream
           old.here table.here named table.named)) in
           length_of_new streams k new.value new.here
           ∙ (ap (λ (bytes : List ℕ). Some (length bytes)) same ∙ sym (length_of_old contents k old.value old.here))

@@ -8,6 +8,7 @@ use Rattle.fkp_pages.proofs.WholePages.{pages_are_whole}
 use Rattle.plain_doc.specs.declared.item.Item.{Item}
 use Rattle.plain_doc.specs.Settings.{is_alike, is_inside}
 use Rattle.plain_doc.specs.Stretches.{stretch_from, stretches}
+use Rattle.plain_doc.proofs.StretchLemmas.{Leads, leads, one_more}
 use Rattle.full_save.proofs.StreamLengths.{length-runs_from}
 use Rattle.edit_ops.specs.Runs.{paragraph_count}
 use Rattle.save_bounds.specs.RunCounts.{TextRunsAreCounted, RunCountsAdd, PagesAreFew}
@@ -19,21 +20,6 @@ abbrev one_if : Bool → ℕ
 one_if b = cond b 1 0
 
 -- ---- stretches of any list
-
--- stretches that begin with an element
-pub record Leads {A : Type 0} (x : A) (parts : List (List A)) : Type 0 where
-  pub front : List A
-  pub more : List (List A)
-  pub is : parts ≡ (x ∷ front) ∷ more
-
-pub leads : {A : Type 0} (joins : A → A → Bool) (x : A) (parts : List (List A)) → Leads x (stretch_from joins x parts)
-leads joins x [] = record { front = []; more = []; is = refl }
-leads joins x ([] ∷ more) = record { front = []; more = more; is = refl }
-leads joins x ((y ∷ ys) ∷ more) =
-    elim (joins x y) as (λ b. Leads x (if b then (x ∷ y ∷ ys) ∷ more else (x ∷ []) ∷ (y ∷ ys) ∷ more)) [
-      | true ↦ record { front = y ∷ ys; more = more; is = refl }
-      | false ↦ record { front = []; more = (y ∷ ys) ∷ more; is = refl }
-    ]
 
 by_test : {A : Type 0} (b : Bool) (x y : A) (ys : List A) (more : List (List A)) →
     length (if b then (x ∷ y ∷ ys) ∷ more else (x ∷ []) ∷ (y ∷ ys) ∷ more) ≡ cond b 0 1 + length ((y ∷ ys) ∷ more)
@@ -47,18 +33,6 @@ counted joins x y parts leading =
     ap (λ p. length (stretch_from joins x p)) leading.is
     ∙ (by_test (joins x y) x y leading.front leading.more
     ∙ ap (λ p. cond (joins x y) 0 1 + length p) (sym leading.is))
-
--- it is one more at most
-pub one_more : {A : Type 0} (joins : A → A → Bool) (x : A) (parts : List (List A)) →
-    length (stretch_from joins x parts) ≤ 1 + length parts
-one_more joins x [] = omega arith
-one_more joins x ([] ∷ more) = omega arith
-one_more joins x ((y ∷ ys) ∷ more) =
-    elim (joins x y) as
-    (λ b. length (if b then (x ∷ y ∷ ys) ∷ more else (x ∷ []) ∷ (y ∷ ys) ∷ more) ≤ 1 + length ((y ∷ ys) ∷ more)) [
-      | true ↦ omega arith
-      | false ↦ omega arith
-    ]
 
 pub few_stretches : {A : Type 0} (joins : A → A → Bool) (xs : List A) → length (stretches joins xs) ≤ length xs
 unfolding stretches

@@ -1,13 +1,12 @@
 -- The table streams of a document differ by their bin tables and their Clx alone: every other part has one length.
 use Rattle.std.specs.Prelude.{replicate, slice_index}
 use Rattle.std.specs.List.{flat_map}
-use Rattle.std.proofs.Common.{◌≡◌, ℕ, suc, ◌+◌, ◌*◌, List, [], ◌∷◌, ◌++◌, length, map, refl, ap, arith}
+use Rattle.std.proofs.Common.{◌≡◌, ℕ, ◌+◌, ◌*◌, List, [], ◌∷◌, ◌++◌, length, map, refl, arith}
 use Rattle.std.proofs.Common.{length-append}
 use Rattle.std.proofs.lemmas.List.{length-map, length-replicate}
 use Rattle.doc_bits.specs.Number.{number_bytes, numbers}
 use Rattle.doc_bits.specs.Plc.{printed_plc}
 use Rattle.doc_bits.proofs.NumberLemmas.{length-number_bytes, length-numbers}
-use Rattle.prop_map.specs.Settings.{Settings}
 use Rattle.fib_form.specs.TableEntries.{TableEntry, entry}
 use Rattle.fib_form.specs.TableParts.{pair_of}
 use Rattle.fib_form.specs.declared.table_parts.TablePart.TheVariants.{PlcffndRef, PlcffndTxt, PlcfSed, PlcfHdd}
@@ -24,10 +23,10 @@ use Rattle.plain_doc.specs.declared.document.Document.{Document}
 use Rattle.plain_doc.specs.Collected.{joined_texts, sections_of, fields_of, refs_of}
 use Rattle.plain_doc.specs.TextLists.{cuts_of}
 use Rattle.full_save.specs.declared.table_text.TableText.{TableText}
-use Rattle.full_save.specs.Sections.{sepx_bytes, seds_from}
 use Rattle.full_save.specs.TableText.{table_entries}
 use Rattle.full_save.specs.TableStream.{entry_bytes, entries_bytes}
 use Rattle.full_save.specs.WordDocument.{full_text, pages_end, table_stream}
+use Rattle.full_save.proofs.StreamLengths.{length-seds as length-full_seds}
 use Rattle.save_bounds.specs.TableLengths.{TablesDifferByOwnParts, TablesAreShort}
 
 -- ---- printed tables
@@ -201,13 +200,6 @@ pub tables_differ_by_own_parts : TablesDifferByOwnParts
 tables_differ_by_own_parts document one other same =
     let differ = (parts_differ document one other same).by in
     omega (arith, differ)
-
-length-full_seds : (start place : ℕ) (sections : List (ℕ × Settings)) →
-    length (seds_from start place sections) ≡ length sections
-unfolding seds_from
-length-full_seds start place [] = refl
-length-full_seds start place (section ∷ sections) =
-    ap suc (length-full_seds (section.0 + 1) (place + length (sepx_bytes section.1)) sections)
 
 pub tables_are_short : TablesAreShort
 unfolding table_stream

@@ -1,4 +1,4 @@
-use Rattle.std.proofs.Common.{◌∙◌, ◌++◌, ◌∷◌, ◌+◌, ◌-◌, [], List, ap, arith, length}
+use Rattle.std.proofs.Common.{◌∙◌, ◌++◌, ◌∷◌, ◌+◌, ◌-◌, [], List, ap, arith}
 use Rattle.std.specs.List.{splice}
 use Rattle.plain_doc.specs.declared.item.Item.{Item}
 use Rattle.doc_join.specs.Texts.{ending_section}

@@ -1,4 +1,3 @@
-use Rattle.std.proofs.Common.{arith}
 use Rattle.text_codes.proofs.DigitLemmas.{accepted}
 use Rattle.doc_show.proofs.SettingLemmas.{setting_is_utf8}
 use Rattle.doc_show.proofs.settings.push_small.Goals as goal

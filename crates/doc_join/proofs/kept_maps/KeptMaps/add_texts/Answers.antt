@@ -1,4 +1,4 @@
-use Rattle.std.proofs.Common.{◌≡◌, ◌∙◌, ◌<◌, ◌≤◌, ◌++◌, ◌∷◌, [], List, length, ap, arith}
+use Rattle.std.proofs.Common.{◌∙◌, ◌<◌, ◌≤◌, ◌++◌, ◌∷◌, [], List, length, ap, arith}
 use Rattle.std.specs.Prelude.{slice_range}
 use Rattle.plain_doc.specs.declared.item.Item.{Item}
 use Rattle.doc_join.specs.declared.renumbering.Renumbering.{Renumbering}

@@ -1,4 +1,4 @@
-use Rattle.std.proofs.Common.{◌<◌, ◌∙◌, ◌≡◌, ◌++◌, length, map, take, sym, ap, refl, arith, List}
+use Rattle.std.proofs.Common.{◌∙◌, ◌≡◌, ◌++◌, length, map, sym, ap, refl, arith, List}
 use Rattle.std.specs.Prelude.{slice_get, Some, replicate}
 use Rattle.std.proofs.lemmas.List.{take_all}
 use Rattle.std.proofs.lemmas.Option.{slice_get_read}

@@ -1,4 +1,5 @@
 use Rattle.std.proofs.Common.{◌≡◌, ◌∙◌, refl, sym, ap, subst, List, ℕ, arith}
+use Rattle.std.proofs.lemmas.Result.{err_from_is_err_and}
 use Rattle.plain_doc.specs.declared.document.Document.{Document}
 use Rattle.edit_guards.specs.declared.facts.Facts.{Facts}
 use Rattle.edit_changes.specs.declared.changes.Change.{Change}
@@ -41,6 +42,11 @@ edit-requires-clause-room c =
     let room : HasRoom inside.counts =
     subst HasRoom (sym (ap (λ (view : SessionView). view.counts) c.self.view_is)) c.requires.room in
     has_room inside.file inside.document inside.parts inside.counts c.self.invariant.0 c.self.invariant.1 room
+
+pub returns-in_err-edit-clause-err : goal.returns-in_err-edit-clause-err
+returns-in_err-edit-clause-err c =
+    let p = err_from_is_err_and c.from_residual.result c.from_residual.ensures.1 in
+    rw (p.1, p.2) c.self.view_is
 
 pub invariant_of-self : goal.invariant_of-self
 invariant_of-self c =
