@@ -4,6 +4,8 @@
 #[cfg(test)]
 mod as_json;
 #[cfg(test)]
+mod cuts;
+#[cfg(test)]
 mod documents;
 #[cfg(test)]
 mod edits;

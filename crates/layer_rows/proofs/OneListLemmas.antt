@@ -1,5 +1,5 @@
 -- The list of a test is whole.
-use Rattle.std.proofs.Common.{◌≡◌, ℕ, zero, suc, ◌+◌, ◌<◌, ◌≤◌, List, [], ◌∷◌, length, refl, arith}
+use Rattle.std.proofs.Common.{◌≡◌, ℕ, zero, suc, ◌+◌, ◌<◌, ◌≤◌, List, [], ◌∷◌, refl, arith}
 use Rattle.doc_bits.specs.Number.{u16_at, number_at}
 use Rattle.doc_parts.specs.Levels.{levels_before, level_count, level_start}
 use Rattle.plain_doc.specs.Carried.{AreListsWithLevels}

@@ -141,29 +141,6 @@ fn the_largest_container_fits_and_the_next_does_not(rt: HostRuntime) -> Result<(
     Ok(())
 }
 
-/// The lengths of 1,023 short streams.
-fn short_lengths(alloc: Global) -> Result<Vec<u64>, Memory> {
-    let mut lengths = Vec::new(alloc);
-    for k in 0..1_023u64 {
-        lengths.push(k * 37 % 200)?;
-    }
-    Ok(lengths)
-}
-
-/// A container of 1,023 short streams: its length and its sum.
-fn most_streams(alloc: Global) -> Result<(usize, u32), LayoutFault> {
-    let lengths = short_lengths(alloc)?;
-    let streams = streams_of(alloc, &lengths)?;
-    let file = container_of(alloc, &streams)?;
-    Ok((file.as_slice().len(), sum_of(file.as_slice())))
-}
-
-#[test]
-fn a_container_of_1023_streams_is_laid_out(rt: HostRuntime) -> Result<(), Fail> {
-    assert!(rt; most_streams(rt.alloc()) == Ok((278_016, 3_645_249_145)));
-    Ok(())
-}
-
 // `Z` comes before `aa`. `B` and `AA` are names that are there.
 #[test]
 fn names_are_compared_in_any_case(rt: HostRuntime) -> Result<(), Fail> {

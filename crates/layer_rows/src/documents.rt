@@ -3,7 +3,6 @@ ghost use Rattle.std.specs.Prelude.{IsTrue};
 ghost use Rattle.std.specs.Option.{ForSome};
 ghost use Rattle.prop_map.specs.Formed.{IsPropertyMap, paragraph_groups, section_groups};
 ghost use Rattle.plain_doc.specs.Document.{HasPropertyMaps};
-ghost use Rattle.plain_doc.specs.Sound.{IsSound};
 
 use doc_bits::{Memory, Where};
 use plain_doc::{Document, Item, Items, Mark, NoteKind, Texts, blank, check};
@@ -18,7 +17,7 @@ const ZEROS: [u8; 253] = [0; 253];
 
 /// The unit of a letter: the ends of sections `B`, of paragraphs `p`, `P`, `q` and `k`, the beginning of a field `[`,
 /// and the letter `a` for all others.
-pub(crate) fn unit_of(letter: u8) -> u16 {
+fn unit_of(letter: u8) -> u16 {
     match letter {
         b'B' => 0x0C,
         b'p' | b'P' | b'q' | b'k' => 0x0D,
@@ -48,7 +47,7 @@ fn section_of(alloc: Global, letter: u8) -> Option<PropMap> {
 }
 
 /// The item of a letter. `n` refers to a note; `F` is a field character where it is wrong, `[` one where it is right.
-pub(crate) fn item_of(alloc: Global, letter: u8) -> Item {
+fn item_of(alloc: Global, letter: u8) -> Item {
     Item {
         unit: unit_of(letter),
         chp: PropMap::new(alloc),
@@ -88,7 +87,7 @@ fn holds_section(sect: &Option<PropMap>) -> bool
 }
 
 /// Whether the maps of an item may stand in a text.
-pub(crate) fn holds_maps(item: &Item) -> bool
+fn holds_maps(item: &Item) -> bool
     ensures { IsTrue result → HasPropertyMaps item.now }
 {
     if !item.chp.is_held(CHARACTER_GROUPS) {
@@ -101,7 +100,7 @@ pub(crate) fn holds_maps(item: &Item) -> bool
 }
 
 /// Adds an item that may stand in a text.
-pub(crate) fn add_item(text: &mut Items, item: Item) -> Result<(), Memory> {
+fn add_item(text: &mut Items, item: Item) -> Result<(), Memory> {
     if text.len() > 1_000 || !holds_maps(&item) {
         return Err(Memory);
     }
@@ -173,12 +172,7 @@ const ROWS: [Row<'static>; 19] = [
 ];
 
 /// The blank document with the texts of these letters: the main text, the notes, the header texts.
-pub(crate) fn document_of(
-    alloc: Global,
-    main: &str,
-    notes: &str,
-    heads: &str,
-) -> Result<Document, Memory> {
+fn document_of(alloc: Global, main: &str, notes: &str, heads: &str) -> Result<Document, Memory> {
     let mut document = blank(alloc)?;
     let done = put_texts(alloc, &mut document, main, notes, heads);
     given(document, done)
@@ -199,16 +193,9 @@ fn put_texts(
 }
 
 /// A value to which something was done, where that was done.
-pub(crate) fn given<T: Drop>(value: T, done: Result<(), Memory>) -> Result<T, Memory> {
+fn given<T: Drop>(value: T, done: Result<(), Memory>) -> Result<T, Memory> {
     done?;
     Ok(value)
-}
-
-/// Whether a document is sound.
-pub(crate) fn is_sound(document: &Document) -> bool
-    ensures { IsTrue result → IsSound document.now }
-{
-    document.bookmarks.are_formed(document.main.len()) && check(document).is_ok()
 }
 
 /// Whether the first broken rule of a document is this one, at this place.

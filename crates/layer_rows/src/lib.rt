@@ -4,7 +4,7 @@
 #[cfg(test)]
 mod blocks;
 #[cfg(test)]
-mod bookmarks_by_bytes;
+mod bookmark_lists;
 #[cfg(test)]
 mod containers;
 #[cfg(test)]
@@ -14,13 +14,7 @@ mod fields_by_bytes;
 #[cfg(test)]
 mod guards;
 #[cfg(test)]
-mod joins;
-#[cfg(test)]
 mod maps;
-#[cfg(test)]
-mod numerals;
-#[cfg(test)]
-mod outlines;
 #[cfg(test)]
 mod outside;
 #[cfg(test)]
@@ -43,5 +37,3 @@ mod scripts;
 mod sheets;
 #[cfg(test)]
 mod sprms;
-#[cfg(test)]
-mod summaries;

@@ -10,14 +10,20 @@ use std::marker::Brand;
 use std::sync::ledger::{Blank, Ledger as Account};
 use std::test::Fail;
 
-/// The units of a list.
-const UNITS: u32 = 40_000;
-
-/// The byte of its first unit.
+/// The byte of a list's first unit.
 const START: u32 = 1024;
 
-/// The pieces that a list is split into: all have two units but the last.
-const PIECES: u32 = 16_000;
+/// The pieces of a list in which places are found. All have two units but the last.
+const MANY: u32 = 16_000;
+
+/// Its units.
+const MANY_UNITS: u32 = 40_000;
+
+/// The pieces of a list that ranges are taken out of.
+const SOME: u32 = 1_024;
+
+/// Its units.
+const SOME_UNITS: u32 = 2_560;
 
 /// Where a list is split first.
 #[derive(Clone, Copy)]
@@ -27,16 +33,16 @@ enum Order {
     Middle,
 }
 
-/// The number of the piece that begins at the k-th split.
-fn piece_of(order: Order, k: u32) -> u32 {
+/// The number of the piece, of so many, that begins at the k-th split.
+fn piece_of(order: Order, pieces: u32, k: u32) -> u32 {
     match order {
         Order::Front => k.saturating_add(1),
-        Order::Back => (PIECES - 1).saturating_sub(k),
+        Order::Back => pieces.saturating_sub(1).saturating_sub(k),
         Order::Middle => {
             if k % 2 == 0 {
-                (PIECES / 2).saturating_add(k / 2)
+                (pieces / 2).saturating_add(k / 2)
             } else {
-                (PIECES / 2 - 1).saturating_sub(k / 2)
+                (pieces / 2).saturating_sub(1).saturating_sub(k / 2)
             }
         }
     }
@@ -51,11 +57,14 @@ fn split(list: &mut PieceList, cp: u32) -> Result<(), Memory> {
     Ok(())
 }
 
-/// A list of one piece that was split at each second CP below 32,000.
-fn many_pieces(alloc: Global, order: Order) -> Result<PieceList, Memory> {
-    let mut list = PieceList::one(alloc, START, UNITS)?;
-    for k in 0..PIECES - 1 {
-        split(&mut list, piece_of(order, k).saturating_mul(2))?;
+/// A list of so many pieces and units: one that was split at each second CP up to the last piece.
+fn many_pieces(alloc: Global, order: Order, pieces: u32, units: u32) -> Result<PieceList, Memory>
+    requires some { 1 ≤ units }
+    requires most { units ≤ 40000 }
+{
+    let mut list = PieceList::one(alloc, START, units)?;
+    for k in 0..pieces.saturating_sub(1) {
+        split(&mut list, piece_of(order, pieces, k).saturating_mul(2))?;
     }
     Ok(list)
 }
@@ -110,12 +119,15 @@ fn agrees_with_the_scan(list: &PieceList) -> bool {
 #[test]
 fn a_cp_of_many_pieces_is_found_in_few_steps(rt: HostRuntime) -> Result<(), Fail> {
     for order in [Order::Front, Order::Back, Order::Middle] {
-        let list = many_pieces(rt.alloc(), order)?;
+        let list = many_pieces(rt.alloc(), order, MANY, MANY_UNITS)?;
         assert_eq!(rt; list.len(), 16_000);
         assert!(rt; is_spot(&list, 31_999, 15_999, 1, 630));
+        let list = many_pieces(rt.alloc(), order, SOME, SOME_UNITS)?;
         assert!(rt; agrees_with_the_scan(&list));
     }
-    let list = PieceList::one(rt.alloc(), START, UNITS)?;
+    let list = many_pieces(rt.alloc(), Order::Middle, MANY, MANY_UNITS)?;
+    assert!(rt; agrees_with_the_scan(&list));
+    let list = PieceList::one(rt.alloc(), START, MANY_UNITS)?;
     assert!(rt; is_spot(&list, 5, 0, 5, 130));
     Ok(())
 }
@@ -142,7 +154,7 @@ fn is_without(list: &PieceList, from: u32, to: u32) -> bool {
         }
         cp = end;
     }
-    cp == UNITS.saturating_sub(to.saturating_sub(from))
+    cp == SOME_UNITS.saturating_sub(to.saturating_sub(from))
 }
 
 /// Takes a range out, and splits again without further memory where there is some left.
@@ -161,14 +173,15 @@ fn erase(list: &mut PieceList, from: u32, to: u32) -> Result<(), Memory> {
 fn ranges_of_many_blocks_go(rt: HostRuntime) -> Result<(), Fail> {
     for order in [Order::Front, Order::Middle] {
         for (from, to) in [
-            (0, 40_000),
-            (0, 39_998),
-            (62, 31_936),
+            (0, 2_560),
+            (0, 2_558),
+            (62, 1_984),
             (256, 512),
             (190, 300),
             (1, 3),
         ] {
-            let mut list = many_pieces(rt.alloc(), order)?;
+            let mut list = many_pieces(rt.alloc(), order, SOME, SOME_UNITS)?;
+            assert_eq!(rt; list.len(), 1_024);
             erase(&mut list, from, to)?;
             assert!(rt; is_without(&list, from, to), "{from} to {to}");
             assert!(rt;

@@ -1,5 +1,5 @@
 -- The list has one stretch more.
-use Rattle.std.proofs.Common.{◌≡◌, ◌≤◌, List, length, ap, arith}
+use Rattle.std.proofs.Common.{◌≤◌, length, ap, arith}
 use Rattle.block_lists.specs.Blocks.{units_of}
 use Rattle.block_lists.proofs.UnitLemmas.{length_put, units_put}
 use Rattle.layer_rows.specs.declared.blocks.Stretch.{Stretch}

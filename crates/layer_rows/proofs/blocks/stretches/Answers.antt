@@ -1,5 +1,5 @@
 -- No stretches have no units.
-use Rattle.std.proofs.Common.{ap, arith, length, ◌∙◌}
+use Rattle.std.proofs.Common.{ap, length, ◌∙◌}
 use Rattle.block_lists.specs.Blocks.{units_of}
 use Rattle.block_lists.proofs.UnitLemmas.{units-nil}
 use Rattle.layer_rows.specs.declared.blocks.Stretch.{Stretch}

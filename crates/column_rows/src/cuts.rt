@@ -1,0 +1,54 @@
+// Texts that are cut out of one text.
+ghost use Rattle.std.specs.Prelude.{◌≡◌};
+ghost use Rattle.plain_doc.specs.Document.{IsFormedText};
+
+use crate::edits::EACH;
+use crate::scripted::is_edited;
+use doc_bits::Memory;
+use doc_columns::{Columns, WholeText};
+use plain_doc::{Document, Item};
+use std::alloc::Global;
+use std::test::Fail;
+
+/// Places where runs are ended, so that some of the cuts below are windows. Others are inside runs.
+const ENDS: [u32; 3] = [2, 5, 11];
+
+/// How many items a cut has, where there are so many.
+const CUT: usize = 3;
+
+/// Whether each cut of a text is its range, and so is a copy of the cut.
+fn are_ranges(alloc: Global, text: &Columns, whole: &mut WholeText) -> Result<bool, Memory>
+    requires { whole.old ≡ text.now }
+{
+    let len = text.len();
+    for from in 0..len {
+        let to = len.min(from + CUT);
+        let cut = whole.cut(alloc, from, to)?;
+        let range = text.copy(alloc, from, to)?;
+        if !cut.equal(&range) || !cut.copy(alloc, 0, cut.len())?.equal(&range) {
+            return Ok(false);
+        }
+    }
+    Ok(true)
+}
+
+/// Whether a text of these items is cut so.
+fn is_cut(alloc: Global, items: &[Item]) -> Result<bool, Memory>
+    requires { IsFormedText items.now }
+{
+    let text = Columns::from_items(alloc, items)?;
+    let same = Columns::from_items(alloc, items)?;
+    let mut whole = WholeText::new(alloc, same, &ENDS)?;
+    are_ranges(alloc, &text, &mut whole)
+}
+
+#[test]
+fn texts_are_cut_out_of_one(rt: HostRuntime) -> Result<(), Fail> {
+    let alloc = rt.alloc();
+    let cut = is_edited(alloc, EACH, |plain: &Document| -> Result<bool, Memory> {
+        let _len = plain.main.len();
+        is_cut(alloc, plain.main.as_slice())
+    });
+    assert!(rt; cut?);
+    Ok(())
+}
