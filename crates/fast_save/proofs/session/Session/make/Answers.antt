@@ -46,7 +46,7 @@ edit-requires-clause-room c =
 pub returns-in_err-edit-clause-err : goal.returns-in_err-edit-clause-err
 returns-in_err-edit-clause-err c =
     let p = err_from_is_err_and c.from_residual.result c.from_residual.ensures.1 in
-    rw (p.1, p.2) c.self.view_is
+    rw p.1 c.self.view_is
 
 pub invariant_of-self : goal.invariant_of-self
 invariant_of-self c =
