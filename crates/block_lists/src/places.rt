@@ -1,7 +1,7 @@
 // Places in a list.
 
 /// Where a unit is: the number of its item, and its place within the item, in units.
-#[derive(Clone, Copy, Debug, PartialEq, Eq)]
+#[derive(Clone, Copy)]
 pub struct Spot {
     pub item: usize,
     pub within: u32,

@@ -15,7 +15,7 @@ pub struct BrokenRule {
 }
 
 /// Why a file is not read as a compound file.
-#[derive(Clone, Copy, Debug, PartialEq, Eq, Error)]
+#[derive(Clone, Copy, Debug, Error)]
 pub enum CfbFault {
     /// The first broken rule, and its least place in bytes from the start of the file.
     #[error("rule {rule} is broken at offset {offset}")]

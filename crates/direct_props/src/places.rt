@@ -8,7 +8,7 @@ use std::alloc::Global;
 use std::marker::Model;
 
 /// So many places from `at` on, each `step` bytes after the one before it.
-#[derive(Clone, Copy, Debug, PartialEq, Eq)]
+#[derive(Clone, Copy)]
 pub struct PlaceRow {
     pub at: u32,
     pub step: u32,

@@ -28,7 +28,7 @@ use std::alloc::Global;
 use thiserror::Error;
 
 /// The first broken rule on the pages, and its least offset in `WordDocument`.
-#[derive(Clone, Copy, Debug, PartialEq, Eq, Error)]
+#[derive(Clone, Copy, Debug, Error)]
 #[error("rule {rule} is broken at {offset} in WordDocument")]
 pub struct PageFault {
     pub rule: u8,
@@ -36,14 +36,14 @@ pub struct PageFault {
 }
 
 /// The number of a page, and what it answers at a place.
-#[derive(Clone, Copy, Debug, PartialEq, Eq)]
+#[derive(Clone, Copy)]
 pub(crate) struct PageAnswer {
     pub(crate) number: u32,
     pub(crate) answer: RunAnswer,
 }
 
 /// The rules on the pages, in their order.
-#[derive(Clone, Copy, Debug, PartialEq, Eq)]
+#[derive(Clone, Copy)]
 pub(crate) enum PageRule {
     /// A range of the bin table holds the place.
     Bin,

@@ -3,7 +3,7 @@ ghost use Rattle.doc_bits.specs.Rules.{lesser_of};
 
 /// What an offset counts in: the bytes of the file, of `WordDocument` or of the table stream, the
 /// styles of the sheet, or the items of a text. The order of places is the order written here.
-#[derive(Clone, Copy, Debug, PartialEq, Eq, PartialOrd, Ord)]
+#[derive(Clone, Copy, Debug, PartialEq, Eq)]
 pub enum Where {
     File,
     Wd,
@@ -15,7 +15,7 @@ pub enum Where {
 }
 
 /// A text of a document: the main text, a note or a header text, by its number.
-#[derive(Clone, Copy, Debug, PartialEq, Eq, PartialOrd, Ord)]
+#[derive(Clone, Copy)]
 pub enum Story {
     Main,
     Note(u32),

@@ -8,7 +8,7 @@ use std::marker::Model;
 use thiserror::Error;
 
 /// The length is that of no whole number of entries.
-#[derive(Clone, Copy, Debug, PartialEq, Eq, Error)]
+#[derive(Clone, Copy, Debug, Error)]
 pub enum PlcFault {
     #[error("the length is not that of a whole number of entries")]
     Length,

@@ -3,6 +3,7 @@ ghost use Rattle.std.specs.Prelude.{◌≡◌, IfOk};
 ghost use Rattle.plain_doc.specs.Document.{IsFormedText};
 
 use crate::collect::{TextParts, push_run};
+use crate::document::{OtherParts, TextColumns, copy_others};
 use crate::{ColumnDocument, ColumnTexts, Columns};
 use doc_bits::Memory;
 use plain_doc::{Document, Item, Items, Texts};
@@ -71,27 +72,93 @@ impl ColumnDocument {
     pub fn expand(&self, alloc: Global) -> Result<Document, Memory>
         ensures { IfOk result (λ made. made ≡ self.now) }
     {
-        Ok(Document {
-            main: self.main.expand(alloc)?,
-            notes: self.notes.expand(alloc)?,
-            heads: self.heads.expand(alloc)?,
-            sheet: self.sheet.copy(alloc)?,
-            carried: self.carried.copy(alloc)?,
-            bookmarks: self.bookmarks.copy(alloc, 0, self.bookmarks.len())?,
-        })
+        let texts = expand_texts(alloc, &self.main, &self.notes, &self.heads)?;
+        let others = copy_others(alloc, &self.sheet, &self.carried, &self.bookmarks)?;
+        Ok(texts.document(others))
     }
 
     /// A document by columns. Maps and styles are shared.
     pub fn from_document(alloc: Global, document: &Document) -> Result<ColumnDocument, Memory>
         ensures { IfOk result (λ made. made ≡ document.now) }
     {
-        Ok(ColumnDocument {
-            main: Columns::from_items(alloc, document.main.as_slice())?,
-            notes: ColumnTexts::from_texts(alloc, &document.notes)?,
-            heads: ColumnTexts::from_texts(alloc, &document.heads)?,
-            sheet: document.sheet.copy(alloc)?,
-            carried: document.carried.copy(alloc)?,
-            bookmarks: document.bookmarks.copy(alloc, 0, document.bookmarks.len())?,
-        })
+        let texts = columns_of(alloc, &document.main, &document.notes, &document.heads)?;
+        let others = copy_others(
+            alloc,
+            &document.sheet,
+            &document.carried,
+            &document.bookmarks,
+        )?;
+        Ok(texts.document(others))
+    }
+}
+
+/// Texts item by item. Their maps are shared.
+fn expand_texts(
+    alloc: Global,
+    main: &Columns,
+    notes: &ColumnTexts,
+    heads: &ColumnTexts,
+) -> Result<PlainTexts, Memory>
+    ensures main { IfOk result (λ texts. texts.main ≡ main.now) }
+    ensures notes { IfOk result (λ texts. texts.notes ≡ notes.now) }
+    ensures heads { IfOk result (λ texts. texts.heads ≡ heads.now) }
+{
+    let main = main.expand(alloc)?;
+    let notes = notes.expand(alloc)?;
+    let heads = heads.expand(alloc)?;
+    Ok(PlainTexts { main, notes, heads })
+}
+
+/// Texts by columns. Their maps are shared.
+fn columns_of(
+    alloc: Global,
+    main: &Items,
+    notes: &Texts,
+    heads: &Texts,
+) -> Result<TextColumns, Memory>
+    ensures main { IfOk result (λ texts. texts.main ≡ main.now) }
+    ensures notes { IfOk result (λ texts. texts.notes ≡ notes.now) }
+    ensures heads { IfOk result (λ texts. texts.heads ≡ heads.now) }
+{
+    let main = Columns::from_items(alloc, main.as_slice())?;
+    let notes = ColumnTexts::from_texts(alloc, notes)?;
+    let heads = ColumnTexts::from_texts(alloc, heads)?;
+    Ok(TextColumns { main, notes, heads })
+}
+
+/// The texts of a document item by item.
+#[derive(Drop)]
+struct PlainTexts {
+    main: Items,
+    notes: Texts,
+    heads: Texts,
+}
+
+impl PlainTexts {
+    /// The document that these texts and the other parts make.
+    fn document(self, others: OtherParts) -> Document
+        ensures { result ≡ record {
+          main = self.main;
+          notes = self.notes;
+          heads = self.heads;
+          sheet = others.sheet;
+          carried = others.carried;
+          bookmarks = others.bookmarks;
+        } }
+    {
+        let PlainTexts { main, notes, heads } = self;
+        let OtherParts {
+            sheet,
+            carried,
+            bookmarks,
+        } = others;
+        Document {
+            main,
+            notes,
+            heads,
+            sheet,
+            carried,
+            bookmarks,
+        }
     }
 }

@@ -14,7 +14,7 @@ ghost use Rattle.doc_columns.specs.Judging.{IsJudged, IsPassedTo, IsRunAt};
 use crate::columns::item_with;
 use crate::{Beside, ColumnTexts, Columns};
 use doc_bits::{Memory, Where};
-use plain_doc::{Counts, Side, TextWalk, is_head};
+use plain_doc::{Counts, Item, Side, TextWalk, is_head};
 use prop_map::PropMap;
 use run_lists::{Cursor, Run, Shared, seek};
 use std::alloc::Global;
@@ -186,12 +186,34 @@ fn pass_items(
 {
     let len = judged.units.len();
     for at in place..place + run.count as usize {
-        let chp = seek(judged.chps, cursor, at).copy(alloc)?;
-        let beside = run.value.copy(alloc)?;
-        let item = item_with(judged.units[at], chp, beside);
+        let item = made_item(alloc, judged, cursor, place, run, at)?;
         if !walk.pass_marked(judged.sheet, judged.part, len, at, &item) {
             return Ok(false);
         }
     }
     Ok(true)
+}
+
+/// The item at a place of a run that begins at `place`. Its maps are shared.
+fn made_item(
+    alloc: Global,
+    judged: &JudgedText<'_>,
+    cursor: &mut Cursor,
+    place: usize,
+    run: &Run<Beside>,
+    at: usize,
+) -> Result<Item, Memory>
+    requires judged { IsJudged judged.now }
+    requires run { IsRunAt judged.now.text.now place run.now }
+    requires at { IsAt judged.now.chps.now cursor.old }
+    requires ahead { cursor.old.begin ≤ at }
+    requires from { place ≤ at }
+    requires until { at < place + run.now.count }
+    ensures at { OnOk result (IsAt judged.now.chps.now cursor.new) }
+    ensures ahead { OnOk result (cursor.new.begin ≤ at) }
+    ensures item { IfOk result (λ item. slice_get judged.now.text.now at ≡ Some item) }
+{
+    let chp = seek(judged.chps, cursor, at).copy(alloc)?;
+    let beside = run.value.copy(alloc)?;
+    Ok(item_with(judged.units[at], chp, beside))
 }

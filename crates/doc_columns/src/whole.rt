@@ -128,7 +128,8 @@ fn spans(whole: &Whole, walk: &mut Walk, from: usize, to: usize) -> Option<Spans
     requires within { to ≤ length (whole_items whole.now) }
     ensures walk { IsWalkOver whole.now walk.new }
     ensures window { IfSome result (IsWindow whole.now) }
-    ensures items { IfSome result (λ spans. window_items whole.now spans ≡ slice_range (whole_items whole.now) from to) }
+    ensures items { IfSome result (λ spans.
+        window_items whole.now spans ≡ slice_range (whole_items whole.now) from to) }
 {
     let Some(chps) = span(&whole.chps, &mut walk.chps, from, to) else {
         return None;
@@ -143,7 +144,8 @@ fn spans(whole: &Whole, walk: &mut Walk, from: usize, to: usize) -> Option<Spans
     })
 }
 
-/// The runs from one that begins at `from` to before one that begins at `to`, or behind the last. The cursor goes there.
+/// The runs from one that begins at `from` to before one that begins at `to`, or behind the last. The cursor goes
+/// there.
 fn span<T>(runs: &[Run<T>], cursor: &mut Cursor, from: usize, to: usize) -> Option<Span>
     requires at { IsAt runs.now cursor.old }
     requires ahead { cursor.old.begin ≤ from }

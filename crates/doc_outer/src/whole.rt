@@ -15,7 +15,7 @@ pub const MAX_FILE_LEN: usize = 7_143_936;
 const PART_LEN: usize = 65_536;
 
 /// Why a file is not read.
-#[derive(Clone, Copy, Debug, PartialEq, Eq, Error)]
+#[derive(Clone, Copy, Debug, Error)]
 pub enum ReadFail {
     #[error("the name is not there")]
     Missing,

@@ -4,7 +4,7 @@ use doc_bits::Memory;
 use thiserror::Error;
 
 /// The first broken rule of a part, with its least offset in the table stream.
-#[derive(Clone, Copy, Debug, PartialEq, Eq, Error)]
+#[derive(Clone, Copy, Debug, Error)]
 pub enum PartFault {
     #[error("rule {rule} is broken at {offset} in the table stream")]
     Rule { rule: u8, offset: u32 },

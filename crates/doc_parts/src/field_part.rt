@@ -16,7 +16,7 @@ use std::alloc::Global;
 const RULE_FIELDS: u8 = 52;
 
 /// What a field character does.
-#[derive(Clone, Copy, Debug, PartialEq, Eq)]
+#[derive(Clone, Copy)]
 enum FieldKind {
     Begin,
     Separator,

@@ -24,7 +24,7 @@ const CB_GRPPRL_PAPX: usize = 25;
 
 /// Rule 56 is broken at this offset of the table stream: at the part, or at the first level that is
 /// not whole.
-#[derive(Clone, Copy, Debug, PartialEq, Eq, Error)]
+#[derive(Clone, Copy, Debug, Error)]
 #[error("rule 56 is broken at {offset} in the table stream")]
 pub struct LevelFault {
     pub offset: u32,

@@ -7,14 +7,14 @@ use std::alloc::Global;
 use std::marker::Model;
 
 /// A section: the CP where it begins, and the offset of its Sepx in `WordDocument`.
-#[derive(Clone, Copy, Debug, PartialEq, Eq)]
+#[derive(Clone, Copy)]
 pub struct Sed {
     pub start: u32,
     pub sepx: u32,
 }
 
 /// A field character: its CP in the story, the unit there, and the byte of its type or flags.
-#[derive(Clone, Copy, Debug, PartialEq, Eq)]
+#[derive(Clone, Copy)]
 pub struct Fld {
     pub cp: u32,
     pub unit: u16,
@@ -22,7 +22,7 @@ pub struct Fld {
 }
 
 /// A reference to a note: its CP in the main text, and whether the note is numbered by itself.
-#[derive(Clone, Copy, Debug, PartialEq, Eq)]
+#[derive(Clone, Copy)]
 pub struct NoteRef {
     pub cp: u32,
     pub auto: bool,

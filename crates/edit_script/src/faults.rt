@@ -3,7 +3,7 @@ use std::alloc::{AllocError, AllocFailed};
 use thiserror::Error;
 
 /// Why bytes are not read as a script.
-#[derive(Clone, Copy, Debug, PartialEq, Eq, Error)]
+#[derive(Clone, Copy, Debug, Error)]
 pub enum ScriptFault {
     #[error("not JSON")]
     Json,
@@ -17,7 +17,7 @@ pub enum ScriptFault {
 }
 
 /// Why a value is not read: it has not the form that is wanted, or memory is refused.
-#[derive(Clone, Copy, Debug, PartialEq, Eq, Error)]
+#[derive(Clone, Copy, Debug, Error)]
 pub enum Misfit {
     #[error("wrong shape")]
     Shape,

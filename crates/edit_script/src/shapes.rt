@@ -1,5 +1,4 @@
 // The seventeen shapes, key by key. Each reader has its definition beside it in specs/Shapes.
-ghost use Rattle.std.specs.Prelude.{Option};
 ghost use Rattle.serde_json.specs.View.{view};
 ghost use Rattle.edit_script.specs.Json.{Gives};
 ghost use Rattle.edit_script.specs.Shapes.{command_of, command_with_name, insert_of, erase_of, char_of};

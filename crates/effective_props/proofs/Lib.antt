@@ -2,6 +2,7 @@ pub mod ValueLemmas
 pub mod PlaceLemmas
 pub mod StopLemmas
 pub mod StopListLemmas
+pub mod StopStepLemmas
 pub mod FormedLemmas
 pub mod LayerLemmas
 pub mod FormedLayerLemmas

@@ -1,7 +1,7 @@
 // Tab stops, layer by layer: a tree, so that each change costs the logarithm of its size.
-ghost use Rattle.std.specs.Prelude.{◌≡◌, map, OnOk, IfOk};
+ghost use Rattle.std.specs.Prelude.{◌≡◌, map, Some, OnOk, IfOk};
 ghost use Rattle.std.specs.Ordering.{int_cmp};
-ghost use Rattle.std.specs.BTreeMap.{IsOrdered};
+ghost use Rattle.std.specs.BTreeMap.{IsOrdered, Updates};
 ghost use Rattle.effective_props.specs.TabChange.{deleted_count, added_count};
 ghost use Rattle.effective_props.specs.Stops.{AreStops};
 ghost use Rattle.effective_props.specs.StopSteps.{ChangesByLayer, DeletesUpTo, AddsUpTo, tab_of};
@@ -65,8 +65,15 @@ fn add(stops: &mut BTreeMap<i16, u8>, change: &TabChange<'_>) -> Result<(), Memo
     ensures { OnOk result (AddsUpTo change.now (added_count change.now) stops.old stops.new) }
 {
     for i in 0..change.added() {
-        let tab = change.added_tab(i);
-        stops.insert(tab.at, tab.kind)?;
+        put(stops, change.added_tab(i))?;
     }
+    Ok(())
+}
+
+/// Puts a stop, in place of what stood at its position.
+fn put(stops: &mut BTreeMap<i16, u8>, tab: Tab) -> Result<(), Memory>
+    ensures { OnOk result (Updates int_cmp stops.old stops.new tab.at (Some tab.kind)) }
+{
+    stops.insert(tab.at, tab.kind)?;
     Ok(())
 }

@@ -1,5 +1,5 @@
 // [MS-DOC] ToggleOperand.
-ghost use Rattle.std.specs.Prelude.{◌≡◌, Some, MatchOption};
+ghost use Rattle.std.specs.Prelude.{◌≡◌, Some};
 ghost use Rattle.std.specs.Option.{option_map};
 ghost use Rattle.effective_props.specs.Toggles.{is_byte, opposite, toggled};
 

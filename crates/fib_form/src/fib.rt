@@ -8,7 +8,7 @@ use crate::{Form, Pairs, QuickSavesFull};
 use std::marker::Model;
 
 /// What a save keeps of a FIB: the languages, and the flags fDot, fReadOnlyRecommended and fFarEast at their places.
-#[derive(Clone, Copy, Debug, PartialEq, Eq)]
+#[derive(Clone, Copy)]
 pub struct KeptFib {
     pub lid: u16,
     pub lid_fe: u16,

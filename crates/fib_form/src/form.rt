@@ -5,7 +5,7 @@ ghost use Rattle.fib_form.specs.Fib.{form_size, form_pairs};
 use crate::offsets::{EARLY_PAIRS, EARLY_SIZE, LATER_PAIRS, LATER_SIZE};
 
 /// A form of the FIB: of 900 bytes with cbRgFcLcb 0x5D, or of 1,024 bytes with cbRgFcLcb 0x6C and nFibNew 0x00D9.
-#[derive(Clone, Copy, Debug, PartialEq, Eq)]
+#[derive(Clone, Copy)]
 pub enum Form {
     Early,
     Later,

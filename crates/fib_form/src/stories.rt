@@ -6,7 +6,7 @@ ghost use Rattle.fib_form.specs.Stories.{story_number, story_ccp};
 use crate::Fib;
 
 /// A story of a file: the main text, all notes, or all header texts. One note or header text is a `Story` of doc_bits.
-#[derive(Clone, Copy, Debug, PartialEq, Eq)]
+#[derive(Clone, Copy)]
 pub enum StoryKind {
     Main,
     Notes,

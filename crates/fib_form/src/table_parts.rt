@@ -4,7 +4,7 @@ ghost use Rattle.fib_form.specs.Fib.{kept_pairs};
 ghost use Rattle.fib_form.specs.TableParts.{pair_of};
 
 /// A part of the table stream that is read, or carried unread.
-#[derive(Clone, Copy, Debug, PartialEq, Eq)]
+#[derive(Clone, Copy)]
 pub enum TablePart {
     Stshf,
     PlcffndRef,

@@ -14,7 +14,7 @@ const NUMBER_LEN: usize = 4;
 const PAGE_BITS: u32 = 0x3F_FFFF;
 
 /// A range of a bin table: byte places from `from` to before `to`, and the number of their page.
-#[derive(Clone, Copy, Debug, PartialEq, Eq)]
+#[derive(Clone, Copy)]
 pub struct BinRange {
     pub from: u32,
     pub to: u32,

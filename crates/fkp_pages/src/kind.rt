@@ -9,14 +9,14 @@ pub const PAGE_LEN: usize = 512;
 pub(crate) const COUNT_AT: usize = 511;
 
 /// The two kinds of formatted disk page: ChpxFkp for characters, PapxFkp for paragraphs.
-#[derive(Clone, Copy, Debug, PartialEq, Eq)]
+#[derive(Clone, Copy)]
 pub enum PageKind {
     Chpx,
     Papx,
 }
 
 /// What a page answers at a byte place. Offsets are those in the page.
-#[derive(Clone, Copy, Debug, PartialEq, Eq)]
+#[derive(Clone, Copy, PartialEq, Eq)]
 pub enum RunAnswer {
     /// The range of the property list; of a paragraph's style number and list.
     Found { from: usize, to: usize },

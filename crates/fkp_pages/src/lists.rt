@@ -23,7 +23,7 @@ pub struct Run {
 }
 
 /// A range of a bin table: the fc where it begins, and the number of its page.
-#[derive(Clone, Copy, Debug, PartialEq, Eq)]
+#[derive(Clone, Copy)]
 pub struct Bin {
     pub first: u32,
     pub page: u32,

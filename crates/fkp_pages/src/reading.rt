@@ -10,7 +10,7 @@ use crate::kind::{COUNT_AT, PageKind, RunAnswer};
 use crate::runs::{RunCursor, first_run};
 
 /// The byte places from `first` to `last`, and what a page answers at each of them.
-#[derive(Clone, Copy, Debug, PartialEq, Eq)]
+#[derive(Clone, Copy)]
 pub struct Stretch {
     pub first: u32,
     pub last: u32,
@@ -18,7 +18,7 @@ pub struct Stretch {
 }
 
 /// A stretch, and the run that is tried first at a place behind it.
-#[derive(Clone, Copy, Debug, PartialEq, Eq)]
+#[derive(Clone, Copy)]
 pub struct Met {
     pub stretch: Stretch,
     pub next: RunCursor,

@@ -7,7 +7,7 @@ use crate::kind::COUNT_AT;
 use doc_bits::get32;
 
 /// A run of a page that may be tried first at the places from `least` on: no run before it holds one of them.
-#[derive(Clone, Copy, Debug, PartialEq, Eq)]
+#[derive(Clone, Copy)]
 pub struct RunCursor {
     pub run: usize,
     pub least: u32,
@@ -36,7 +36,7 @@ impl RunCursor {
 
 /// The first run that holds a place, if one does, the places from `first` to `last` where it is the same, and the run
 /// that is tried first behind them.
-#[derive(Clone, Copy, Debug, PartialEq, Eq)]
+#[derive(Clone, Copy)]
 pub(crate) struct FoundRun {
     pub(crate) run: Option<usize>,
     pub(crate) first: u32,

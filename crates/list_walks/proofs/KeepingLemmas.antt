@@ -1,7 +1,7 @@
 -- Keeping the last entry of each code: what the kept entries make, and lists that end where a walk is.
 use Rattle.std.proofs.Common.{◌≡◌, inl, inr, refl, sym, ap, ◌∙◌, subst, ℕ, ◌+◌, ◌-◌, ◌<◌, ◌≤◌, ◌==◌, leb, Bool, true}
-use Rattle.std.proofs.Common.{false, cond, not, ◌&&◌, ◌||◌, List, [], ◌∷◌, ◌++◌, map, length, take, drop, Option, Some, None}
-use Rattle.std.proofs.Common.{arith, get_or, suc, length-append, length-drop}
+use Rattle.std.proofs.Common.{false, cond, not, ◌&&◌, ◌||◌, List, [], ◌∷◌, ◌++◌, map, length, take, drop}
+use Rattle.std.proofs.Common.{Option, Some, None, arith, get_or, suc, length-append, length-drop}
 use Rattle.std.specs.Prelude.{slice_range}
 use Rattle.std.specs.List.{All, filter, flat_map, last_or, remove}
 use Rattle.std.specs.FinMap.{empty, get-empty}
@@ -12,8 +12,8 @@ use Rattle.std.proofs.lemmas.Bool.Decides.{leb_tells}
 use Rattle.std.proofs.lemmas.List.{append-nil, map-append, take_more, take_all}
 use Rattle.std.proofs.lemmas.List.Concat.{flat_map-append}
 use Rattle.std.proofs.lemmas.Option.{slice_get_within, get_or_from_slice_get}
-use Rattle.std.proofs.lemmas.List.Elements.{All-nil, All-cons, All-head, All-tail, All-push, All-map, All-filter, All-weaker}
-use Rattle.std.proofs.lemmas.List.Elements.{filter-append}
+use Rattle.std.proofs.lemmas.List.Elements.{All-nil, All-cons, All-head, All-tail, All-push, All-map, All-filter}
+use Rattle.std.proofs.lemmas.List.Elements.{All-weaker, filter-append}
 use Rattle.doc_bits.proofs.ListLemmas.{All_at}
 use Rattle.sprm_table.specs.Codes.{is_held, class_of, is_setting, is_clear, IsRefusedIn}
 use Rattle.sprm_table.specs.Sprm.{Prl, IsPrl, spelling, SpellsSprmList, IsAcceptedList}
@@ -24,7 +24,8 @@ use Rattle.prop_map.proofs.ActingLemmas.{value_after-append}
 use Rattle.list_walks.specs.declared.ranges.ListRange.{ListRange}
 use Rattle.list_walks.specs.declared.walk.WalkEntry.{WalkEntry}
 use Rattle.list_walks.specs.Walks.{prl_of, list_at, IsEntry, ComesBy}
-use Rattle.list_walks.specs.Keeping.{kept_from, IsKeptEntry, IsKeptFrom, IsKeeping, IsForgotten, IsMadeBy, HasCode, AreKeptOf}
+use Rattle.list_walks.specs.Keeping.{kept_from, IsKeptEntry, IsKeptFrom, IsKeeping, IsForgotten, IsMadeBy, HasCode}
+use Rattle.list_walks.specs.Keeping.{AreKeptOf}
 use Rattle.list_walks.proofs.WalkLemmas.{leads_none, leads_more, list_spelt}
 
 -- ---- acting with one entry
@@ -81,8 +82,9 @@ none_from stream from (x ∷ xs) all =
     let rest = none_from stream from xs (All-tail (λ (e : WalkEntry). e.at < from) x xs all) in
     elim (leb_tells from x.at) [
       | inl low ↦ let order = low.1 in absurd (omega arith)
-      | inr high ↦ ap (λ b. map (prl_of stream) (cond b (x ∷ filter (λ (e : WalkEntry). leb from e.at) xs) (filter (λ (e :
-          WalkEntry). leb from e.at) xs))) high.0 ∙ rest
+      | inr high ↦ ap
+          (λ b. map (prl_of stream) (cond b (x ∷ filter (λ (e : WalkEntry). leb from e.at) xs)
+          (filter (λ (e : WalkEntry). leb from e.at) xs))) high.0 ∙ rest
     ]
 
 -- ---- an entry that is let go

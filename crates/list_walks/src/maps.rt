@@ -21,8 +21,8 @@ pub struct WalkedMap {
     pub map: PropMap,
 }
 
-/// The maps of lists at a place that holds these groups, as acting with each on no settings makes them. `groups` has bit
-/// sgc set for each. Not each list has one here: of a list that lies over no other, that few walks come by, or that
+/// The maps of lists at a place that holds these groups, as acting with each on no settings makes them. `groups` has
+/// bit sgc set for each. Not each list has one here: of a list that lies over no other, that few walks come by, or that
 /// clears, nothing is said, and of equal ones the first has it.
 pub fn walked_maps(
     alloc: Global,

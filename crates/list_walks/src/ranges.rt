@@ -5,7 +5,7 @@ use doc_bits::Memory;
 use std::alloc::Global;
 
 /// Where a list begins and ends in a stream, in bytes.
-#[derive(Clone, Copy, Debug, PartialEq, Eq)]
+#[derive(Clone, Copy, PartialEq, Eq)]
 pub struct ListRange {
     pub from: usize,
     pub to: usize,
@@ -20,7 +20,7 @@ pub(crate) struct Lists<'a> {
 }
 
 /// A list in the order of beginnings.
-#[derive(Clone, Copy, Debug, PartialEq, Eq, PartialOrd, Ord)]
+#[derive(Clone, Copy, PartialEq, Eq, PartialOrd, Ord)]
 pub(crate) struct Begin {
     pub(crate) from: usize,
     pub(crate) to: usize,
@@ -28,7 +28,7 @@ pub(crate) struct Begin {
 }
 
 /// A list in the order of ends.
-#[derive(Clone, Copy, Debug, PartialEq, Eq, PartialOrd, Ord)]
+#[derive(Clone, Copy, PartialEq, Eq, PartialOrd, Ord)]
 pub(crate) struct End {
     pub(crate) to: usize,
     pub(crate) from: usize,

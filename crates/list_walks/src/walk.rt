@@ -1,5 +1,5 @@
 // A walk from entry to entry of a stream, and the lists that it comes by.
-ghost use Rattle.std.specs.Prelude.{◌≤◌, ℕ, length, IsTrue, IfSome, IfOk};
+ghost use Rattle.std.specs.Prelude.{◌≤◌, length, IsTrue, IfSome, IfOk};
 ghost use Rattle.sprm_table.specs.Sprm.{EndsSprmList};
 ghost use Rattle.list_walks.specs.Walks.{IsEntry, IsWalk, HasPlace, ComesBy};
 

@@ -96,6 +96,23 @@ composed_put by modifiers numbers number made have low is formed =
       ];
     }
 
+-- ---- a number that is put beside another
+
+pub here_put : (numbers : List ℕ) (number place : ℕ) → number < length numbers → 0 < place →
+    slice_index (slice_set numbers number place) number ≢ 0
+here_put numbers number place low some = λ none.
+    let same : slice_index (slice_set numbers number place) number ≡ place =
+    get_or-set_same numbers number place 0 low in
+    omega (arith, same, none)
+
+pub others_put : (numbers : List ℕ) (number place other : ℕ) → number < length numbers → 0 < place →
+    slice_index numbers other ≢ 0 → slice_index (slice_set numbers number place) other ≢ 0
+others_put numbers number place other low some kept = elim (same_or_apart other number) [
+  | inl e ↦ subst (λ n. slice_index (slice_set numbers number place) n ≢ 0) (sym e) (here_put numbers number place low
+      some)
+  | inr apart ↦ λ none. kept (sym (get_or-set_other numbers number other place 0 apart) ∙ none)
+]
+
 -- ---- entries with new numbers
 
 -- each place of a piece

@@ -1,9 +1,8 @@
 // The pieces of a Clx that was judged.
-ghost use Rattle.std.specs.Prelude.{◌≡◌, ℕ, ◌-◌, ◌^◌, ◌<◌};
-ghost use Rattle.std.specs.Prelude.{◌≤◌, List, length, map, IfOk, OnOk};
-ghost use Rattle.doc_bits.specs.Plc.{PlcPart};
+ghost use Rattle.std.specs.Prelude.{◌≡◌, ◌-◌, ◌^◌, ◌<◌};
+ghost use Rattle.std.specs.Prelude.{◌≤◌, length, map, IfOk, OnOk};
 ghost use Rattle.piece_table.specs.Piece.{bare_piece};
-ghost use Rattle.piece_table.specs.Clx.{ClxParts, IsPlcPcd, clx_piece, clx_pieces, HaveModifiers};
+ghost use Rattle.piece_table.specs.Clx.{IsPlcPcd, clx_piece, clx_pieces, HaveModifiers};
 ghost use Rattle.piece_table.specs.ClxRules.{AreReadPrms};
 ghost use Rattle.piece_table.specs.Front.{AscendsTo, EndsWithin, clx_parts};
 ghost use Rattle.piece_table.specs.Numbering.{HasMet, AreAccepted, AreEntriesOf};

@@ -3,7 +3,7 @@ use thiserror::Error;
 
 /// Why a Clx is refused: the first broken rule at its least place, in bytes from the start of the table stream, or want
 /// of memory.
-#[derive(Clone, Copy, Debug, PartialEq, Eq, Error)]
+#[derive(Clone, Copy, Debug, Error)]
 pub enum ClxFault {
     #[error("rule {rule} is broken at {offset}")]
     Rule { rule: u8, offset: u32 },

@@ -1,9 +1,8 @@
 // The rules on the pieces, one function a rule.
-ghost use Rattle.std.specs.Prelude.{◌≡◌, ℕ, ◌+◌, ◌^◌, ◌<◌, ◌≤◌, List};
-ghost use Rattle.std.specs.Prelude.{length, MatchOption, MatchResult, IsTrue, ◌↔◌};
-ghost use Rattle.doc_bits.specs.Rules.{Hold, IsFirst, LeastOrNone, Among, Nowhere};
-ghost use Rattle.doc_bits.specs.Plc.{PlcPart, plc_cp};
-ghost use Rattle.piece_table.specs.Clx.{IsPlcPcd, clx_piece, pcd_place};
+ghost use Rattle.std.specs.Prelude.{◌≡◌, ◌+◌, ◌^◌, ◌<◌};
+ghost use Rattle.std.specs.Prelude.{length, MatchResult, IsTrue, ◌↔◌};
+ghost use Rattle.doc_bits.specs.Rules.{Hold, LeastOrNone, Among};
+ghost use Rattle.piece_table.specs.Clx.{IsPlcPcd, pcd_place};
 ghost use Rattle.piece_table.specs.ClxRules.{HasWrongCp, IsNoAscent, IsOutside, LeavesStream};
 ghost use Rattle.piece_table.specs.ClxRules.{IsUnread, IsReadPrm, piece_rules, NamesFirst};
 

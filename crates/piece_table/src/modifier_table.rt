@@ -1,10 +1,7 @@
 // The modifiers of the Prms of a Clx, each read once.
-ghost use Rattle.std.specs.Prelude.{◌≡◌, ℕ, ◌^◌, ◌<◌, ◌≤◌, List, length, map, slice_get};
-ghost use Rattle.std.specs.Prelude.{slice_index, slice_index_or, IfOk, OnOk, Some, ◌++◌, ◌∷◌, [], ◌≢◌};
-ghost use Rattle.sprm_table.specs.Sprm.{IsAcceptedList, Prl};
+ghost use Rattle.std.specs.Prelude.{◌≡◌, ℕ, ◌^◌, ◌<◌, ◌≤◌, List, length};
+ghost use Rattle.std.specs.Prelude.{slice_index, slice_index_or, IfOk, OnOk, Some, ◌++◌, ◌∷◌, []};
 ghost use Rattle.sprm_table.specs.Prms.{IsPrmCode};
-ghost use Rattle.prop_map.specs.declared.modifiers.Modifier.{Modifier as TheModifier};
-ghost use Rattle.prop_map.specs.Formed.{prc_groups};
 ghost use Rattle.prop_map.specs.Modifiers.{IsFormedModifier, IsModifierOf, no_modifier};
 ghost use Rattle.piece_table.specs.Clx.{prm_of};
 ghost use Rattle.piece_table.specs.ClxRules.{IsReadPrm};

@@ -1,8 +1,8 @@
 // [MS-DOC] Clx: its Prcs, and the Plc of its Pcdt.
-ghost use Rattle.std.specs.Prelude.{◌≡◌, ℕ, ◌+◌, ◌^◌, ◌<◌, ◌≤◌};
-ghost use Rattle.std.specs.Prelude.{List, length, drop, slice_get, MatchOption, MatchResult};
-ghost use Rattle.std.specs.Prelude.{IfOk, OnOk, OnErr, Some, [], ◌++◌, ◌∷◌};
-ghost use Rattle.doc_bits.specs.Rules.{Nowhere, From, IsLeast, rule, Hold};
+ghost use Rattle.std.specs.Prelude.{◌≡◌, ℕ, ◌+◌, ◌^◌, ◌<◌};
+ghost use Rattle.std.specs.Prelude.{List, length, slice_get, MatchOption, MatchResult};
+ghost use Rattle.std.specs.Prelude.{IfOk, OnOk, Some, [], ◌++◌, ◌∷◌};
+ghost use Rattle.doc_bits.specs.Rules.{From, rule, Hold};
 ghost use Rattle.doc_bits.specs.Plc.{PlcPart};
 ghost use Rattle.piece_table.specs.Clx.{IsWrongAt};
 ghost use Rattle.piece_table.specs.ClxRules.{IsClxFault};

@@ -1,12 +1,11 @@
 // [MS-DOC] Pcd: what stands beside the CPs of a piece.
-ghost use Rattle.std.specs.Prelude.{◌≡◌, ◌<◌, IsTrue, ◌↔◌};
-ghost use Rattle.doc_bits.specs.Plc.{PlcPart};
+ghost use Rattle.std.specs.Prelude.{◌≡◌, ◌<◌};
 ghost use Rattle.piece_table.specs.Clx.{fc_compressed, prm_of, pcd_fc, pcd_prm, prm_word as prm_word_of, IsPlcPcd};
 
 use doc_bits::{Plc, get16, get32};
 
 /// Where the units of a piece stand.
-#[derive(Clone, Copy, Debug, PartialEq, Eq)]
+#[derive(Clone, Copy)]
 pub struct FcCompressed {
     /// The first byte, from the start of `WordDocument`.
     pub at: u32,
@@ -15,7 +14,7 @@ pub struct FcCompressed {
 }
 
 /// The modifier of a piece.
-#[derive(Clone, Copy, Debug, PartialEq, Eq)]
+#[derive(Clone, Copy, PartialEq, Eq)]
 pub enum Prm {
     Nothing,
     /// One sprm by its short number, and its operand.

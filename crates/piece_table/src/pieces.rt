@@ -1,6 +1,6 @@
-ghost use Rattle.std.specs.Prelude.{◌≡◌, ℕ, ◌+◌, ◌*◌, ◌^◌, ◌<◌, ◌≤◌};
+ghost use Rattle.std.specs.Prelude.{◌≡◌, ◌+◌, ◌*◌, ◌^◌, ◌<◌, ◌≤◌};
 ghost use Rattle.std.specs.Prelude.{length, map, slice_get, Some, option_map, IfOk};
-ghost use Rattle.piece_table.specs.Piece.{TextPiece, PieceTable, total_length, unit_bytes, piece_end, IsPiece};
+ghost use Rattle.piece_table.specs.Piece.{PieceTable, total_length, unit_bytes, piece_end, IsPiece};
 
 use block_lists::{BlockList, Measured};
 use doc_bits::Memory;
@@ -10,7 +10,7 @@ use std::marker::Model;
 
 /// A piece of text: the byte of `WordDocument` where it begins, whether its units have two bytes, and its number of
 /// units.
-#[derive(Clone, Copy, Debug, PartialEq, Eq)]
+#[derive(Clone, Copy)]
 pub struct Piece {
     pub at: u32,
     pub wide: bool,
@@ -35,21 +35,21 @@ impl Piece {
 }
 
 /// Where a CP is: the number of its piece, and its place within the piece, in units.
-#[derive(Clone, Copy, Debug, PartialEq, Eq)]
+#[derive(Clone, Copy)]
 pub struct Spot {
     pub piece: usize,
     pub within: u32,
 }
 
 /// Where text may stand in `WordDocument`: from the end of the FIB to the end of the stream, in bytes.
-#[derive(Clone, Copy, Debug, PartialEq, Eq)]
+#[derive(Clone, Copy)]
 pub struct TextBounds {
     pub from: u32,
     pub end: u32,
 }
 
 /// A piece, and the number of its modifier in the list.
-#[derive(Clone, Copy, Debug, PartialEq, Eq)]
+#[derive(Clone, Copy)]
 pub(crate) struct Entry {
     pub(crate) piece: Piece,
     pub(crate) modifier: usize,

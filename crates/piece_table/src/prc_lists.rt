@@ -1,5 +1,5 @@
 // The lists of the Prcs that were printed, so that none is printed twice.
-ghost use Rattle.std.specs.Prelude.{◌≡◌, OnOk, IfOk, Option, List, ℕ};
+ghost use Rattle.std.specs.Prelude.{◌≡◌, OnOk, Option};
 ghost use Rattle.piece_table.specs.PrcLists.{prm_of_list, no_prm, PutsPrm};
 
 use doc_bits::Memory;

@@ -1,13 +1,12 @@
 // The Prcs that pieces name: rules 31 and 32, and their modifiers.
-ghost use Rattle.std.specs.Prelude.{◌≡◌, ℕ, ◌+◌, ◌^◌, ◌<◌, ◌≤◌, ◌↔◌};
-ghost use Rattle.std.specs.Prelude.{◌⊎◌, List, length, flat_map, slice_get, slice_index_or};
-ghost use Rattle.std.specs.Prelude.{false, MatchOption, MatchResult, IfOk, IfNone, IsTrue};
-ghost use Rattle.doc_bits.specs.Rules.{LeastOrNone, Nowhere, Among, IsLeast, rule};
-ghost use Rattle.doc_bits.specs.Plc.{PlcPart};
+ghost use Rattle.std.specs.Prelude.{◌≡◌, ℕ, ◌+◌, ◌^◌, ◌<◌, ◌↔◌};
+ghost use Rattle.std.specs.Prelude.{◌⊎◌, length, flat_map, slice_index_or};
+ghost use Rattle.std.specs.Prelude.{false, MatchResult, IfOk, IfNone, IsTrue};
+ghost use Rattle.doc_bits.specs.Rules.{LeastOrNone, Nowhere, Among, rule};
 ghost use Rattle.sprm_table.specs.Sprm.{HasSprmFaultAt, IsAcceptedList};
 ghost use Rattle.prop_map.specs.Formed.{prc_groups};
 ghost use Rattle.prop_map.specs.Modifiers.{IsFormedModifier};
-ghost use Rattle.piece_table.specs.Clx.{ClxParts, IsPlcPcd, prc_bytes, pcd_prm};
+ghost use Rattle.piece_table.specs.Clx.{IsPlcPcd, prc_bytes};
 ghost use Rattle.piece_table.specs.ClxRules.{IsFaultyPrc, IsLongPrc, FitsPages, IsReadPrm, AreReadPrms, IsClxFault};
 ghost use Rattle.piece_table.specs.declared.pcd.Prm.TheVariants.{Prc};
 ghost use Rattle.piece_table.specs.Front.{MarksNamed, clx_parts};
@@ -47,11 +46,11 @@ pub fn named_prcs(alloc: Global, parts: &Parts<'_>) -> Result<Vec<bool>, Memory>
 }
 
 /// Marks the Prc that a Prm names.
-fn mark(marks: &mut [bool], prm: Prm)
-    requires { IsReadPrm (length marks.old) prm }
-    ensures count { length marks.new ≡ length marks.old }
-    ensures marked { (number : ℕ) → IsTrue (slice_index_or marks.new number false)
-        ↔ (IsTrue (slice_index_or marks.old number false) ⊎ (prm ≡ Prc number)) }
+fn mark(marks: &mut Vec<bool>, prm: Prm)
+    requires { IsReadPrm (length marks.old.items) prm }
+    ensures count { length marks.new.items ≡ length marks.old.items }
+    ensures marked { (number : ℕ) → IsTrue (slice_index_or marks.new.items number false)
+        ↔ (IsTrue (slice_index_or marks.old.items number false) ⊎ (prm ≡ Prc number)) }
 {
     if let Prm::Prc(number) = prm {
         marks[number as usize] = true;

@@ -1,6 +1,6 @@
 // The Clx of pieces: the Prcs of their modifiers, and the Pcdt.
-ghost use Rattle.std.specs.Prelude.{◌≡◌, ℕ, ◌+◌, ◌*◌, ◌^◌, ◌<◌, ◌≤◌, List};
-ghost use Rattle.std.specs.Prelude.{◌++◌, length, flat_map, take, sum, All, IfOk, OnOk, slice_index};
+ghost use Rattle.std.specs.Prelude.{◌≡◌, ℕ, ◌+◌, ◌*◌, ◌^◌, ◌<◌, ◌≤◌};
+ghost use Rattle.std.specs.Prelude.{◌++◌, length, flat_map, sum, All, IfOk, OnOk, slice_index};
 ghost use Rattle.doc_bits.specs.Number.{number_bytes};
 ghost use Rattle.piece_table.specs.Clx.{prc_bytes, pcdt_bytes};
 ghost use Rattle.piece_table.specs.Printing.{IsPrintable, IsPrintedClx, fc_number, pcd_bytes, cps_of, plc_bytes};

@@ -1,8 +1,7 @@
 ghost use Rattle.std.specs.Prelude.{◌≡◌, ◌+◌, ◌^◌, ◌<◌, ◌≤◌};
 ghost use Rattle.std.specs.Prelude.{length, map, All, MatchResult, IfOk};
-ghost use Rattle.doc_bits.specs.Rules.{Hold, IsFirst};
-ghost use Rattle.doc_bits.specs.Plc.{PlcPart};
-ghost use Rattle.piece_table.specs.Clx.{ClxParts, IsPlcPcd, SpellsClx, plc_place, IsClx, clx_pieces, HaveModifiers};
+ghost use Rattle.doc_bits.specs.Rules.{Hold};
+ghost use Rattle.piece_table.specs.Clx.{IsPlcPcd, plc_place, IsClx, clx_pieces, HaveModifiers};
 ghost use Rattle.piece_table.specs.ClxRules.{clx_rules, parts_rules, text_bounds};
 ghost use Rattle.piece_table.specs.ClxRules.{IsClxFault, StaysInStream, FitsPages};
 ghost use Rattle.piece_table.specs.Front.{clx_parts};

@@ -1,8 +1,7 @@
 // Modifiers of entries: composed with another, and copied where an entry names them.
-ghost use Rattle.std.specs.Prelude.{◌≡◌, ◌≢◌, ℕ, ◌<◌, ◌≤◌, List, length, map, All, IfOk};
+ghost use Rattle.std.specs.Prelude.{◌≡◌, ◌≢◌, ℕ, ◌<◌, ◌≤◌, length, map, All, IfOk};
 ghost use Rattle.std.specs.Prelude.{OnOk, slice_index, slice_get, slice_range, Some, vec_len, vec_capacity};
 ghost use Rattle.std.specs.List.{splice};
-ghost use Rattle.prop_map.specs.declared.modifiers.Modifier.{Modifier as TheModifier};
 ghost use Rattle.prop_map.specs.Modifiers.{no_modifier};
 ghost use Rattle.piece_table.specs.Numbering.{Extends};
 ghost use Rattle.piece_table.specs.Cuts.{renumbered};

@@ -1,7 +1,9 @@
 -- Lists of well-formed entries, after a change.
 use Rattle.std.proofs.Common.{ℕ, zero, suc, refl, arith, ◌≡◌, ◌+◌, ◌-◌, ◌<◌, ◌≤◌, ◌^◌, List, [], ◌∷◌, ◌++◌, length}
 use Rattle.std.proofs.Common.{take, drop, set, length-append, length-take-le, length-drop, rules, ap, subst, Option}
-use Rattle.std.proofs.Common.{Some, None}
+use Rattle.std.proofs.Common.{Some, None, get_or, sym, ◌∙◌, length-take}
+use Rattle.std.specs.Prelude.{slice_range}
+use Rattle.std.proofs.lemmas.List.{take_more}
 use Rattle.std.specs.List.{All, splice}
 use Rattle.std.proofs.lemmas.List.Elements.{All-append, All-take, All-drop, All-set}
 use Rattle.std.specs.Option.{IfSome, ForSome, unwrap_or}
@@ -46,6 +48,21 @@ IsFormedList-splice P xs ys fresh from to is ordered within few formed new =
           All-append P (take from xs) (fresh ++ drop to xs) (All-take P from xs formed.each)
           (All-append P fresh (drop to xs) new.each (All-drop P to xs formed.each));
     })
+
+-- some of the entries
+pub IsFormedList-range : {X : Type 0} (P : X → Type 0) (xs ys : List X) (from to : ℕ) → ys ≡ slice_range xs from to →
+    IsFormedList P xs → IsFormedList P ys
+IsFormedList-range P xs ys from to is formed =
+    rw is (record {
+      few = omega (arith, length-take (to - from) (drop from xs), length-drop from xs, formed.few);
+      each = All-take P (to - from) (drop from xs) (All-drop P from xs formed.each);
+    })
+
+-- one entry more of a range is copied
+pub copied_more : {X : Type 0} (range made next : List X) (i : ℕ) (x : X) → made ≡ take i range →
+    next ≡ made ++ x ∷ [] → x ≡ get_or range i x → i < length range → next ≡ take (i + 1) range
+copied_more range made next i x so_far put is low =
+    put ∙ (ap (λ l. l ++ x ∷ []) so_far ∙ (ap (λ y. take i range ++ y ∷ []) is ∙ sym (take_more range i x low)))
 
 -- an entry in place of another
 pub IsFormedList-set : {X : Type 0} (P : X → Type 0) (xs : List X) (i : ℕ) (x : X) → IsFormedList P xs → P x →

@@ -1,9 +1,10 @@
 // The blank document.
-ghost use Rattle.std.specs.Prelude.{◌≡◌, ℕ, ◌+◌, ◌<◌, ◌≤◌, [], ◌∷◌};
-ghost use Rattle.std.specs.Prelude.{◌++◌, length, replicate, Some, None, IfOk};
+ghost use Rattle.std.specs.Prelude.{◌≡◌, ◌+◌, ◌<◌, ◌≤◌};
+ghost use Rattle.std.specs.Prelude.{[], ◌∷◌, ◌++◌, length, replicate, Some, None, IfOk};
 ghost use Rattle.plain_doc.specs.Blank.{blank_item, normal_style, heading_style, default_font_style, one_setting};
 ghost use Rattle.plain_doc.specs.Blank.{blank_sheet, blank_carried, blank_document};
 
+use crate::document::{AllTexts, OtherParts};
 use crate::rules_counts::{HEADS_A_SECTION, SEPARATORS};
 use crate::{Carried, Document, Item, Items, Mark, Texts};
 use cfb_streams::Streams;
@@ -45,20 +46,40 @@ const CLSID_WORD: [u8; 16] = [
 pub fn blank(alloc: Global) -> Result<Document, Memory>
     ensures { IfOk result (λ made. made ≡ blank_document) }
 {
-    let mut main = Items::new(alloc);
-    main.add(only_item(alloc))?;
+    let main = only_paragraph(alloc)?;
+    let heads = empty_heads(alloc)?;
+    let sheet = sheet(alloc)?;
+    let texts = AllTexts {
+        main,
+        notes: Texts::new(alloc),
+        heads,
+    };
+    let others = OtherParts {
+        sheet,
+        carried: nothing_carried(alloc),
+        bookmarks: Bookmarks::new(alloc),
+    };
+    Ok(texts.document(others))
+}
+
+/// One empty paragraph, which ends a section too.
+fn only_paragraph(alloc: Global) -> Result<Items, Memory>
+    ensures { IfOk result (λ items. items ≡ blank_item ∷ []) }
+{
+    let mut items = Items::new(alloc);
+    items.add(only_item(alloc))?;
+    Ok(items)
+}
+
+/// The empty header texts.
+fn empty_heads(alloc: Global) -> Result<Texts, Memory>
+    ensures { IfOk result (λ heads. heads ≡ replicate HEADS []) }
+{
     let mut heads = Texts::new(alloc);
     for _k in 0..HEADS {
         heads.add(Items::new(alloc))?;
     }
-    Ok(Document {
-        main,
-        notes: Texts::new(alloc),
-        heads,
-        sheet: sheet(alloc)?,
-        carried: nothing_carried(alloc),
-        bookmarks: Bookmarks::new(alloc),
-    })
+    Ok(heads)
 }
 
 /// A paragraph mark of style 0, which ends a section too.

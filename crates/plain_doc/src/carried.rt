@@ -42,19 +42,47 @@ impl Carried {
     pub fn copy(&self, alloc: Global) -> Result<Carried, Memory>
         ensures { IfOk result (λ copy. copy ≡ self.now) }
     {
-        Ok(Carried {
-            fonts: copy_part(alloc, &self.fonts)?,
-            dop: copy_part(alloc, &self.dop)?,
-            assoc: copy_part(alloc, &self.assoc)?,
-            lst: copy_part(alloc, &self.lst)?,
-            levels: copy_part(alloc, &self.levels)?,
-            lfo: copy_part(alloc, &self.lfo)?,
+        let parts = copy_parts(alloc, &self.fonts, &self.dop, &self.assoc)?;
+        let lists = copy_parts(alloc, &self.lst, &self.levels, &self.lfo)?;
+        let streams = copy_streams(alloc, &self.streams)?;
+        Ok(self.with_parts(parts, lists, streams))
+    }
+
+    /// The same numbers with these parts, which are the same.
+    fn with_parts(&self, parts: ThreeParts, lists: ThreeParts, streams: Streams) -> Carried
+        requires fonts { parts.first ≡ self.now.fonts }
+        requires dop { parts.second ≡ self.now.dop }
+        requires assoc { parts.third ≡ self.now.assoc }
+        requires lst { lists.first ≡ self.now.lst }
+        requires levels { lists.second ≡ self.now.levels }
+        requires lfo { lists.third ≡ self.now.lfo }
+        requires streams { streams ≡ self.now.streams }
+
+        ensures { result ≡ self.now }
+    {
+        let ThreeParts {
+            first: fonts,
+            second: dop,
+            third: assoc,
+        } = parts;
+        let ThreeParts {
+            first: lst,
+            second: levels,
+            third: lfo,
+        } = lists;
+        Carried {
+            fonts,
+            dop,
+            assoc,
+            lst,
+            levels,
+            lfo,
             clsid: self.clsid,
             lid: self.lid,
             lid_fe: self.lid_fe,
             flags: self.flags,
-            streams: copy_streams(alloc, &self.streams)?,
-        })
+            streams,
+        }
     }
 
     /// Whether both have the same parts, numbers and streams.
@@ -85,13 +113,42 @@ impl Carried {
             × (self.now.assoc ≡ other.now.assoc) × (self.now.lst ≡ other.now.lst)
             × (self.now.levels ≡ other.now.levels) × (self.now.lfo ≡ other.now.lfo) }
     {
-        self.fonts.as_slice() == other.fonts.as_slice()
-            && self.dop.as_slice() == other.dop.as_slice()
-            && self.assoc.as_slice() == other.assoc.as_slice()
-            && self.lst.as_slice() == other.lst.as_slice()
-            && self.levels.as_slice() == other.levels.as_slice()
-            && self.lfo.as_slice() == other.lfo.as_slice()
+        same_bytes(&self.fonts, &other.fonts)
+            && same_bytes(&self.dop, &other.dop)
+            && same_bytes(&self.assoc, &other.assoc)
+            && same_bytes(&self.lst, &other.lst)
+            && same_bytes(&self.levels, &other.levels)
+            && same_bytes(&self.lfo, &other.lfo)
     }
+}
+
+/// Three parts of the table stream.
+#[derive(Drop)]
+struct ThreeParts {
+    first: Bytes,
+    second: Bytes,
+    third: Bytes,
+}
+
+/// The same three parts.
+fn copy_parts(
+    alloc: Global,
+    first: &Bytes,
+    second: &Bytes,
+    third: &Bytes,
+) -> Result<ThreeParts, Memory>
+    ensures first { IfOk result (λ copy. copy.first ≡ first.now) }
+    ensures second { IfOk result (λ copy. copy.second ≡ second.now) }
+    ensures third { IfOk result (λ copy. copy.third ≡ third.now) }
+{
+    let first = copy_part(alloc, first)?;
+    let second = copy_part(alloc, second)?;
+    let third = copy_part(alloc, third)?;
+    Ok(ThreeParts {
+        first,
+        second,
+        third,
+    })
 }
 
 /// The same bytes.
@@ -99,6 +156,13 @@ fn copy_part(alloc: Global, part: &Bytes) -> Result<Bytes, Memory>
     ensures { IfOk result (λ copy. copy ≡ part.now) }
 {
     Bytes::from_slice(alloc, part.as_slice())
+}
+
+/// Whether both are the same bytes.
+fn same_bytes(part: &Bytes, other: &Bytes) -> bool
+    ensures { IsTrue result ↔ part.now ≡ other.now }
+{
+    part.as_slice() == other.as_slice()
 }
 
 /// The same streams.

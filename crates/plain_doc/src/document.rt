@@ -29,14 +29,9 @@ impl Document {
     pub fn copy(&self, alloc: Global) -> Result<Document, Memory>
         ensures { IfOk result (λ copy. copy ≡ self.now) }
     {
-        Ok(Document {
-            main: self.main.copy(alloc, 0, self.main.len())?,
-            notes: self.notes.copy(alloc, 0, self.notes.len())?,
-            heads: self.heads.copy(alloc, 0, self.heads.len())?,
-            sheet: self.sheet.copy(alloc)?,
-            carried: self.carried.copy(alloc)?,
-            bookmarks: self.bookmarks.copy(alloc, 0, self.bookmarks.len())?,
-        })
+        let texts = copy_texts(alloc, &self.main, &self.notes, &self.heads)?;
+        let others = copy_others(alloc, &self.sheet, &self.carried, &self.bookmarks)?;
+        Ok(texts.document(others))
     }
 
     /// Puts `fresh` in place of the items of the main text from `from` to before `to`. Each item is
@@ -66,6 +61,84 @@ impl Document {
         ensures new { self.new ≡ record self.old { main = slice_set self.old.main i item } }
     {
         self.main.replace(i, item)
+    }
+}
+
+/// The same texts. Their maps are shared.
+fn copy_texts(alloc: Global, main: &Items, notes: &Texts, heads: &Texts) -> Result<AllTexts, Memory>
+    ensures main { IfOk result (λ texts. texts.main ≡ main.now) }
+    ensures notes { IfOk result (λ texts. texts.notes ≡ notes.now) }
+    ensures heads { IfOk result (λ texts. texts.heads ≡ heads.now) }
+{
+    let main = main.copy(alloc, 0, main.len())?;
+    let notes = notes.copy(alloc, 0, notes.len())?;
+    let heads = heads.copy(alloc, 0, heads.len())?;
+    Ok(AllTexts { main, notes, heads })
+}
+
+/// The parts of a document beside its texts.
+#[derive(Drop)]
+pub(crate) struct OtherParts {
+    pub(crate) sheet: StyleSheet,
+    pub(crate) carried: Carried,
+    pub(crate) bookmarks: Bookmarks,
+}
+
+/// The same parts. Styles are shared.
+fn copy_others(
+    alloc: Global,
+    sheet: &StyleSheet,
+    carried: &Carried,
+    bookmarks: &Bookmarks,
+) -> Result<OtherParts, Memory>
+    ensures sheet { IfOk result (λ others. others.sheet ≡ sheet.now) }
+    ensures carried { IfOk result (λ others. others.carried ≡ carried.now) }
+    ensures bookmarks { IfOk result (λ others. others.bookmarks ≡ bookmarks.now) }
+{
+    let sheet = sheet.copy(alloc)?;
+    let bookmarks = bookmarks.copy(alloc, 0, bookmarks.len())?;
+    let carried = carried.copy(alloc)?;
+    Ok(OtherParts {
+        sheet,
+        carried,
+        bookmarks,
+    })
+}
+
+/// The texts of a document.
+#[derive(Drop)]
+pub(crate) struct AllTexts {
+    pub(crate) main: Items,
+    pub(crate) notes: Texts,
+    pub(crate) heads: Texts,
+}
+
+impl AllTexts {
+    /// The document that these texts and the other parts make.
+    pub(crate) fn document(self, others: OtherParts) -> Document
+        ensures { result ≡ record {
+          main = self.main;
+          notes = self.notes;
+          heads = self.heads;
+          sheet = others.sheet;
+          carried = others.carried;
+          bookmarks = others.bookmarks;
+        } }
+    {
+        let AllTexts { main, notes, heads } = self;
+        let OtherParts {
+            sheet,
+            carried,
+            bookmarks,
+        } = others;
+        Document {
+            main,
+            notes,
+            heads,
+            sheet,
+            carried,
+            bookmarks,
+        }
     }
 }
 

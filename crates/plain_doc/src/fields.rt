@@ -1,5 +1,5 @@
 // The nesting of fields.
-ghost use Rattle.std.specs.Prelude.{◌≡◌, ◌^◌, ◌<◌, ◌↔◌, [], ◌∷◌};
+ghost use Rattle.std.specs.Prelude.{◌≡◌, ◌^◌, ◌<◌, ◌↔◌, []};
 ghost use Rattle.std.specs.Prelude.{length, IsTrue, MatchBool, Some, None};
 ghost use Rattle.doc_bits.specs.Rules.{LeastOrNone};
 ghost use Rattle.plain_doc.specs.Nesting.{BreaksNesting, most_open};

@@ -6,7 +6,7 @@ use prop_map::PropMap;
 use std::alloc::Global;
 
 /// How a note is numbered: by itself, or by a mark that the writer chose.
-#[derive(Clone, Copy, Debug, PartialEq, Eq)]
+#[derive(Clone, Copy, PartialEq, Eq)]
 pub enum NoteKind {
     Auto,
     Custom,
@@ -55,14 +55,24 @@ impl Item {
     pub fn copy(&self, alloc: Global) -> Result<Item, Memory>
         ensures { IfOk result (λ copy. copy ≡ self.now) }
     {
-        Ok(Item {
+        let chp = self.chp.copy(alloc)?;
+        let mark = copy_mark(alloc, &self.mark)?;
+        let sect = copy_sect(alloc, &self.sect)?;
+        Ok(self.with_maps(chp, mark, sect))
+    }
+
+    /// The item with these maps.
+    fn with_maps(&self, chp: PropMap, mark: Option<Mark>, sect: Option<PropMap>) -> Item
+        ensures { result ≡ record self.now { chp = chp; mark = mark; sect = sect } }
+    {
+        Item {
             unit: self.unit,
-            chp: self.chp.copy(alloc)?,
-            mark: copy_mark(alloc, &self.mark)?,
-            sect: copy_sect(alloc, &self.sect)?,
             fld: self.fld,
             note: self.note,
-        })
+            chp,
+            mark,
+            sect,
+        }
     }
 
     /// Whether both are the same item.

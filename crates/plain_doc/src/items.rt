@@ -1,5 +1,5 @@
 // The items of one text. After want of memory a list is what it was.
-ghost use Rattle.std.specs.Prelude.{◌≡◌, ℕ, ◌+◌, ◌-◌, ◌^◌, ◌<◌, ◌≤◌, []};
+ghost use Rattle.std.specs.Prelude.{◌≡◌, ◌+◌, ◌-◌, ◌^◌, ◌<◌, ◌≤◌, []};
 ghost use Rattle.std.specs.Prelude.{◌∷◌, ◌++◌, length, take, slice_get, slice_set};
 ghost use Rattle.std.specs.Prelude.{slice_range, All, Some, IsTrue, ◌↔◌, IfOk, OnOk, OnErr};
 ghost use Rattle.std.specs.List.{splice};
@@ -104,7 +104,7 @@ impl Items {
         let range = &self.items[from..to];
         let mut items = Vec::with_capacity(alloc, range.len())?;
         for item in range {
-            items.push(item.copy(alloc)?)?;
+            push_copy(alloc, &mut items, item)?;
         }
         Ok(Items { items })
     }
@@ -145,4 +145,13 @@ impl Items {
         }
         true
     }
+}
+
+/// Puts the same item last. Its maps are shared.
+fn push_copy(alloc: Global, items: &mut Vec<Item>, item: &Item) -> Result<(), Memory>
+    ensures { OnOk result (items.new.items ≡ items.old.items ++ item.now ∷ []) }
+{
+    let copy = item.copy(alloc)?;
+    items.push(copy)?;
+    Ok(())
 }

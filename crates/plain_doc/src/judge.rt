@@ -49,7 +49,7 @@ const MOST_BOOKMARKS: usize = 16_000;
 
 /// The first broken rule, at its first place: an item of a text, a style of the sheet, or a number
 /// of texts or items.
-#[derive(Clone, Copy, Debug, PartialEq, Eq, Error)]
+#[derive(Clone, Copy, Debug, Error)]
 #[error("rule {rule} is broken at {at}")]
 pub struct DocFault {
     pub rule: u8,

@@ -15,8 +15,9 @@ impl Carried {
         requires room { AreCarriedStreams (with_bytes self.streams i bytes.now) }
         ensures { IfOk result (HasOtherBytes self i bytes.now) }
     {
+        let streams = copy_streams_with(alloc, &self.streams, i, bytes)?;
         let mut carried = self;
-        carried.streams = copy_streams_with(alloc, &carried.streams, i, bytes)?;
+        carried.streams = streams;
         Ok(carried)
     }
 }

@@ -1,5 +1,5 @@
 // What the types of numbers say of them. None of these functions does anything when it runs.
-ghost use Rattle.std.specs.Prelude.{ℕ, ◌^◌, ◌<◌, All};
+ghost use Rattle.std.specs.Prelude.{◌^◌, ◌<◌, All};
 ghost use Rattle.std.specs.Option.{ForSome};
 ghost use Rattle.doc_bits.specs.Number.{AreBytes};
 ghost use Rattle.plain_doc.specs.Document.{HasPropertyMaps, IsFormedItem};

@@ -1,5 +1,5 @@
 // The rules on the numbers of texts and items.
-ghost use Rattle.std.specs.Prelude.{◌≡◌, ◌+◌, ◌*◌, ◌^◌, ◌<◌, ◌≤◌, length};
+ghost use Rattle.std.specs.Prelude.{◌≡◌, ◌+◌, ◌^◌, ◌<◌, ◌≤◌, length};
 ghost use Rattle.std.specs.List.{sum_by};
 ghost use Rattle.plain_doc.specs.RulesOfSheet.{note_count, section_count, item_count};
 ghost use Rattle.plain_doc.specs.TextWalk.{HasCounts};

@@ -1,6 +1,6 @@
 // The rules on each item.
-ghost use Rattle.std.specs.Prelude.{◌≡◌, ◌⊎◌, ◌+◌, ◌^◌, ◌<◌};
-ghost use Rattle.std.specs.Prelude.{◌≤◌, ◌↔◌, IsTrue, IsSome};
+ghost use Rattle.std.specs.Prelude.{◌+◌, ◌^◌, ◌<◌};
+ghost use Rattle.std.specs.Prelude.{◌↔◌, IsTrue};
 ghost use Rattle.std.specs.Option.{ForSome};
 ghost use Rattle.doc_bits.specs.declared.places.Where.TheVariants.{Main};
 ghost use Rattle.prop_map.specs.Formed.{IsFormedMap};

@@ -14,7 +14,7 @@ use style_sheet::{Kind, StyleSheet};
 const STD_MOST: u64 = 32_767;
 
 /// A rule on each style.
-#[derive(Clone, Copy, Debug, PartialEq, Eq)]
+#[derive(Clone, Copy)]
 pub(crate) enum StyleRule {
     /// The settings are short enough for a file.
     Settings,

@@ -1,5 +1,5 @@
 // The rules on texts, judged text by text in the order of their places.
-ghost use Rattle.std.specs.Prelude.{◌≡◌, ℕ, ◌^◌, ◌<◌, ◌↔◌, length, IsTrue};
+ghost use Rattle.std.specs.Prelude.{◌≡◌, ◌^◌, ◌<◌, ◌↔◌, length, IsTrue};
 ghost use Rattle.doc_bits.specs.Rules.{LeastOrNone};
 ghost use Rattle.doc_bits.specs.Places.{LeastPlaceOrNone};
 ghost use Rattle.plain_doc.specs.Document.{IsFormedText, HasPropertyMaps};
@@ -17,7 +17,7 @@ use style_sheet::{Kind, StyleSheet};
 use text_codes::PARAGRAPH_MARK;
 
 /// A rule on each item of a text.
-#[derive(Clone, Copy, Debug, PartialEq, Eq)]
+#[derive(Clone, Copy)]
 pub enum ItemRule {
     /// What the item has stands where it may.
     Placing,
@@ -28,7 +28,7 @@ pub enum ItemRule {
 }
 
 /// A rule on each text.
-#[derive(Clone, Copy, Debug, PartialEq, Eq)]
+#[derive(Clone, Copy)]
 pub enum TextRule {
     /// The text ends with the end of a paragraph.
     End,
@@ -40,7 +40,7 @@ pub enum TextRule {
 }
 
 /// The texts beside the main text.
-#[derive(Clone, Copy, Debug, PartialEq, Eq)]
+#[derive(Clone, Copy)]
 pub enum Side {
     Notes,
     Heads,

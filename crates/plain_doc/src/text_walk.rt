@@ -1,10 +1,9 @@
 // One walk over each text, which finds whether a rule on texts is broken, and not which. Most items
 // are plain ones, which take a few tests.
-ghost use Rattle.std.specs.Prelude.{◌≡◌, ℕ, ◌+◌, ◌^◌, ◌<◌, ◌≤◌};
-ghost use Rattle.std.specs.Prelude.{◌↔◌, [], ◌∷◌, length, IsTrue, IfSome};
+ghost use Rattle.std.specs.Prelude.{◌≡◌, ◌+◌, ◌^◌, ◌<◌, ◌≤◌};
+ghost use Rattle.std.specs.Prelude.{◌↔◌, [], IsTrue, IfSome};
 ghost use Rattle.doc_bits.specs.declared.places.Where.TheVariants.{Main};
 ghost use Rattle.plain_doc.specs.Document.{IsFormedText, HasPropertyMaps};
-ghost use Rattle.plain_doc.specs.RulesOfSheet.{note_count, section_count};
 ghost use Rattle.plain_doc.specs.TextWalk.{IsPlain, PassesItem, KeepsTextRules, AreTextsRight, AreRightTexts};
 ghost use Rattle.plain_doc.specs.TextWalk.{EndsWalk, HasCounts};
 

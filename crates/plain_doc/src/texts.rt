@@ -1,5 +1,5 @@
 // The notes or the header texts of a document. After want of memory a list is what it was.
-ghost use Rattle.std.specs.Prelude.{◌≡◌, ℕ, ◌+◌, ◌-◌, ◌^◌, ◌<◌, ◌≤◌};
+ghost use Rattle.std.specs.Prelude.{◌≡◌, ◌+◌, ◌-◌, ◌^◌, ◌<◌, ◌≤◌};
 ghost use Rattle.std.specs.Prelude.{[], ◌∷◌, ◌++◌, length, slice_get, slice_set};
 ghost use Rattle.std.specs.Prelude.{slice_range, Some, IsTrue, ◌↔◌, IfOk, OnOk, OnErr};
 ghost use Rattle.std.specs.List.{splice};
@@ -77,7 +77,7 @@ impl Texts {
         let range = &self.texts[from..to];
         let mut texts = Vec::with_capacity(alloc, range.len())?;
         for text in range {
-            texts.push(text.copy(alloc, 0, text.len())?)?;
+            push_copy(alloc, &mut texts, text)?;
         }
         Ok(Texts { texts })
     }
@@ -118,4 +118,13 @@ impl Texts {
         }
         true
     }
+}
+
+/// Puts the same text last. Its maps are shared.
+fn push_copy(alloc: Global, texts: &mut Vec<Items>, text: &Items) -> Result<(), Memory>
+    ensures { OnOk result (texts.new.items ≡ texts.old.items ++ text.now ∷ []) }
+{
+    let copy = text.copy(alloc, 0, text.len())?;
+    texts.push(copy)?;
+    Ok(())
 }

@@ -1,9 +1,9 @@
 /// A sprm: the word that names a property and says what its operand is.
-#[derive(Clone, Copy, Debug, PartialEq, Eq, PartialOrd, Ord)]
+#[derive(Clone, Copy, PartialEq, Eq)]
 pub struct Code(pub u16);
 
 /// What a sprm does to a map of properties.
-#[derive(Clone, Copy, Debug, PartialEq, Eq)]
+#[derive(Clone, Copy)]
 pub enum Class {
     /// Sets its code to its operand.
     Plain,

@@ -2,7 +2,7 @@ ghost use Rattle.std.specs.Prelude.{◌≡◌};
 ghost use Rattle.sprm_table.specs.Sprm.{fault_place};
 
 /// The first fault of a list, with the offset of its code in the list's bytes.
-#[derive(Clone, Copy, Debug, PartialEq, Eq)]
+#[derive(Clone, Copy, PartialEq, Eq)]
 pub enum SprmFault {
     /// The operand leaves the list.
     Short { at: usize },

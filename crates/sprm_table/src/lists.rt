@@ -83,7 +83,7 @@ impl<'a> SprmIter<'a> {
 }
 
 /// What stands at the front of a list.
-#[derive(Clone, Copy, Debug, PartialEq, Eq)]
+#[derive(Clone, Copy)]
 enum Step {
     End,
     Short,

@@ -8,7 +8,7 @@ use doc_bits::get16;
 const TDEFTABLE: u16 = 0xD608;
 
 /// How many bytes an operand's value has. A count is no part of the value.
-#[derive(Clone, Copy, Debug, PartialEq, Eq)]
+#[derive(Clone, Copy)]
 pub enum OperandSize {
     /// So many.
     Fixed(usize),

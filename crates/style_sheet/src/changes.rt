@@ -2,11 +2,12 @@
 ghost use Rattle.std.specs.Prelude.{◌≡◌, ◌<◌, false, IfOk, OnOk, OnErr};
 ghost use Rattle.prop_map.specs.Formed.{IsPropertyMap, character_groups, paragraph_groups};
 ghost use Rattle.prop_map.specs.Modifiers.{IsOver};
+ghost use Rattle.style_sheet.specs.declared.styles.Kind.TheVariants.{Para, Other};
 ghost use Rattle.style_sheet.specs.Chain.{kind_at};
 ghost use Rattle.style_sheet.specs.Changes.{with_kind, HasCharactersOver, HasParagraphsOver, SetsCharacters};
 ghost use Rattle.style_sheet.specs.Changes.{SetsParagraphs};
 
-use crate::{Kind, Style, StyleSheet};
+use crate::{Kind, Style, StyleSheet, UpxList};
 use doc_bits::{Memory, Units};
 use prop_map::{Modifier, PropMap};
 use std::alloc::Global;
@@ -21,8 +22,9 @@ impl StyleSheet {
     {
         let alloc = self.alloc;
         let style = self.get(istd).unwrap();
+        let name = Units::from_slice(alloc, style.name.as_slice())?;
         let kind = style.kind.with_characters(alloc, set)?;
-        let style = style.with_kind(alloc, kind)?;
+        let style = style.with_kind(name, kind);
         self.put(istd, style)
     }
 
@@ -36,26 +38,28 @@ impl StyleSheet {
     {
         let alloc = self.alloc;
         let style = self.get(istd).unwrap();
+        let name = Units::from_slice(alloc, style.name.as_slice())?;
         let kind = style.kind.with_paragraphs(alloc, set)?;
-        let style = style.with_kind(alloc, kind)?;
+        let style = style.with_kind(name, kind);
         self.put(istd, style)
     }
 }
 
 impl Style {
-    /// The style with another kind.
-    fn with_kind(&self, alloc: Global, kind: Kind) -> Result<Style, Memory>
-        ensures { IfOk result (λ made. made ≡ with_kind self.now kind) }
+    /// The style, whose name is this one, with another kind.
+    fn with_kind(&self, name: Units, kind: Kind) -> Style
+        requires { name ≡ self.now.name }
+        ensures { result ≡ with_kind self.now kind }
     {
-        Ok(Style {
+        Style {
             sti: self.sti,
             flags: self.flags,
             base: self.base,
             next: self.next,
             grfstd: self.grfstd,
-            name: Units::from_slice(alloc, self.name.as_slice())?,
+            name,
             kind,
-        })
+        }
     }
 }
 
@@ -65,17 +69,18 @@ impl Kind {
         ensures { IfOk result (HasCharactersOver self.now set.now) }
     {
         match self {
-            Kind::Para { pap, chp } => Ok(Kind::Para {
-                pap: pap.copy(alloc)?,
-                chp: over(alloc, chp, set)?,
-            }),
-            Kind::Char { chp } => Ok(Kind::Char {
-                chp: over(alloc, chp, set)?,
-            }),
-            Kind::Other { stk, upxes } => Ok(Kind::Other {
-                stk: *stk,
-                upxes: upxes.copy(alloc)?,
-            }),
+            Kind::Para { pap, chp } => {
+                let both = characters_over(alloc, pap, chp, set)?;
+                Ok(both)
+            }
+            Kind::Char { chp } => {
+                let chp = over(alloc, chp, set)?;
+                Ok(Kind::Char { chp })
+            }
+            Kind::Other { stk, upxes } => {
+                let other = same_other(alloc, *stk, upxes)?;
+                Ok(other)
+            }
         }
     }
 
@@ -84,27 +89,74 @@ impl Kind {
         ensures { IfOk result (HasParagraphsOver self.now set.now) }
     {
         match self {
-            Kind::Para { pap, chp } => Ok(Kind::Para {
-                pap: over(alloc, pap, set)?,
-                chp: chp.copy(alloc)?,
-            }),
-            Kind::Char { chp } => Ok(Kind::Char {
-                chp: chp.copy(alloc)?,
-            }),
-            Kind::Other { stk, upxes } => Ok(Kind::Other {
-                stk: *stk,
-                upxes: upxes.copy(alloc)?,
-            }),
+            Kind::Para { pap, chp } => {
+                let both = paragraphs_over(alloc, pap, chp, set)?;
+                Ok(both)
+            }
+            Kind::Char { chp } => {
+                let chp = chp.copy(alloc)?;
+                Ok(Kind::Char { chp })
+            }
+            Kind::Other { stk, upxes } => {
+                let other = same_other(alloc, *stk, upxes)?;
+                Ok(other)
+            }
         }
     }
+}
+
+/// The kind of a style of paragraphs with character settings put over its own.
+fn characters_over(
+    alloc: Global,
+    pap: &PropMap,
+    chp: &PropMap,
+    set: &PropMap,
+) -> Result<Kind, Memory>
+    ensures { IfOk result (HasCharactersOver (Para pap.now chp.now) set.now) }
+{
+    let pap = pap.copy(alloc)?;
+    let chp = over(alloc, chp, set)?;
+    Ok(Kind::Para { pap, chp })
+}
+
+/// The same with paragraph settings.
+fn paragraphs_over(
+    alloc: Global,
+    pap: &PropMap,
+    chp: &PropMap,
+    set: &PropMap,
+) -> Result<Kind, Memory>
+    ensures { IfOk result (HasParagraphsOver (Para pap.now chp.now) set.now) }
+{
+    let pap = over(alloc, pap, set)?;
+    let chp = chp.copy(alloc)?;
+    Ok(Kind::Para { pap, chp })
+}
+
+/// The same kind of a style of tables or of numbering.
+fn same_other(alloc: Global, stk: u8, upxes: &UpxList) -> Result<Kind, Memory>
+    ensures { IfOk result (λ made. made ≡ Other stk upxes.now) }
+{
+    let upxes = upxes.copy(alloc)?;
+    Ok(Kind::Other { stk, upxes })
 }
 
 /// The entries of `set`, and those of `base` at other codes.
 fn over(alloc: Global, base: &PropMap, set: &PropMap) -> Result<PropMap, Memory>
     ensures { IfOk result (IsOver false set.now base.now) }
 {
-    let mut change = Modifier::none(alloc);
-    change.chp = set.copy(alloc)?;
+    let change = setting(alloc, set)?;
     let made = change.on_char(alloc, base)?;
     Ok(made)
+}
+
+/// The modifier that sets these codes, and does nothing else.
+fn setting(alloc: Global, set: &PropMap) -> Result<Modifier, Memory>
+    ensures plain { IfOk result (λ change. change.clear ≡ false) }
+    ensures set { IfOk result (λ change. change.chp ≡ set.now) }
+{
+    let chp = set.copy(alloc)?;
+    let mut change = Modifier::none(alloc);
+    change.chp = chp;
+    Ok(change)
 }

@@ -1,11 +1,12 @@
 // [MS-DOC] STD: the style that one spells. `base` is cbSTDBaseInFile.
-ghost use Rattle.std.specs.Prelude.{◌≡◌, ◌+◌, ◌*◌, ◌<◌, ◌≤◌, length, slice_index, IfOk};
+ghost use Rattle.std.specs.Prelude.{◌≡◌, ◌+◌, ◌*◌, ◌<◌, ◌≤◌, IfOk};
 ghost use Rattle.std.specs.List.{All};
-ghost use Rattle.doc_bits.specs.Number.{u16_at, AreBytes};
+ghost use Rattle.doc_bits.specs.Number.{AreBytes};
 ghost use Rattle.sprm_table.specs.Sprm.{IsAcceptedList};
-ghost use Rattle.prop_map.specs.Formed.{IsPropertyMap};
+ghost use Rattle.prop_map.specs.Formed.{IsPropertyMap, character_groups};
 ghost use Rattle.style_sheet.specs.Formed.{IsFormedBase, IsFormedKind, IsFormedStyle};
 ghost use Rattle.style_sheet.specs.StyleDefinition.{base_of, IsStd, HasAcceptedLists, IsMapOf, AreUpxes, IsNameOf};
+ghost use Rattle.style_sheet.specs.StyleDefinition.{stk, upx, paragraph_list, HasParagraphLists};
 ghost use Rattle.style_sheet.specs.StyleDefinition.{SpellsKind, SpellsStyle};
 
 use crate::counted::{counted_bytes, next_place};
@@ -65,23 +66,72 @@ fn read_kind(alloc: Global, std: &[u8], base: usize) -> Result<Kind, Memory>
     ensures spelt { IfOk result (SpellsKind std.now base) }
     ensures formed { IfOk result IsFormedKind }
 {
-    let at = first_upx(std, base);
     match kind_number(std) {
-        1 => {
-            let next = next_place(std, at);
-            Ok(Kind::Para {
-                pap: settings(alloc, &counted_bytes(std, at)[2..], PARAGRAPH_GROUPS)?,
-                chp: settings(alloc, counted_bytes(std, next), CHARACTER_GROUPS)?,
-            })
-        }
-        2 => Ok(Kind::Char {
-            chp: settings(alloc, counted_bytes(std, at), CHARACTER_GROUPS)?,
-        }),
-        stk => Ok(Kind::Other {
-            stk: stk as u8,
-            upxes: read_upxes(alloc, std, base)?,
-        }),
+        1 => read_paragraphs(alloc, std, base),
+        2 => read_characters(alloc, std, base),
+        _ => read_others(alloc, std, base),
     }
+}
+
+/// The kind of a style of paragraphs.
+fn read_paragraphs(alloc: Global, std: &[u8], base: usize) -> Result<Kind, Memory>
+    requires std { IsStd std.now base }
+    requires base { (8 < base) × (base < 20) }
+    requires kind { stk std.now ≡ 1 }
+    requires lists { HasParagraphLists std.now base }
+    ensures spelt { IfOk result (SpellsKind std.now base) }
+    ensures formed { IfOk result IsFormedKind }
+{
+    let pap = settings(alloc, paragraph_list(std, base), PARAGRAPH_GROUPS)?;
+    let chp = settings(alloc, second_list(std, base), CHARACTER_GROUPS)?;
+    Ok(Kind::Para { pap, chp })
+}
+
+/// The list of paragraph settings of a style of paragraphs, after the style number.
+fn paragraph_list(std: &[u8], base: usize) -> &[u8]
+    requires std { IsStd std.now base }
+    requires base { (8 < base) × (base < 20) }
+    requires kind { stk std.now ≡ 1 }
+    ensures { result.now ≡ paragraph_list std.now base }
+{
+    &counted_bytes(std, first_upx(std, base))[2..]
+}
+
+/// The list of character settings of a style of paragraphs.
+fn second_list(std: &[u8], base: usize) -> &[u8]
+    requires std { IsStd std.now base }
+    requires base { (8 < base) × (base < 20) }
+    requires kind { stk std.now ≡ 1 }
+    ensures { result.now ≡ upx std.now base 1 }
+{
+    counted_bytes(std, next_place(std, first_upx(std, base)))
+}
+
+/// The kind of a style of characters.
+fn read_characters(alloc: Global, std: &[u8], base: usize) -> Result<Kind, Memory>
+    requires std { IsStd std.now base }
+    requires base { (8 < base) × (base < 20) }
+    requires kind { stk std.now ≡ 2 }
+    requires list { IsAcceptedList (upx std.now base 0) character_groups }
+    ensures spelt { IfOk result (SpellsKind std.now base) }
+    ensures formed { IfOk result IsFormedKind }
+{
+    let at = first_upx(std, base);
+    let chp = settings(alloc, counted_bytes(std, at), CHARACTER_GROUPS)?;
+    Ok(Kind::Char { chp })
+}
+
+/// The kind of a style of tables or of numbering.
+fn read_others(alloc: Global, std: &[u8], base: usize) -> Result<Kind, Memory>
+    requires std { IsStd std.now base }
+    requires base { (8 < base) × (base < 20) }
+    requires kind { 3 ≤ stk std.now }
+    ensures spelt { IfOk result (SpellsKind std.now base) }
+    ensures formed { IfOk result IsFormedKind }
+{
+    let stk = kind_number(std) as u8;
+    let upxes = read_upxes(alloc, std, base)?;
+    Ok(Kind::Other { stk, upxes })
 }
 
 /// The settings that a list makes of none.

@@ -152,15 +152,12 @@ impl Kind {
     {
         match self {
             Kind::Para { pap, chp } => {
-                let paragraphs = paragraph_upx(alloc, istd, pap)?;
-                let characters = chp.print(alloc)?;
-                push_counted(bytes, paragraphs.as_slice())?;
-                push_counted(bytes, characters.as_slice())?;
+                push_paragraphs(alloc, bytes, istd, pap)?;
+                push_characters(alloc, bytes, chp)?;
                 Ok(())
             }
             Kind::Char { chp } => {
-                let characters = chp.print(alloc)?;
-                push_counted(bytes, characters.as_slice())?;
+                push_characters(alloc, bytes, chp)?;
                 Ok(())
             }
             Kind::Other { upxes, .. } => {
@@ -184,6 +181,29 @@ impl Kind {
             Kind::Other { upxes, .. } => list_len(upxes.as_slice()),
         }
     }
+}
+
+/// Appends the upx of paragraph settings: the number of the slot, and their list.
+fn push_paragraphs(alloc: Global, bytes: &mut Bytes, istd: u16, pap: &PropMap) -> Result<(), Memory>
+    requires formed { IsFormedMap pap.now }
+    requires short { length (number_bytes 2 istd ++ printed_list pap.now) < 65536 }
+    ensures { OnOk result
+        (bytes.new ≡ bytes.old ++ written_counted (number_bytes 2 istd ++ printed_list pap.now)) }
+{
+    let upx = paragraph_upx(alloc, istd, pap)?;
+    push_counted(bytes, upx.as_slice())?;
+    Ok(())
+}
+
+/// Appends the upx of character settings.
+fn push_characters(alloc: Global, bytes: &mut Bytes, chp: &PropMap) -> Result<(), Memory>
+    requires formed { IsFormedMap chp.now }
+    requires short { length (printed_list chp.now) < 65536 }
+    ensures { OnOk result (bytes.new ≡ bytes.old ++ written_counted (printed_list chp.now)) }
+{
+    let upx = chp.print(alloc)?;
+    push_counted(bytes, upx.as_slice())?;
+    Ok(())
 }
 
 /// The number of the slot, and the list of paragraph settings.

@@ -1,5 +1,5 @@
 // [MS-DOC] STSH: the rules on it, and the sheet that it holds.
-ghost use Rattle.std.specs.Prelude.{◌≡◌, ◌↔◌, ℕ, ◌+◌, ◌<◌, ◌≤◌};
+ghost use Rattle.std.specs.Prelude.{◌≡◌, ◌↔◌, ◌+◌, ◌<◌, ◌≤◌};
 ghost use Rattle.std.specs.Prelude.{◌^◌, length, IsTrue, IfOk, None, MatchResult};
 ghost use Rattle.doc_bits.specs.Rules.{Hold, LeastOrNone, Among};
 ghost use Rattle.style_sheet.specs.Formed.{IsFormedSlot};

@@ -1,5 +1,5 @@
 // The sheet. Copies share one list of slots, and lists of slots share their styles.
-ghost use Rattle.std.specs.Prelude.{◌≡◌, ◌↔◌, ◌<◌, ◌≤◌, ℕ, [], ◌∷◌};
+ghost use Rattle.std.specs.Prelude.{◌≡◌, ◌↔◌, ◌<◌, [], ◌∷◌};
 ghost use Rattle.std.specs.Prelude.{◌++◌, length, IsTrue, IfSome, IfOk, OnOk, OnErr};
 ghost use Rattle.std.specs.Prelude.{MatchOption, Some, None};
 ghost use Rattle.style_sheet.specs.Sheet.{Sheet, style_at};
@@ -7,7 +7,7 @@ ghost use Rattle.style_sheet.specs.Formed.{IsFormedSheet, IsFormedStyle, IsForme
 ghost use Rattle.style_sheet.specs.Changes.{with_style};
 
 use crate::Style;
-use crate::slots::Slots;
+use crate::slots::{Slots, slot};
 use doc_bits::Memory;
 use std::alloc::Global;
 use std::marker::Model;
@@ -91,12 +91,12 @@ impl StyleSheet {
         ensures err { OnErr result (self.new ≡ self.old) }
     {
         let alloc = self.alloc;
+        let slot = slot(alloc, style)?;
         // A list of slots that no copy shares is changed in place.
         if let Some(slots) = Rc::get_mut(&mut self.shared) {
-            return slots.add(alloc, style);
+            return slots.add(slot);
         }
-        let mut slots = self.shared.copy(alloc)?;
-        slots.add(alloc, style)?;
+        let slots = self.shared.with_added(alloc, slot)?;
         self.shared = Rc::new(alloc, slots)?;
         Ok(())
     }
@@ -109,11 +109,12 @@ impl StyleSheet {
         ensures err { OnErr result (self.new ≡ self.old) }
     {
         let alloc = self.alloc;
+        let style = Rc::new(alloc, style)?;
         if let Some(slots) = Rc::get_mut(&mut self.shared) {
-            return slots.set(alloc, istd, style);
+            slots.set(istd, style);
+            return Ok(());
         }
-        let mut slots = self.shared.copy(alloc)?;
-        slots.set(alloc, istd, style)?;
+        let slots = self.shared.with_set(alloc, istd, style)?;
         self.shared = Rc::new(alloc, slots)?;
         Ok(())
     }

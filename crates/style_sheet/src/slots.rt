@@ -24,11 +24,12 @@ impl Slots {
         ensures made { IfOk result (λ made. sheet_of made ≡ record { head = head.now; styles = first ∷ [] }) }
         ensures words { IfOk result (λ made. All (λ number. number < 65536) (sheet_of made).head) }
     {
+        let slot = slot(alloc, first)?;
         let mut slots = Slots {
             head: *head,
             styles: Vec::new(alloc),
         };
-        slots.add(alloc, first)?;
+        slots.add(slot)?;
         Ok(slots)
     }
 
@@ -46,29 +47,22 @@ impl Slots {
     }
 
     /// Puts a slot at the end.
-    pub(crate) fn add(&mut self, alloc: Global, style: Option<Style>) -> Result<(), Memory>
+    pub(crate) fn add(&mut self, slot: Option<Rc<Style>>) -> Result<(), Memory>
         ensures ok { OnOk result (sheet_of self.new
-            ≡ record { head = self.old.head; styles = (sheet_of self.old).styles ++ style ∷ [] }) }
+            ≡ record { head = self.old.head; styles = (sheet_of self.old).styles ++ slot_of slot ∷ [] }) }
         ensures err { OnErr result (sheet_of self.new ≡ sheet_of self.old) }
     {
-        let slot = match style {
-            None => None,
-            Some(style) => Some(Rc::new(alloc, style)?),
-        };
         self.styles.push(slot)?;
         Ok(())
     }
 
     /// Puts a style into a slot that is there.
-    pub(crate) fn set(&mut self, alloc: Global, istd: u16, style: Style) -> Result<(), Memory>
+    pub(crate) fn set(&mut self, istd: u16, style: Rc<Style>)
         requires { istd < length (sheet_of self.old).styles }
-        ensures ok { OnOk result (sheet_of self.new ≡
-            record { head = self.old.head; styles = slice_set (sheet_of self.old).styles istd (Some style) }) }
-        ensures err { OnErr result (sheet_of self.new ≡ sheet_of self.old) }
+        ensures { sheet_of self.new ≡
+            record { head = self.old.head; styles = slice_set (sheet_of self.old).styles istd (Some style.value) } }
     {
-        let shared = Rc::new(alloc, style)?;
-        self.styles[istd as usize] = Some(shared);
-        Ok(())
+        self.styles[istd as usize] = Some(style);
     }
 
     /// The same slots. No style is copied.
@@ -77,16 +71,38 @@ impl Slots {
     {
         let mut styles = Vec::with_capacity(alloc, self.styles.len())?;
         for slot in &self.styles {
-            let copy = match slot {
-                None => None,
-                Some(shared) => Some(shared.clone()?),
-            };
-            styles.push(copy)?;
+            push_same(&mut styles, slot)?;
         }
         Ok(Slots {
             head: self.head,
             styles,
         })
+    }
+
+    /// The same slots with one more at the end.
+    pub(crate) fn with_added(&self, alloc: Global, slot: Option<Rc<Style>>) -> Result<Slots, Memory>
+        ensures { IfOk result (λ made. sheet_of made
+            ≡ record { head = self.now.head; styles = (sheet_of self.now).styles ++ slot_of slot ∷ [] }) }
+    {
+        let mut slots = self.copy(alloc)?;
+        slots.add(slot)?;
+        Ok(slots)
+    }
+
+    /// The same slots with a style in one that is there.
+    pub(crate) fn with_set(
+        &self,
+        alloc: Global,
+        istd: u16,
+        style: Rc<Style>,
+    ) -> Result<Slots, Memory>
+        requires { istd < length (sheet_of self.now).styles }
+        ensures { IfOk result (λ made. sheet_of made ≡
+            record { head = self.now.head; styles = slice_set (sheet_of self.now).styles istd (Some style.value) }) }
+    {
+        let mut slots = self.copy(alloc)?;
+        slots.set(istd, style);
+        Ok(slots)
     }
 
     /// Whether both have the same numbers and styles.
@@ -95,6 +111,28 @@ impl Slots {
     {
         self.head == other.head && same_slots(&self.styles, &other.styles)
     }
+}
+
+/// The slot of a style, or an empty one.
+pub(crate) fn slot(alloc: Global, style: Option<Style>) -> Result<Option<Rc<Style>>, Memory>
+    ensures { IfOk result (λ slot. slot_of slot ≡ style) }
+{
+    match style {
+        None => Ok(None),
+        Some(style) => Ok(Some(Rc::new(alloc, style)?)),
+    }
+}
+
+/// Puts the same slot at the end. Its style is not copied.
+fn push_same(styles: &mut Vec<Option<Rc<Style>>>, slot: &Option<Rc<Style>>) -> Result<(), Memory>
+    ensures { OnOk result (styles_of styles.new.items ≡ styles_of styles.old.items ++ slot_of slot.now ∷ []) }
+{
+    let same = match slot {
+        None => None,
+        Some(shared) => Some(shared.clone()?),
+    };
+    styles.push(same)?;
+    Ok(())
 }
 
 /// Whether both lists have the same styles in the same slots.

@@ -56,7 +56,7 @@ impl UpxList {
     {
         let mut items = Vec::with_capacity(alloc, self.items.len())?;
         for upx in &self.items {
-            items.push(Bytes::from_slice(alloc, upx.as_slice())?)?;
+            push_same(alloc, &mut items, upx)?;
         }
         Ok(UpxList { items })
     }
@@ -74,6 +74,15 @@ impl UpxList {
     {
         same_lists(&self.items, &other.items)
     }
+}
+
+/// Puts the same list at the end.
+fn push_same(alloc: Global, items: &mut Vec<Bytes>, upx: &Bytes) -> Result<(), Memory>
+    ensures { OnOk result (items.new.items ≡ items.old.items ++ upx.now ∷ []) }
+{
+    let same = Bytes::from_slice(alloc, upx.as_slice())?;
+    items.push(same)?;
+    Ok(())
 }
 
 /// Whether both have the same lists in the same order.

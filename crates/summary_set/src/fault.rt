@@ -4,7 +4,7 @@ use doc_bits::Memory;
 use thiserror::Error;
 
 /// Why a stream is no property set: the place of the first condition that fails, in bytes from its beginning.
-#[derive(Clone, Copy, Debug, PartialEq, Eq, Error)]
+#[derive(Clone, Copy, Debug, Error)]
 pub enum SetFault {
     #[error("the property set is wrong at {at}")]
     Form { at: u32 },

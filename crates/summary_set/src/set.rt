@@ -2,14 +2,14 @@
 
 /// [MS-OLEPS] PropertyIdentifierAndOffset: the id of a property, and where its value begins, in bytes
 /// from the beginning of the set.
-#[derive(Clone, Copy, Debug, PartialEq, Eq)]
+#[derive(Clone, Copy)]
 pub struct PropertyPair {
     pub id: u32,
     pub offset: u32,
 }
 
 /// Where the set begins in the stream, its size in bytes, and the number of its pairs.
-#[derive(Clone, Copy, Debug, PartialEq, Eq)]
+#[derive(Clone, Copy)]
 pub struct SetHead {
     pub begin: u32,
     pub size: u32,

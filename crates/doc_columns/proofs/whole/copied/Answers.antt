@@ -15,7 +15,8 @@ copy_part-requires-clause-parts c =
 pub copy_part-requires-clause-formed : goal.copy_part-requires-clause-formed
 copy_part-requires-clause-formed c =
     subst IsFormedText
-    (sym (same_items c.args.whole.now (record { units = c.deref.result; chps = c.deref-2.result; besides = c.deref-3.result })
+    (sym (same_items c.args.whole.now
+    (record { units = c.deref.result; chps = c.deref-2.result; besides = c.deref-3.result })
     (record { units = c.deref.ensures.value; chps = c.deref-2.ensures.value; besides = c.deref-3.ensures.value })))
     c.requires.whole.formed
 
@@ -38,5 +39,6 @@ pub returns : goal.returns
 returns c =
     c.in_ok-copy.ensures
     ∙ ap (λ (text : List Item). slice_range text c.args.from c.args.to)
-    (same_items c.args.whole.now (record { units = c.deref.result; chps = c.deref-2.result; besides = c.deref-3.result })
+    (same_items c.args.whole.now
+    (record { units = c.deref.result; chps = c.deref-2.result; besides = c.deref-3.result })
     (record { units = c.deref.ensures.value; chps = c.deref-2.ensures.value; besides = c.deref-3.ensures.value }))

@@ -1,7 +1,7 @@
-use Rattle.std.proofs.Common.{◌≡◌, ◌∙◌, length, slice_index_or, subst, arith}
+use Rattle.std.proofs.Common.{◌≡◌, ◌∙◌, ◌<◌, [], ◌∷◌, length, slice_index_or, subst, arith}
 use Rattle.std.proofs.lemmas.List.{get_or_default}
 use Rattle.prop_map.specs.Modifiers.{no_modifier, IsComposed, StaysFormedModifier}
-use Rattle.piece_table.proofs.RenumberLemmas.{composed_put}
+use Rattle.piece_table.proofs.RenumberLemmas.{composed_put, here_put, others_put}
 use Rattle.piece_table.proofs.renumber.compose_one.Goals as goal
 
 pub returns-clause-composed : goal.returns-clause-composed
@@ -22,3 +22,16 @@ returns-clause-composed c =
     let place : c.len-place.result ≡ length modifiers = omega (arith, c.len-place.ensures) in
     rw (c.in_ok-push.ensures.items, place) (composed_put by modifiers numbers number made c.requires.composed
     c.requires.within composed formed)
+
+pub returns-clause-extends : goal.returns-clause-extends
+returns-clause-extends c = record { more = c.in_ok-composed.composed ∷ []; joined = c.in_ok-push.ensures.items }
+
+pub returns-clause-here : goal.returns-clause-here
+returns-clause-here c =
+    let some : 0 < c.len-place.result = omega (arith, c.len-place.ensures, c.requires.some) in
+    here_put c.args.numbers.now.items c.args.number c.len-place.result c.requires.within some
+
+pub returns-clause-others : goal.returns-clause-others
+returns-clause-others c = λ other kept.
+    let some : 0 < c.len-place.result = omega (arith, c.len-place.ensures, c.requires.some) in
+    others_put c.args.numbers.now.items c.args.number c.len-place.result other c.requires.within some kept

@@ -13,5 +13,5 @@ put-requires-clause-formed c =
     let settings = c.requires.settings in
     let found = rw c.unwrap-style.ensures at c.get.ensures.style in
     let old = style_formed sheet c.args.istd style (there sheet c.args.istd (omega arith)) formed.styles found in
-    subst IsFormedStyle (sym c.in_ok-style.ensures) (kind_formed style kind old (characters_formed c.args.set.now
+    subst IsFormedStyle (sym c.with_kind-style.ensures) (kind_formed style kind old (characters_formed c.args.set.now
     style.kind kind c.requires.formed old.kind c.in_ok-kind.ensures))
