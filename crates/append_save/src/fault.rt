@@ -2,7 +2,7 @@ use doc_bits::Memory;
 use thiserror::Error;
 
 /// Why a document is not saved behind the stream that is there.
-#[derive(Clone, Copy, Debug, PartialEq, Eq, Error)]
+#[derive(Clone, Copy, Debug, Error)]
 pub enum AppendFault {
     /// Fifteen quick saves were made in a row.
     #[error("15 quick saves in a row")]

@@ -30,6 +30,12 @@ story_rules source =
     rules_of_fields source then rules_of_notes source then rules_of_heads source then rules_of_ends source
     then rules_of_lists source then rules_of_bookmarks source
 
+-- the rules 53 to 57
+abbrev pub other_rules : DocSource → Rules Place
+other_rules source =
+    rules_of_notes source then rules_of_heads source then rules_of_ends source then rules_of_lists source
+    then rules_of_bookmarks source
+
 abbrev pub part_rules : DocSource → Rules Place
 part_rules source = layout_rules source then rules_of_formats source then rules_of_sheet source then story_rules source
 

@@ -1,5 +1,5 @@
 // The rules on the bin tables.
-ghost use Rattle.std.specs.Prelude.{◌≡◌, ◌<◌, ◌^◌, ◌+◌, length, MatchResult, IsErrOf};
+ghost use Rattle.std.specs.Prelude.{◌<◌, ◌^◌, ◌+◌, length, MatchResult, IsErrOf};
 ghost use Rattle.doc_bits.specs.Rules.{Hold, LeastOrNone};
 ghost use Rattle.doc_parts.specs.Table.{IsWholePlc};
 ghost use Rattle.doc_load.specs.Faults.{IsReadFault};

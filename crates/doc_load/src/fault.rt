@@ -10,7 +10,7 @@ use style_sheet::StyleFault;
 use thiserror::Error;
 
 /// Why a file is not read: the first broken rule and its place, or want of memory.
-#[derive(Clone, Copy, Debug, PartialEq, Eq, Error)]
+#[derive(Clone, Copy, Debug, Error)]
 pub enum ReadFault {
     #[error("rule {rule} is broken at {offset}")]
     Refused { rule: u8, place: Where, offset: u32 },

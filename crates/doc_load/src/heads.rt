@@ -1,5 +1,5 @@
 // The rule on header texts.
-ghost use Rattle.std.specs.Prelude.{◌≡◌, ◌↔◌, ◌<◌, ◌^◌, IsTrue, length, MatchResult};
+ghost use Rattle.std.specs.Prelude.{◌↔◌, ◌<◌, ◌^◌, IsTrue, MatchResult};
 ghost use Rattle.doc_bits.specs.Rules.{Hold};
 ghost use Rattle.doc_load.specs.Faults.{IsReadFault};
 ghost use Rattle.doc_load.specs.SectionRules.{HasSections};

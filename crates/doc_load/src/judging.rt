@@ -2,10 +2,11 @@
 ghost use Rattle.std.specs.Prelude.{MatchResult};
 ghost use Rattle.doc_bits.specs.Rules.{Hold};
 ghost use Rattle.doc_load.specs.Faults.{IsReadFault};
-ghost use Rattle.doc_load.specs.FileRules.{AreSmall, contents_rules, file_rules};
+ghost use Rattle.doc_load.specs.PartRules.{part_rules};
+ghost use Rattle.doc_load.specs.FileRules.{AreSmall, contents_rules, file_rules, source_of};
 
 use crate::fault::refused_container;
-use crate::{ReadFault, load_text, read_parts};
+use crate::{LoadedText, ReadFault, Source, load_text, read_parts};
 use cfb_streams::Container;
 use std::alloc::Global;
 
@@ -29,9 +30,28 @@ fn judge_contents(alloc: Global, container: &Container) -> Result<(), ReadFault>
         (IsReadFault (contents_rules container.now)) }
 {
     let text = load_text(alloc, container)?;
+    let judged = judge_text(alloc, &text);
+    drop(text);
+    judged
+}
+
+/// Judges a text by the rules on its parts.
+fn judge_text(alloc: Global, text: &LoadedText<'_>) -> Result<(), ReadFault>
+    ensures { MatchResult result
+        (λ _. Hold (part_rules (source_of text.now)))
+        (IsReadFault (part_rules (source_of text.now))) }
+{
     let source = text.source();
-    match read_parts(alloc, &source) {
-        Ok(_) => Ok(()),
-        Err(fault) => Err(fault),
-    }
+    judge_parts(alloc, &source)
+}
+
+/// Judges the parts of a text. What they hold is let go.
+fn judge_parts(alloc: Global, source: &Source<'_>) -> Result<(), ReadFault>
+    ensures { MatchResult result
+        (λ _. Hold (part_rules source.now))
+        (IsReadFault (part_rules source.now)) }
+{
+    let parts = read_parts(alloc, source)?;
+    drop(parts);
+    Ok(())
 }

@@ -1,5 +1,5 @@
 // The rule on notes: their references, and the CPs that cut their story.
-ghost use Rattle.std.specs.Prelude.{◌≡◌, ◌+◌, ◌<◌, ◌^◌, ℕ, None};
+ghost use Rattle.std.specs.Prelude.{◌≡◌, ◌+◌, ◌<◌, ◌^◌, None};
 ghost use Rattle.std.specs.Prelude.{length, IfOk, MatchOption, MatchResult};
 ghost use Rattle.doc_bits.specs.Rules.{Hold, LeastOrNone};
 ghost use Rattle.doc_load.specs.Faults.{IsReadFault};

@@ -4,7 +4,11 @@ ghost use Rattle.doc_bits.specs.Rules.{Hold};
 ghost use Rattle.doc_load.specs.Faults.{IsReadFault};
 ghost use Rattle.doc_load.specs.SectionRules.{HasSections};
 ghost use Rattle.doc_load.specs.SheetRules.{HasSheet};
-ghost use Rattle.doc_load.specs.PartRules.{layout_rules, rest_rules, story_rules, part_rules};
+ghost use Rattle.doc_load.specs.NoteRules.{HasRefs, HasNoteCuts};
+ghost use Rattle.doc_load.specs.HeadRules.{HasHeadCuts};
+ghost use Rattle.doc_load.specs.ListRules.{HasLevels};
+ghost use Rattle.doc_load.specs.BookmarkRules.{HasBookmarks};
+ghost use Rattle.doc_load.specs.PartRules.{layout_rules, rest_rules, story_rules, other_rules, part_rules};
 ghost use Rattle.doc_load.specs.PartRules.{HasPartLists, HoldButFormats};
 
 use crate::formats::judge_pages;
@@ -122,15 +126,46 @@ fn read_stories<'a>(
         (IsReadFault (story_rules source.now)) }
 {
     let fields = read_fields(alloc, source)?;
-    let notes = read_notes(alloc, source)?;
-    let heads = read_heads(alloc, source, &sections)?;
-    judge_ends(source, &notes.cuts, &heads)?;
-    let levels = read_levels(source)?;
-    let bookmarks = read_bookmarks(alloc, source)?;
+    let others = read_others(alloc, source, &sections)?;
     Ok(DocParts {
         sections,
         sheet,
         fields,
+        notes: others.notes,
+        heads: others.heads,
+        levels: others.levels,
+        bookmarks: others.bookmarks,
+    })
+}
+
+/// What belongs to the stories but for their field characters, the levels of lists, and the bookmarks.
+#[derive(Drop)]
+struct OtherParts<'a> {
+    notes: Notes,
+    heads: Cuts,
+    levels: &'a [u8],
+    bookmarks: Bookmarks,
+}
+
+/// Reads what stands behind the field characters, in the order of its rules.
+fn read_others<'a>(
+    alloc: Global,
+    source: &Source<'a>,
+    sections: &Seds,
+) -> Result<OtherParts<'a>, ReadFault>
+    requires { HasSections source.now sections.now }
+    ensures { MatchResult result
+        (λ parts. Hold (other_rules source.now) × (HasRefs source.now parts.notes.refs
+        × (HasNoteCuts source.now parts.notes.cuts × (HasHeadCuts source.now parts.heads
+        × (HasLevels source.now parts.levels.now × HasBookmarks source.now parts.bookmarks)))))
+        (IsReadFault (other_rules source.now)) }
+{
+    let notes = read_notes(alloc, source)?;
+    let heads = read_heads(alloc, source, sections)?;
+    judge_ends(source, &notes.cuts, &heads)?;
+    let levels = read_levels(source)?;
+    let bookmarks = read_bookmarks(alloc, source)?;
+    Ok(OtherParts {
         notes,
         heads,
         levels,

@@ -1,5 +1,5 @@
 // The rules on the sections, one function a rule.
-ghost use Rattle.std.specs.Prelude.{◌≡◌, ◌↔◌, ◌≤◌, ◌<◌, ◌^◌};
+ghost use Rattle.std.specs.Prelude.{◌↔◌, ◌<◌, ◌^◌};
 ghost use Rattle.std.specs.Prelude.{◌+◌, ℕ, List, length, IsTrue, MatchResult, IfSome, IfOk, OnOk};
 ghost use Rattle.std.specs.List.{All};
 ghost use Rattle.doc_bits.specs.Rules.{Hold, LeastOrNone, Nowhere};
@@ -126,8 +126,8 @@ fn lacks_sepx(wd: &[u8], fc: u32) -> bool
     sepx(wd, fc).is_none()
 }
 
-/// The least place of a fault in the settings of a section. They stand in any order, and each Sepx is judged once: those
-/// that lie over one another in one walk.
+/// The least place of a fault in the settings of a section. They stand in any order, and each Sepx is judged once:
+/// those that lie over one another in one walk.
 fn sepx_fault(alloc: Global, source: &Source<'_>, list: &Seds) -> Result<Option<u32>, Memory>
     requires { Nowhere (BreaksSepxs source.now.wd list.now (part_place source.now PlcfSed)) }
     ensures { IfOk result (LeastOrNone (BreaksSepxLists source.now.wd list.now)) }

@@ -1,5 +1,5 @@
 // The rule on what stands after the last text of a story.
-ghost use Rattle.std.specs.Prelude.{◌≡◌, ◌≤◌, length, MatchOption, MatchResult, IsErrOf};
+ghost use Rattle.std.specs.Prelude.{◌≡◌, ◌≤◌, MatchOption, MatchResult, IsErrOf};
 ghost use Rattle.doc_bits.specs.Rules.{Hold, LeastOrNone, Nowhere, IsLeast};
 ghost use Rattle.doc_load.specs.Faults.{IsReadFault};
 ghost use Rattle.doc_load.specs.NoteRules.{HasNoteCuts};

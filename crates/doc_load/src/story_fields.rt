@@ -1,6 +1,6 @@
 // The rule on field characters. Their tables are judged by the units in the text too.
 ghost use Rattle.std.specs.Prelude.{◌≡◌, ◌+◌, ◌*◌, ◌<◌, ◌^◌};
-ghost use Rattle.std.specs.Prelude.{◌≤◌, None, length, map, IfOk, MatchResult};
+ghost use Rattle.std.specs.Prelude.{None, length, map, IfOk, MatchResult};
 ghost use Rattle.doc_bits.specs.Rules.{Hold, LeastOrNone};
 ghost use Rattle.doc_parts.specs.Cps.{AreCpsInOrder};
 ghost use Rattle.doc_parts.specs.Fields.{fld_cps, AreFields};

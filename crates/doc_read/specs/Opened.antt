@@ -1,6 +1,10 @@
 -- What the reader hands out of an accepted file.
 use Rattle.std.specs.Prelude.{◌≡◌, ℕ, List}
+use Rattle.doc_bits.specs.declared.places.Where.TheVariants.{File}
+use Rattle.doc_bits.specs.Rules.{Hold}
+use Rattle.doc_bits.specs.Places.{rules_in}
 use Rattle.cfb_streams.specs.Contents.{Contents}
+use Rattle.cfb_streams.specs.Container.{container_rules, HasContents}
 use Rattle.fib_form.specs.FibFields.{FibFields, fib_fields}
 use Rattle.piece_table.specs.Piece.{TextPiece}
 use Rattle.plain_doc.specs.declared.document.Document.{Document}
@@ -26,6 +30,12 @@ pub record IsFoundIn
   pub document_is : IsDocumentFrom contents text lists document
   pub fib_is : fib ≡ fib_fields text.wd
   pub pieces_are : pieces ≡ text.pieces
+
+-- these are the streams of some file, whose container breaks no rule
+pub record AreOfFile (contents : Contents) : Type 0 where
+  pub file : List ℕ
+  pub holds : Hold (rules_in File (container_rules file))
+  pub has : HasContents file contents
 
 -- the file breaks no rule, and holds the document, which is sound; the streams with the CLSID, the fields of the FIB
 -- and the pieces are those of the parts that make this document

@@ -5,7 +5,7 @@ use Rattle.cfb_streams.specs.Contents.{Contents}
 use Rattle.piece_table.specs.Piece.{TextPiece}
 use Rattle.plain_doc.specs.Document.{HasPropertyMaps}
 use Rattle.doc_load.specs.FormatRules.{judged_units, text_count}
-use Rattle.doc_load.specs.PartRules.{PartLists}
+use Rattle.doc_load.specs.PartRules.{PartLists, HasPartLists}
 use Rattle.doc_load.specs.FileRules.{FileText, source_of}
 use Rattle.doc_columns.specs.Columns.{items_of}
 use Rattle.doc_read.specs.Sections.{AreSectionMaps}
@@ -16,6 +16,7 @@ use Rattle.doc_read.specs.Holds.{head_texts}
 use Rattle.doc_read.specs.declared.columns.ReadColumns.{ReadColumns}
 use Rattle.doc_read.specs.declared.document.StoryCuts.{StoryCuts}
 use Rattle.doc_read.specs.declared.document.DocumentParts.{DocumentParts}
+use Rattle.doc_read.specs.declared.document.ReadFromText.{ReadFromText}
 
 -- the columns have a value for each unit, and make well-formed items with the units
 pub record FitUnits (units : List ℕ) (read : ReadColumns) : Type 0 where
@@ -37,6 +38,16 @@ pub record AreColumnsOf (parts : TextParts) (read : ReadColumns) : Type 0 where
   pub holds :
       HoldsItems parts 0 (text_count parts.source) (items_of (judged_units parts.source) read.chps read.besides)
 
+-- what is read of these streams and this text by these lists
+pub record IsReadFromText (contents : Contents) (text : FileText) (lists : PartLists) (read : ReadFromText) :
+    Type 0 where
+  pub sections : List Settings
+  pub has_sections : AreSectionMaps text.wd lists.sections sections
+  pub columns_are :
+      AreColumnsOf (record { source = source_of text; pieces = text.pieces; lists = lists; sections = sections })
+      read.columns
+  pub carried_is : HoldsCarried contents (source_of text) lists.levels read.carried
+
 -- the cuts of a file, and the number of header texts that belong to its sections
 abbrev pub cuts_of : PartLists → StoryCuts
 cuts_of lists = record { notes = lists.notes; heads = lists.heads; head_count = head_texts lists }
@@ -53,3 +64,9 @@ pub record AreDocumentParts (contents : Contents) (text : FileText) (lists : Par
   pub sheet_is : parts.sheet ≡ lists.sheet
   pub carried_is : HoldsCarried contents (source_of text) lists.levels parts.carried
   pub bookmarks_are : parts.bookmarks ≡ lists.bookmarks
+
+-- the same, of the lists that the text has
+pub record IsReadFrom (contents : Contents) (text : FileText) (parts : DocumentParts) : Type 0 where
+  pub lists : PartLists
+  pub has_lists : HasPartLists (source_of text) lists
+  pub are : AreDocumentParts contents text lists parts

@@ -1,23 +1,29 @@
 // Reading a whole file into columns.
-ghost use Rattle.std.specs.Prelude.{◌≡◌, MatchResult};
+ghost use Rattle.std.specs.Prelude.{◌≡◌, ℕ, List, length, IfOk, MatchResult};
 ghost use Rattle.doc_bits.specs.declared.places.Where.TheVariants.{File};
 ghost use Rattle.doc_bits.specs.Rules.{Hold};
 ghost use Rattle.doc_bits.specs.Places.{rules_in};
 ghost use Rattle.cfb_streams.specs.Container.{container_rules, HasContents};
 ghost use Rattle.plain_doc.specs.Marks.{HasFormedBookmarks};
 ghost use Rattle.plain_doc.specs.Sound.{IsSound, document_rules};
+ghost use Rattle.fib_form.specs.FibFields.{fib_fields};
 ghost use Rattle.doc_load.specs.Faults.{IsReadFault};
-ghost use Rattle.doc_load.specs.FormatRules.{rules_of_formats};
-ghost use Rattle.doc_load.specs.PartRules.{layout_rules};
-ghost use Rattle.doc_load.specs.FileRules.{contents_rules};
+ghost use Rattle.doc_load.specs.FormatRules.{judged_units, rules_of_formats};
+ghost use Rattle.doc_load.specs.PartRules.{layout_rules, part_rules};
+ghost use Rattle.doc_load.specs.FileRules.{HasText, contents_rules, source_of};
 ghost use Rattle.doc_read.specs.CarriedParts.{AreWithinBounds};
 ghost use Rattle.doc_read.specs.Holds.{all_rules};
-ghost use Rattle.doc_read.specs.Opened.{IsFoundIn, IsOpened};
+ghost use Rattle.doc_read.specs.ReadParts.{FitUnits, IsReadFrom};
+ghost use Rattle.doc_read.specs.ReadTexts.{AreCutsOf, IsDocumentWith};
+ghost use Rattle.doc_read.specs.Opened.{AreOfFile, IsFoundIn, IsOpened};
 
-use crate::document::{document_with, read_document_parts};
+use crate::document::{DocumentParts, document_with, read_document_parts};
 use cfb_streams::Container;
+use doc_bits::Memory;
 use doc_columns::{ColumnDocument, is_sound};
-use doc_load::{ReadFault, Source, judge_formats, load_text, read_unjudged, refused_container};
+use doc_load::{
+    LoadedText, ReadFault, Source, judge_formats, load_text, read_unjudged, refused_container,
+};
 use fib_form::Fib;
 use piece_table::PieceList;
 use plain_doc::{Document, check};
@@ -96,14 +102,30 @@ pub fn open(alloc: Global, file: &[u8]) -> Result<ColumnFile, ReadFault>
     ensures { MatchResult result (IsOpened file.now) (IsReadFault (all_rules file.now)) }
 {
     let container = load(alloc, file)?;
-    let found = read_contents(alloc, &container)?;
-    judge(alloc, &found.document)?;
-    Ok(ColumnFile {
-        document: found.document,
-        fib: found.fib,
+    let found = read_judged(alloc, &container)?;
+    Ok(file_of(container, found))
+}
+
+/// The file of its streams and of what was read from them. It takes no memory.
+fn file_of(container: Container, found: Found) -> ColumnFile
+    ensures { result ≡ record {
+      document = found.document;
+      fib = found.fib;
+      contents = container;
+      pieces = found.pieces.pieces;
+    } }
+{
+    let Found {
+        document,
+        fib,
+        pieces,
+    } = found;
+    ColumnFile {
+        document,
+        fib,
         container,
-        pieces: found.pieces,
-    })
+        pieces,
+    }
 }
 
 /// The streams of a file.
@@ -127,6 +149,35 @@ struct Found {
     pieces: PieceList,
 }
 
+/// Reads the streams of a file, and judges its document.
+fn read_judged(alloc: Global, container: &Container) -> Result<Found, ReadFault>
+    requires bounds { AreWithinBounds container.now }
+    requires of_file { AreOfFile container.now }
+    ensures { (file : List ℕ) → Hold (rules_in File (container_rules file)) → HasContents file container.now
+        → MatchResult result
+        (λ found. IsOpened file (record {
+          document = found.document;
+          fib = found.fib;
+          contents = container.now;
+          pieces = found.pieces.pieces;
+        }))
+        (IsReadFault (all_rules file)) }
+{
+    let found = read_contents(alloc, container)?;
+    match judge(alloc, &found.document) {
+        Ok(()) => Ok(found),
+        Err(fault) => let_go(found, Err(fault)),
+    }
+}
+
+/// An answer, once a value is let go.
+pub(crate) fn let_go<T: Drop, A>(value: T, answer: A) -> A
+    ensures { result ≡ answer }
+{
+    drop(value);
+    answer
+}
+
 /// Reads the streams of a file.
 fn read_contents(alloc: Global, container: &Container) -> Result<Found, ReadFault>
     requires { AreWithinBounds container.now }
@@ -136,13 +187,42 @@ fn read_contents(alloc: Global, container: &Container) -> Result<Found, ReadFaul
         (IsReadFault (contents_rules container.now)) }
 {
     let text = load_text(alloc, container)?;
+    let read = read_text(alloc, container, &text)?;
+    let found = found_of(alloc, text, read)?;
+    Ok(found)
+}
+
+/// Reads what the document of a text is made of, but for its units.
+fn read_text(
+    alloc: Global,
+    container: &Container,
+    text: &LoadedText<'_>,
+) -> Result<DocumentParts, ReadFault>
+    requires bounds { AreWithinBounds container.now }
+    requires text { HasText container.now text.now }
+    ensures { MatchResult result
+        (λ parts. Hold (part_rules (source_of text.now)) × IsReadFrom container.now text.now parts)
+        (IsReadFault (part_rules (source_of text.now))) }
+{
     let source = text.source();
     let parts = read_unjudged(alloc, &source)?;
-    let Some(read) = read_document_parts(alloc, container, &text, parts)? else {
+    let Some(read) = read_document_parts(alloc, container, text, parts)? else {
         return Err(format_fault(alloc, &source));
     };
+    Ok(read)
+}
+
+/// The document of a text whose units it takes over, with the FIB and the pieces.
+fn found_of(alloc: Global, text: LoadedText<'_>, parts: DocumentParts) -> Result<Found, Memory>
+    requires units { FitUnits (judged_units (source_of text)) parts.columns }
+    requires cuts { AreCutsOf (fib_fields text.wd) parts.cuts (length (judged_units (source_of text))) }
+    ensures document { IfOk result (λ found.
+        IsDocumentWith (fib_fields text.entry.wd) (judged_units (source_of text.entry)) parts found.document) }
+    ensures fib { IfOk result (λ found. found.fib ≡ fib_fields text.entry.wd) }
+    ensures pieces { IfOk result (λ found. found.pieces.pieces ≡ text.entry.pieces) }
+{
     let (fib, pieces, units) = text.into_parts_with_units();
-    let document = document_with(alloc, &fib, units, read)?;
+    let document = document_with(alloc, &fib, units, parts)?;
     Ok(Found {
         document,
         fib,
@@ -173,7 +253,8 @@ fn judge(alloc: Global, document: &ColumnDocument) -> Result<(), ReadFault>
         return Ok(());
     }
     let items = document.expand(alloc)?;
-    judge_items(&items)
+    let verdict = judge_items(&items);
+    let_go(items, verdict)
 }
 
 /// Judges a document, item by item, by the rules on documents.

@@ -5,10 +5,12 @@ ghost use Rattle.doc_load.specs.FormatRules.{rules_of_formats};
 ghost use Rattle.doc_load.specs.PartRules.{HasPartLists, HoldButFormats};
 ghost use Rattle.doc_load.specs.FileRules.{HasText, source_of};
 ghost use Rattle.doc_read.specs.CarriedParts.{AreWithinBounds};
-ghost use Rattle.doc_read.specs.ReadParts.{AreDocumentParts, FitUnits};
+ghost use Rattle.doc_columns.specs.Columns.{items_of};
+ghost use Rattle.doc_read.specs.ReadParts.{AreDocumentParts, FitUnits, IsReadFromText, cuts_of};
 ghost use Rattle.doc_read.specs.ReadTexts.{AreCutsOf, AreTextsOf, IsDocumentWith};
 
 use crate::carried::read_carried;
+use crate::column_file::let_go;
 use crate::columns::{ReadColumns, read_columns};
 use crate::sections::read_section_maps;
 use crate::texts::{cut_columns, push_ends};
@@ -65,24 +67,70 @@ pub(crate) fn read_document_parts(
         (λ read. Hold (rules_of_formats (source_of text.now))
         × AreDocumentParts container.now text.now parts.entry read)) }
 {
+    let found = match read_from_text(alloc, container, text, &parts) {
+        Ok(found) => found,
+        Err(fault) => return let_go(parts, Err(fault)),
+    };
+    let Some(read) = found else {
+        return let_go(parts, Ok(None));
+    };
+    Ok(Some(parts_of(parts, read)))
+}
+
+/// What is read of a text by its parts: its columns, and what is carried along.
+#[derive(Drop)]
+struct ReadFromText {
+    columns: ReadColumns,
+    carried: Carried,
+}
+
+/// Reads the columns of a text, and what is carried along; nothing where a unit has not its right pages.
+fn read_from_text(
+    alloc: Global,
+    container: &Container,
+    text: &LoadedText<'_>,
+    parts: &DocParts<'_>,
+) -> Result<Option<ReadFromText>, Memory>
+    requires bounds { AreWithinBounds container.now }
+    requires text { HasText container.now text.now }
+    requires rules { HoldButFormats (source_of text.now) }
+    requires lists { HasPartLists (source_of text.now) parts.now }
+    ensures { IfOk result (λ read. MatchOption read
+        (¬ (Hold (rules_of_formats (source_of text.now))))
+        (λ read. Hold (rules_of_formats (source_of text.now))
+        × IsReadFromText container.now text.now parts.now read)) }
+{
     let sections = read_section_maps(alloc, text, &parts.sections)?;
-    let carried = read_carried(alloc, container, text, &parts)?;
-    let Some(columns) = read_columns(alloc, text, &parts, &sections)? else {
+    let carried = read_carried(alloc, container, text, parts)?;
+    let Some(columns) = read_columns(alloc, text, parts, &sections)? else {
         return Ok(None);
     };
+    Ok(Some(ReadFromText { columns, carried }))
+}
+
+/// What the document is made of: its parts, and what was read by them. It takes no memory.
+fn parts_of(parts: DocParts<'_>, read: ReadFromText) -> DocumentParts
+    ensures { result ≡ record {
+      columns = read.columns;
+      cuts = cuts_of parts.entry;
+      sheet = parts.entry.sheet;
+      carried = read.carried;
+      bookmarks = parts.entry.bookmarks;
+    } }
+{
     let head_count = SEPARATORS + HEADS_A_SECTION * parts.sections.len();
     let notes = parts.notes;
-    Ok(Some(DocumentParts {
-        columns,
+    DocumentParts {
+        columns: read.columns,
         cuts: StoryCuts {
             notes: notes.cuts,
             heads: parts.heads,
             head_count,
         },
         sheet: parts.sheet,
-        carried,
+        carried: read.carried,
         bookmarks: parts.bookmarks,
-    }))
+    }
 }
 
 /// The document of its parts and of the units of its text, which it takes over.
@@ -103,11 +151,28 @@ pub(crate) fn document_with(
         carried,
         bookmarks,
     } = parts;
-    let all = Columns::from_parts(units, columns.chps, columns.besides);
-    let ends = text_ends(alloc, fib, &cuts)?;
-    let mut whole = WholeText::new(alloc, all, &ends)?;
-    let texts = read_texts(alloc, fib, &mut whole, &cuts)?;
+    let texts = cut_units(alloc, fib, units, columns, &cuts)?;
     Ok(document_of(texts, sheet, carried, bookmarks))
+}
+
+/// Cuts the text of these units and columns into the texts of the document.
+fn cut_units(
+    alloc: Global,
+    fib: &Fib,
+    units: Vec<u16>,
+    columns: ReadColumns,
+    cuts: &StoryCuts,
+) -> Result<ReadTexts, Memory>
+    requires units { FitUnits units.items columns }
+    requires cuts { AreCutsOf fib.now cuts.now (length units.items) }
+    ensures { IfOk result (AreTextsOf fib.now cuts.now (items_of units.items columns.chps columns.besides)) }
+{
+    let all = Columns::from_parts(units, columns.chps, columns.besides);
+    let ends = text_ends(alloc, fib, cuts)?;
+    let mut whole = WholeText::new(alloc, all, &ends)?;
+    let texts = read_texts(alloc, fib, &mut whole, cuts);
+    drop(whole);
+    texts
 }
 
 /// The places where the texts of the document begin and end, as far as they are known.

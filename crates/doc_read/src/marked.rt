@@ -1,6 +1,6 @@
 // What stands at CPs of the whole text: field bytes, references to notes, ends of sections.
-ghost use Rattle.std.specs.Prelude.{◌≡◌, ◌+◌, ◌<◌, ◌≤◌, ◌^◌, ◌++◌};
-ghost use Rattle.std.specs.Prelude.{ℕ, All, Some, length, map, slice_get, IfOk};
+ghost use Rattle.std.specs.Prelude.{◌≡◌, ◌+◌, ◌<◌, ◌^◌, ◌++◌};
+ghost use Rattle.std.specs.Prelude.{ℕ, All, Some, map, slice_get, IfOk};
 ghost use Rattle.std.specs.Prelude.{OnOk, IfSome};
 ghost use Rattle.prop_map.specs.Formed.{IsPropertyMap, section_groups};
 ghost use Rattle.doc_parts.specs.declared.lists.Fld.{Fld as FldType};

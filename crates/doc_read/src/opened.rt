@@ -4,7 +4,7 @@ ghost use Rattle.doc_load.specs.Faults.{IsReadFault};
 ghost use Rattle.doc_read.specs.Holds.{all_rules};
 ghost use Rattle.doc_read.specs.Opened.{IsOpened};
 
-use crate::column_file::{ColumnFile, open};
+use crate::column_file::{ColumnFile, let_go, open};
 use cfb_streams::Container;
 use doc_bits::Memory;
 use doc_load::ReadFault;
@@ -94,13 +94,27 @@ pub fn read(alloc: Global, file: &[u8]) -> Result<Opened, ReadFault>
 fn expand(alloc: Global, file: ColumnFile) -> Result<Opened, Memory>
     ensures { IfOk result (λ opened. opened ≡ file) }
 {
-    let document = file.document().expand(alloc)?;
+    match file.document().expand(alloc) {
+        Ok(document) => Ok(opened_of(document, file)),
+        Err(fault) => let_go(file, Err(fault)),
+    }
+}
+
+/// The file with this document in place of its columns. It takes no memory.
+fn opened_of(document: Document, file: ColumnFile) -> Opened
+    ensures { result ≡ record {
+      document = document;
+      fib = file.fib;
+      contents = file.contents;
+      pieces = file.pieces;
+    } }
+{
     let (columns, fib, container, pieces) = file.into_parts();
     drop(columns);
-    Ok(Opened {
+    Opened {
         document,
         fib,
         container,
         pieces,
-    })
+    }
 }

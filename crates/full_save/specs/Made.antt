@@ -19,6 +19,7 @@ use Rattle.plain_doc.specs.Collected.{joined_texts, fields_of, refs_of}
 use Rattle.plain_doc.specs.TextLists.{cuts_of}
 use Rattle.full_save.specs.declared.table_text.TableText.{TableText}
 use Rattle.full_save.specs.declared.made_parts.FieldParts.{FieldParts}
+use Rattle.full_save.specs.declared.made_parts.ListParts.{ListParts}
 use Rattle.full_save.specs.declared.made_parts.MadeParts.{MadeParts}
 use Rattle.full_save.specs.declared.mark_parts.MarkParts.{MarkParts}
 use Rattle.full_save.specs.declared.word_document.WordBody.{WordBody}
@@ -35,6 +36,15 @@ pub record AreFieldParts (document : Document) (text : TableText) (parts : Field
   pub main : parts.main ≡ printed_fields (fields_of document.main) (slice_index text.counts 0)
   pub heads : parts.heads ≡ printed_fields (fields_of (joined_texts document.heads)) (slice_index text.counts 2)
   pub notes : parts.notes ≡ printed_fields (fields_of (joined_texts document.notes)) (slice_index text.counts 1)
+
+-- the parts that say where the notes, the sections and the texts of a document are
+pub record AreListParts (document : Document) (text : TableText) (parts : ListParts) : Type 0 where
+  pub refs : parts.refs ≡ printed_refs (refs_of document.main) (slice_index text.counts 0)
+  pub note_cuts : parts.note_cuts ≡ printed_texts (cuts_of (joined_texts document.notes) document.notes) (slice_index
+      text.counts 1)
+  pub sections : parts.sections ≡ printed_sections text.seds (slice_index text.counts 0)
+  pub head_cuts : parts.head_cuts ≡ printed_texts (cuts_of (joined_texts document.heads) document.heads) (slice_index
+      text.counts 2)
 
 -- the parts of the table stream that are made of a document, with what is said of its text
 pub record AreMadeOf (document : Document) (text : TableText) (made : MadeParts) : Type 0 where

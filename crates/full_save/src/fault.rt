@@ -2,7 +2,7 @@ use doc_bits::Memory;
 use thiserror::Error;
 
 /// Why a document is not saved.
-#[derive(Clone, Copy, Debug, PartialEq, Eq, Error)]
+#[derive(Clone, Copy, Debug, Error)]
 pub enum SaveFault {
     /// Its file needs so many sectors, which is more than 13,952.
     #[error("{sectors} sectors are needed")]

@@ -8,7 +8,7 @@ ghost use Rattle.plain_doc.specs.Collected.{joined_texts, fields_of, refs_of};
 ghost use Rattle.plain_doc.specs.TextLists.{cuts_of};
 ghost use Rattle.full_save.specs.TableText.{FitParts, table_entries};
 ghost use Rattle.full_save.specs.TableStream.{entries_bytes, AreWritten};
-ghost use Rattle.full_save.specs.Made.{AreFieldParts, AreMadeOf, made_entries, carried_length};
+ghost use Rattle.full_save.specs.Made.{AreFieldParts, AreListParts, AreMadeOf, made_entries, carried_length};
 
 use crate::lists::{cuts_of, fields_of, fields_of_texts, refs_of};
 use crate::mark_parts::MarkParts;
@@ -45,6 +45,32 @@ impl FieldParts {
     }
 }
 
+/// The parts that say where the notes, the sections and the texts of a document are.
+#[derive(Drop)]
+struct ListParts {
+    refs: Bytes,
+    note_cuts: Bytes,
+    sections: Bytes,
+    head_cuts: Bytes,
+}
+
+impl ListParts {
+    /// Those of a document.
+    fn of(alloc: Global, document: &ColumnDocument, text: &TableText) -> Result<ListParts, Memory>
+        requires notes { length (joined_texts document.now.notes) < 2 ^ 32 }
+        requires heads { length (joined_texts document.now.heads) < 2 ^ 32 }
+        ensures { IfOk result (AreListParts document.now text.now) }
+    {
+        let [main, notes, heads] = text.counts;
+        Ok(ListParts {
+            refs: refs_part(alloc, &document.main, main)?,
+            note_cuts: cuts_part(alloc, &document.notes, notes)?,
+            sections: print_sections(alloc, &text.seds, main)?,
+            head_cuts: cuts_part(alloc, &document.heads, heads)?,
+        })
+    }
+}
+
 /// The parts that are made of a document.
 #[derive(Drop)]
 struct MadeParts {
@@ -66,15 +92,19 @@ impl MadeParts {
         requires marks { FitParts document.now.bookmarks }
         ensures { IfOk result (AreMadeOf document.now text.now) }
     {
-        let [main, notes, heads] = text.counts;
+        let [main, _, _] = text.counts;
+        let sheet = document.sheet.print(alloc)?;
+        let lists = ListParts::of(alloc, document, text)?;
+        let fields = FieldParts::of(alloc, document, text)?;
+        let marks = MarkParts::of(alloc, &document.bookmarks, main)?;
         Ok(MadeParts {
-            sheet: document.sheet.print(alloc)?,
-            refs: refs_part(alloc, &document.main, main)?,
-            note_cuts: cuts_part(alloc, &document.notes, notes)?,
-            sections: print_sections(alloc, &text.seds, main)?,
-            head_cuts: cuts_part(alloc, &document.heads, heads)?,
-            fields: FieldParts::of(alloc, document, text)?,
-            marks: MarkParts::of(alloc, &document.bookmarks, main)?,
+            sheet,
+            refs: lists.refs,
+            note_cuts: lists.note_cuts,
+            sections: lists.sections,
+            head_cuts: lists.head_cuts,
+            fields,
+            marks,
         })
     }
 }

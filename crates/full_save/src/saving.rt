@@ -2,7 +2,7 @@
 ghost use Rattle.std.specs.Prelude.{◌≡◌, ◌<◌, length, IfOk, MatchResult};
 ghost use Rattle.plain_doc.specs.Sound.{IsSound};
 ghost use Rattle.full_save.specs.WordDocument.{table_stream};
-ghost use Rattle.full_save.specs.Layout.{full_save_image, sectors_of, FitsCompoundFile, IsTooLarge};
+ghost use Rattle.full_save.specs.Layout.{full_save_image, layout_streams, sectors_of, FitsCompoundFile, IsTooLarge};
 ghost use Rattle.plain_doc.specs.Formed.{IsFormed};
 ghost use Rattle.plain_doc.specs.RightDocument.{IsRightDocument};
 ghost use Rattle.full_save.specs.WordDocument.{full_fib};
@@ -16,6 +16,7 @@ use crate::streams::{lengths_with, streams_with};
 use crate::text::{SavedText, text_of};
 use crate::word_document::WordBody;
 use cfb_layout::{LayoutFault, sectors_needed, whole};
+use cfb_streams::Streams;
 use doc_bits::{Bytes, Memory};
 use doc_columns::{ColumnDocument, columns_are_formed};
 use fib_form::{Fib, Form, KeptFib, Pairs};
@@ -115,21 +116,31 @@ fn file_of(alloc: Global, document: &ColumnDocument, body: &WordBody) -> Result<
     requires fits { FitsCompoundFile document.now }
     ensures { MatchResult result (λ file. file ≡ full_save_image document.now) (IsTooLarge document.now) }
 {
-    let carried = &document.carried;
-    let table = write_table(alloc, document, &body.text)?;
-    let fib = fib_of(document, body, &table.pairs);
-    let wd = body.stream(alloc, &fib)?;
-    let streams = streams_with(
-        alloc,
-        &carried.streams,
-        table.bytes.as_slice(),
-        wd.as_slice(),
-    )?;
-    match whole(alloc, &streams, carried.clsid) {
+    let streams = streams_of(alloc, document, body)?;
+    match whole(alloc, &streams, document.carried.clsid) {
         Ok(file) => Ok(file),
         Err(LayoutFault::TooLarge { sectors }) => Err(SaveFault::TooLarge { sectors }),
         Err(LayoutFault::Memory) => Err(SaveFault::Memory),
     }
+}
+
+/// The streams of the file of a document that fits.
+fn streams_of(alloc: Global, document: &ColumnDocument, body: &WordBody) -> Result<Streams, Memory>
+    requires formed { IsFormed document.now }
+    requires right { IsRightDocument document.now }
+    requires body { IsBodyOf document.now body.now }
+    requires fits { FitsCompoundFile document.now }
+    ensures { IfOk result (λ streams. streams ≡ layout_streams document.now) }
+{
+    let table = write_table(alloc, document, &body.text)?;
+    let fib = fib_of(document, body, &table.pairs);
+    let wd = body.stream(alloc, &fib)?;
+    streams_with(
+        alloc,
+        &document.carried.streams,
+        table.bytes.as_slice(),
+        wd.as_slice(),
+    )
 }
 
 /// The number of bytes of the table stream in the full save of a document, whether it fits a file or not.

@@ -1,6 +1,7 @@
 // `WordDocument` of a full save.
 ghost use Rattle.std.specs.Prelude.{◌≡◌, ◌+◌, ◌-◌, ◌*◌, ◌/◌, ◌^◌, ◌<◌, ◌≤◌, ◌++◌, length, replicate, OnOk, IfOk};
 ghost use Rattle.fib_form.specs.FibBytes.{written_fib};
+ghost use Rattle.fkp_pages.specs.Bin.{ArePrintableBins, printed_bin};
 ghost use Rattle.cfb_layout.specs.Sectors.{units_for, filled, padded};
 ghost use Rattle.full_save.specs.WordDocument.{units_bytes, items_bytes, text_bytes, one_piece_clx, least_length};
 ghost use Rattle.full_save.specs.Text.{mark_if, text_items, text_counts};
@@ -17,6 +18,7 @@ use crate::table_text::TableText;
 use crate::text::{SavedText, TEXT_AT};
 use doc_bits::{Bytes, Memory};
 use doc_columns::{ColumnDocument, ColumnTexts};
+use doc_parts::Seds;
 use fib_form::Fib;
 use fkp_pages::{Bins, PAGE_LEN, write_bin};
 use piece_table::PieceList;
@@ -45,8 +47,7 @@ impl WordBody {
         requires text { IsTextOf document.now text.now }
         ensures { IfOk result (IsBodyOf document.now) }
     {
-        let len = text.len;
-        let end = TEXT_AT + UNIT_LEN * len;
+        let end = TEXT_AT + UNIT_LEN * text.len;
         let mut bytes = Bytes::new(alloc);
         append_document(&mut bytes, document, text)?;
         let first = pages_for(end);
@@ -61,14 +62,8 @@ impl WordBody {
         let mut paragraphs = Bins::new(alloc);
         append_papx_pages(alloc, &mut bytes, &mut paragraphs, &text.paragraphs, second)?;
         let seds = append_sepxes(alloc, &mut bytes, &document.main, TEXT_AT)?;
-        let text = TableText {
-            counts: text.counts,
-            seds,
-            characters: write_bin(alloc, &characters, end)?,
-            paragraphs: write_bin(alloc, &paragraphs, end)?,
-            clx: clx_of(alloc, len)?,
-        };
-        Ok(WordBody { bytes, text })
+        let table = table_text(alloc, text, seds, &characters, &paragraphs)?;
+        Ok(WordBody { bytes, text: table })
     }
 
     /// [MS-DOC] cbMac.
@@ -90,6 +85,39 @@ impl WordBody {
         push_zeros(&mut stream, LEAST_LEN.saturating_sub(len))?;
         Ok(stream)
     }
+}
+
+/// What the table stream says of a text with these sections and these pages.
+fn table_text(
+    alloc: Global,
+    text: &SavedText,
+    seds: Seds,
+    characters: &Bins,
+    paragraphs: &Bins,
+) -> Result<TableText, Memory>
+    requires some { 1 ≤ text.now.len }
+    requires most { text.now.len ≤ 500001 }
+    requires characters { ArePrintableBins characters.now (TEXT_AT + 2 * text.now.len) }
+    requires paragraphs { ArePrintableBins paragraphs.now (TEXT_AT + 2 * text.now.len) }
+    ensures { IfOk result (λ table. table ≡ record {
+      counts = text.now.counts;
+      seds = seds;
+      characters = printed_bin characters.now (TEXT_AT + 2 * text.now.len);
+      paragraphs = printed_bin paragraphs.now (TEXT_AT + 2 * text.now.len);
+      clx = one_piece_clx text.now.len;
+    }) }
+{
+    let end = TEXT_AT + UNIT_LEN * text.len;
+    let characters = write_bin(alloc, characters, end)?;
+    let paragraphs = write_bin(alloc, paragraphs, end)?;
+    let clx = clx_of(alloc, text.len)?;
+    Ok(TableText {
+        counts: text.counts,
+        seds,
+        characters,
+        paragraphs,
+        clx,
+    })
 }
 
 /// The FIB, and zeros up to the text.

@@ -1,7 +1,7 @@
 //! The marks behind the stories of a text.
 
 /// Whether a mark stands behind the notes, and behind the header texts.
-#[derive(Clone, Copy, Debug, PartialEq, Eq)]
+#[derive(Clone, Copy)]
 pub struct Ends {
     pub notes: bool,
     pub heads: bool,

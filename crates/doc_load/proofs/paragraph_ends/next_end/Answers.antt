@@ -40,7 +40,8 @@ loop-cp-preserved c =
       behind = omega (arith, so_far.behind, c.stretch_end-stop.ensures.behind);
       within = c.stretch_end-stop.ensures.within;
       none = met.none c.if-ends_paragraph.false;
-      met = met_behind _ _ c.loop-cp.cp stop c.stretch_end-stop.ensures.met (omega (arith, c.stretch_end-stop.ensures.behind));
+      met = met_behind _ _ c.loop-cp.cp stop c.stretch_end-stop.ensures.met
+          (omega (arith, c.stretch_end-stop.ensures.behind));
       same = c.stretch_end-stop.ensures.sections ∙ so_far.same;
       main = c.stretch_end-stop.ensures.main ∙ so_far.main;
     }

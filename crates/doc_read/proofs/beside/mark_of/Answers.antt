@@ -1,5 +1,5 @@
 -- The mark of the place.
-use Rattle.std.proofs.Common.{◌≡◌, ℕ, Option, MatchOption, sym, ap, subst}
+use Rattle.std.proofs.Common.{ℕ, Option, MatchOption, sym, ap, subst}
 use Rattle.std.specs.Prelude.{IfSome}
 use Rattle.prop_map.specs.Formed.{IsPropertyMap, paragraph_groups}
 use Rattle.prop_map.specs.Modifiers.{IsFormedModifier}
@@ -36,7 +36,8 @@ returns-clause-mark c =
     let direct = c.in-Some.direct in
     let read = subst (IsReadAt c.args.reader.now.marks fc) c.in-Some.is c.in_ok-direct.ensures.mark in
     let here = subst
-    (λ (s : PlaceSource). IsRightPlace Papx s.wd s.bin fc × IsDirectMark s.wd s.bin fc s.modifier direct.istd direct.pap)
+    (λ (s : PlaceSource). IsRightPlace Papx s.wd s.bin fc
+    × IsDirectMark s.wd s.bin fc s.modifier direct.istd direct.pap)
     c.requires.reader.marks read in
     subst
     (λ n. IsRightPlace Papx view.wd view.paragraphs n

@@ -1,6 +1,4 @@
 use Rattle.std.proofs.Common.{None}
-use Rattle.prop_map.specs.Formed.{section_groups}
-use Rattle.doc_load.specs.SectionRules.{sepx_list}
 use Rattle.doc_load.proofs.JudgedLemmas.{one_judged}
 use Rattle.doc_load.proofs.SectionLemmas.{right_list}
 use Rattle.doc_load.proofs.sections.JudgedSepxs.add_right.Goals as goal

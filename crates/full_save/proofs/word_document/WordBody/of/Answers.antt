@@ -33,14 +33,14 @@ overflow_add-end c =
     let units = length-units c.args.document.now c.args.text.now c.requires.text in
     omega arith
 
-pub clx_of-requires-clause-some : goal.clx_of-requires-clause-some
-clx_of-requires-clause-some c =
+pub table_text-requires-clause-some : goal.table_text-requires-clause-some
+table_text-requires-clause-some c =
     let few = few_items c.args.document.now c.requires.right in
     let units = length-units c.args.document.now c.args.text.now c.requires.text in
     omega arith
 
-pub clx_of-requires-clause-most : goal.clx_of-requires-clause-most
-clx_of-requires-clause-most c =
+pub table_text-requires-clause-most : goal.table_text-requires-clause-most
+table_text-requires-clause-most c =
     let few = few_items c.args.document.now c.requires.right in
     let units = length-units c.args.document.now c.args.text.now c.requires.text in
     omega arith
@@ -136,8 +136,8 @@ append_sepxes-requires-clause-room c =
     let size = ap length three in
     omega arith
 
-pub write_bin-requires : goal.write_bin-requires
-write_bin-requires c =
+pub table_text-requires-clause-characters : goal.table_text-requires-clause-characters
+table_text-requires-clause-characters c =
     let d = c.args.document.now in
     let formed = c.requires.formed in
     let right = c.requires.right in
@@ -163,8 +163,8 @@ write_bin-requires c =
     (subst (λ (n : ℕ). ArePrintableBins (numbered_bins (first_character_page d) (document_pages Chpx d).starts) n)
     (sym end) printable)
 
-pub write_bin-requires-2 : goal.write_bin-requires-2
-write_bin-requires-2 c =
+pub table_text-requires-clause-paragraphs : goal.table_text-requires-clause-paragraphs
+table_text-requires-clause-paragraphs c =
     let d = c.args.document.now in
     let formed = c.requires.formed in
     let right = c.requires.right in
@@ -247,19 +247,18 @@ returns c =
     ∙ pages_end_is d formed right in
     let seds = c.in_ok-seds.ensures.seds ∙ (λ i. seds_from 0 (place i) (sections i)) in
     let positive : 0 < length (text_items d) = omega arith in
-    let characters = c.in_ok-write_bin.ensures.bytes
-    ∙ (λ i. printed_bin (character_bins i) ((end ∙ sym (last_fc-text_runs Chpx text_at (text_items d) positive)) i)) in
-    let paragraphs = c.in_ok-write_bin-2.ensures.bytes
-    ∙ (λ i. printed_bin (paragraph_bins i) ((end ∙ sym (last_fc-text_runs Papx text_at (text_items d) positive)) i)) in
-    let clx = c.in_ok-clx_of.ensures ∙ ap one_piece_clx len in
+    let last_character = end ∙ sym (last_fc-text_runs Chpx text_at (text_items d) positive) in
+    let last_paragraph = end ∙ sym (last_fc-text_runs Papx text_at (text_items d) positive) in
     record {
       bytes =
           c.in_ok-seds.ensures.bytes ∙ ((λ i. three i ++ sepxes (sections i)) ∙ body_is d);
-      text = λ i. record {
-        counts = text.counts_are i;
-        seds = seds i;
-        characters = characters i;
-        paragraphs = paragraphs i;
-        clx = clx i;
-      };
+      text =
+          c.in_ok-table.ensures
+          ∙ (λ i. record {
+            counts = text.counts_are i;
+            seds = seds i;
+            characters = printed_bin (character_bins i) (last_character i);
+            paragraphs = printed_bin (paragraph_bins i) (last_paragraph i);
+            clx = one_piece_clx (len i);
+          });
     }
