@@ -130,7 +130,9 @@ fn judged(alloc: Global, made: &ColumnDocument) -> Result<(), JoinFault>
         return Ok(());
     }
     let items = made.expand(alloc)?;
-    judged_by_items(&items)
+    let verdict = judged_by_items(&items);
+    drop(items);
+    verdict
 }
 
 /// The same of a document item by item.

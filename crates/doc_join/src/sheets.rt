@@ -1,17 +1,21 @@
 // The style sheet of a joined document.
 ghost use Rattle.std.specs.Prelude.{◌≡◌, ℕ, ◌+◌, ◌<◌, ◌≤◌, ◌++◌, List, length, option_map, IfOk, OnOk, Option};
+ghost use Rattle.prop_map.specs.Formed.{IsPropertyMap, character_groups};
+ghost use Rattle.style_sheet.specs.declared.styles.Kind.TheVariants.{Para, Char, Other};
 ghost use Rattle.style_sheet.specs.Formed.{IsFormedStyle, IsFormedKind, IsFormedSlot};
 ghost use Rattle.style_sheet.specs.Sheet.{Sheet, style_at};
 ghost use Rattle.style_sheet.specs.Changes.{with_kind};
 ghost use Rattle.doc_join.specs.Numbers.{numbers_of_first, numbers_of_second};
+ghost use Rattle.doc_join.specs.Settings.{renumbered};
 ghost use Rattle.doc_join.specs.Styles.{renumbered_kind, style_from_first, style_from_second};
 ghost use Rattle.doc_join.specs.Styles.{slot_from_first, slot_from_second, slots_from_first, slots_from_second};
 ghost use Rattle.doc_join.specs.Styles.{joined_sheet};
 
 use crate::kept_maps::KeptMaps;
 use doc_bits::{Memory, Units};
+use prop_map::PropMap;
 use std::alloc::Global;
-use style_sheet::{Kind, Style, StyleSheet};
+use style_sheet::{Kind, Style, StyleSheet, UpxList};
 
 /// The slots of the first sheet, and then those of the second. The maps of each sheet are renumbered by its own.
 pub(crate) fn join_sheets(
@@ -132,19 +136,39 @@ impl KeptMaps {
         ensures made { IfOk result (λ made. made ≡ renumbered_kind self.old.numbers kind.now) }
         ensures numbers { self.new.numbers ≡ self.old.numbers }
     {
-        let alloc = self.alloc;
         match kind {
-            Kind::Para { pap, chp } => Ok(Kind::Para {
-                pap: pap.copy(alloc)?,
-                chp: self.map(chp)?,
-            }),
-            Kind::Char { chp } => Ok(Kind::Char {
-                chp: self.map(chp)?,
-            }),
-            Kind::Other { stk, upxes } => Ok(Kind::Other {
-                stk: *stk,
-                upxes: upxes.copy(alloc)?,
-            }),
+            Kind::Para { pap, chp } => self.paragraph_kind(pap, chp),
+            Kind::Char { chp } => self.character_kind(chp),
+            Kind::Other { stk, upxes } => other_kind(self.alloc, *stk, upxes),
         }
     }
+
+    /// The settings of a style of paragraphs.
+    fn paragraph_kind(&mut self, pap: &PropMap, chp: &PropMap) -> Result<Kind, Memory>
+        requires { IsPropertyMap character_groups chp.now }
+        ensures made { IfOk result (λ made. made ≡ Para pap.now (renumbered self.old.numbers chp.now)) }
+        ensures numbers { self.new.numbers ≡ self.old.numbers }
+    {
+        let pap = pap.copy(self.alloc)?;
+        let chp = self.map(chp)?;
+        Ok(Kind::Para { pap, chp })
+    }
+
+    /// The settings of a style of characters.
+    fn character_kind(&mut self, chp: &PropMap) -> Result<Kind, Memory>
+        requires { IsPropertyMap character_groups chp.now }
+        ensures made { IfOk result (λ made. made ≡ Char (renumbered self.old.numbers chp.now)) }
+        ensures numbers { self.new.numbers ≡ self.old.numbers }
+    {
+        let chp = self.map(chp)?;
+        Ok(Kind::Char { chp })
+    }
+}
+
+/// A style of another kind, which is as it was.
+fn other_kind(alloc: Global, stk: u8, upxes: &UpxList) -> Result<Kind, Memory>
+    ensures { IfOk result (λ made. made ≡ Other stk upxes.now) }
+{
+    let upxes = upxes.copy(alloc)?;
+    Ok(Kind::Other { stk, upxes })
 }

@@ -29,7 +29,9 @@ pub fn accepted_line(alloc: Global, document: &Document) -> Result<Text, Memory>
     ensures { IfOk result (λ text. text ≡ accepted_line_of document.now) }
 {
     let columns = ColumnDocument::from_document(alloc, document)?;
-    columns_accepted_line(alloc, &columns)
+    let made = columns_accepted_line(alloc, &columns);
+    drop(columns);
+    made
 }
 
 /// The same of a document by columns. It is linear in the runs, the notes, the header texts and the slots of the sheet.

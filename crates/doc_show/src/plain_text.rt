@@ -13,7 +13,9 @@ pub fn main_text(alloc: Global, document: &Document) -> Result<Text, Memory>
     ensures { IfOk result (λ text. text ≡ main_text_of document.now) }
 {
     let columns = ColumnDocument::from_document(alloc, document)?;
-    columns_main_text(alloc, &columns)
+    let made = columns_main_text(alloc, &columns);
+    drop(columns);
+    made
 }
 
 /// The same of a document by columns. It is linear in the units.

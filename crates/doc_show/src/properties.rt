@@ -24,7 +24,9 @@ pub fn props_lines(alloc: Global, document: &Document, pos: usize) -> Result<Tex
     ensures { IfOk result (ArePropertyLines document.now pos) }
 {
     let columns = ColumnDocument::from_document(alloc, document)?;
-    columns_props_lines(alloc, &columns, pos)
+    let made = columns_props_lines(alloc, &columns, pos);
+    drop(columns);
+    made
 }
 
 /// The same of a document by columns. It is linear in the runs before the end of the paragraph, and in the bases of its

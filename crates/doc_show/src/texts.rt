@@ -17,7 +17,9 @@ pub fn listing(alloc: Global, document: &Document) -> Result<Text, Memory>
     ensures { IfOk result (λ text. text ≡ listing_of document.now) }
 {
     let columns = ColumnDocument::from_document(alloc, document)?;
-    columns_listing(alloc, &columns)
+    let made = columns_listing(alloc, &columns);
+    drop(columns);
+    made
 }
 
 /// The same of a document by columns. It is linear in the units and the runs.

@@ -9,7 +9,7 @@ use crate::status::{
 use doc_bits::{Bytes, Text};
 
 /// Why a task is refused.
-#[derive(Clone, Copy, Debug, PartialEq, Eq)]
+#[derive(Clone, Copy)]
 pub enum Refusal {
     /// Bytes are no script.
     Script,

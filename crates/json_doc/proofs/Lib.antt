@@ -16,5 +16,6 @@ pub mod MarkLemmas
 pub mod GoodLemmas
 pub mod GoodParts
 pub mod DocumentLemmas
+pub mod DocumentTextLemmas
 pub mod JudgedLemmas
 pub mod LawLemmas

@@ -1,16 +1,19 @@
 -- Arrays are read value by value as what they were written for, and from no other value.
-use Rattle.std.proofs.Common.{◌≡◌, zero, suc, true, List, [], ◌∷◌, ◌++◌, Option, Some}
-use Rattle.std.proofs.Common.{map, refl, sym, ap, ◌∙◌, subst, arith, All, is_some}
+use Rattle.std.proofs.Common.{◌≡◌, ◌+◌, ◌<◌, ◌≤◌, ℕ, zero, suc, true, List, [], ◌∷◌, ◌++◌, Option, Some, None}
+use Rattle.std.proofs.Common.{map, refl, sym, ap, ◌∙◌, subst, arith, All, is_some, length, get_or, take}
 use Rattle.std.specs.Prelude.{⊤}
+use Rattle.std.proofs.lemmas.List.{length-map}
 use Rattle.std.proofs.lemmas.Option.{none-some, same_Some}
 use Rattle.serde_json.specs.Data.{Data, null, boolean, number, string, array, object, Items, no_items, item}
-use Rattle.serde_json.specs.View.{items_of}
+use Rattle.serde_json.specs.View.{items_of, items_view, view}
+use Rattle.serde_json.specs.declared.value.Value.{Value}
 use Rattle.serde_json.specs.Find.{as_array, as_null}
 use Rattle.edit_script.specs.Json.{◌>>=◌, each_of}
 use Rattle.json_values.specs.Plain.{HasKeysInOrder, ItemsHaveKeysInOrder}
 use Rattle.json_doc.specs.StyleReading.{list_as}
 use Rattle.json_doc.proofs.ReadLemmas.{All-cons}
-use Rattle.json_doc.proofs.RowLemmas.{AreOne, step_found, then_found}
+use Rattle.json_doc.proofs.RowLemmas.{AreOne, step_found, then_found, then_lost}
+use Rattle.json_doc.proofs.ValueLemmas.{more_values, at_value, all_values}
 
 pub array_is : (value : Data) (items : Items) → as_array value ≡ Some items → value ≡ array items
 array_is null items e = absurd (none-some items e)
@@ -79,7 +82,7 @@ given_more of [] (y ∷ ys) d x before one = absurd before
 given_more of (c ∷ cs) [] d x before one = absurd before
 given_more of (c ∷ cs) (y ∷ ys) d x before one = (before.0, given_more of cs ys d x before.1 one)
 
-given_each : {A : Type 0} (of : Data → Option A) (ds : List Data) (xs : List A) → AreGiven of ds xs →
+pub given_each : {A : Type 0} (of : Data → Option A) (ds : List Data) (xs : List A) → AreGiven of ds xs →
     each_of of (items_of ds) ≡ Some xs
 given_each of [] [] given = refl
 given_each of [] (x ∷ xs) given = absurd given
@@ -99,3 +102,44 @@ pub given_same : {A : Type 0} {of : Data → Option A} {json : A → Data} {Is :
     (ds : List Data) (xs ys : List A) → AreGiven of ds xs → All Is ys → ds ≡ map json ys → xs ≡ ys
 given_same {of = of} {json} laws ds xs ys given all e =
     same_Some xs ys (sym (given_each of ds xs given) ∙ ap (λ l. each_of of (items_of l)) e ∙ all_back laws ys all)
+
+-- ---- one value is read as nothing
+
+lost_behind : {A : Type 0} (o : Option A) (others : Option (List A)) → others ≡ None →
+    (o >>= λ first. others >>= λ more. Some (first ∷ more)) ≡ None
+lost_behind None others lost = refl
+lost_behind (Some x) others lost = then_lost (λ more. Some (x ∷ more)) lost
+
+each_lost : {A : Type 0} (of : Data → Option A) (ds : List Data) (i : ℕ) → i < length ds →
+    of (get_or ds i null) ≡ None → each_of of (items_of ds) ≡ None
+each_lost of [] i within none = absurd (omega (arith, within))
+each_lost of (d ∷ ds) zero within none =
+    then_lost (λ first. each_of of (items_of ds) >>= λ more. Some (first ∷ more)) none
+each_lost of (d ∷ ds) (suc i) within none =
+    lost_behind (of d) (each_of of (items_of ds)) (each_lost of ds i (omega (arith, within)) none)
+
+-- ---- the same of the values of a slice
+
+pub value_lost : {A : Type 0} (of : Data → Option A) (values : List Value) (i : ℕ) (value : Value) →
+    i < length values → value ≡ get_or values i value → of (view value) ≡ None →
+    each_of of (items_view values) ≡ None
+value_lost of values i value within is none =
+    each_lost of (map view values) i (omega (arith, within, length-map {B = Data} values))
+    (subst (λ d. of d ≡ None) (sym (at_value values i value within is)) none)
+
+-- the values up to before a place were read as these
+abbrev pub FrontGiven : {A : Type 0} → (Data → Option A) → List Value → ℕ → List A → Type 0
+FrontGiven of values i xs = AreGiven of (map view (take i values)) xs
+
+pub front_more : {A : Type 0} (of : Data → Option A) (values : List Value) (i : ℕ) (value : Value) (xs : List A)
+    (x : A) (more : List A) → i < length values → value ≡ get_or values i value → FrontGiven of values i xs →
+    of (view value) ≡ Some x → more ≡ xs ++ x ∷ [] → FrontGiven of values (i + 1) more
+front_more of values i value xs x more within is before one grown =
+    subst (λ ys. AreGiven of (map view (take (i + 1) values)) ys) (sym grown)
+    (subst (λ ds. AreGiven of ds (xs ++ x ∷ [])) (sym (more_values values i value within is))
+    (given_more of (map view (take i values)) xs (view value) x before one))
+
+pub front_all : {A : Type 0} (of : Data → Option A) (values : List Value) (i : ℕ) (xs : List A) →
+    length values ≤ i → FrontGiven of values i xs → each_of of (items_view values) ≡ Some xs
+front_all of values i xs all before =
+    given_each of (map view values) xs (subst (λ ds. AreGiven of ds xs) (all_values values i all) before)

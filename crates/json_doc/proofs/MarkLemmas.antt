@@ -1,10 +1,10 @@
 -- Bookmarks are read as what they were written for, and from no other value.
 use Rattle.std.proofs.Common.{◌≡◌, ◌<◌, ◌^◌, ℕ, zero, suc, List, [], ◌∷◌, Some, None}
-use Rattle.std.proofs.Common.{length, refl, ◌∙◌, subst, arith, All}
+use Rattle.std.proofs.Common.{length, get_or, refl, sym, ◌∙◌, subst, arith, All}
 use Rattle.std.proofs.lemmas.Option.{none-some, same_Some}
 use Rattle.serde_json.specs.Data.{array, Items, no_items, item}
 use Rattle.serde_json.specs.Find.{as_array}
-use Rattle.serde_json.specs.View.{items_view}
+use Rattle.serde_json.specs.View.{items_view, view}
 use Rattle.serde_json.specs.declared.value.Value.{Value}
 use Rattle.edit_script.specs.Values.{position, short_number}
 use Rattle.doc_parts.specs.declared.bookmark_order.Bookmark.{Bookmark}
@@ -76,3 +76,20 @@ not_four (a ∷ b ∷ []) other = refl
 not_four (a ∷ b ∷ c ∷ []) other = refl
 not_four (a ∷ b ∷ c ∷ d ∷ []) other = absurd (other refl)
 not_four (a ∷ b ∷ c ∷ d ∷ e ∷ more) other = refl
+
+-- a bookmark of its parts
+abbrev pub bookmark_with : List ℕ → ℕ → ℕ → ℕ → Bookmark
+bookmark_with name from to flags = record { name = name; from = from; to = to; flags = flags }
+
+-- four values, place by place
+pub four_values : (values : List Value) (a b c d : Value) → length values ≡ 4 → a ≡ get_or values 0 a →
+    b ≡ get_or values 1 b → c ≡ get_or values 2 c → d ≡ get_or values 3 d →
+    items_view values ≡ item (view a) (item (view b) (item (view c) (item (view d) no_items)))
+four_values [] a b c d four first second third fourth = absurd (cc (four))
+four_values (p ∷ []) a b c d four first second third fourth = absurd (cc (four))
+four_values (p ∷ q ∷ []) a b c d four first second third fourth = absurd (cc (four))
+four_values (p ∷ q ∷ r ∷ []) a b c d four first second third fourth = absurd (cc (four))
+four_values (p ∷ q ∷ r ∷ s ∷ []) a b c d four first second third fourth = λ i.
+    item (view (sym first i)) (item (view (sym second i)) (item (view (sym third i)) (item (view (sym fourth i))
+    no_items)))
+four_values (p ∷ q ∷ r ∷ s ∷ t ∷ more) a b c d four first second third fourth = absurd (cc (four))

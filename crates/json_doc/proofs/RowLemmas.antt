@@ -7,7 +7,7 @@ use Rattle.std.proofs.lemmas.Slice.Eq.{bytes_eq-Decides}
 use Rattle.std.proofs.lemmas.Option.{none-some, same_Some}
 use Rattle.serde_json.specs.Data.{Data, Members, no_members, member}
 use Rattle.edit_script.specs.declared.faults.Misfit.{Misfit}
-use Rattle.edit_script.specs.declared.faults.Misfit.TheVariants.{Shape}
+use Rattle.edit_script.specs.declared.faults.Misfit.TheVariants.{Shape, Memory}
 use Rattle.edit_script.specs.Json.{◌>>=◌, Gives}
 use Rattle.json_values.specs.Plain.{HasKeysInOrder, MembersHaveKeysInOrder}
 use Rattle.json_values.specs.Rows.{member_if, taken, taken_if, each_if, need, may, ended}
@@ -38,6 +38,12 @@ then_lost f lost = ap (λ x. x >>= f) lost
 pub gives_lost : {A : Type 0} {found : Option A} {fault : Misfit} → Gives (Err fault) found → fault ≡ Shape →
     found ≡ None
 gives_lost {found = found} lost shape = subst (λ f. Gives (Err f) found) shape lost
+
+-- what a reader answers of a misfit
+pub gives_err : {A : Type 0} (found : Option A) (fault : Misfit) → (fault ≡ Shape → found ≡ None) →
+    Gives (Err fault) found
+gives_err found Shape lost = lost refl
+gives_err found Memory lost = tt
 
 -- ---- what may be there
 

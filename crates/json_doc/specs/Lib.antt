@@ -6,7 +6,10 @@ pub mod Documents
 pub mod ReadValues
 pub mod PieceReading
 pub mod StyleReading
+pub mod StyleGroups
 pub mod CarriedReading
+pub mod CarriedGroups
 pub mod DocumentReading
 pub mod Reading
+pub mod DocumentTexts
 pub mod Laws

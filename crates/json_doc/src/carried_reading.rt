@@ -4,11 +4,13 @@ ghost use Rattle.std.specs.Prelude.{MatchResult, Some, None};
 ghost use Rattle.std.specs.List.{slice_get, sum_by};
 ghost use Rattle.fib_form.specs.Fib.{kept_flags};
 ghost use Rattle.serde_json.specs.Data.{array};
-ghost use Rattle.serde_json.specs.View.{view, items_view};
+ghost use Rattle.serde_json.specs.View.{view, items_view, members_view};
 ghost use Rattle.cfb_streams.specs.Contents.{NamedBytes};
 ghost use Rattle.plain_doc.specs.Carried.{ArePartsShort, AreListsWithLevels, AreCarriedStreams, IsCarriedName};
 ghost use Rattle.plain_doc.specs.Formed.{IsFormedCarried};
 ghost use Rattle.json_doc.specs.CarriedParts.{carried_json, streams_json};
+ghost use Rattle.json_doc.specs.CarriedGroups.{carried_row, behind_front, behind_back, fields_with};
+ghost use Rattle.json_doc.specs.CarriedGroups.{IsBehind, IsNoBack, IsLast, IsNoLast};
 ghost use Rattle.json_doc.specs.CarriedReading.{stream_of, stream_of_items, carried_values, AreFormedStreams};
 ghost use Rattle.json_doc.specs.CarriedReading.{IsStreamAdded, IsNoStream, AreRightFields, AreRightBut, HasFields};
 ghost use Rattle.json_doc.specs.ReadValues.{Reads, Tells};
@@ -43,6 +45,127 @@ pub struct CarriedFields {
     pub lst: Bytes,
 }
 
+/// What the first five keys of what is carried have.
+#[derive(Drop)]
+pub struct CarriedFront {
+    pub assoc: Bytes,
+    pub clsid: Bytes,
+    pub dop: Bytes,
+    pub flags: u16,
+    pub fonts: Bytes,
+}
+
+/// What the next five keys have.
+#[derive(Drop)]
+pub struct CarriedBack {
+    pub levels: Bytes,
+    pub lfo: Bytes,
+    pub lid: u16,
+    pub lid_fe: u16,
+    pub lst: Bytes,
+}
+
+/// What the first five keys have.
+fn carried_front_in(alloc: Global, row: &mut Row<'_>) -> Result<CarriedFront, Misfit>
+    ensures { MatchResult result
+        (λ front. carried_row (members_view row.old.left) ≡ behind_front front (members_view row.new.left))
+        (λ fault. fault ≡ Misfit.Shape → carried_row (members_view row.old.left) ≡ None) }
+{
+    let assoc = row.bytes(alloc, "assoc")?;
+    let clsid = row.bytes(alloc, "clsid")?;
+    let dop = row.bytes(alloc, "dop")?;
+    let flags = row.short("flags")?;
+    let fonts = row.bytes(alloc, "fonts")?;
+    Ok(CarriedFront {
+        assoc,
+        clsid,
+        dop,
+        flags,
+        fonts,
+    })
+}
+
+/// What the next five keys have.
+fn carried_back_in(alloc: Global, row: &mut Row<'_>) -> Result<CarriedBack, Misfit>
+    ensures { MatchResult result
+        (λ back. IsBehind (members_view row.old.left) back (members_view row.new.left))
+        (λ fault. fault ≡ Misfit.Shape → IsNoBack (members_view row.old.left)) }
+{
+    let levels = row.bytes(alloc, "levels")?;
+    let lfo = row.bytes(alloc, "lfo")?;
+    let lid = row.short("lid")?;
+    let lid_fe = row.short("lidfe")?;
+    let lst = row.bytes(alloc, "lst")?;
+    Ok(CarriedBack {
+        levels,
+        lfo,
+        lid,
+        lid_fe,
+        lst,
+    })
+}
+
+/// The value that has the streams: that of the last key.
+fn streams_at<'a>(row: &mut Row<'a>) -> Result<&'a Value, Misfit>
+    ensures { MatchResult result
+        (λ streams. IsLast (members_view row.old.left) (view streams.now))
+        (λ fault. fault ≡ Misfit.Shape → IsNoLast (members_view row.old.left)) }
+{
+    let streams = row.need("streams")?;
+    row.end()?;
+    Ok(streams)
+}
+
+/// The fields of both groups.
+fn fields_from(front: CarriedFront, back: CarriedBack) -> CarriedFields
+    ensures { result ≡ fields_with front back }
+{
+    CarriedFields {
+        assoc: front.assoc,
+        clsid: front.clsid,
+        dop: front.dop,
+        flags: front.flags,
+        fonts: front.fonts,
+        levels: back.levels,
+        lfo: back.lfo,
+        lid: back.lid,
+        lid_fe: back.lid_fe,
+        lst: back.lst,
+    }
+}
+
+/// The fields of both groups, and the value that has the streams.
+fn carried_with<'a>(
+    row: &mut Row<'a>,
+    front: CarriedFront,
+    back: CarriedBack,
+) -> Result<(CarriedFields, &'a Value), Misfit>
+    ensures { MatchResult result
+        (λ parts. behind_back front back (members_view row.old.left) ≡ Some (parts.0, view parts.1.now))
+        (λ fault. fault ≡ Misfit.Shape → behind_back front back (members_view row.old.left) ≡ None) }
+{
+    match streams_at(row) {
+        Ok(streams) => Ok((fields_from(front, back), streams)),
+        Err(fault) => Err(fault),
+    }
+}
+
+/// The fields of the first group and of those behind it, and the value that has the streams.
+fn carried_behind<'a>(
+    alloc: Global,
+    row: &mut Row<'a>,
+    front: CarriedFront,
+) -> Result<(CarriedFields, &'a Value), Misfit>
+    ensures { MatchResult result
+        (λ parts. behind_front front (members_view row.old.left) ≡ Some (parts.0, view parts.1.now))
+        (λ fault. fault ≡ Misfit.Shape → behind_front front (members_view row.old.left) ≡ None) }
+{
+    match carried_back_in(alloc, row) {
+        Ok(back) => carried_with(row, front, back),
+        Err(fault) => Err(fault),
+    }
+}
+
 /// The fields of what is carried, and the value that has the streams.
 fn carried_values_in(alloc: Global, value: &Value) -> Result<(CarriedFields, &Value), Misfit>
     ensures { MatchResult result
@@ -50,31 +173,8 @@ fn carried_values_in(alloc: Global, value: &Value) -> Result<(CarriedFields, &Va
         (λ fault. fault ≡ Misfit.Shape → carried_values (view value.now) ≡ None) }
 {
     let mut row = Row::of(value)?;
-    let assoc = row.bytes(alloc, "assoc")?;
-    let clsid = row.bytes(alloc, "clsid")?;
-    let dop = row.bytes(alloc, "dop")?;
-    let flags = row.short("flags")?;
-    let fonts = row.bytes(alloc, "fonts")?;
-    let levels = row.bytes(alloc, "levels")?;
-    let lfo = row.bytes(alloc, "lfo")?;
-    let lid = row.short("lid")?;
-    let lid_fe = row.short("lidfe")?;
-    let lst = row.bytes(alloc, "lst")?;
-    let streams = row.need("streams")?;
-    row.end()?;
-    let fields = CarriedFields {
-        assoc,
-        clsid,
-        dop,
-        flags,
-        fonts,
-        levels,
-        lfo,
-        lid,
-        lid_fe,
-        lst,
-    };
-    Ok((fields, streams))
+    let front = carried_front_in(alloc, &mut row)?;
+    carried_behind(alloc, &mut row, front)
 }
 
 /// A stream: its name and its bytes.

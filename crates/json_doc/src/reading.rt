@@ -1,15 +1,17 @@
 // Bytes read as a document.
 ghost use Rattle.std.specs.Prelude.{◌≡◌, ◌≢◌, ◌⊎◌, MatchResult, Err, Some, None};
 ghost use Rattle.std.specs.Result.{IsOk};
+ghost use Rattle.serde_json.specs.Data.{item, no_items};
 ghost use Rattle.serde_json.specs.View.{view, items_view};
 ghost use Rattle.serde_json.specs.Errors.{IsMemory};
-ghost use Rattle.edit_script.specs.Json.{IsJson, Gives};
+ghost use Rattle.edit_script.specs.Json.{IsJson, Gives, each_of};
 ghost use Rattle.plain_doc.specs.declared.document.Document.{Document};
 ghost use Rattle.plain_doc.specs.Marks.{HasFormedBookmarks};
 ghost use Rattle.plain_doc.specs.Sound.{IsSound};
 ghost use Rattle.json_values.specs.Plain.{HasKeysInOrder};
 ghost use Rattle.json_doc.specs.Documents.{bookmarks_json, json_value};
 ghost use Rattle.json_doc.specs.DocumentReading.{bookmark_of, bookmark_of_items, AreMarks, document_values};
+ghost use Rattle.json_doc.specs.DocumentTexts.{AreTextsOf, HasNoTexts};
 ghost use Rattle.json_doc.specs.ReadValues.{Reads};
 ghost use Rattle.json_doc.specs.Reading.{IsWhole, IsReadAs, IsJsonFault, IsFirstFault};
 ghost use Rattle.json_doc.specs.StyleReading.{list_as};
@@ -18,7 +20,7 @@ use crate::JsonFault;
 use crate::carried_reading::carried_in;
 use crate::piece_reading::{text_in, texts_in};
 use crate::style_reading::sheet_in;
-use doc_columns::{ColumnDocument, columns_are_formed, is_sound};
+use doc_columns::{ColumnDocument, ColumnTexts, Columns, columns_are_formed, is_sound};
 use doc_parts::{Bookmark, Bookmarks, Name};
 use edit_script::{Misfit, position_in, short_in};
 use json_values::{Row, hex_units_in};
@@ -96,7 +98,9 @@ fn verdict_on(alloc: Global, document: &ColumnDocument) -> Result<(), JsonFault>
         return Ok(());
     }
     let items = document.expand(alloc)?;
-    verdict_by_items(&items)
+    let verdict = verdict_by_items(&items);
+    drop(items);
+    verdict
 }
 
 /// The same of a document item by item.
@@ -183,37 +187,56 @@ fn bookmark_from(alloc: Global, values: &[Value]) -> Result<Bookmark, Misfit>
     ensures { Gives result (bookmark_of_items (items_view values.now)) }
 {
     match values {
-        [name, from, to, flags] => {
-            let units = hex_units_in(alloc, name)?;
-            let from = position_in(from)?;
-            let to = position_in(to)?;
-            let flags = short_in(flags)?;
-            Ok(Bookmark {
-                name: Name::from_slice(alloc, units.as_slice())?,
-                from,
-                to,
-                flags,
-            })
-        }
+        [name, from, to, flags] => bookmark_of_four(alloc, name, from, to, flags),
         [] | [_] | [_, _] | [_, _, _] => Err(Misfit::Shape),
         [_, _, _, _, _, ..] => Err(Misfit::Shape),
     }
+}
+
+/// The bookmark of its name, its two places and its flags.
+fn bookmark_of_four(
+    alloc: Global,
+    name: &Value,
+    from: &Value,
+    to: &Value,
+    flags: &Value,
+) -> Result<Bookmark, Misfit>
+    ensures { Gives result (bookmark_of_items
+        (item (view name.now) (item (view from.now) (item (view to.now) (item (view flags.now) no_items))))) }
+{
+    let units = hex_units_in(alloc, name)?;
+    let begin = position_in(from)?;
+    let end = position_in(to)?;
+    let bits = short_in(flags)?;
+    Ok(Bookmark {
+        name: Name::from_slice(alloc, units.as_slice())?,
+        from: begin,
+        to: end,
+        flags: bits,
+    })
 }
 
 /// The bookmarks of an array. Where there are 2^32 or more memory is refused.
 fn bookmarks_in(alloc: Global, value: &Value) -> Result<Bookmarks, Misfit>
     ensures { Gives result (list_as bookmark_of (view value.now)) }
 {
-    let Some(values) = value.as_array() else {
-        return Err(Misfit::Shape);
-    };
+    match value.as_array() {
+        None => Err(Misfit::Shape),
+        Some(values) => bookmarks_from(alloc, values.as_slice()),
+    }
+}
+
+/// The bookmarks of the values of an array.
+fn bookmarks_from(alloc: Global, values: &[Value]) -> Result<Bookmarks, Misfit>
+    ensures { Gives result (each_of bookmark_of (items_view values.now)) }
+{
     if values.len() >= 1 << 32 {
         return Err(Misfit::Memory);
     }
     let mut bookmarks = Bookmarks::new(alloc);
     // A list that does not know its names takes each bookmark in one step.
     bookmarks.splice(0, 0, Bookmarks::new(alloc))?;
-    for value in values.iter() {
+    for value in values {
         bookmarks.add(bookmark_in(alloc, value)?)?;
     }
     Ok(bookmarks)
@@ -233,6 +256,47 @@ fn marks_in(alloc: Global, value: &Value, len: usize) -> Result<Bookmarks, Misfi
     Ok(bookmarks)
 }
 
+/// The texts of a document, and its bookmarks.
+#[derive(Drop)]
+pub struct ReadTexts {
+    pub main: Columns,
+    pub bookmarks: Bookmarks,
+    pub notes: ColumnTexts,
+    pub heads: ColumnTexts,
+}
+
+/// The texts and the bookmarks that the values stand for.
+fn texts_of(alloc: Global, parts: &Parts<'_>) -> Result<ReadTexts, Misfit>
+    ensures { MatchResult result
+        (AreTextsOf (record {
+          bookmarks = view parts.now.bookmarks.now;
+          carried = view parts.now.carried.now;
+          heads = view parts.now.heads.now;
+          main = view parts.now.main.now;
+          notes = view parts.now.notes.now;
+          sheet = view parts.now.sheet.now;
+        }))
+        (λ fault. fault ≡ Misfit.Shape → HasNoTexts (record {
+          bookmarks = view parts.now.bookmarks.now;
+          carried = view parts.now.carried.now;
+          heads = view parts.now.heads.now;
+          main = view parts.now.main.now;
+          notes = view parts.now.notes.now;
+          sheet = view parts.now.sheet.now;
+        })) }
+{
+    let main = text_in(alloc, parts.main)?;
+    let bookmarks = marks_in(alloc, parts.bookmarks, main.len())?;
+    let notes = texts_in(alloc, parts.notes)?;
+    let heads = texts_in(alloc, parts.heads)?;
+    Ok(ReadTexts {
+        main,
+        bookmarks,
+        notes,
+        heads,
+    })
+}
+
 /// The document that a value stands for.
 fn document_in(alloc: Global, value: &Value) -> Result<ColumnDocument, Misfit>
     ensures { MatchResult result
@@ -242,18 +306,15 @@ fn document_in(alloc: Global, value: &Value) -> Result<ColumnDocument, Misfit>
         → (document : Document) → IsWhole document → view value.now ≢ json_value document) }
 {
     let parts = parts_in(value)?;
-    let main = text_in(alloc, parts.main)?;
-    let bookmarks = marks_in(alloc, parts.bookmarks, main.len())?;
-    let notes = texts_in(alloc, parts.notes)?;
-    let heads = texts_in(alloc, parts.heads)?;
+    let texts = texts_of(alloc, &parts)?;
     let sheet = sheet_in(alloc, parts.sheet)?;
     let carried = carried_in(alloc, parts.carried)?;
     Ok(ColumnDocument {
-        main,
-        notes,
-        heads,
+        main: texts.main,
+        notes: texts.notes,
+        heads: texts.heads,
         sheet,
         carried,
-        bookmarks,
+        bookmarks: texts.bookmarks,
     })
 }

@@ -3,13 +3,14 @@ ghost use Rattle.std.specs.Prelude.{◌≡◌, ◌≢◌, ◌↔◌, ◌<◌, Li
 ghost use Rattle.serde_json.specs.Data.{array};
 ghost use Rattle.serde_json.specs.View.{view, items_view, members_view};
 ghost use Rattle.doc_bits.specs.Number.{AreBytes};
-ghost use Rattle.edit_script.specs.Json.{Gives};
+ghost use Rattle.edit_script.specs.Json.{Gives, each_of};
 ghost use Rattle.edit_script.specs.Values.{short_number, bytes_of};
 ghost use Rattle.style_sheet.specs.declared.styles.Style.{Style};
 ghost use Rattle.style_sheet.specs.Formed.{IsFormedBase, IsFormedKind, IsFormedSlot, IsFormedStyle, IsFormedSheet};
 ghost use Rattle.json_values.specs.Rows.{Steps, need, may};
 ghost use Rattle.json_doc.specs.ReadValues.{Reads, Tells};
 ghost use Rattle.json_doc.specs.StyleReading.{list_as, base_of, kind_of, style_of, sheet_values, AreFormedSlots};
+ghost use Rattle.json_doc.specs.StyleGroups.{style_row, made_behind, style_with, IsMadeBehind, IsNoneBehind};
 ghost use Rattle.json_doc.specs.Styles.{style_json, slot_json, slots_json, sheet_json};
 
 use doc_bits::Units;
@@ -47,11 +48,18 @@ fn base_at(row: &mut Row<'_>, key: &str) -> Result<Option<u16>, Misfit>
 fn upxes_in(alloc: Global, value: &Value) -> Result<UpxList, Misfit>
     ensures { Gives result (list_as bytes_of (view value.now)) }
 {
-    let Some(values) = value.as_array() else {
-        return Err(Misfit::Shape);
-    };
+    match value.as_array() {
+        None => Err(Misfit::Shape),
+        Some(values) => upxes_from(alloc, values.as_slice()),
+    }
+}
+
+/// The property lists of the values of an array.
+fn upxes_from(alloc: Global, values: &[Value]) -> Result<UpxList, Misfit>
+    ensures { Gives result (each_of bytes_of (items_view values.now)) }
+{
     let mut upxes = UpxList::new(alloc);
-    for value in values.iter() {
+    for value in values {
         upxes.add(bytes_in(alloc, value)?)?;
     }
     Ok(upxes)
@@ -71,11 +79,18 @@ fn upxes_if(alloc: Global, row: &mut Row<'_>, key: &str) -> Result<Option<UpxLis
 fn numbers_in(alloc: Global, value: &Value) -> Result<Units, Misfit>
     ensures { Gives result (list_as short_number (view value.now)) }
 {
-    let Some(values) = value.as_array() else {
-        return Err(Misfit::Shape);
-    };
+    match value.as_array() {
+        None => Err(Misfit::Shape),
+        Some(values) => numbers_from(alloc, values.as_slice()),
+    }
+}
+
+/// The numbers of 16 bits of the values of an array.
+fn numbers_from(alloc: Global, values: &[Value]) -> Result<Units, Misfit>
+    ensures { Gives result (each_of short_number (items_view values.now)) }
+{
     let mut numbers = Units::new(alloc);
-    for value in values.iter() {
+    for value in values {
         numbers.push_all(&[short_in(value)?])?;
     }
     Ok(numbers)
@@ -98,32 +113,91 @@ fn kind_from(
     }
 }
 
+/// What the first five keys of a style have.
+#[derive(Drop)]
+pub struct StyleFront {
+    pub base: Option<u16>,
+    pub chp: Option<PropMap>,
+    pub flags: u8,
+    pub grfstd: u16,
+    pub name: Units,
+}
+
+/// What the other keys have.
+#[derive(Drop)]
+pub struct StyleBack {
+    pub next: u16,
+    pub pap: Option<PropMap>,
+    pub sti: u16,
+    pub stk: Option<u8>,
+    pub upxes: Option<UpxList>,
+}
+
+/// What the first five keys of a style have.
+fn style_front_in(alloc: Global, row: &mut Row<'_>) -> Result<StyleFront, Misfit>
+    ensures { MatchResult result
+        (λ front. style_row (members_view row.old.left) ≡ made_behind front (members_view row.new.left))
+        (λ fault. fault ≡ Misfit.Shape → style_row (members_view row.old.left) ≡ None) }
+{
+    let base = base_at(row, "base")?;
+    let chp = row.settings_if(alloc, "char")?;
+    let flags = row.byte("flags")?;
+    let grfstd = row.short("grfstd")?;
+    let name = row.units(alloc, "name")?;
+    Ok(StyleFront {
+        base,
+        chp,
+        flags,
+        grfstd,
+        name,
+    })
+}
+
+/// What the other keys have.
+fn style_back_in(alloc: Global, row: &mut Row<'_>) -> Result<StyleBack, Misfit>
+    ensures { MatchResult result
+        (λ back. IsMadeBehind (members_view row.old.left) back (members_view row.new.left))
+        (λ fault. fault ≡ Misfit.Shape → IsNoneBehind (members_view row.old.left)) }
+{
+    let next = row.short("next")?;
+    let pap = row.settings_if(alloc, "par")?;
+    let sti = row.short("sti")?;
+    let stk = row.byte_if("stk")?;
+    let upxes = upxes_if(alloc, row, "upxes")?;
+    Ok(StyleBack {
+        next,
+        pap,
+        sti,
+        stk,
+        upxes,
+    })
+}
+
+/// The style of what its keys have.
+fn style_from(front: StyleFront, back: StyleBack) -> Result<Style, Misfit>
+    ensures { Gives result (style_with front back) }
+{
+    let kind = kind_from(front.chp, back.pap, back.stk, back.upxes)?;
+    Ok(Style {
+        sti: back.sti,
+        flags: front.flags,
+        base: front.base,
+        next: back.next,
+        grfstd: front.grfstd,
+        name: front.name,
+        kind,
+    })
+}
+
 /// A style, as its object has it.
 fn style_in(alloc: Global, value: &Value) -> Result<Style, Misfit>
     ensures { Gives result (style_of (view value.now)) }
 {
     let mut row = Row::of(value)?;
-    let base = base_at(&mut row, "base")?;
-    let chp = row.settings_if(alloc, "char")?;
-    let flags = row.byte("flags")?;
-    let grfstd = row.short("grfstd")?;
-    let name = row.units(alloc, "name")?;
-    let next = row.short("next")?;
-    let pap = row.settings_if(alloc, "par")?;
-    let sti = row.short("sti")?;
-    let stk = row.byte_if("stk")?;
-    let upxes = upxes_if(alloc, &mut row, "upxes")?;
+    let front = style_front_in(alloc, &mut row)?;
+    let back = style_back_in(alloc, &mut row)?;
     row.end()?;
-    let kind = kind_from(chp, pap, stk, upxes)?;
-    Ok(Style {
-        sti,
-        flags,
-        base,
-        next,
-        grfstd,
-        name,
-        kind,
-    })
+    style_from(front, back)
 }
 
 /// Whether a style may be based on this one.

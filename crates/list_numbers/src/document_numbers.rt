@@ -18,7 +18,9 @@ pub fn numbers(alloc: Global, document: &Document) -> Result<Numbers, Memory>
     ensures { IfOk result (AreNumbers document.now) }
 {
     let columns = ColumnDocument::from_document(alloc, document)?;
-    columns_numbers(alloc, &columns)
+    let made = columns_numbers(alloc, &columns);
+    drop(columns);
+    made
 }
 
 /// The same of a document by columns.

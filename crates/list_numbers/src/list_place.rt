@@ -1,7 +1,7 @@
 // Where a paragraph stands.
 
 /// A list and a level in it.
-#[derive(Clone, Copy, Debug, PartialEq, Eq)]
+#[derive(Clone, Copy)]
 pub(crate) struct ListPlace {
     /// The index of the list.
     pub(crate) list: usize,

@@ -23,7 +23,7 @@ const SPRM_P_ILVL: Code = Code(0x260A);
 const SPRM_P_OUT_LVL: Code = Code(0x2640);
 
 /// The values of a paragraph mark, or what some layers say of them.
-#[derive(Clone, Copy, Debug, PartialEq, Eq)]
+#[derive(Clone, Copy)]
 pub(crate) struct MarkValues {
     /// [MS-DOC] sprmPIlfo.
     pub(crate) ilfo: Option<u16>,

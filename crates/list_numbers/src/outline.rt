@@ -26,7 +26,9 @@ pub fn outline_lines(alloc: Global, document: &Document) -> Result<Text, Memory>
     ensures { IfOk result (AreOutlineLines document.now) }
 {
     let columns = ColumnDocument::from_document(alloc, document)?;
-    columns_outline_lines(alloc, &columns)
+    let made = columns_outline_lines(alloc, &columns);
+    drop(columns);
+    made
 }
 
 /// The same of a document by columns.

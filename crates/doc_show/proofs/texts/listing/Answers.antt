@@ -5,5 +5,5 @@ use Rattle.doc_show.proofs.texts.listing.Goals as goal
 
 pub returns : goal.returns
 returns c =
-    subst (λ (d : Document). IfOk c.columns_listing.result (λ text. text ≡ listing_of d)) c.in_ok-columns.ensures
-    c.columns_listing.ensures
+    subst (λ (d : Document). IfOk c.columns_listing-made.result (λ text. text ≡ listing_of d)) c.in_ok-columns.ensures
+    c.columns_listing-made.ensures

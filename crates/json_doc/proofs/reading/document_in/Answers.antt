@@ -1,14 +1,23 @@
-use Rattle.std.proofs.Common.{subst}
 use Rattle.std.proofs.lemmas.Result.{err_from_is_err_and}
 use Rattle.serde_json.specs.View.{view}
-use Rattle.doc_parts.specs.Bookmarks.{AreFormedBookmarks}
 use Rattle.plain_doc.specs.declared.document.Document.{Document}
 use Rattle.json_doc.specs.DocumentReading.{SixValues}
-use Rattle.json_doc.proofs.DocumentLemmas.{marks_unread, document_told}
+use Rattle.json_doc.proofs.DocumentLemmas.{no_document, document_told}
+use Rattle.json_doc.proofs.DocumentTextLemmas.{no_sheet, no_carried}
 use Rattle.json_doc.proofs.reading.document_in.Goals as goal
 
-pub returns-in_err-bookmarks : goal.returns-in_err-bookmarks
-returns-in_err-bookmarks c =
+pub returns-in_err-parts : goal.returns-in_err-parts
+returns-in_err-parts c =
+    let p = err_from_is_err_and c.from_residual.result c.from_residual.ensures.1 in
+    rw (p.1, p.2) (λ shape document whole. no_document (view c.args.value.now) (c.in_err-parts.ensures shape) document)
+
+pub returns-in_err-texts : goal.returns-in_err-texts
+returns-in_err-texts c =
+    let p = err_from_is_err_and c.from_residual-in_err-texts.result c.from_residual-in_err-texts.ensures.1 in
+    rw (p.1, p.2) (λ shape. c.in_err-texts.ensures shape (view c.args.value.now) c.in_ok-parts.ensures)
+
+pub returns-in_err-sheet : goal.returns-in_err-sheet
+returns-in_err-sheet c =
     let parts = c.in_ok-parts.parts in
     let six : SixValues = record {
       bookmarks = view parts.bookmarks.now;
@@ -18,10 +27,24 @@ returns-in_err-bookmarks c =
       notes = view parts.notes.now;
       sheet = view parts.sheet.now;
     } in
-    let p = err_from_is_err_and c.from_residual-in_err-bookmarks.result c.from_residual-in_err-bookmarks.ensures.1 in
-    rw (p.1, p.2) (λ shape. marks_unread (view c.args.value.now) six c.in_ok-main.main c.len.result
-    c.in_err-bookmarks.field-0.0 c.in_ok-parts.ensures c.in_ok-main.ensures.0 c.in_ok-main.ensures.1 c.len.ensures.len
-    shape c.in_err-bookmarks.ensures)
+    let p = err_from_is_err_and c.from_residual-in_err-sheet.result c.from_residual-in_err-sheet.ensures.1 in
+    rw (p.1, p.2) (λ shape. no_sheet six c.in_err-sheet.field-0.0 shape c.in_err-sheet.ensures (view c.args.value.now)
+    c.in_ok-parts.ensures)
+
+pub returns-in_err-carried : goal.returns-in_err-carried
+returns-in_err-carried c =
+    let parts = c.in_ok-parts.parts in
+    let six : SixValues = record {
+      bookmarks = view parts.bookmarks.now;
+      carried = view parts.carried.now;
+      heads = view parts.heads.now;
+      main = view parts.main.now;
+      notes = view parts.notes.now;
+      sheet = view parts.sheet.now;
+    } in
+    let p = err_from_is_err_and c.from_residual-in_err-carried.result c.from_residual-in_err-carried.ensures.1 in
+    rw (p.1, p.2) (λ shape. no_carried six c.in_err-carried.field-0.0 shape c.in_err-carried.ensures
+    (view c.args.value.now) c.in_ok-parts.ensures)
 
 pub returns : goal.returns
 returns c =
@@ -34,22 +57,23 @@ returns c =
       notes = view parts.notes.now;
       sheet = view parts.sheet.now;
     } in
+    let texts = c.in_ok-texts.texts in
+    let are = c.in_ok-texts.ensures in
     let document : Document = record {
-      main = c.in_ok-main.main;
-      notes = c.in_ok-notes.notes;
-      heads = c.in_ok-heads.heads;
+      main = texts.main;
+      notes = texts.notes;
+      heads = texts.heads;
       sheet = c.in_ok-sheet.sheet;
       carried = c.in_ok-carried.carried;
-      bookmarks = c.in_ok-bookmarks.bookmarks;
+      bookmarks = texts.bookmarks;
     } in (
-      subst (λ len. AreFormedBookmarks len c.in_ok-bookmarks.bookmarks) c.len.ensures.len
-          c.in_ok-bookmarks.ensures.0.formed,
+      are.bookmarks.0.formed,
       document_told (view c.args.value.now) six document c.in_ok-parts.ensures (record {
-        bookmarks = c.in_ok-bookmarks.ensures.1;
+        bookmarks = are.bookmarks.1;
         carried = c.in_ok-carried.ensures;
-        heads = c.in_ok-heads.ensures.1;
-        main = c.in_ok-main.ensures.1;
-        notes = c.in_ok-notes.ensures.1;
+        heads = are.heads.1;
+        main = are.main.1;
+        notes = are.notes.1;
         sheet = c.in_ok-sheet.ensures;
       }),
     )
