@@ -1,5 +1,6 @@
 -- Changes as the calls of documents make them.
 use Rattle.std.proofs.Common.{◌≡◌, ◌∙◌, refl, sym, ap, ℕ, zero, suc, List, [], ◌∷◌, set, Some}
+use Rattle.std.proofs.Common.{subst, Result, Ok, Err, IsOk, OnOk, IfOk, MatchResult}
 use Rattle.std.specs.Prelude.{slice_get}
 use Rattle.std.proofs.lemmas.List.{set-get_or}
 use Rattle.std.proofs.lemmas.Option.{get_or_from_slice_get}
@@ -56,3 +57,11 @@ paragraphs_are_set istd put old new sets =
     sets.style.kind) map in
     sets.sheet ∙ (ap (λ k. with_style old istd (with_kind sets.style k)) kind ∙ sym
     (ap (put_style old istd (paragraphs_set put)) sets.there))
+
+-- what is made, and nothing failed
+pub given_right : {T E : Type 0} (made : T) (done : Result Unit E) (result : Result T E) (P : T → Type 0) →
+    OnOk done (P made) → MatchResult result (λ given. (given ≡ made) × IsOk done) (λ fault. done ≡ Err fault) →
+    IfOk result P
+given_right made (Ok nothing) (Ok given) P so right = subst P (sym right.0) so
+given_right made (Err fault) (Ok given) P so right = absurd (let none = right.1 in cc (none))
+given_right made done (Err fault) P so right = tt

@@ -1,5 +1,5 @@
 // Changes made, by value: after want of memory there is no document.
-ghost use Rattle.std.specs.Prelude.{◌≡◌, ◌<◌, [], length, Some, IfOk, OnOk, ⊤};
+ghost use Rattle.std.specs.Prelude.{◌≡◌, ◌<◌, [], length, Some, Err, IfOk, IsOk, OnOk, MatchResult, ⊤};
 ghost use Rattle.std.specs.List.{splice};
 ghost use Rattle.prop_map.specs.Formed.{IsPropertyMap, character_groups, paragraph_groups, section_groups};
 ghost use Rattle.prop_map.specs.Modifiers.{IsFormedModifier};
@@ -43,8 +43,20 @@ fn make(alloc: Global, document: ColumnDocument, change: &Change) -> Result<Colu
     ensures { IfOk result (λ made. made ≡ changed change.now document) }
 {
     let mut made = document;
-    make_in_place(alloc, &mut made, change)?;
-    Ok(made)
+    let done = make_in_place(alloc, &mut made, change);
+    where_made(made, done)
+}
+
+/// What was made, where nothing failed.
+fn where_made<T: Drop, E: Drop>(made: T, done: Result<(), E>) -> Result<T, E>
+    ensures { MatchResult result
+        (λ given. (given ≡ made) × IsOk done)
+        (λ fault. done ≡ Err fault) }
+{
+    match done {
+        Ok(()) => Ok(made),
+        Err(fault) => Err(fault),
+    }
 }
 
 /// Makes a change. After want of memory nothing is known of the document.
@@ -227,12 +239,7 @@ fn take_text(alloc: Global, document: &mut ColumnDocument, story: Story) -> Colu
     ensures taken { text_at document.old story ≡ Some result }
     ensures left { document.new ≡ with_text (λ _. []) story document.old }
 {
-    let none = Columns::new(alloc);
-    match story {
-        Story::Main => mem::replace(&mut document.main, none),
-        Story::Note(number) => document.notes.replace(number as usize, none),
-        Story::Head(number) => document.heads.replace(number as usize, none),
-    }
+    swap_text(document, story, Columns::new(alloc))
 }
 
 /// Puts a text in place of another. It takes no memory.
@@ -240,13 +247,18 @@ fn put_text(document: &mut ColumnDocument, story: Story, text: Columns)
     requires { HasText document.old story (λ _. ⊤) }
     ensures { document.new ≡ with_text (λ _. text) story document.old }
 {
+    drop(swap_text(document, story, text));
+}
+
+/// Puts a text in place of another, which it hands out.
+fn swap_text(document: &mut ColumnDocument, story: Story, text: Columns) -> Columns
+    requires { HasText document.old story (λ _. ⊤) }
+    ensures taken { text_at document.old story ≡ Some result }
+    ensures left { document.new ≡ with_text (λ _. text) story document.old }
+{
     match story {
-        Story::Main => document.main = text,
-        Story::Note(number) => {
-            let _ = document.notes.replace(number as usize, text);
-        }
-        Story::Head(number) => {
-            let _ = document.heads.replace(number as usize, text);
-        }
+        Story::Main => mem::replace(&mut document.main, text),
+        Story::Note(number) => document.notes.replace(number as usize, text),
+        Story::Head(number) => document.heads.replace(number as usize, text),
     }
 }

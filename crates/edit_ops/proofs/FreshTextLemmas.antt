@@ -1,6 +1,7 @@
 -- Settings of items that are there.
 use Rattle.std.proofs.Common.{◌≡◌, ◌∙◌, inl, inr, refl, sym, ap, subst, ℕ, List, [], ◌∷◌, ◌++◌, map, Option, Some}
-use Rattle.std.proofs.Common.{None, append_assoc}
+use Rattle.std.proofs.Common.{None, append_assoc, ◌+◌, length, length-append}
+use Rattle.std.proofs.lemmas.List.{length-map}
 use Rattle.std.specs.Prelude.{slice_get}
 use Rattle.std.specs.Option.{option_map, unwrap_or}
 use Rattle.std.specs.FinMap.{empty}
@@ -47,6 +48,16 @@ chp_formed text at chp formed there = elim (slice_get_cases text at).1 [
 ]
 
 -- ---- texts put together
+
+pub length-one : (text made : List Item) (item : Item) → made ≡ text ++ item ∷ [] → length made ≡ length text + 1
+length-one text made item is = ap length is ∙ length-append text (item ∷ [])
+
+pub length-units : (text made : List Item) (chp : Settings) (units : List ℕ) → made ≡ text ++ unit_items chp units →
+    length made ≡ length text + length units
+length-units text made chp units is =
+    ap length is
+    ∙ length-append text (unit_items chp units)
+    ∙ ap (λ n. length text + n) (length-map units (unit_item chp))
 
 -- units, and two paragraph marks
 pub two_ends : (units : List ℕ) (none : Settings) (new shown ended made : List Item) (one two : Item) →

@@ -6,7 +6,7 @@ ghost use Rattle.edit_ops.specs.EditFacts.{edit_facts};
 ghost use Rattle.edit_ops.specs.Edits.{changes_of as changes_by, document_after};
 
 use crate::facts::facts_of;
-use crate::judging::judged;
+use crate::judging::{judged, let_go};
 use crate::planning::changes_of;
 use crate::{Changes, Command, EditFault, Facts, has_right_codes, is_in_range};
 use doc_bits::Memory;
@@ -14,6 +14,7 @@ use doc_columns::ColumnDocument;
 use edit_changes::make_all;
 use plain_doc::Document;
 use std::alloc::Global;
+use std::mem;
 
 /// An edit that is accepted: its changes, the document after them, and what they do.
 #[derive(Drop)]
@@ -31,10 +32,20 @@ pub fn test(alloc: Global, document: &Document, command: &Command) -> Result<Fac
         (IsEditFault document.now command.now) }
 {
     let columns = ColumnDocument::from_document(alloc, document)?;
-    let edit = edit_of(alloc, &columns, command)?;
+    let told = told(alloc, &columns, command);
+    let_go(columns, told)
+}
+
+/// What an edit of a document by columns does, or why it is refused. The document stays as it is.
+fn told(alloc: Global, document: &ColumnDocument, command: &Command) -> Result<Facts, EditFault>
+    requires { IsSound document.now }
+    ensures { MatchResult result
+        (λ facts. IsAcceptedEdit document.now command.now × (facts ≡ edit_facts document.now command.now))
+        (IsEditFault document.now command.now) }
+{
+    let edit = edit_of(alloc, document, command)?;
     let facts = edit.facts;
-    drop(edit);
-    Ok(facts)
+    let_go(edit, Ok(facts))
 }
 
 /// Makes an edit. A save changes nothing.
@@ -50,8 +61,8 @@ pub fn apply_plain(
         (λ fault. (document.new ≡ document.old) × IsEditFault document.old command.now fault) }
     ensures sound { IsSound document.new }
 {
-    *document = edited(alloc, document, command)?;
-    Ok(())
+    let made = edited(alloc, document, command)?;
+    let_go(mem::replace(document, made), Ok(()))
 }
 
 /// The document after an edit, item by item, or why it is refused. The document stays as it is.
@@ -62,8 +73,24 @@ fn edited(alloc: Global, document: &Document, command: &Command) -> Result<Docum
         (IsEditFault document.now command.now) }
 {
     let columns = ColumnDocument::from_document(alloc, document)?;
-    let edit = edit_of(alloc, &columns, command)?;
-    let made = edit.document.expand(alloc)?;
+    let made = expanded(alloc, &columns, command);
+    let_go(columns, made)
+}
+
+/// The same of a document by columns.
+fn expanded(
+    alloc: Global,
+    document: &ColumnDocument,
+    command: &Command,
+) -> Result<Document, EditFault>
+    requires { IsSound document.now }
+    ensures { MatchResult result
+        (λ made. IsAcceptedEdit document.now command.now × (made ≡ document_after document.now command.now))
+        (IsEditFault document.now command.now) }
+{
+    let edit = edit_of(alloc, document, command)?;
+    let items = edit.document.expand(alloc);
+    let made = let_go(edit, items)?;
     Ok(made)
 }
 

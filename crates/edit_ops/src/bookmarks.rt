@@ -53,13 +53,25 @@ pub(crate) fn with_bookmark(
     requires sorted { IsSorted bookmark_cmp list.now }
     ensures { IfOk result (λ made. made ≡ list_with (new_bookmark name.now from to) list.now) }
 {
-    let mut made = list.copy(alloc, 0, list.len())?;
-    made.put(Bookmark {
-        name: Name::from_slice(alloc, name)?,
+    let name = Name::from_slice(alloc, name)?;
+    let bookmark = Bookmark {
+        name,
         from,
         to,
         flags: 0,
-    })?;
+    };
+    let copy = list.copy(alloc, 0, list.len())?;
+    put_there(copy, bookmark)
+}
+
+/// The bookmarks with one more in its place.
+fn put_there(list: Bookmarks, bookmark: Bookmark) -> Result<Bookmarks, Memory>
+    requires few { length list + 1 < 2 ^ 32 }
+    requires sorted { IsSorted bookmark_cmp list }
+    ensures { IfOk result (λ made. made ≡ list_with bookmark list) }
+{
+    let mut made = list;
+    made.put(bookmark)?;
     Ok(made)
 }
 

@@ -1,11 +1,13 @@
 // The items that commands put, as runs of equal settings.
-ghost use Rattle.std.specs.Prelude.{◌≡◌, ◌+◌, ◌≤◌, [], ◌∷◌, length, IfOk, Some};
+ghost use Rattle.std.specs.Prelude.{◌≡◌, ◌+◌, ◌^◌, ◌<◌, ◌≤◌, [], ◌∷◌, ◌++◌, length, IfOk, Some};
+ghost use Rattle.std.specs.FinMap.{empty};
 ghost use Rattle.prop_map.specs.Formed.{IsPropertyMap, character_groups, paragraph_groups};
 ghost use Rattle.prop_map.specs.Overlay.{without};
 ghost use Rattle.plain_doc.specs.Document.{HasPropertyMaps};
 ghost use Rattle.edit_ops.specs.Codes.{most_units};
 ghost use Rattle.edit_ops.specs.Fresh.{base_settings as base_of, special as special_of, special_codes};
-ghost use Rattle.edit_ops.specs.Fresh.{unit_item as item_of, mark_item as marked_item, plain_end as end_of};
+ghost use Rattle.edit_ops.specs.Fresh.{unit_item as item_of, unit_items as units_of, mark_item as marked_item};
+ghost use Rattle.edit_ops.specs.Fresh.{plain_end as end_of};
 ghost use Rattle.edit_ops.specs.Fresh.{inserted_items as inserted_of, field_items as field_of};
 ghost use Rattle.edit_ops.specs.Fresh.{note_reference as reference_of, note_items as note_of};
 
@@ -172,6 +174,36 @@ fn field_mark(alloc: Global, chp: &PropMap, unit: u16, byte: u8) -> Result<Item,
     })
 }
 
+/// A text with a field character more, of these settings, with its byte.
+fn with_mark(
+    alloc: Global,
+    text: Columns,
+    chp: &PropMap,
+    unit: u16,
+    byte: u8,
+) -> Result<Columns, Memory>
+    requires few { length text + 1 < 2 ^ 32 }
+    requires map { IsPropertyMap character_groups chp.now }
+    ensures items { IfOk result (λ made. made ≡ text ++ record (item_of chp.now unit) { fld = Some byte } ∷ []) }
+    ensures len { IfOk result (λ made. length made ≡ length text + 1) }
+{
+    let mark = field_mark(alloc, chp, unit, byte)?;
+    let made = text.add(mark)?;
+    Ok(made)
+}
+
+/// A text with units more, of these settings.
+fn with_units(alloc: Global, text: Columns, chp: &PropMap, units: &[u16]) -> Result<Columns, Memory>
+    requires few { length text + length units.now < 2 ^ 32 }
+    requires map { IsPropertyMap character_groups chp.now }
+    ensures items { IfOk result (λ made. made ≡ text ++ units_of chp.now units.now) }
+    ensures len { IfOk result (λ made. length made ≡ length text + length units.now) }
+{
+    let own = chp.copy(alloc)?;
+    let made = text.add_units(units, own)?;
+    Ok(made)
+}
+
 /// A field of this type, with its code and its result.
 pub(crate) fn field_items(
     alloc: Global,
@@ -185,11 +217,31 @@ pub(crate) fn field_items(
     ensures { IfOk result (λ made. made ≡ field_of base.now kind code.now shown.now) }
 {
     let special = special(alloc, base)?;
-    let begun = Columns::new(alloc).add(field_mark(alloc, &special, FIELD_BEGIN, kind)?)?;
-    let coded = begun.add_units(code, base.copy(alloc)?)?;
-    let separator = field_mark(alloc, &special, FIELD_SEPARATOR, SEPARATOR_BYTE)?;
-    let parted = coded.add(separator)?.add_units(shown, base.copy(alloc)?)?;
-    let made = parted.add(field_mark(alloc, &special, FIELD_END, END_BYTE)?)?;
+    let made = field_over(alloc, base, &special, kind, code, shown);
+    drop(special);
+    made
+}
+
+/// The same, where the settings of its three special units are there.
+fn field_over(
+    alloc: Global,
+    base: &PropMap,
+    special: &PropMap,
+    kind: u8,
+    code: &[u16],
+    shown: &[u16],
+) -> Result<Columns, Memory>
+    requires base { IsPropertyMap character_groups base.now }
+    requires special { special.now ≡ special_of base.now }
+    requires formed { IsPropertyMap character_groups special.now }
+    requires few { length code.now + length shown.now ≤ most_units }
+    ensures { IfOk result (λ made. made ≡ field_of base.now kind code.now shown.now) }
+{
+    let begun = with_mark(alloc, Columns::new(alloc), special, FIELD_BEGIN, kind)?;
+    let coded = with_units(alloc, begun, base, code)?;
+    let parted = with_mark(alloc, coded, special, FIELD_SEPARATOR, SEPARATOR_BYTE)?;
+    let both = with_units(alloc, parted, base, shown)?;
+    let made = with_mark(alloc, both, special, FIELD_END, END_BYTE)?;
     Ok(made)
 }
 
@@ -211,9 +263,30 @@ pub(crate) fn note_items(alloc: Global, units: &[u16]) -> Result<Columns, Memory
     ensures { IfOk result (λ made. made ≡ note_of units.now) }
 {
     let none = PropMap::new(alloc);
-    let special = special(alloc, &none)?;
-    let begun = Columns::new(alloc).add(unit_item(alloc, &special, NOTE_UNIT)?)?;
-    let shown = begun.add_units(units, none)?;
+    let made = note_over(alloc, &none, units);
+    drop(none);
+    made
+}
+
+/// The same, where the settings of its units, which are none, are there.
+fn note_over(alloc: Global, none: &PropMap, units: &[u16]) -> Result<Columns, Memory>
+    requires none { none.now ≡ empty }
+    requires few { length units.now ≤ most_units }
+    ensures { IfOk result (λ made. made ≡ note_of units.now) }
+{
+    let begun = note_begin(alloc, none)?;
+    let shown = with_units(alloc, begun, none, units)?;
     let made = shown.add(plain_end(alloc))?;
+    Ok(made)
+}
+
+/// The unit that shows the number of a note, as a text of one item.
+fn note_begin(alloc: Global, base: &PropMap) -> Result<Columns, Memory>
+    requires { IsPropertyMap character_groups base.now }
+    ensures { IfOk result (λ made. made ≡ item_of (special_of base.now) 0x02 ∷ []) }
+{
+    let special = special(alloc, base)?;
+    let item = unit_item(alloc, &special, NOTE_UNIT)?;
+    let made = Columns::new(alloc).add(item)?;
     Ok(made)
 }

@@ -1,5 +1,5 @@
 // A changed document judged.
-ghost use Rattle.std.specs.Prelude.{◌↔◌, IsTrue, MatchResult};
+ghost use Rattle.std.specs.Prelude.{◌≡◌, ◌↔◌, IsTrue, MatchResult};
 ghost use Rattle.plain_doc.specs.declared.document.Document.{Document};
 ghost use Rattle.plain_doc.specs.Marks.{HasFormedBookmarks};
 ghost use Rattle.plain_doc.specs.Sound.{IsSound, NamesFirstRule, document_rules};
@@ -25,7 +25,16 @@ pub(crate) fn judged(alloc: Global, document: &ColumnDocument) -> Result<(), Edi
         return Ok(());
     }
     let items = document.expand(alloc)?;
-    judged_by_items(&items)
+    let verdict = judged_by_items(&items);
+    let_go(items, verdict)
+}
+
+/// An answer, once a value is let go.
+pub(crate) fn let_go<T: Drop, A>(value: T, answer: A) -> A
+    ensures { result ≡ answer }
+{
+    drop(value);
+    answer
 }
 
 /// Judges a changed document item by item.

@@ -1,5 +1,5 @@
 // What a command changes.
-ghost use Rattle.std.specs.Prelude.{◌≡◌, ◌+◌, ◌<◌, ◌≤◌, [], ◌∷◌, length, replicate, IfOk, ⊤};
+ghost use Rattle.std.specs.Prelude.{◌≡◌, ◌+◌, ◌<◌, ◌≤◌, [], ◌∷◌, ◌++◌, length, replicate, IfOk, ⊤};
 ghost use Rattle.prop_map.specs.Formed.{IsPropertyMap, section_groups};
 ghost use Rattle.edit_script.specs.declared.commands.Command.TheVariants.{Insert};
 ghost use Rattle.edit_changes.specs.declared.changes.Change.TheVariants.{SpliceText, ModifyItems, SpliceNotes};
@@ -16,6 +16,7 @@ ghost use Rattle.edit_ops.specs.Edits.{put_in as put_there, modified_at_mark};
 ghost use Rattle.edit_ops.specs.Edits.{section_changes as changes_of_section};
 ghost use Rattle.edit_ops.specs.Fresh.{base_settings as base_of, note_reference as reference_of};
 ghost use Rattle.edit_ops.specs.Fresh.{note_items as note_of, split_item as item_split, field_items as field_of};
+ghost use Rattle.edit_ops.specs.Fresh.{section_item as item_of_section};
 
 use crate::bookmarks::{with_bookmark, without_bookmark};
 use crate::fresh::{base_settings, field_items, inserted_items, note_items, note_reference};
@@ -98,6 +99,15 @@ fn only(alloc: Global, change: Change) -> Result<Changes, Memory>
     let mut changes = Changes::new(alloc);
     changes.add(change)?;
     Ok(changes)
+}
+
+/// The changes, and one more behind them.
+fn and_then(changes: Changes, change: Change) -> Result<Changes, Memory>
+    ensures { IfOk result (λ made. made ≡ changes ++ change ∷ []) }
+{
+    let mut made = changes;
+    made.add(change)?;
+    Ok(made)
 }
 
 /// Items put before a place of a text.
@@ -227,15 +237,40 @@ fn note(alloc: Global, main: &Columns, at: u32, units: &[u16]) -> Result<Changes
         SpliceText Main at at (reference_of (base_of main.now at) ∷ [])
         ∷ SpliceNotes (number_of_note main.now at) (number_of_note main.now at) (note_of units.now ∷ []) ∷ []) }
 {
-    let place = at as usize;
-    let base = base_settings(alloc, main, place)?;
+    let notes = one_note(alloc, units)?;
+    noted(alloc, main, at, notes)
+}
+
+/// The same, where the text of the note is there.
+fn noted(alloc: Global, main: &Columns, at: u32, notes: ColumnTexts) -> Result<Changes, Memory>
+    requires { at < length main.now }
+    ensures { IfOk result (λ made. made ≡
+        SpliceText Main at at (reference_of (base_of main.now at) ∷ [])
+        ∷ SpliceNotes (number_of_note main.now at) (number_of_note main.now at) notes ∷ []) }
+{
+    let first = referred(alloc, main, at)?;
+    let number = note_number(main, at as usize);
+    and_then(first, Change::SpliceNotes(number, number, notes))
+}
+
+/// The reference to a note put before a place of the main text.
+fn referred(alloc: Global, main: &Columns, at: u32) -> Result<Changes, Memory>
+    ensures { IfOk result (λ made. made ≡ SpliceText Main at at (reference_of (base_of main.now at) ∷ []) ∷ []) }
+{
+    let base = base_settings(alloc, main, at as usize)?;
     let reference = note_reference(alloc, &base)?;
+    put_in(alloc, Story::Main, at, reference)
+}
+
+/// The text of a note, alone.
+fn one_note(alloc: Global, units: &[u16]) -> Result<ColumnTexts, Memory>
+    requires { IsPutText units.now }
+    ensures { IfOk result (λ made. made ≡ note_of units.now ∷ []) }
+{
+    let text = note_items(alloc, units)?;
     let mut notes = ColumnTexts::new(alloc);
-    notes.add(note_items(alloc, units)?)?;
-    let mut changes = put_in(alloc, Story::Main, at, reference)?;
-    let number = note_number(main, place);
-    changes.add(Change::SpliceNotes(number, number, notes))?;
-    Ok(changes)
+    notes.add(text)?;
+    Ok(notes)
 }
 
 /// A paragraph mark put before a place of a text.
@@ -274,12 +309,20 @@ fn section(
         let place = section_place(main, at);
         return only(alloc, Change::SetSection(place, set.copy(alloc)?));
     }
-    let item = section_item(alloc, main, at, set)?;
+    let first = section_end(alloc, main, at, set)?;
     let heads = empty_heads(alloc)?;
-    let mut changes = only(alloc, Change::SpliceText(Story::Main, at, at, item))?;
     let number = head_number(main, at);
-    changes.add(Change::SpliceHeads(number, number, heads))?;
-    Ok(changes)
+    and_then(first, Change::SpliceHeads(number, number, heads))
+}
+
+/// The mark that ends a new section put before the place.
+fn section_end(alloc: Global, main: &Columns, at: usize, set: &PropMap) -> Result<Changes, Memory>
+    requires place { at < length main.now }
+    requires set { IsPropertyMap section_groups set.now }
+    ensures { IfOk result (λ made. made ≡ SpliceText Main at at (item_of_section main.now at set.now ∷ []) ∷ []) }
+{
+    let item = section_item(alloc, main, at, set)?;
+    only(alloc, Change::SpliceText(Story::Main, at, at, item))
 }
 
 /// The header texts of a new section.

@@ -1,9 +1,10 @@
 // Rows of tables.
-ghost use Rattle.std.specs.Prelude.{◌≡◌, ◌+◌, ◌*◌, ◌^◌, ◌<◌, ◌≤◌, ◌++◌, length, replicate, IfOk, OnOk};
-ghost use Rattle.std.specs.FinMap.{empty};
+ghost use Rattle.std.specs.Prelude.{◌≡◌, ◌+◌, ◌*◌, ◌^◌, ◌<◌, ◌≤◌, [], ◌∷◌, ◌++◌, length, replicate, IfOk, OnOk};
+ghost use Rattle.std.specs.List.{flat_map, sum_by};
+ghost use Rattle.std.specs.FinMap.{empty, insert};
 ghost use Rattle.prop_map.specs.Formed.{IsPropertyMap, paragraph_groups};
 ghost use Rattle.plain_doc.specs.Document.{HasPropertyMaps};
-ghost use Rattle.edit_ops.specs.Codes.{IsPutRow};
+ghost use Rattle.edit_ops.specs.Codes.{IsPutRow, most_units};
 ghost use Rattle.edit_ops.specs.Fresh.{cell_settings as settings_of_cells, row_settings as settings_of_row};
 ghost use Rattle.edit_ops.specs.Fresh.{row_definition as definition_of, row_items as items_of, cell_items as items_in};
 ghost use Rattle.edit_ops.specs.Fresh.{mark_item as marked_item, mark_with};
@@ -75,10 +76,19 @@ fn row_settings(alloc: Global, cells: u8, width: u16) -> Result<PropMap, Memory>
     ensures formed { IfOk result (IsPropertyMap paragraph_groups) }
 {
     let definition = row_definition(alloc, cells, width)?;
+    let made = defined(alloc, definition.as_slice());
+    drop(definition);
+    made
+}
+
+/// The settings of the mark of a row with this definition.
+fn defined(alloc: Global, definition: &[u8]) -> Result<PropMap, Memory>
+    ensures { IfOk result
+        (λ made. made ≡ insert (insert settings_of_cells 0x2417 (1 ∷ [])) 0xD608 definition.now) }
+{
     let mut made = cell_settings(alloc)?;
     made.set(SPRM_P_F_TTP, &[1])?;
-    let value = definition.as_slice();
-    made.set(SPRM_T_DEF_TABLE, value)?;
+    made.set(SPRM_T_DEF_TABLE, definition)?;
     Ok(made)
 }
 
@@ -107,10 +117,41 @@ fn add_cell(
 {
     let none = PropMap::new(alloc);
     let shown = items.add_units(units, none)?;
+    ended(alloc, shown, settings)
+}
+
+/// A text with the mark of a cell more, which has a copy of these settings.
+fn ended(alloc: Global, text: Columns, settings: &PropMap) -> Result<Columns, Memory>
+    requires few { length text + 1 < 2 ^ 32 }
+    requires formed { IsPropertyMap paragraph_groups settings.now }
+    ensures { IfOk result (λ made. made ≡ text ++ marked_item empty 0x07 (mark_with settings.now) ∷ []) }
+{
+    let mark = mark_of_cell(alloc, settings)?;
+    let made = text.add(mark)?;
+    Ok(made)
+}
+
+/// The mark that ends a cell, with a copy of these settings.
+fn mark_of_cell(alloc: Global, settings: &PropMap) -> Result<Item, Memory>
+    requires { IsPropertyMap paragraph_groups settings.now }
+    ensures item { IfOk result (λ made. made ≡ marked_item empty 0x07 (mark_with settings.now)) }
+    ensures maps { IfOk result HasPropertyMaps }
+{
     let pap = settings.copy(alloc)?;
     let mark = table_mark(alloc, pap)?;
-    let made = shown.add(mark)?;
-    Ok(made)
+    Ok(mark)
+}
+
+/// The mark that ends a row of so many cells of this width.
+fn mark_of_row(alloc: Global, cells: u8, width: u16) -> Result<Item, Memory>
+    requires cells { cells ≤ 63 }
+    requires within { cells * width ≤ 32767 }
+    ensures item { IfOk result (λ made. made ≡ marked_item empty 0x07 (mark_with (settings_of_row cells width))) }
+    ensures maps { IfOk result HasPropertyMaps }
+{
+    let settings = row_settings(alloc, cells, width)?;
+    let mark = table_mark(alloc, settings)?;
+    Ok(mark)
 }
 
 /// A row of cells with these texts.
@@ -118,13 +159,37 @@ pub(crate) fn row_items(alloc: Global, width: u16, cells: &Cells) -> Result<Colu
     requires { IsPutRow width cells.now }
     ensures { IfOk result (λ made. made ≡ items_of width cells.now) }
 {
-    let settings = cell_settings(alloc)?;
-    let mut items = Columns::new(alloc);
-    for i in 0..cells.len() {
-        items = add_cell(alloc, items, cells.get(i).as_slice(), &settings)?;
-    }
-    let last = row_settings(alloc, cells.len() as u8, width)?;
-    let mark = table_mark(alloc, last)?;
+    let items = all_cells(alloc, cells)?;
+    let mark = mark_of_row(alloc, cells.len() as u8, width)?;
     let made = items.add(mark)?;
     Ok(made)
+}
+
+/// The cells of a row.
+fn all_cells(alloc: Global, cells: &Cells) -> Result<Columns, Memory>
+    requires few { length cells.now ≤ 63 }
+    requires units { sum_by length cells.now ≤ most_units }
+    ensures items { IfOk result (λ made. made ≡ flat_map items_in cells.now) }
+    ensures room { IfOk result (λ made. length made + 1 < 2 ^ 32) }
+{
+    let settings = cell_settings(alloc)?;
+    let items = cells_with(alloc, cells, &settings);
+    drop(settings);
+    items
+}
+
+/// The same, where the settings of their marks are there.
+fn cells_with(alloc: Global, cells: &Cells, settings: &PropMap) -> Result<Columns, Memory>
+    requires few { length cells.now ≤ 63 }
+    requires units { sum_by length cells.now ≤ most_units }
+    requires settings { settings.now ≡ settings_of_cells }
+    requires formed { IsPropertyMap paragraph_groups settings.now }
+    ensures items { IfOk result (λ made. made ≡ flat_map items_in cells.now) }
+    ensures room { IfOk result (λ made. length made + 1 < 2 ^ 32) }
+{
+    let mut items = Columns::new(alloc);
+    for i in 0..cells.len() {
+        items = add_cell(alloc, items, cells.get(i).as_slice(), settings)?;
+    }
+    Ok(items)
 }

@@ -1,12 +1,14 @@
 // A text that is written again: the items of its pieces, in the order of the text, in fresh added text.
-ghost use Rattle.std.specs.Prelude.{◌≡◌, ◌↔◌, ◌+◌, ◌*◌, ◌^◌, ◌<◌, ◌++◌, length, map, IsTrue, MatchOption};
+ghost use Rattle.std.specs.Prelude.{◌≡◌, ◌↔◌, ◌+◌, ◌*◌, ◌^◌, ◌<◌, ◌≤◌, ◌++◌, length, map, IsTrue, MatchOption};
 ghost use Rattle.std.specs.Prelude.{slice_get, IfOk};
 ghost use Rattle.piece_table.specs.Piece.{total_length};
 ghost use Rattle.plain_doc.specs.Sound.{IsSound};
 ghost use Rattle.save_laws.specs.Slots.{whole_text};
 ghost use Rattle.save_laws.specs.Ends.{ends_of};
 ghost use Rattle.edited_text.specs.WrittenAgain.{SetsMarks, IsRewritten, IsWrittenAgain, AreChosen, slot_item};
-ghost use Rattle.edited_text.specs.WrittenAgain.{place_at, len_for};
+ghost use Rattle.edited_text.specs.WrittenAgain.{place_at, len_for, renewed_values};
+ghost use Rattle.edited_text.specs.Picked.{whole_items};
+ghost use Rattle.piece_table.specs.Renewals.{renewed_pieces, AreNewPlaces};
 
 use crate::added::Added;
 use crate::gathered::Gathered;
@@ -98,19 +100,63 @@ impl SessionText {
         ensures { IfOk result (λ text. IsWrittenAgain document.now marks self.now text) }
     {
         let behind = behind_main(alloc, document, self.ends)?;
+        let made = self.written_over(alloc, document, &behind, marks);
+        drop(behind);
+        made
+    }
+
+    /// The same, where the text behind the main text is there.
+    fn written_over(
+        &self,
+        alloc: Global,
+        document: &ColumnDocument,
+        behind: &Columns,
+        marks: bool,
+    ) -> Result<SessionText, Memory>
+        requires sound { IsSound document.now }
+        requires count { total_length self.now.pieces.pieces
+            ≡ length (whole_text document.now (ends_of self.now.ends)) }
+        requires room { self.now.added.base + 2 * total_length self.now.pieces.pieces < 2 ^ 32 }
+        requires behind { document.now.main ++ behind.now
+            ≡ map slot_item (whole_text document.now (ends_of self.now.ends)) }
+        ensures { IfOk result (λ text. IsWrittenAgain document.now marks self.now text) }
+    {
         let whole = WholeText {
             main: &document.main,
-            behind: &behind,
+            behind,
         };
         let places = new_places(alloc, self, marks)?;
+        let made = self.renewed_at(alloc, &whole, &places)?;
+        Ok(made)
+    }
+
+    /// The text of a whole text whose pieces have new places.
+    fn renewed_at(
+        &self,
+        alloc: Global,
+        whole: &WholeText<'_>,
+        places: &[Option<u32>],
+    ) -> Result<SessionText, Memory>
+        requires places { length places.now ≡ length self.now.pieces.pieces }
+        requires within { total_length self.now.pieces.pieces ≤ length (whole_items whole.now) }
+        requires few { length (whole_items whole.now) < 2 ^ 32 }
+        requires room { AreNewPlaces places.now self.now.pieces.pieces }
+        ensures items { IfOk result
+            (λ text. text.added.items ≡ renewed_values places.now self.now.pieces.pieces (whole_items whole.now)) }
+        ensures base { IfOk result (λ text. text.added.base ≡ self.now.added.base) }
+        ensures pieces { IfOk result
+            (λ text. text.pieces.pieces ≡ renewed_pieces places.now self.now.pieces.pieces) }
+        ensures ends { IfOk result (λ text. text.ends ≡ self.now.ends) }
+        ensures sections { IfOk result (λ text. text.sections.items ≡ self.now.sections.items) }
+    {
         let placed = NewPlaces {
             pieces: &self.pieces,
-            places: &places,
+            places,
         };
-        let items = whole.picked(alloc, &placed)?;
-        let pieces = self.pieces.renewed(alloc, &places)?;
         let mut sections = Vec::new(alloc);
         sections.extend_from_slice(&self.sections)?;
+        let pieces = self.pieces.renewed(alloc, places)?;
+        let items = whole.picked(alloc, &placed)?;
         Ok(SessionText {
             pieces,
             added: Added {

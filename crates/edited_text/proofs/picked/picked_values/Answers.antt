@@ -1,8 +1,9 @@
-use Rattle.std.proofs.Common.{◌∙◌, ◌++◌, ◌+◌, List, refl, ap, sym, take, length, arith}
+use Rattle.std.proofs.Common.{◌≤◌, ◌∙◌, ◌++◌, ◌+◌, List, refl, ap, sym, take, length, arith}
 use Rattle.std.specs.Prelude.{slice_range}
+use Rattle.std.proofs.lemmas.List.{take_all}
 use Rattle.doc_columns.proofs.CollectLemmas.{start_at}
 use Rattle.doc_columns.proofs.EqualityLemmas.{begins_at_start}
-use Rattle.edited_text.specs.WrittenAgain.{values_for}
+use Rattle.edited_text.specs.WrittenAgain.{renewed_values, values_for}
 use Rattle.edited_text.specs.Picked.{values_in}
 use Rattle.edited_text.proofs.PickLemmas.{picked_more, next_total, total_upto, renewed_few}
 use Rattle.edited_text.proofs.picked.picked_values.Goals as goal
@@ -74,3 +75,27 @@ loop-number-preserved g c =
           c.loop-number.invariant.values
           ∙ sym more);
     }
+
+pub stretch-stretch-requires-clause-below : goal.stretch-stretch-requires-clause-below
+stretch-stretch-requires-clause-below g c = omega (arith, c.loop-number-test.true, c.len-number-end.ensures.value)
+
+pub stretch-stretch-requires-clause-room : goal.stretch-stretch-requires-clause-room
+stretch-stretch-requires-clause-room g c =
+    omega (
+      arith,
+      c.loop-number.invariant.cp,
+      total_upto c.args.placed.now.pieces.now.pieces c.loop-number.number,
+      c.requires.within,
+      c.requires.few,
+    )
+
+pub returns : goal.returns
+returns g c =
+    let places = c.args.placed.now.places.now in
+    let pieces = c.args.placed.now.pieces.now.pieces in
+    let number = c.loop-number.number in
+    let past : length pieces ≤ number = omega (arith, c.loop-number-test.false, c.len-number-end.ensures.value) in
+    let all = take_all number pieces past in
+    let each = take_all number places (omega (arith, past, c.requires.places)) in
+    c.loop-number.invariant.values
+    ∙ (λ i. renewed_values (each i) (all i) (values_in c.args.lists.now))

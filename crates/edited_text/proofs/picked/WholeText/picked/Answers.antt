@@ -1,12 +1,101 @@
 use Rattle.std.proofs.Common.{◌∙◌, ◌++◌, length, ap, sym, subst, arith}
 use Rattle.std.specs.List.{All}
-use Rattle.std.proofs.lemmas.List.{length-map}
+use Rattle.std.proofs.lemmas.List.{length-map, length-append}
+use Rattle.run_lists.specs.Spread.{spread}
 use Rattle.run_lists.proofs.SpreadLemmas.{length-spread}
 use Rattle.plain_doc.specs.declared.item.Item.{Item}
 use Rattle.plain_doc.specs.Document.{HasPropertyMaps}
 use Rattle.doc_columns.specs.Beside.{beside_of}
 use Rattle.edited_text.proofs.PickLemmas.{picked_columns, picked_maps, renewed_few}
 use Rattle.edited_text.proofs.picked.WholeText.picked.Goals as goal
+
+pub picked_units-requires-clause-within : goal.picked_units-requires-clause-within
+picked_units-requires-clause-within c =
+    let main = c.args.self.now.main.now in
+    let behind = c.args.self.now.behind.now in
+    omega (
+      arith,
+      ap length c.units.ensures,
+      ap length c.units-2.ensures,
+      length-map main (λ (item : Item). item.unit),
+      length-map behind (λ (item : Item). item.unit),
+      length-append main behind,
+      c.requires.within,
+    )
+
+pub picked_units-requires-clause-few : goal.picked_units-requires-clause-few
+picked_units-requires-clause-few c =
+    let main = c.args.self.now.main.now in
+    let behind = c.args.self.now.behind.now in
+    omega (
+      arith,
+      ap length c.units.ensures,
+      ap length c.units-2.ensures,
+      length-map main (λ (item : Item). item.unit),
+      length-map behind (λ (item : Item). item.unit),
+      length-append main behind,
+      c.requires.few,
+    )
+
+pub picked_values-requires-clause-within : goal.picked_values-requires-clause-within
+picked_values-requires-clause-within c =
+    let main = c.args.self.now.main.now in
+    let behind = c.args.self.now.behind.now in
+    omega (
+      arith,
+      length-append (spread c.chps.result.now) (spread c.chps-2.result.now),
+      ap length c.chps.ensures,
+      ap length c.chps-2.ensures,
+      length-map main (λ (item : Item). item.chp),
+      length-map behind (λ (item : Item). item.chp),
+      length-append main behind,
+      c.requires.within,
+    )
+
+pub picked_values-requires-clause-few : goal.picked_values-requires-clause-few
+picked_values-requires-clause-few c =
+    let main = c.args.self.now.main.now in
+    let behind = c.args.self.now.behind.now in
+    omega (
+      arith,
+      length-append (spread c.chps.result.now) (spread c.chps-2.result.now),
+      ap length c.chps.ensures,
+      ap length c.chps-2.ensures,
+      length-map main (λ (item : Item). item.chp),
+      length-map behind (λ (item : Item). item.chp),
+      length-append main behind,
+      c.requires.few,
+    )
+
+pub picked_values-requires-2-clause-within : goal.picked_values-requires-2-clause-within
+picked_values-requires-2-clause-within c =
+    let main = c.args.self.now.main.now in
+    let behind = c.args.self.now.behind.now in
+    omega (
+      arith,
+      length-append (spread c.besides.result.now) (spread c.besides-2.result.now),
+      ap length c.besides.ensures,
+      ap length c.besides-2.ensures,
+      length-map main beside_of,
+      length-map behind beside_of,
+      length-append main behind,
+      c.requires.within,
+    )
+
+pub picked_values-requires-2-clause-few : goal.picked_values-requires-2-clause-few
+picked_values-requires-2-clause-few c =
+    let main = c.args.self.now.main.now in
+    let behind = c.args.self.now.behind.now in
+    omega (
+      arith,
+      length-append (spread c.besides.result.now) (spread c.besides-2.result.now),
+      ap length c.besides.ensures,
+      ap length c.besides-2.ensures,
+      length-map main beside_of,
+      length-map behind beside_of,
+      length-append main behind,
+      c.requires.few,
+    )
 
 pub picked_values-requires-clause-lists : goal.picked_values-requires-clause-lists
 picked_values-requires-clause-lists c =

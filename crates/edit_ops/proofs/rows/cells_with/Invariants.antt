@@ -1,7 +1,7 @@
 use Rattle.std.proofs.Common.{◌≡◌, ◌+◌, length, take}
 use Rattle.std.specs.List.{flat_map, sum_by}
 use Rattle.edit_ops.specs.Fresh.{cell_items}
-use Rattle.edit_ops.proofs.rows.row_items.Given as goal
+use Rattle.edit_ops.proofs.rows.cells_with.Given as goal
 
 -- the cells so far
 abbrev pub invariant-loop-i : goal.invariant-loop-i

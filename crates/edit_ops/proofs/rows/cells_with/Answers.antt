@@ -1,9 +1,11 @@
 use Rattle.std.proofs.Common.{◌≡◌, ◌∙◌, ◌+◌, sym, ap, length, Some, ◌++◌, arith, length-append}
 use Rattle.std.specs.Prelude.{slice_get}
+use Rattle.std.specs.List.{flat_map}
+use Rattle.std.proofs.lemmas.List.{take_all}
 use Rattle.edit_ops.specs.Fresh.{cell_items}
 use Rattle.edit_ops.proofs.CellLemmas.{units_more, units_within}
 use Rattle.edit_ops.proofs.RowLemmas.{cells_more, length-cell}
-use Rattle.edit_ops.proofs.rows.row_items.Goals as goal
+use Rattle.edit_ops.proofs.rows.cells_with.Goals as goal
 
 pub add_cell-requires-clause-few : goal.add_cell-requires-clause-few
 add_cell-requires-clause-few c =
@@ -36,3 +38,18 @@ loop-i-preserved c =
           ∙ sym (cells_more cells c.loop-i.i text there));
       few = omega arith;
     }
+
+pub returns-clause-items : goal.returns-clause-items
+returns-clause-items c =
+    c.loop-i.invariant.items ∙ ap (flat_map cell_items) (take_all c.loop-i.i c.args.cells.now
+    (omega (arith, c.loop-i-test.false, c.len-i-end.ensures)))
+
+pub returns-clause-room : goal.returns-clause-room
+returns-clause-room c =
+    let within = units_within c.args.cells.now c.loop-i.i in
+    let few = c.loop-i.invariant.few in
+    let upto = c.loop-i.auto.i-end in
+    let count = c.len-i-end.ensures in
+    let units = c.requires.units in
+    let cells = c.requires.few in
+    omega arith
