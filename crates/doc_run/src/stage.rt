@@ -1,11 +1,13 @@
 // The stages that read a file: they end the run, or hand its bytes or its document on.
-ghost use Rattle.std.specs.Prelude.{IfOk};
+ghost use Rattle.std.specs.Prelude.{◌≡◌, ℕ, List, Ok, IfOk};
+ghost use Rattle.doc_tasks.specs.Outcomes.{says};
 ghost use Rattle.doc_run.specs.Outcomes.{IsCaused, IsOnlyRead};
 ghost use Rattle.doc_run.specs.Stages.{BreaksLengthRule};
 ghost use Rattle.doc_run.specs.Reading.{IsTaken, IsReached, status_taken};
+ghost use Rattle.doc_run.specs.declared.stage.Taken.TheVariants.{Stopped};
 
 use crate::status::{STATUS_MISSING, STATUS_SHELF_FAULT};
-use doc_bits::{Bytes, Memory, Where};
+use doc_bits::{Bytes, Memory, Text, Where};
 use doc_outer::{MAX_FILE_LEN, ReadFail, Shelf, read_whole};
 use doc_tasks::{
     Ending, Reached, STATUS_REFUSED, missing_line, open_file, rule_line, shelf_fault_line,
@@ -38,16 +40,18 @@ pub(crate) fn take_whole<S: Shelf>(
     match read_whole(alloc, shelf, name) {
         Ok(bytes) => Ok(Taken::Whole(bytes)),
         Err(ReadFail::TooLong) => Ok(Taken::Overlong),
-        Err(ReadFail::Missing) => {
-            let text = missing_line(alloc, name)?;
-            Ok(Taken::Stopped(Ending::new(STATUS_MISSING, text)))
-        }
-        Err(ReadFail::Failed) => {
-            let text = shelf_fault_line(alloc)?;
-            Ok(Taken::Stopped(Ending::new(STATUS_SHELF_FAULT, text)))
-        }
+        Err(ReadFail::Missing) => ended(STATUS_MISSING, missing_line(alloc, name)),
+        Err(ReadFail::Failed) => ended(STATUS_SHELF_FAULT, shelf_fault_line(alloc)),
         Err(ReadFail::Memory) => Err(Memory),
     }
+}
+
+/// The end of a run by a status and the line for it, where that was made.
+fn ended(status: u8, line: Result<Text, Memory>) -> Result<Taken, Memory>
+    ensures { IfOk result (λ t. (text : List ℕ) × ((line ≡ Ok text) × (t ≡ Stopped (says status text)))) }
+{
+    let text = line?;
+    Ok(Taken::Stopped(Ending::new(status, text)))
 }
 
 /// The ending of a file that has more bytes than any.

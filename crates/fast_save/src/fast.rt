@@ -35,7 +35,7 @@ const PIECES_LEFT: u64 = 4;
 const MAX_SECTORS: u64 = 13_952;
 
 /// Why a session is not saved fast.
-#[derive(Clone, Copy, Debug, PartialEq, Eq, Error)]
+#[derive(Clone, Copy, Debug, Error)]
 pub enum FastFault {
     /// So many fast saves were made in a row, which is 15.
     #[error("{count} quick saves in a row")]

@@ -15,7 +15,7 @@ const MOST_PIECES_ADDED: u64 = 4;
 
 /// What a session counts. A fast save is refused by these numbers and the table stream of a full save alone, so that a
 /// refusal can be told beforehand.
-#[derive(Clone, Copy, Debug, PartialEq, Eq)]
+#[derive(Clone, Copy)]
 pub struct Counts {
     /// The most pieces.
     pub pieces: u64,
@@ -36,7 +36,7 @@ pub struct Counts {
 }
 
 /// The numbers that decide whether a fast save is refused.
-#[derive(Clone, Copy, Debug, PartialEq, Eq)]
+#[derive(Clone, Copy, PartialEq, Eq)]
 pub struct Ledgers {
     /// The most pieces.
     pub pieces: u64,

@@ -2,6 +2,7 @@
 //! that is edited beside the pieces of its text.
 #![tactic(auto)]
 
+mod beside;
 mod by_items;
 mod fast;
 mod fast_parts;

@@ -6,6 +6,7 @@ ghost use Rattle.full_save.specs.WordDocument.{table_stream};
 ghost use Rattle.full_save.specs.Layout.{FitsCompoundFile, IsTooLarge};
 ghost use Rattle.doc_load.specs.Faults.{IsReadFault};
 ghost use Rattle.doc_read.specs.Holds.{IsAccepted, all_rules};
+ghost use Rattle.doc_read.specs.Opened.{IsOpened};
 ghost use Rattle.edit_ops.specs.Causes.{IsAcceptedEdit, IsEditFault};
 ghost use Rattle.edit_ops.specs.EditFacts.{edit_facts};
 ghost use Rattle.fast_save.specs.Laws.{IsHeldInFull};
@@ -15,6 +16,7 @@ ghost use Rattle.fast_save.specs.Edited.{HasRoom, IsPlanned, session_after};
 ghost use Rattle.fast_save.specs.Started.{IsStarted, session_after_full};
 ghost use Rattle.fast_save.specs.Fast.{IsFastFault, IsSavedFast};
 
+use crate::beside::beside;
 use crate::by_items::{file_in_full, items_of};
 use crate::fast::{FastFault, judged};
 use crate::fast_parts::FastParts;
@@ -24,7 +26,7 @@ use crate::parts::{SessionParts, bin_bytes, pieces_are_few};
 use crate::written::{put_pieces, written_file};
 use doc_bits::{Bytes, Memory};
 use doc_columns::{ColumnDocument, Columns};
-use doc_read::{ReadFault, open};
+use doc_read::{ColumnFile, ReadFault, open};
 use edit_ops::{Command, Edit, EditFault, Facts, edit_of};
 use edited_text::Added;
 use full_save::{SaveFault, table_len_by_columns};
@@ -65,10 +67,27 @@ impl Session {
     pub fn start(alloc: Global, file: &[u8]) -> Result<Session, ReadFault>
         ensures { MatchResult result (IsStarted file.now) (IsReadFault (all_rules file.now)) }
     {
-        let opened = open(alloc, file)?;
         let bytes = Bytes::from_slice(alloc, file)?;
+        match open(alloc, file) {
+            Ok(opened) => Session::begin(alloc, file, bytes, opened),
+            Err(fault) => Err(fault),
+        }
+    }
+
+    /// Begins on a file that is opened, with a copy of its bytes.
+    fn begin(
+        alloc: Global,
+        file: &[u8],
+        bytes: Bytes,
+        opened: ColumnFile,
+    ) -> Result<Session, ReadFault>
+        requires opened { IsOpened file.now opened }
+        requires bytes { bytes ≡ file.now }
+        ensures { MatchResult result (IsStarted file.now) (IsReadFault (all_rules file.now)) }
+    {
         let (document, fib, container, pieces) = opened.into_parts();
-        let parts = SessionParts::of_file(alloc, &document, fib, container, pieces)?;
+        let made = SessionParts::of_file(alloc, &document, fib, container, pieces);
+        let (document, parts) = beside(document, made)?;
         let counts = counts_of(&parts, file);
         Ok(Session {
             alloc,
@@ -105,12 +124,17 @@ impl Session {
         ensures ok { OnOk result (self.new ≡ session_after command.now self.old) }
         ensures err { OnErr result (self.new ≡ self.old) }
     {
-        self.parts
-            .text
-            .edit(self.alloc, &self.document, &edit.changes)?;
+        let Edit {
+            document,
+            changes,
+            facts,
+        } = edit;
+        let made = self.parts.text.edit(self.alloc, &self.document, &changes);
+        drop(changes);
+        let (document, _) = beside(document, made)?;
         pieces_are_few(&self.parts.text.pieces);
-        self.counts = self.counts.after_edit(command, edit.facts.units_in);
-        self.document = edit.document;
+        self.counts = self.counts.after_edit(command, facts.units_in);
+        self.document = document;
         Ok(())
     }
 
@@ -135,10 +159,11 @@ impl Session {
         ensures err { IfErr result (λ fault. (self.new ≡ self.old) × IsTooLarge self.old.document fault) }
     {
         let file = file_in_full(self.alloc, &self.document)?;
-        let parts = parts_in_full(self.alloc, &self.document, file.as_slice())?;
-        self.counts = counts_of(&parts, file.as_slice());
+        let made = parts_in_full(self.alloc, &self.document, file.as_slice());
+        let (image, parts) = beside(file, made)?;
+        self.counts = counts_of(&parts, image.as_slice());
         self.parts = parts;
-        self.file = file;
+        self.file = image;
         Ok(())
     }
 
