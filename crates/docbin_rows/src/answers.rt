@@ -1,23 +1,36 @@
 // The lines on what came of a command.
-use crate::row_fault::RowFault;
 use doc_bits::Where;
 use edit_ops::{EditFault, Facts};
 use fast_save::{FastFault, Ledgers};
+use row_lines::RowFault;
 use std::alloc::Global;
 
 /// The line on an answer.
 pub(crate) fn shown(alloc: Global, answer: Result<Facts, EditFault>) -> Result<String, RowFault> {
     match answer {
-        Ok(facts) => Ok(format!(in alloc;
-            "kind {}, {} in, {} out, style {}\n",
-            facts.kind, facts.units_in, facts.units_out, facts.style
-        )?),
-        Err(EditFault::Range) => Ok(String::from_str(alloc, "range\n")?),
-        Err(EditFault::Code) => Ok(String::from_str(alloc, "code\n")?),
+        Ok(facts) => shown_facts(alloc, facts),
+        Err(EditFault::Range) => made(String::from_str(alloc, "range\n")),
+        Err(EditFault::Code) => made(String::from_str(alloc, "code\n")),
         Err(EditFault::Rule { rule, place, at }) => refused(alloc, "rule", rule, place, at),
         Err(EditFault::Limit { rule, place, at }) => refused(alloc, "limit", rule, place, at),
         Err(EditFault::Memory) => Err(RowFault::Memory),
     }
+}
+
+/// A text that was made, where there was memory.
+fn made<E: Drop>(text: Result<String, E>) -> Result<String, RowFault> {
+    match text {
+        Ok(text) => Ok(text),
+        Err(_) => Err(RowFault::Memory),
+    }
+}
+
+/// The line on the facts of an edit.
+fn shown_facts(alloc: Global, facts: Facts) -> Result<String, RowFault> {
+    made(format!(in alloc;
+        "kind {}, {} in, {} out, style {}\n",
+        facts.kind, facts.units_in, facts.units_out, facts.style
+    ))
 }
 
 /// The rule that would be broken, and where.
@@ -28,14 +41,13 @@ fn refused(
     place: Where,
     at: u32,
 ) -> Result<String, RowFault> {
-    let text = match place {
-        Where::Main => format!(in alloc; "{cause} {rule} Main {at}\n")?,
-        Where::Note(number) => format!(in alloc; "{cause} {rule} Note {number} {at}\n")?,
-        Where::Head(number) => format!(in alloc; "{cause} {rule} Head {number} {at}\n")?,
-        Where::Sheet => format!(in alloc; "{cause} {rule} Sheet {at}\n")?,
-        Where::File | Where::Wd | Where::Table => return Err(RowFault::NoPlace),
-    };
-    Ok(text)
+    match place {
+        Where::Main => made(format!(in alloc; "{cause} {rule} Main {at}\n")),
+        Where::Note(number) => made(format!(in alloc; "{cause} {rule} Note {number} {at}\n")),
+        Where::Head(number) => made(format!(in alloc; "{cause} {rule} Head {number} {at}\n")),
+        Where::Sheet => made(format!(in alloc; "{cause} {rule} Sheet {at}\n")),
+        Where::File | Where::Wd | Where::Table => Err(RowFault::NoPlace),
+    }
 }
 
 /// The line on the ledgers of a session.
@@ -44,23 +56,30 @@ pub(crate) fn shown_ledgers(alloc: Global, ledgers: &Ledgers) -> Result<String, 
         "pieces {}, modifiers {}, sectors {}, bin tables {}, ",
         ledgers.pieces, ledgers.modifier_bytes, ledgers.sectors, ledgers.bin_bytes
     )?;
-    let counted = format!(in alloc;
-        "units {}, sections {}, runs {}, table {}\n",
+    let shown = with_counts(alloc, text.as_str(), ledgers);
+    drop(text);
+    shown
+}
+
+/// A text, and the ledgers of what was added.
+fn with_counts(alloc: Global, text: &str, ledgers: &Ledgers) -> Result<String, RowFault> {
+    made(format!(in alloc;
+        "{text}units {}, sections {}, runs {}, table {}\n",
         ledgers.units, ledgers.sections, ledgers.runs, ledgers.table_bytes
-    )?;
-    Ok(format!(in alloc; "{text}{counted}")?)
+    ))
 }
 
 /// The line on a save.
 pub(crate) fn shown_save(alloc: Global, answer: Result<(), FastFault>) -> Result<String, RowFault> {
-    let text = match answer {
-        Ok(()) => String::from_str(alloc, "saved\n")?,
-        Err(FastFault::Sixteenth { count }) => format!(in alloc; "sixteenth, count {count}\n")?,
-        Err(FastFault::TooManyPieces { pieces }) => format!(in alloc; "{pieces} pieces\n")?,
-        Err(FastFault::TooLarge { sectors }) => {
-            format!(in alloc; "too large, {sectors} sectors\n")?
+    match answer {
+        Ok(()) => made(String::from_str(alloc, "saved\n")),
+        Err(FastFault::Sixteenth { count }) => {
+            made(format!(in alloc; "sixteenth, count {count}\n"))
         }
-        Err(FastFault::Memory) => return Err(RowFault::Memory),
-    };
-    Ok(text)
+        Err(FastFault::TooManyPieces { pieces }) => made(format!(in alloc; "{pieces} pieces\n")),
+        Err(FastFault::TooLarge { sectors }) => {
+            made(format!(in alloc; "too large, {sectors} sectors\n"))
+        }
+        Err(FastFault::Memory) => Err(RowFault::Memory),
+    }
 }

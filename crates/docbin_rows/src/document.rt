@@ -3,13 +3,13 @@ ghost use Rattle.std.specs.Prelude.{IsTrue};
 ghost use Rattle.plain_doc.specs.Sound.{IsSound};
 
 use crate::edits::Edits;
-use crate::row_fault::RowFault;
 use doc_bits::{Bytes, Memory, Text};
 use doc_read::{Opened, ReadFault, read};
 use doc_show::listing;
 use edit_ops::{Command, EditFault, Facts, apply_plain, test};
 use full_save::{SaveFault, full};
 use plain_doc::{Document, blank, check, equal};
+use row_lines::RowFault;
 use std::alloc::Global;
 
 /// A document by itself.
@@ -70,7 +70,11 @@ impl Edits for Document {
 impl Plain for Document {
     fn is_in(&self, alloc: Global, file: &[u8]) -> Result<bool, RowFault> {
         match read(alloc, file) {
-            Ok(opened) => Ok(equal(opened.document(), self)),
+            Ok(opened) => {
+                let same = equal(opened.document(), self);
+                drop(opened);
+                Ok(same)
+            }
             Err(fault) => Err(refusal(fault)),
         }
     }

@@ -1,12 +1,14 @@
 // A document and a session on its file, which are edited alike.
 use crate::answers::{shown, shown_ledgers, shown_save};
-use crate::document::Plain;
+use crate::document::{Plain, blank_file};
 use crate::edits::{Edits, edit};
-use crate::row_fault::RowFault;
+use crate::program::status_of;
 use crate::session::Saves;
-use crate::subject::{Mode, Subject};
+use doc_bits::Bytes;
+use doc_outer::{MemShelf, MemSink};
 use edit_ops::{Command, EditFault, Facts, Script, ScriptFault, read_script};
 use fast_save::FastFault;
+use row_lines::{Mode, RowFault, Subject};
 use std::alloc::Global;
 
 /// The member that ends each script.
@@ -24,24 +26,31 @@ pub(crate) struct Edited<D: Drop, S: Drop> {
 }
 
 impl<D: Edits + Plain + Drop, S: Edits + Saves<D> + Drop> Subject for Edited<D, S> {
+    fn run(alloc: Global, words: &[String], shelf: &mut MemShelf, sink: &mut MemSink) -> u8 {
+        status_of(alloc, words, shelf, sink)
+    }
+
+    fn blank(alloc: Global) -> Result<Bytes, RowFault> {
+        blank_file(alloc)
+    }
+
     fn open(alloc: Global, file: &[u8]) -> Result<Edited<D, S>, RowFault> {
-        Ok(Edited {
-            alloc,
-            document: D::begin(alloc, file)?,
-            session: S::begin(alloc, file)?,
-        })
+        let document = D::begin(alloc, file)?;
+        match S::begin(alloc, file) {
+            Ok(session) => Ok(Edited {
+                alloc,
+                document,
+                session,
+            }),
+            Err(fault) => Err(fault),
+        }
     }
 
     fn make(&mut self, count: u64, object: &str) -> Result<String, RowFault> {
         let script = script_of(self.alloc, object)?;
-        if script.len() != 2 {
-            return Err(RowFault::NoScript);
-        }
-        for _ in 1..count {
-            self.edit_unseen(script.get(0))?;
-        }
-        let answer = self.edit(script.get(0))?;
-        shown(self.alloc, answer)
+        let answer = self.edit_by(count, &script);
+        drop(script);
+        shown(self.alloc, answer?)
     }
 
     fn save(&mut self, mode: Mode) -> Result<String, RowFault> {
@@ -63,15 +72,28 @@ impl<D: Edits + Plain + Drop, S: Edits + Saves<D> + Drop> Subject for Edited<D, 
 
     fn listing(&self, what: &str) -> Result<String, RowFault> {
         let text = self.document.listed(self.alloc)?;
-        match text.as_str().split_once(MAIN_TEXT) {
-            Some((styles, _)) if what == "styles" => Ok(String::from_str(self.alloc, styles)?),
-            Some((_, texts)) => Ok(format!(in self.alloc; "{MAIN_TEXT}{texts}")?),
-            None => Err(RowFault::NoDocument),
-        }
+        let part = part_of(self.alloc, text.as_str(), what);
+        drop(text);
+        part
     }
 }
 
 impl<D: Edits + Plain + Drop, S: Edits + Saves<D> + Drop> Edited<D, S> {
+    /// Makes the one edit of a script so many times, and answers what came of the last time.
+    fn edit_by(
+        &mut self,
+        count: u64,
+        script: &Script,
+    ) -> Result<Result<Facts, EditFault>, RowFault> {
+        if script.len() != 2 {
+            return Err(RowFault::NoScript);
+        }
+        for _ in 1..count {
+            self.edit_unseen(script.get(0))?;
+        }
+        self.edit(script.get(0))
+    }
+
     /// Makes an edit of both that is accepted, and compares nothing else.
     fn edit_unseen(&mut self, command: &Command) -> Result<(), RowFault> {
         let made = self.document.make_edit(self.alloc, command)?;
@@ -106,8 +128,19 @@ impl<D: Edits + Plain + Drop, S: Edits + Saves<D> + Drop> Edited<D, S> {
     /// Saves the session. Where it refuses it is what it was.
     fn save_session(&mut self, mode: Mode) -> Result<Result<(), FastFault>, RowFault> {
         let before = self.session.seen(self.alloc)?;
+        let answer = self.save_from(&before, mode);
+        drop(before);
+        answer
+    }
+
+    /// Saves the session, of which this was seen before.
+    fn save_from(
+        &mut self,
+        before: &S::Seen,
+        mode: Mode,
+    ) -> Result<Result<(), FastFault>, RowFault> {
         let answer = self.session.save(mode);
-        if answer.is_err() && !self.session.is_still(&before)? {
+        if answer.is_err() && !self.session.is_still(before)? {
             return Err(RowFault::Changed);
         }
         match answer {
@@ -131,7 +164,9 @@ impl<D: Edits + Plain + Drop, S: Edits + Saves<D> + Drop> Edited<D, S> {
     /// Refuses a session whose bytes are not the full save of the document.
     fn is_saved_in_full(&self) -> Result<(), RowFault> {
         let file = self.document.saved(self.alloc)?;
-        if file.as_slice() == self.session.file() {
+        let same = file.as_slice() == self.session.file();
+        drop(file);
+        if same {
             Ok(())
         } else {
             Err(RowFault::OtherFile)
@@ -142,9 +177,20 @@ impl<D: Edits + Plain + Drop, S: Edits + Saves<D> + Drop> Edited<D, S> {
 /// The script of one command and a save.
 fn script_of(alloc: Global, object: &str) -> Result<Script, RowFault> {
     let spelled = format!(in alloc; "[{object},{SAVE}]")?;
-    match read_script(alloc, spelled.as_bytes()) {
+    let script = read_script(alloc, spelled.as_bytes());
+    drop(spelled);
+    match script {
         Ok(script) => Ok(script),
         Err(ScriptFault::Memory) => Err(RowFault::Memory),
         Err(_) => Err(RowFault::NoScript),
+    }
+}
+
+/// The lines of a listing on styles, or those on texts.
+fn part_of(alloc: Global, text: &str, what: &str) -> Result<String, RowFault> {
+    match text.split_once(MAIN_TEXT) {
+        Some((styles, _)) if what == "styles" => Ok(String::from_str(alloc, styles)?),
+        Some((_, texts)) => Ok(format!(in alloc; "{MAIN_TEXT}{texts}")?),
+        None => Err(RowFault::NoDocument),
     }
 }

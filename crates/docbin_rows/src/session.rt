@@ -4,14 +4,13 @@ ghost use Rattle.fast_save.specs.Edited.{HasRoom};
 
 use crate::document::refusal;
 use crate::edits::Edits;
-use crate::row_fault::RowFault;
-use crate::subject::Mode;
 use doc_bits::{Bytes, Memory};
 use doc_read::ReadFault;
 use edit_ops::{Command, EditFault, Facts};
 use fast_save::{FastFault, Ledgers, Session};
 use full_save::SaveFault;
 use plain_doc::{Document, equal};
+use row_lines::{Mode, RowFault};
 use std::alloc::Global;
 
 /// The units, runs and sections that a session may have counted before an edit.
@@ -48,11 +47,16 @@ impl Edits for Session {
     }
 
     fn seen(&self, alloc: Global) -> Result<Seen, Memory> {
-        Ok(Seen {
-            document: self.document()?,
-            file: Bytes::from_slice(alloc, self.bytes())?,
-            ledgers: self.ledgers()?,
-        })
+        let ledgers = self.ledgers()?;
+        let file = Bytes::from_slice(alloc, self.bytes())?;
+        match self.document() {
+            Ok(document) => Ok(Seen {
+                document,
+                file,
+                ledgers,
+            }),
+            Err(Memory) => Err(Memory),
+        }
     }
 
     fn is_still(&self, seen: &Seen) -> Result<bool, Memory> {
@@ -92,7 +96,9 @@ impl Saves<Document> for Session {
 
     fn has(&self, document: &Document) -> Result<bool, Memory> {
         let held = self.document()?;
-        Ok(equal(&held, document))
+        let same = equal(&held, document);
+        drop(held);
+        Ok(same)
     }
 
     fn file(&self) -> &[u8] {

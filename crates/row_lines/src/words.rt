@@ -1,3 +1,4 @@
+use crate::lent::{added, given};
 use crate::names::Names;
 use crate::row_fault::RowFault;
 use std::alloc::Global;
@@ -51,6 +52,15 @@ impl<'a, 'n> Words<'a, 'n> {
         self.names.number(word)
     }
 
+    /// The numbers that the next words say.
+    pub(crate) fn numbers<const N: usize>(&mut self) -> Result<[u64; N], RowFault> {
+        let mut numbers = [0; N];
+        for place in &mut numbers {
+            *place = self.number()?;
+        }
+        Ok(numbers)
+    }
+
     /// The number of 32 bits that the next word says.
     pub(crate) fn small(&mut self) -> Result<u32, RowFault> {
         match u32::try_from(self.number()?) {
@@ -75,15 +85,28 @@ impl<'a, 'n> Words<'a, 'n> {
     /// The words that are left, with what their names and escapes stand for.
     pub(crate) fn all(&mut self, alloc: Global) -> Result<Vec<String>, RowFault> {
         let mut all = Vec::new(alloc);
+        let pushed = self.push_all(alloc, &mut all);
+        given(all, pushed)
+    }
+
+    /// Puts the words that are left behind others.
+    fn push_all(&mut self, alloc: Global, all: &mut Vec<String>) -> Result<(), RowFault> {
         for _ in 0..self.rest.len() {
             let Some(word) = self.next() else {
                 break;
             };
-            let text = self.names.spelled(word)?;
-            let units = units_of(alloc, text.as_str())?;
-            all.push(String::from_utf16_lossy(alloc, &units)?)?;
+            let text = self.escaped(alloc, word)?;
+            added(all.push(text))?;
         }
-        Ok(all)
+        Ok(())
+    }
+
+    /// A word with what its names and escapes stand for.
+    fn escaped(&self, alloc: Global, word: &str) -> Result<String, RowFault> {
+        let text = self.names.spelled(word)?;
+        let units = units_of(alloc, text.as_str());
+        drop(text);
+        text_of(alloc, units?)
     }
 
     /// Whether a word is left.
@@ -100,22 +123,49 @@ fn parts(text: &str, sign: char) -> (&str, &str) {
     }
 }
 
+/// The text of units.
+fn text_of(alloc: Global, units: Vec<u16>) -> Result<String, RowFault> {
+    let text = String::from_utf16_lossy(alloc, &units);
+    drop(units);
+    match text {
+        Ok(text) => Ok(text),
+        Err(_) => Err(RowFault::Memory),
+    }
+}
+
 /// The units of a text. In it `\uXXXX` is the unit of these hexadecimal digits.
 pub(crate) fn units_of(alloc: Global, text: &str) -> Result<Vec<u16>, RowFault> {
     let mut units = Vec::new(alloc);
+    let pushed = push_text(&mut units, text);
+    given(units, pushed)
+}
+
+/// Puts the units of a text with escapes behind others.
+fn push_text(units: &mut Vec<u16>, text: &str) -> Result<(), RowFault> {
     let mut parts = text.split("\\u");
-    push_units(&mut units, parts.next().unwrap_or(""))?;
+    push_units(units, parts.next().unwrap_or(""))?;
     for part in parts {
-        let Some((digits, rest)) = part.split_at_checked(4) else {
-            return Err(RowFault::NoNumber);
-        };
-        match u16::from_str_radix(digits, 16) {
-            Ok(unit) => units.push(unit)?,
-            Err(_) => return Err(RowFault::NoNumber),
-        }
-        push_units(&mut units, rest)?;
+        push_part(units, part)?;
     }
-    Ok(units)
+    Ok(())
+}
+
+/// Puts the unit of an escape, and those of what stands behind it.
+fn push_part(units: &mut Vec<u16>, part: &str) -> Result<(), RowFault> {
+    let Some((digits, rest)) = part.split_at_checked(4) else {
+        return Err(RowFault::NoNumber);
+    };
+    let unit = unit_of(digits)?;
+    units.push(unit)?;
+    push_units(units, rest)
+}
+
+/// The unit of hexadecimal digits.
+fn unit_of(digits: &str) -> Result<u16, RowFault> {
+    match u16::from_str_radix(digits, 16) {
+        Ok(unit) => Ok(unit),
+        Err(_) => Err(RowFault::NoNumber),
+    }
 }
 
 /// Puts the units of a text behind others.

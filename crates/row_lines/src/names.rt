@@ -1,4 +1,5 @@
 // Numbers and texts that have names in all rows from here on.
+use crate::lent::{added, given};
 use crate::row_fault::RowFault;
 use std::alloc::Global;
 
@@ -39,9 +40,10 @@ impl Names {
         if self.at(name).is_some() {
             return Err(RowFault::NameTwice);
         }
-        let name = String::from_str(self.alloc, name)?;
-        self.places.push(Place { name, at })?;
-        Ok(())
+        match String::from_str(self.alloc, name) {
+            Ok(name) => added(self.places.push(Place { name, at })),
+            Err(_) => Err(RowFault::Memory),
+        }
     }
 
     /// Lets a name that no text has yet stand for a text, so many times.
@@ -49,16 +51,16 @@ impl Names {
         if self.text(name).is_some() {
             return Err(RowFault::NameTwice);
         }
-        let mut repeated = String::new(self.alloc);
-        for _ in 0..count {
-            repeated.push_str(text)?;
+        let text = repeated(self.alloc, count, text)?;
+        self.add_repeat(name, text)
+    }
+
+    /// Lets a name stand for a text.
+    fn add_repeat(&mut self, name: &str, text: String) -> Result<(), RowFault> {
+        match String::from_str(self.alloc, name) {
+            Ok(name) => added(self.repeats.push(Repeat { name, text })),
+            Err(_) => Err(RowFault::Memory),
         }
-        let name = String::from_str(self.alloc, name)?;
-        self.repeats.push(Repeat {
-            name,
-            text: repeated,
-        })?;
-        Ok(())
     }
 
     /// The number that a word says: a sum of numbers and of names, as `wd+0x10+2`.
@@ -75,19 +77,32 @@ impl Names {
 
     /// The text with what its names stand for. In it a name stands between `$` and `;`.
     pub(crate) fn spelled(&self, text: &str) -> Result<String, RowFault> {
+        let mut spelled = String::new(self.alloc);
+        let pushed = self.push_spelled(&mut spelled, text);
+        given(spelled, pushed)
+    }
+
+    /// Puts a text, with what its names stand for, behind another.
+    fn push_spelled(&self, spelled: &mut String, text: &str) -> Result<(), RowFault> {
         let mut parts = text.split('$');
-        let mut spelled = String::from_str(self.alloc, parts.next().unwrap_or(""))?;
+        spelled.push_str(parts.next().unwrap_or(""))?;
         for part in parts {
-            let Some((name, rest)) = part.split_once(';') else {
-                return Err(RowFault::NoName);
-            };
-            let Some(text) = self.text(name) else {
-                return Err(RowFault::NoName);
-            };
-            spelled.push_str(text)?;
-            spelled.push_str(rest)?;
+            self.push_part(spelled, part)?;
         }
-        Ok(spelled)
+        Ok(())
+    }
+
+    /// Puts what a name stands for, and what stands behind it.
+    fn push_part(&self, spelled: &mut String, part: &str) -> Result<(), RowFault> {
+        let Some((name, rest)) = part.split_once(';') else {
+            return Err(RowFault::NoName);
+        };
+        let Some(text) = self.text(name) else {
+            return Err(RowFault::NoName);
+        };
+        spelled.push_str(text)?;
+        spelled.push_str(rest)?;
+        Ok(())
     }
 
     /// A number in decimal digits, one in hexadecimal digits after `0x`, or the number of a name.
@@ -124,4 +139,19 @@ impl Names {
         }
         None
     }
+}
+
+/// A text, so many times.
+fn repeated(alloc: Global, count: u64, text: &str) -> Result<String, RowFault> {
+    let mut repeated = String::new(alloc);
+    let pushed = push_times(&mut repeated, count, text);
+    given(repeated, pushed)
+}
+
+/// Puts a text behind another, so many times.
+fn push_times(repeated: &mut String, count: u64, text: &str) -> Result<(), RowFault> {
+    for _ in 0..count {
+        repeated.push_str(text)?;
+    }
+    Ok(())
 }

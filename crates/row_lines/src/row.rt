@@ -1,3 +1,4 @@
+use crate::lent::{joined, silent};
 use crate::row_fault::RowFault;
 use crate::runs::Runs;
 use crate::subject::{Mode, Subject};
@@ -31,26 +32,32 @@ impl<S: Subject + Drop> Row<S> {
         words: &mut Words<'_, '_>,
         data: &mut D,
     ) -> Result<String, RowFault> {
-        let text = match words.word()? {
-            "row" => self.begin(words)?,
+        let text = self.said(words, data)?;
+        ended(words, text)
+    }
+
+    /// Does what a line says, as far as its words are read.
+    fn said<D: Shelf>(
+        &mut self,
+        words: &mut Words<'_, '_>,
+        data: &mut D,
+    ) -> Result<String, RowFault> {
+        let first = words.word()?;
+        match first {
+            "row" => self.begin(words),
             "from" => {
                 self.has_source = !words.rest().is_empty();
-                String::new(self.alloc)
+                Ok(String::new(self.alloc))
             }
-            first => self.step(first, words, data)?,
-        };
-        if words.has_more() {
-            return Err(RowFault::WordTooMany);
+            first => self.step(first, words, data),
         }
-        Ok(text)
     }
 
     /// Begins another row.
     fn begin(&mut self, words: &mut Words<'_, '_>) -> Result<String, RowFault> {
         words.word()?;
         *self = Row::new(self.alloc);
-        let line = words.line;
-        Ok(format!(in self.alloc; "{line}\n")?)
+        joined(self.alloc, &[words.line, "\n"])
     }
 
     /// Does what a line says in a row that has a source.
@@ -64,22 +71,20 @@ impl<S: Subject + Drop> Row<S> {
             return Err(RowFault::NoSource);
         }
         match first {
-            "file" => {
-                self.runs.files.read(data, words)?;
-                Ok(String::new(self.alloc))
-            }
+            "file" => silent(self.alloc, self.runs.files.read(data, words)),
             "document" => self.open(words),
             "saved" => self.hold_saved(words),
             "do" | "again" => self.edit(first, words),
             "save" | "ledgers" | "styles" | "texts" => self.show(first, words),
-            _ => self.runs.act(first, words),
+            _ => self.runs.act::<S>(first, words),
         }
     }
 
     /// Begins with the document of a file.
     fn open(&mut self, words: &mut Words<'_, '_>) -> Result<String, RowFault> {
-        let file = self.runs.files.bytes(words.word()?)?;
-        self.subject = Some(S::open(self.alloc, file)?);
+        let file = self.runs.files.named(words)?;
+        let subject = S::open(self.alloc, file)?;
+        self.subject = Some(subject);
         Ok(String::new(self.alloc))
     }
 
@@ -88,20 +93,25 @@ impl<S: Subject + Drop> Row<S> {
         let Some(subject) = &self.subject else {
             return Err(RowFault::NoDocument);
         };
-        self.runs.files.hold_copy(words.word()?, subject.file())?;
-        Ok(String::new(self.alloc))
+        let name = words.word()?;
+        silent(self.alloc, self.runs.files.hold_copy(name, subject.file()))
     }
 
     /// Makes an edit once or more, and answers the line and what came of the last time.
     fn edit(&mut self, first: &str, words: &mut Words<'_, '_>) -> Result<String, RowFault> {
         let count = if first == "do" { 1 } else { words.number()? };
         let object = words.spelled()?;
-        let Some(subject) = &mut self.subject else {
-            return Err(RowFault::NoDocument);
-        };
-        let shown = subject.make(count, object.as_str())?;
-        let line = words.line;
-        Ok(format!(in self.alloc; "{line}\n{shown}")?)
+        let shown = self.make(count, object.as_str());
+        drop(object);
+        behind(self.alloc, words.line, "\n", shown?)
+    }
+
+    /// Makes an edit once or more, and answers what came of the last time.
+    fn make(&mut self, count: u64, object: &str) -> Result<String, RowFault> {
+        match &mut self.subject {
+            Some(subject) => subject.make(count, object),
+            None => Err(RowFault::NoDocument),
+        }
     }
 
     /// Saves the document, or shows something of it or of its session.
@@ -111,17 +121,38 @@ impl<S: Subject + Drop> Row<S> {
         };
         match first {
             "save" => {
-                let mode = match words.word()? {
-                    "fast" => Mode::Fast,
-                    "full" => Mode::Full,
-                    _ => return Err(RowFault::NoCommand),
-                };
+                let mode = mode_of(words)?;
                 let shown = subject.save(mode)?;
-                let line = words.line;
-                Ok(format!(in self.alloc; "{line}: {shown}")?)
+                behind(self.alloc, words.line, ": ", shown)
             }
             "ledgers" => subject.ledgers(),
             what => subject.listing(what),
         }
+    }
+}
+
+/// How a document is saved by the next word.
+fn mode_of(words: &mut Words<'_, '_>) -> Result<Mode, RowFault> {
+    let word = words.word()?;
+    match word {
+        "fast" => Ok(Mode::Fast),
+        "full" => Ok(Mode::Full),
+        _ => Err(RowFault::NoCommand),
+    }
+}
+
+/// The text behind a line and a sign.
+fn behind(alloc: Global, line: &str, sign: &str, text: String) -> Result<String, RowFault> {
+    let joined = joined(alloc, &[line, sign, text.as_str()]);
+    drop(text);
+    joined
+}
+
+/// What a line comes to whose words are all read.
+fn ended(words: &Words<'_, '_>, text: String) -> Result<String, RowFault> {
+    if words.has_more() {
+        Err(RowFault::WordTooMany)
+    } else {
+        Ok(text)
     }
 }

@@ -1,4 +1,5 @@
 // Changes of the bytes of a file.
+use crate::lent::copy_of;
 use crate::row_fault::RowFault;
 use crate::words::Words;
 use std::alloc::Global;
@@ -14,11 +15,15 @@ pub(crate) fn change(
         "put" => put_numbers(file, words),
         "numbers" => put_rising(file, words),
         "copy" => copy(alloc, file, words),
-        _ => {
-            file.resize(words.number()? as usize, 0)?;
-            Ok(())
-        }
+        _ => resize(file, words),
     }
+}
+
+/// Gives a file the length that the next word says.
+fn resize(file: &mut Vec<u8>, words: &mut Words<'_, '_>) -> Result<(), RowFault> {
+    let len = words.number()?;
+    file.resize(len as usize, 0)?;
+    Ok(())
 }
 
 /// Puts bytes at a place, and answers where they end.
@@ -46,27 +51,35 @@ fn put_number(file: &mut [u8], at: usize, width: u64, number: u64) -> Result<usi
     }
 }
 
+/// Puts the number that the next word says, and answers where it ends.
+fn put_next(
+    file: &mut [u8],
+    at: usize,
+    width: u64,
+    words: &mut Words<'_, '_>,
+) -> Result<usize, RowFault> {
+    let number = words.number()?;
+    put_number(file, at, width, number)
+}
+
 /// Puts numbers from a place on, one behind the other.
 fn put_numbers(file: &mut [u8], words: &mut Words<'_, '_>) -> Result<(), RowFault> {
-    let at = words.number()? as usize;
-    let width = words.number()?;
-    let mut place = put_number(file, at, width, words.number()?)?;
+    let [at, width] = words.numbers::<2>()?;
+    let mut place = put_next(file, at as usize, width, words)?;
     for _ in 0..file.len() {
         if !words.has_more() {
             break;
         }
-        place = put_number(file, place, width, words.number()?)?;
+        place = put_next(file, place, width, words)?;
     }
     Ok(())
 }
 
-/// Puts so many numbers from a place on, each greater than the one before by a step.
+/// Puts numbers from a place on, each greater than the one before by a step.
 fn put_rising(file: &mut [u8], words: &mut Words<'_, '_>) -> Result<(), RowFault> {
-    let mut place = words.number()? as usize;
-    let count = words.number()?;
-    let width = words.number()?;
-    let mut number = words.number()?;
-    let step = words.number()?;
+    let [at, count, width, first, step] = words.numbers::<5>()?;
+    let mut place = at as usize;
+    let mut number = first;
     for _ in 0..count {
         place = put_number(file, place, width, number)?;
         number = number.saturating_add(step);
@@ -76,13 +89,20 @@ fn put_rising(file: &mut [u8], words: &mut Words<'_, '_>) -> Result<(), RowFault
 
 /// Puts bytes of the file at another place.
 fn copy(alloc: Global, file: &mut [u8], words: &mut Words<'_, '_>) -> Result<(), RowFault> {
-    let from = words.number()? as usize;
-    let len = words.number()? as usize;
-    let to = words.number()? as usize;
-    let Some(part) = file.get(from..from.saturating_add(len)) else {
-        return Err(RowFault::BeyondEnd);
-    };
-    let bytes = Vec::from_slice(alloc, part)?;
-    put_bytes(file, to, &bytes)?;
-    Ok(())
+    let [from, len, to] = words.numbers::<3>()?;
+    let bytes = part_of(alloc, file, from as usize, len as usize)?;
+    let put = put_bytes(file, to as usize, &bytes);
+    drop(bytes);
+    match put {
+        Ok(_) => Ok(()),
+        Err(fault) => Err(fault),
+    }
+}
+
+/// A copy of some bytes of a file.
+fn part_of(alloc: Global, file: &[u8], from: usize, len: usize) -> Result<Vec<u8>, RowFault> {
+    match file.get(from..from.saturating_add(len)) {
+        Some(part) => copy_of(alloc, part),
+        None => Err(RowFault::BeyondEnd),
+    }
 }

@@ -6,7 +6,7 @@ use thiserror::Error;
 
 /// Why a line is refused.
 #[derive(Clone, Copy, Debug, Error)]
-pub(crate) enum RowFault {
+pub enum RowFault {
     #[error("no such line")]
     NoCommand,
     #[error("a word is missing")]

@@ -1,15 +1,24 @@
+// What rows edit, and the program that they run.
 use crate::row_fault::RowFault;
+use doc_bits::Bytes;
+use doc_outer::{MemShelf, MemSink};
 use std::alloc::Global;
 
 /// How a document is saved.
 #[derive(Clone, Copy)]
-pub(crate) enum Mode {
+pub enum Mode {
     Fast,
     Full,
 }
 
-/// A document and what is edited beside it. Rows know nothing else of it.
-pub(crate) trait Subject {
+/// A document and what is edited beside it, and the program. Rows know nothing else of them.
+pub trait Subject {
+    /// Runs the program over files, and answers the status.
+    fn run(alloc: Global, words: &[String], shelf: &mut MemShelf, sink: &mut MemSink) -> u8;
+
+    /// The file of the blank document.
+    fn blank(alloc: Global) -> Result<Bytes, RowFault>;
+
     /// Begins on the document of a file.
     fn open(alloc: Global, file: &[u8]) -> Result<Self, RowFault>;
 
