@@ -1,11 +1,10 @@
 // Documents by columns as JSON.
-use crate::edits::EACH;
 use crate::lent::is_made;
-use crate::scripted::{is_edited, is_same};
+use crate::scripted::{EACH, is_edited, is_same};
 use doc_bits::{Memory, Text};
 use doc_columns::ColumnDocument;
-use json_doc::{JsonFault, columns_from_json, columns_json_out, to_json};
-use plain_doc::{Document, blank};
+use json_doc::{columns_from_json, columns_json_out, to_json};
+use plain_doc::Document;
 use std::alloc::Global;
 use std::test::Fail;
 
@@ -39,28 +38,12 @@ fn comes_back(alloc: Global, text: &str, plain: &Document) -> Result<bool, Memor
     )
 }
 
-/// Why a text is read as no document by columns.
-fn fault(alloc: Global, text: &[u8]) -> Option<JsonFault> {
-    columns_from_json(alloc, text).err()
-}
-
 #[test]
 fn documents_go_as_json_by_columns(rt: HostRuntime) -> Result<(), Fail> {
     let alloc = rt.alloc();
-    let empty = is_made(blank(alloc), |plain: &Document| -> Result<bool, Memory> {
-        goes_as_json(alloc, plain)
-    });
     let each = is_edited(alloc, EACH, |plain: &Document| -> Result<bool, Memory> {
         goes_as_json(alloc, plain)
     });
-    assert!(rt; empty?);
     assert!(rt; each?);
-    Ok(())
-}
-
-#[test]
-fn what_is_no_document_is_refused_by_columns(rt: HostRuntime) -> Result<(), Fail> {
-    assert!(rt; fault(rt.alloc(), b"{") == Some(JsonFault::Json));
-    assert!(rt; fault(rt.alloc(), b"{}") == Some(JsonFault::Shape));
     Ok(())
 }

@@ -1,9 +1,8 @@
 // Texts that are cut out of one text.
-ghost use Rattle.std.specs.Prelude.{◌≡◌};
+ghost use Rattle.std.specs.Prelude.{◌≡◌, ◌≤◌, length};
 ghost use Rattle.plain_doc.specs.Document.{IsFormedText};
 
-use crate::edits::EACH;
-use crate::scripted::is_edited;
+use crate::scripted::{EACH, is_edited};
 use doc_bits::Memory;
 use doc_columns::{Columns, WholeText};
 use plain_doc::{Document, Item};
@@ -16,6 +15,31 @@ const ENDS: [u32; 3] = [2, 5, 11];
 /// How many items a cut has, where there are so many.
 const CUT: usize = 3;
 
+/// Whether a cut is a range, and so is its copy.
+fn is_same(alloc: Global, cut: &Columns, range: &Columns) -> Result<bool, Memory> {
+    let copy = cut.copy(alloc, 0, cut.len())?;
+    let same = cut.equal(range) && copy.equal(range);
+    drop(copy);
+    Ok(same)
+}
+
+/// Whether a cut is a range of a text, and so is its copy.
+fn is_range(
+    alloc: Global,
+    cut: &Columns,
+    text: &Columns,
+    from: usize,
+    to: usize,
+) -> Result<bool, Memory>
+    requires order { from ≤ to }
+    requires within { to ≤ length text.now }
+{
+    let range = text.copy(alloc, from, to)?;
+    let same = is_same(alloc, cut, &range);
+    drop(range);
+    same
+}
+
 /// Whether each cut of a text is its range, and so is a copy of the cut.
 fn are_ranges(alloc: Global, text: &Columns, whole: &mut WholeText) -> Result<bool, Memory>
     requires { whole.old ≡ text.now }
@@ -24,12 +48,25 @@ fn are_ranges(alloc: Global, text: &Columns, whole: &mut WholeText) -> Result<bo
     for from in 0..len {
         let to = len.min(from + CUT);
         let cut = whole.cut(alloc, from, to)?;
-        let range = text.copy(alloc, from, to)?;
-        if !cut.equal(&range) || !cut.copy(alloc, 0, cut.len())?.equal(&range) {
+        let same = is_range(alloc, &cut, text, from, to);
+        drop(cut);
+        if !same? {
             return Ok(false);
         }
     }
     Ok(true)
+}
+
+/// Whether a text of these items is cut so out of another one.
+fn is_cut_out(alloc: Global, items: &[Item], text: &Columns) -> Result<bool, Memory>
+    requires formed { IsFormedText items.now }
+    requires same { text.now ≡ items.now }
+{
+    let same = Columns::from_items(alloc, items)?;
+    let mut whole = WholeText::new(alloc, same, &ENDS)?;
+    let cut = are_ranges(alloc, text, &mut whole);
+    drop(whole);
+    cut
 }
 
 /// Whether a text of these items is cut so.
@@ -37,9 +74,9 @@ fn is_cut(alloc: Global, items: &[Item]) -> Result<bool, Memory>
     requires { IsFormedText items.now }
 {
     let text = Columns::from_items(alloc, items)?;
-    let same = Columns::from_items(alloc, items)?;
-    let mut whole = WholeText::new(alloc, same, &ENDS)?;
-    are_ranges(alloc, &text, &mut whole)
+    let cut = is_cut_out(alloc, items, &text);
+    drop(text);
+    cut
 }
 
 #[test]

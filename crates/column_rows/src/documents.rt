@@ -1,16 +1,15 @@
 // Documents put by columns, and back.
-use crate::edits::EACH;
 use crate::lent::is_made;
-use crate::scripted::{is_edited, is_same};
+use crate::scripted::{EACH, is_edited, is_same};
 use doc_bits::Memory;
 use doc_columns::{ColumnDocument, is_sound};
 use doc_show::{columns_accepted_line, columns_main_text};
-use plain_doc::{Document, blank};
+use plain_doc::Document;
 use std::alloc::Global;
 use std::test::Fail;
 
 /// Whether the main text and the line of counts of both are the same.
-pub(crate) fn are_shown_alike(
+fn are_shown_alike(
     alloc: Global,
     plain: &Document,
     columns: &ColumnDocument,
@@ -39,16 +38,6 @@ fn goes_by_columns(alloc: Global, plain: &Document) -> Result<bool, Memory> {
         ColumnDocument::from_document(alloc, plain),
         |columns: &ColumnDocument| -> Result<bool, Memory> { is_as(alloc, plain, columns) },
     )
-}
-
-#[test]
-fn the_blank_document_goes_by_columns(rt: HostRuntime) -> Result<(), Fail> {
-    let alloc = rt.alloc();
-    let goes = is_made(blank(alloc), |plain: &Document| -> Result<bool, Memory> {
-        goes_by_columns(alloc, plain)
-    });
-    assert!(rt; goes?);
-    Ok(())
 }
 
 #[test]

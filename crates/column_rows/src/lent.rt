@@ -2,16 +2,6 @@
 // here, where nothing is known of its parts.
 use doc_bits::Memory;
 
-/// Whether a test holds of a value.
-pub fn holds<T: Drop, F: FnOnce(&T) -> Result<bool, Memory>>(
-    value: T,
-    test: F,
-) -> Result<bool, Memory>
-    requires { F.IsAlwaysCallable test }
-{
-    test(&value)
-}
-
 /// Whether a value was made of which a test holds.
 pub fn is_made<T: Drop, E: Drop, F: FnOnce(&T) -> Result<bool, Memory>>(
     made: Result<T, E>,
@@ -22,13 +12,5 @@ pub fn is_made<T: Drop, E: Drop, F: FnOnce(&T) -> Result<bool, Memory>>(
     match made {
         Ok(value) => test(&value),
         Err(_) => Ok(false),
-    }
-}
-
-/// A value to which something was done, where that was done.
-pub fn given<T: Drop, E: Drop>(value: T, done: Result<(), E>) -> Result<T, E> {
-    match done {
-        Ok(()) => Ok(value),
-        Err(fault) => Err(fault),
     }
 }

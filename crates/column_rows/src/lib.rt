@@ -8,19 +8,11 @@ mod cuts;
 #[cfg(test)]
 mod documents;
 #[cfg(test)]
-mod edits;
-#[cfg(test)]
-mod files;
-#[cfg(test)]
 mod joins;
 #[cfg(test)]
 mod lent;
 #[cfg(test)]
-mod marks;
-#[cfg(test)]
 mod outlines;
-#[cfg(test)]
-mod played;
 #[cfg(test)]
 mod runs;
 #[cfg(test)]

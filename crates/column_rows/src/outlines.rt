@@ -1,9 +1,8 @@
 // Numbers of paragraphs and outlines of documents by columns beside plain ones.
 ghost use Rattle.plain_doc.specs.Sound.{IsSound};
 
-use crate::edits::EACH;
 use crate::lent::is_made;
-use crate::scripted::{breaks_none, is_edited};
+use crate::scripted::{EACH, breaks_none, is_edited};
 use doc_bits::Memory;
 use doc_columns::{ColumnDocument, is_sound};
 use list_numbers::{Numbers, columns_numbers, columns_outline_lines, numbers, outline_lines};

@@ -41,25 +41,41 @@ fn are(list: &Runs<PropMap>, expected: &[(u32, bool)]) -> bool {
     true
 }
 
+/// Whether equal neighbours are one run.
+fn are_joined(alloc: Global) -> Result<bool, Memory> {
+    let list = six(alloc)?;
+    Ok(are(&list, &[(2, false), (4, true)]))
+}
+
+/// Whether a range is copied.
+fn is_copied(alloc: Global) -> Result<bool, Memory> {
+    let list = six(alloc)?;
+    let copy = list.copy(alloc, 1, 4)?;
+    Ok(are(&copy, &[(1, false), (2, true)]))
+}
+
+/// Whether runs are put in place of a range.
+fn are_put(alloc: Global) -> Result<bool, Memory> {
+    let fresh = six(alloc)?;
+    let mut list = six(alloc)?;
+    list.splice(alloc, 1, 3, fresh)?;
+    Ok(are(&list, &[(1, false), (2, false), (4, true), (3, true)]))
+}
+
 #[test]
 fn equal_neighbours_are_one_run(rt: HostRuntime) -> Result<(), Fail> {
-    let list = six(rt.alloc())?;
-    assert!(rt; are(&list, &[(2, false), (4, true)]));
+    assert!(rt; are_joined(rt.alloc())?);
     Ok(())
 }
 
 #[test]
 fn a_range_is_copied(rt: HostRuntime) -> Result<(), Fail> {
-    let list = six(rt.alloc())?;
-    let copy = list.copy(rt.alloc(), 1, 4)?;
-    assert!(rt; are(&copy, &[(1, false), (2, true)]));
+    assert!(rt; is_copied(rt.alloc())?);
     Ok(())
 }
 
 #[test]
 fn runs_are_put_in_place_of_a_range(rt: HostRuntime) -> Result<(), Fail> {
-    let mut list = six(rt.alloc())?;
-    list.splice(rt.alloc(), 1, 3, six(rt.alloc())?)?;
-    assert!(rt; are(&list, &[(1, false), (2, false), (4, true), (3, true)]));
+    assert!(rt; are_put(rt.alloc())?);
     Ok(())
 }

@@ -10,6 +10,38 @@ use edit_script::{Script, read_script};
 use plain_doc::{Document, blank, check, equal};
 use std::alloc::Global;
 
+/// An edit of each kind, on texts, notes, header texts, styles and bookmarks, and some that are refused.
+pub const EACH: &str = "[\
+    {\"do\":\"insert\",\"story\":\"main\",\"at\":0,\"text\":\"Hello world, dear Bob\"},\
+    {\"do\":\"char\",\"story\":\"main\",\"from\":3,\"to\":9,\"set\":{\"0835\":\"01\"}},\
+    {\"do\":\"split\",\"story\":\"main\",\"at\":5},\
+    {\"do\":\"para\",\"story\":\"main\",\"at\":2,\"set\":{\"2461\":\"01\"}},\
+    {\"do\":\"bookmark\",\"name\":\"dear\",\"from\":14,\"to\":18},\
+    {\"do\":\"note\",\"at\":4,\"text\":\"A note\"},\
+    {\"do\":\"note\",\"at\":12,\"text\":\"Another\"},\
+    {\"do\":\"char\",\"story\":\"note:1\",\"from\":2,\"to\":5,\"set\":{\"0836\":\"01\"}},\
+    {\"do\":\"bookmark\",\"name\":\"field\",\"from\":7,\"to\":7},\
+    {\"do\":\"field\",\"story\":\"main\",\"at\":7,\"type\":33,\"code\":\"PAGE\",\"result\":\"1\"},\
+    {\"do\":\"sect\",\"at\":9,\"new\":false,\"set\":{\"5026\":\"0200\"}},\
+    {\"do\":\"sect\",\"at\":3,\"new\":true,\"set\":{\"5026\":\"0200\"}},\
+    {\"do\":\"insert\",\"story\":\"head:6\",\"at\":0,\"text\":\"Head\"},\
+    {\"do\":\"insert\",\"story\":\"head:6\",\"at\":2,\"text\":\"XY\"},\
+    {\"do\":\"row\",\"story\":\"main\",\"at\":0,\"width\":500,\"cells\":[\"ab\",\"\",\"c\"]},\
+    {\"do\":\"plain\",\"story\":\"main\",\"from\":8,\"to\":20},\
+    {\"do\":\"style\",\"story\":\"main\",\"at\":12,\"istd\":1},\
+    {\"do\":\"stylechar\",\"istd\":0,\"set\":{\"0835\":\"01\"}},\
+    {\"do\":\"stylepara\",\"istd\":1,\"set\":{\"2461\":\"01\"}},\
+    {\"do\":\"merge\",\"story\":\"main\",\"at\":14},\
+    {\"do\":\"unmark\",\"name\":\"field\"},\
+    {\"do\":\"unmark\",\"name\":\"field\"},\
+    {\"do\":\"bookmark\",\"name\":\"dear\",\"from\":0,\"to\":1},\
+    {\"do\":\"erase\",\"story\":\"main\",\"from\":9,\"to\":16},\
+    {\"do\":\"erase\",\"story\":\"main\",\"from\":9,\"to\":1600},\
+    {\"do\":\"erase\",\"story\":\"note:0\",\"from\":2,\"to\":3},\
+    {\"do\":\"erase\",\"story\":\"main\",\"from\":0,\"to\":30},\
+    {\"do\":\"erase\",\"story\":\"main\",\"from\":8,\"to\":12},\
+    {\"do\":\"save\",\"mode\":\"full\"}]";
+
 /// Whether a test holds of the blank document after the commands of a script. Those that are refused change nothing.
 pub fn is_edited<F: FnOnce(&Document) -> Result<bool, Memory>>(
     alloc: Global,
@@ -51,7 +83,7 @@ fn make(alloc: Global, document: &mut Document, command: &Command) {
 }
 
 /// Whether a document is known to be sound.
-pub(crate) fn breaks_none(document: &Document) -> bool
+pub fn breaks_none(document: &Document) -> bool
     ensures { IsTrue result → IsSound document.now }
 {
     document.bookmarks.are_formed(document.main.len()) && check(document).is_ok()

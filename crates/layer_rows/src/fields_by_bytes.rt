@@ -16,12 +16,6 @@ fn read(alloc: Global, plc: &[u8]) -> Result<Flds, PartFault> {
     fields(alloc, plc, 100, 20)
 }
 
-/// Whether a part has these: the CP, the unit and the byte of each.
-fn has(alloc: Global, plc: &[u8], rows: &[(u32, u16, u8)]) -> Result<bool, PartFault> {
-    let list = read(alloc, plc)?;
-    Ok(are(&list, rows))
-}
-
 /// Whether the list has these.
 fn are(list: &Flds, rows: &[(u32, u16, u8)]) -> bool {
     if list.len() != rows.len() {
@@ -35,11 +29,19 @@ fn are(list: &Flds, rows: &[(u32, u16, u8)]) -> bool {
     true
 }
 
-/// The rule that a part breaks, and where.
-fn fault_of(alloc: Global, plc: &[u8]) -> Option<(u8, u32)> {
-    match read(alloc, plc) {
-        Err(PartFault::Rule { rule, offset }) => Some((rule, offset)),
-        _ => None,
+/// Whether a part has these: the CP, the unit and the byte of each.
+fn has(alloc: Global, plc: &[u8], rows: &[(u32, u16, u8)]) -> bool {
+    match &read(alloc, plc) {
+        Ok(list) => are(list, rows),
+        Err(_) => false,
+    }
+}
+
+/// Whether a part breaks rule 52 at a place.
+fn breaks(alloc: Global, plc: &[u8], place: u32) -> bool {
+    match &read(alloc, plc) {
+        Err(PartFault::Rule { rule, offset }) => *rule == 52 && *offset == place,
+        _ => false,
     }
 }
 
@@ -47,28 +49,29 @@ fn fault_of(alloc: Global, plc: &[u8]) -> Option<(u8, u32)> {
 /// already, and one behind the story.
 const WRONG: [(usize, u8, u32); 3] = [(20, 0x12, 108), (4, 2, 104), (8, 20, 108)];
 
-/// What a part with one byte set breaks.
-fn fault_with(alloc: Global, at: usize, byte: u8) -> Option<(u8, u32)> {
+/// The part with one byte set.
+fn with(at: usize, byte: u8) -> [u8; 22] {
     let mut plc = PLC;
     if at < 22 {
         plc[at] = byte;
     }
-    fault_of(alloc, &plc)
+    plc
+}
+
+/// Whether each wrong part is named, and one that is cut.
+fn are_named(alloc: Global) -> bool {
+    for (at, byte, place) in WRONG {
+        if !breaks(alloc, &with(at, byte), place) {
+            return false;
+        }
+    }
+    breaks(alloc, &PLC[..21], 100)
 }
 
 #[test]
 fn field_characters_are_read(rt: HostRuntime) -> Result<(), Fail> {
     let rows = [(2, 0x13, 33), (5, 0x14, 0xFF), (9, 0x15, 0x80)];
-    assert!(rt; has(rt.alloc(), &PLC, &rows)?);
-    assert!(rt; has(rt.alloc(), &[], &[])?);
-    Ok(())
-}
-
-#[test]
-fn wrong_field_characters_are_named(rt: HostRuntime) -> Result<(), Fail> {
-    for (at, byte, place) in WRONG {
-        assert!(rt; fault_with(rt.alloc(), at, byte) == Some((52, place)));
-    }
-    assert!(rt; fault_of(rt.alloc(), &PLC[..21]) == Some((52, 100)));
+    assert!(rt; has(rt.alloc(), &PLC, &rows) && has(rt.alloc(), &[], &[]));
+    assert!(rt; are_named(rt.alloc()));
     Ok(())
 }

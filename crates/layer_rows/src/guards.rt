@@ -58,6 +58,29 @@ fn asked(guards: &mut [Box<dyn Guard>], facts: Facts) -> Option<usize> {
     refuser
 }
 
+/// The items and the style of an edit, and who refuses it: 5 and 3 items are left at first, and 2 and 0 behind "ab" and
+/// "c".
+const EDITS: [(u32, u16, Option<usize>); 8] = [
+    (2, 0, None),
+    (0, 7, Some(3)),
+    (1, 2, None),
+    (1, 0, Some(1)),
+    (3, 1, Some(0)),
+    (0, 1, Some(3)),
+    (0, 0, None),
+    (2, 0, Some(1)),
+];
+
+/// Whether each edit is refused by the guard that is said, or by none.
+fn are_refused(guards: &mut [Box<dyn Guard>], rows: &[(u32, u16, Option<usize>)]) -> bool {
+    for row in rows {
+        if asked(guards, insertion(row.0, row.1)) != row.2 {
+            return false;
+        }
+    }
+    true
+}
+
 #[test]
 fn the_first_refuser_is_named(rt: HostRuntime) -> Result<(), Fail> {
     let alloc = rt.alloc();
@@ -67,25 +90,37 @@ fn the_first_refuser_is_named(rt: HostRuntime) -> Result<(), Fail> {
     guards.push(Box::new(alloc, UnitQuota::new(3))?)?;
     guards.push(Box::new(alloc, Lenient)?)?;
     guards.push(Box::new(alloc, StyleLock::new(alloc, &[1, 7])?)?)?;
-    // The items and the style of an edit, and who refuses it: 5 and 3 items are left at first, and 2 and 0 behind "ab"
-    // and "c".
-    let rows = [
-        (2, 0, None),
-        (0, 7, Some(3)),
-        (1, 2, None),
-        (1, 0, Some(1)),
-        (3, 1, Some(0)),
-        (0, 1, Some(3)),
-        (0, 0, None),
-        (2, 0, Some(1)),
-    ];
-    for (row, (units, style, refuser)) in rows.into_iter().enumerate() {
-        assert!(rt;
-            asked(&mut guards, insertion(units, style)) == refuser,
-            "row {row}"
-        );
-    }
+    assert!(rt; are_refused(&mut guards, &EDITS));
     Ok(())
+}
+
+/// A guard, the items and the style of an edit, and whether it allows that.
+struct Left(usize, u32, u16, bool);
+
+const LEFT: [Left; 5] = [
+    Left(0, u32::MAX, 0, true),
+    Left(1, 0, 0, true),
+    Left(1, 1, 1, false),
+    Left(2, u32::MAX, 1, true),
+    Left(2, 0, 0, false),
+];
+
+/// Whether a guard allows an edit, where that is said, and else does not.
+fn is_left(guards: &[Box<dyn Guard>], left: &Left) -> bool {
+    match guards.get(left.0) {
+        Some(guard) => guard.may(insertion(left.1, left.2)) == left.3,
+        None => false,
+    }
+}
+
+/// The same of each.
+fn are_left(guards: &[Box<dyn Guard>], rows: &[Left]) -> bool {
+    for left in rows {
+        if !is_left(guards, left) {
+            return false;
+        }
+    }
+    true
 }
 
 // The lock is on the style of a header text that is empty.
@@ -98,21 +133,7 @@ fn noted_guards_have_less_left(rt: HostRuntime) -> Result<(), Fail> {
     guards.push(Box::new(alloc, StyleLock::new(alloc, &[0])?)?)?;
     assert!(rt; asked(&mut guards, insertion(4, 1)) == None);
     assert!(rt; asked(&mut guards, insertion(6, 2)) == None);
-    // Each guard, the items and the style of an edit, and whether it allows that.
-    let rows = [
-        (0, u32::MAX, 0, true),
-        (1, 0, 0, true),
-        (1, 1, 1, false),
-        (2, u32::MAX, 1, true),
-        (2, 0, 0, false),
-    ];
-    for (guard, units, style, allowed) in rows {
-        let may = match guards.get(guard) {
-            Some(guard) => guard.may(insertion(units, style)),
-            None => !allowed,
-        };
-        assert!(rt; may == allowed, "guard {guard}");
-    }
+    assert!(rt; are_left(&guards, &LEFT));
     Ok(())
 }
 

@@ -2,8 +2,6 @@
 #![tactic(auto)]
 
 #[cfg(test)]
-mod blocks;
-#[cfg(test)]
 mod bookmark_lists;
 #[cfg(test)]
 mod containers;
@@ -14,6 +12,8 @@ mod fields_by_bytes;
 #[cfg(test)]
 mod guards;
 #[cfg(test)]
+mod lent;
+#[cfg(test)]
 mod maps;
 #[cfg(test)]
 mod outside;
@@ -21,8 +21,6 @@ mod outside;
 mod pages;
 #[cfg(test)]
 mod piece_blocks;
-#[cfg(test)]
-mod pieces;
 #[cfg(test)]
 mod puts;
 #[cfg(test)]
@@ -32,8 +30,6 @@ mod refusing;
 #[cfg(test)]
 mod saves;
 #[cfg(test)]
-mod scripts;
-#[cfg(test)]
-mod sheets;
-#[cfg(test)]
 mod sprms;
+#[cfg(test)]
+mod tally;

@@ -1,19 +1,16 @@
-// Maps of settings and modifiers.
-ghost use Rattle.std.specs.Prelude.{IfOk};
-ghost use Rattle.prop_map.specs.Modifiers.{IsFormedModifier};
-
+// Maps of settings: copies of one.
+use crate::lent::is_made;
 use doc_bits::Memory;
-use prop_map::{Modifier, PRC_GROUPS, PropMap};
-use sprm_table::{Code, list_fault};
+use prop_map::PropMap;
+use sprm_table::Code;
 use std::alloc::Global;
 use std::test::Fail;
 
-/// A map of these codes and values.
-fn map_of(alloc: Global, settings: &[(u16, &[u8])]) -> Result<PropMap, Memory> {
+/// A map of two settings.
+fn two_settings(alloc: Global) -> Result<PropMap, Memory> {
     let mut map = PropMap::new(alloc);
-    for (code, value) in settings {
-        map.set(Code(*code), value)?;
-    }
+    map.set(Code(0x0835), &[1])?;
+    map.set(Code(0x4A43), &[0x1C, 0])?;
     Ok(map)
 }
 
@@ -33,20 +30,17 @@ fn are_alike(alloc: Global, map: &PropMap, count: usize) -> Result<bool, Memory>
     Ok(!other.equal(map))
 }
 
+/// The same of a map of two settings.
+fn are_two_alike(alloc: Global, count: usize) -> Result<bool, Memory> {
+    is_made(
+        two_settings(alloc),
+        |map: &PropMap| -> Result<bool, Memory> { are_alike(alloc, map, count) },
+    )
+}
+
 // As many copies as the items of a long document have.
 #[test]
 fn copies_share_the_entries(rt: HostRuntime) -> Result<(), Fail> {
-    let map = map_of(rt.alloc(), &[(0x0835, &[1]), (0x4A43, &[0x1C, 0])])?;
-    assert!(rt; are_alike(rt.alloc(), &map, 500_000)?);
+    assert!(rt; are_two_alike(rt.alloc(), 500_000)?);
     Ok(())
-}
-
-/// The modifier of a list that has no fault.
-pub fn modifier_of(alloc: Global, list: &[u8]) -> Result<Modifier, Memory>
-    ensures { IfOk result IsFormedModifier }
-{
-    match list_fault(list, PRC_GROUPS) {
-        None => Modifier::read(alloc, list),
-        Some(_) => Err(Memory),
-    }
 }

@@ -2,9 +2,9 @@
 ghost use Rattle.std.specs.Prelude.{◌≡◌, ◌+◌, ◌<◌, ◌≤◌, OnOk};
 ghost use Rattle.piece_table.specs.Piece.{total_length};
 
-use crate::blocks::Tally;
+use crate::tally::Tally;
 use doc_bits::{Memory, Steps};
-use piece_table::{PieceList, Spot};
+use piece_table::{Piece, PieceList, Spot};
 use std::alloc::Global;
 use std::marker::Brand;
 use std::sync::ledger::{Blank, Ledger as Account};
@@ -70,7 +70,7 @@ fn many_pieces(alloc: Global, order: Order, pieces: u32, units: u32) -> Result<P
 }
 
 /// Where a CP is, and the steps to it.
-pub(crate) fn spot_and_steps<A: Account>(list: &PieceList, cp: u32, blank: Blank) -> (Spot, u64)
+fn spot_and_steps<A: Account>(list: &PieceList, cp: u32, blank: Blank) -> (Spot, u64)
     requires cp { cp < total_length list.now.pieces }
     requires name { blank.name ≡ A.name }
     requires parts { blank.parts ≡ A.parts }
@@ -116,19 +116,35 @@ fn agrees_with_the_scan(list: &PieceList) -> bool {
     cp == list.total()
 }
 
+/// Whether a CP near the end of many pieces is found in few steps, and each of fewer pieces.
+fn is_found(alloc: Global, order: Order) -> Result<bool, Memory> {
+    let list = many_pieces(alloc, order, MANY, MANY_UNITS)?;
+    let near = list.len() == 16_000 && is_spot(&list, 31_999, 15_999, 1, 630);
+    drop(list);
+    Ok(near && are_found(alloc, order, SOME, SOME_UNITS)?)
+}
+
+/// Whether each of so many pieces is found.
+fn are_found(alloc: Global, order: Order, pieces: u32, units: u32) -> Result<bool, Memory>
+    requires some { 1 ≤ units }
+    requires most { units ≤ 40000 }
+{
+    let list = many_pieces(alloc, order, pieces, units)?;
+    Ok(agrees_with_the_scan(&list))
+}
+
+/// Whether a CP of one piece is found.
+fn is_found_in_one(alloc: Global) -> Result<bool, Memory> {
+    let list = PieceList::one(alloc, START, MANY_UNITS)?;
+    Ok(is_spot(&list, 5, 0, 5, 130))
+}
+
 #[test]
 fn a_cp_of_many_pieces_is_found_in_few_steps(rt: HostRuntime) -> Result<(), Fail> {
-    for order in [Order::Front, Order::Back, Order::Middle] {
-        let list = many_pieces(rt.alloc(), order, MANY, MANY_UNITS)?;
-        assert_eq!(rt; list.len(), 16_000);
-        assert!(rt; is_spot(&list, 31_999, 15_999, 1, 630));
-        let list = many_pieces(rt.alloc(), order, SOME, SOME_UNITS)?;
-        assert!(rt; agrees_with_the_scan(&list));
-    }
-    let list = many_pieces(rt.alloc(), Order::Middle, MANY, MANY_UNITS)?;
-    assert!(rt; agrees_with_the_scan(&list));
-    let list = PieceList::one(rt.alloc(), START, MANY_UNITS)?;
-    assert!(rt; is_spot(&list, 5, 0, 5, 130));
+    assert!(rt; is_found(rt.alloc(), Order::Front)?);
+    assert!(rt; is_found(rt.alloc(), Order::Back)?);
+    assert!(rt; are_found(rt.alloc(), Order::Middle, MANY, MANY_UNITS)?);
+    assert!(rt; is_found_in_one(rt.alloc())?);
     Ok(())
 }
 
@@ -169,26 +185,72 @@ fn erase(list: &mut PieceList, from: u32, to: u32) -> Result<(), Memory> {
     Ok(())
 }
 
-#[test]
-fn ranges_of_many_blocks_go(rt: HostRuntime) -> Result<(), Fail> {
-    for order in [Order::Front, Order::Middle] {
-        for (from, to) in [
-            (0, 2_560),
-            (0, 2_558),
-            (62, 1_984),
-            (256, 512),
-            (190, 300),
-            (1, 3),
-        ] {
-            let mut list = many_pieces(rt.alloc(), order, SOME, SOME_UNITS)?;
-            assert_eq!(rt; list.len(), 1_024);
-            erase(&mut list, from, to)?;
-            assert!(rt; is_without(&list, from, to), "{from} to {to}");
-            assert!(rt;
-                list.len() == 0 || agrees_with_the_scan(&list),
-                "{from} to {to}"
-            );
+/// A piece of one unit of one byte.
+const BYTE: Piece = Piece {
+    at: 3001,
+    wide: false,
+    len: 1,
+};
+
+/// Whether a piece is that one.
+fn is_byte(piece: Piece) -> bool {
+    piece.at == BYTE.at && !piece.wide && piece.len == BYTE.len
+}
+
+/// Whether a unit of one byte stands first where it is put there; then it is taken out again.
+fn takes_a_byte(list: &mut PieceList) -> Result<bool, Memory> {
+    list.reserve(6)?;
+    if list.total() > 500_000 {
+        return Ok(false);
+    }
+    list.splice(0, 0, Some(BYTE));
+    let is_first = 1 <= list.len() && is_byte(list.piece(0));
+    if 1 <= list.total() {
+        list.splice(0, 1, None);
+    }
+    Ok(is_first)
+}
+
+/// Whether a range goes from a list of so many pieces, and each CP is found in what is left.
+fn goes(list: &mut PieceList, from: u32, to: u32) -> Result<bool, Memory> {
+    let count = list.len();
+    erase(list, from, to)?;
+    let put = takes_a_byte(list)?;
+    let found = list.len() == 0 || agrees_with_the_scan(list);
+    Ok(count == 1_024 && put && found && is_without(list, from, to))
+}
+
+/// The same of a list that was split in an order.
+fn is_erased(alloc: Global, order: Order, from: u32, to: u32) -> Result<bool, Memory> {
+    let mut list = many_pieces(alloc, order, SOME, SOME_UNITS)?;
+    let gone = goes(&mut list, from, to);
+    drop(list);
+    gone
+}
+
+/// All pieces, all but the last, pieces of many blocks, of one block and of two, and parts of two pieces.
+const RANGES: [(u32, u32); 6] = [
+    (0, 2_560),
+    (0, 2_558),
+    (62, 1_984),
+    (256, 512),
+    (190, 300),
+    (1, 3),
+];
+
+/// The same of each range.
+fn are_erased(alloc: Global, order: Order, ranges: &[(u32, u32)]) -> Result<bool, Memory> {
+    for range in ranges {
+        if !is_erased(alloc, order, range.0, range.1)? {
+            return Ok(false);
         }
     }
+    Ok(true)
+}
+
+#[test]
+fn ranges_of_many_blocks_go(rt: HostRuntime) -> Result<(), Fail> {
+    assert!(rt; are_erased(rt.alloc(), Order::Front, &RANGES)?);
+    assert!(rt; are_erased(rt.alloc(), Order::Middle, &RANGES)?);
     Ok(())
 }

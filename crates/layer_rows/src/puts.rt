@@ -1,5 +1,7 @@
 // Puts into real files, links, pipes and folders. What a name holds afterwards is read by std alone.
+use crate::outside::reads;
 use doc_outer::{HostShelf, PutFault, Shelf};
+use std::alloc::Global;
 use std::fs::Permissions;
 use std::io::{Eprint, Read};
 use std::os::fd::AsRawFd;
@@ -8,25 +10,35 @@ use std::rt::Files;
 use std::test::Fail;
 use std::{fs, io};
 
-const NEW: &[u8] = b"new bytes";
+pub(crate) const NEW: &[u8] = b"new bytes";
 
 /// What a put of `NEW` under a name answers.
+fn put_new<S: Shelf>(shelf: &mut S, name: &str) -> Result<(), PutFault> {
+    shelf.put(name, NEW)
+}
+
+/// The same by these files.
+pub(crate) fn put_by<F: Files + Drop, E: Eprint + Drop>(
+    alloc: Global,
+    files: F,
+    reasons: E,
+    name: &str,
+) -> Result<(), PutFault> {
+    let mut shelf = HostShelf::new(alloc, files, reasons);
+    put_new(&mut shelf, name)
+}
+
+/// The same by the files of the system.
 fn put<R: Files + Eprint + AllocGlobal>(rt: &R, name: &str) -> Result<(), PutFault> {
-    HostShelf::new(rt.alloc(), rt, rt).put(name, NEW)
+    put_by(rt.alloc(), rt, rt, name)
 }
 
 /// Whether a file holds exactly these bytes.
-fn holds<R: Files + AllocGlobal>(rt: &R, name: &str, bytes: &[u8]) -> bool {
+pub(crate) fn holds<R: Files + AllocGlobal>(rt: &R, name: &str, bytes: &[u8]) -> bool {
     match fs::read(rt, name) {
         Ok(all) => all.as_slice() == bytes,
         Err(_) => false,
     }
-}
-
-/// Whether nobody has the name that a new file in the folder would have.
-fn is_clean<R: Files + AllocGlobal>(rt: &R, folder: &str, number: u32) -> io::Result<bool> {
-    let name = format!(in rt.alloc(); "{folder}/.docbin-{number}.tmp")?;
-    Ok(!fs::exists(rt, name.as_str())?)
 }
 
 #[test]
@@ -41,7 +53,7 @@ fn a_put_makes_a_file_or_replaces_it(rt: HostRuntime) -> Result<(), Fail> {
     )?;
     assert!(rt; put(&rt, "made/out").is_ok());
     assert!(rt; holds(&rt, "made/out", NEW));
-    assert!(rt; is_clean(&rt, "made", 0)?);
+    assert!(rt; !fs::exists(&rt, "made/.docbin-0.tmp")?);
     fs::remove_dir_all(&rt, "made")?;
     Ok(())
 }
@@ -73,7 +85,7 @@ fn a_link_is_followed_to_its_file(rt: HostRuntime) -> Result<(), Fail> {
     symlink(&rt, "nowhere", "linked/loose")?;
     assert!(rt; put(&rt, "linked/loose").is_ok());
     assert!(rt; holds(&rt, "linked/nowhere", NEW));
-    assert!(rt; is_clean(&rt, "linked", 0)?);
+    assert!(rt; !fs::exists(&rt, "linked/.docbin-0.tmp")?);
     fs::remove_dir_all(&rt, "linked")?;
     Ok(())
 }
@@ -85,24 +97,33 @@ fn a_name_that_somebody_has_is_not_taken(rt: HostRuntime) -> Result<(), Fail> {
     assert!(rt; put(&rt, "shared/out").is_ok());
     assert!(rt; holds(&rt, "shared/out", NEW));
     assert!(rt; holds(&rt, "shared/.docbin-0.tmp", b"another's"));
-    assert!(rt; is_clean(&rt, "shared", 1)?);
+    assert!(rt; !fs::exists(&rt, "shared/.docbin-1.tmp")?);
     fs::remove_dir_all(&rt, "shared")?;
     Ok(())
 }
 
 /// Whether a file that is read on in order gives the bytes that were put in between.
 fn reads_on<S: Shelf>(shelf: &mut S, name: &str) -> bool {
-    let mut buf = [0u8; 4];
-    let first = shelf.read_at(name, 0, &mut buf) == Ok(4) && buf == *b"some";
-    let put = shelf.put(name, NEW).is_ok();
-    first && put && shelf.read_at(name, 4, &mut buf) == Ok(4) && buf == *b"byte"
+    let first = reads(shelf, name, 0, b"some");
+    let put = put_new(shelf, name).is_ok();
+    first && put && reads(shelf, name, 4, b"byte")
+}
+
+/// The same by these files.
+fn is_let_go<F: Files + Drop, E: Eprint + Drop>(
+    alloc: Global,
+    files: F,
+    reasons: E,
+    name: &str,
+) -> bool {
+    let mut shelf = HostShelf::new(alloc, files, reasons);
+    reads_on(&mut shelf, name)
 }
 
 #[test]
 fn the_file_that_was_read_last_is_let_go_of(rt: HostRuntime) -> Result<(), Fail> {
     fs::write(&rt, "read", b"some more bytes".as_slice())?;
-    let mut shelf = HostShelf::new(rt.alloc(), &rt, &rt);
-    assert!(rt; reads_on(&mut shelf, "read"));
+    assert!(rt; is_let_go(rt.alloc(), &rt, &rt, "read"));
     fs::remove_file(&rt, "read")?;
     Ok(())
 }
@@ -125,6 +146,6 @@ fn what_cannot_be_put_fails(rt: HostRuntime) -> Result<(), Fail> {
     assert!(rt; put(&rt, ".") == Err(PutFault::Failed));
     assert!(rt; put(&rt, "") == Err(PutFault::Failed));
     assert!(rt; put(&rt, "/dev/full") == Err(PutFault::Failed));
-    assert!(rt; is_clean(&rt, ".", 0)?);
+    assert!(rt; !fs::exists(&rt, ".docbin-0.tmp")?);
     Ok(())
 }

@@ -29,42 +29,77 @@ fn put(list: &mut BlockList<Mark>, i: usize, number: usize) {
     }
 }
 
-/// So many marks, each put last.
-fn marks(alloc: Global, count: usize) -> Result<BlockList<Mark>, Memory> {
-    let mut list = BlockList::new(alloc);
+/// Puts so many marks, each last.
+fn fill(list: &mut BlockList<Mark>, count: usize) -> Result<(), Memory> {
     for number in 0..count {
         list.reserve(1)?;
-        put(&mut list, number, number);
+        put(list, number, number);
     }
-    Ok(list)
+    Ok(())
+}
+
+/// The items, the place of one more, and the blocks that stand ready before it and after it.
+struct Row(usize, usize, usize, usize);
+
+const ROWS: [Row; 8] = [
+    Row(0, 0, 1, 0),
+    Row(1, 1, 1, 1),
+    Row(127, 127, 1, 1),
+    Row(127, 0, 2, 2),
+    Row(128, 128, 1, 0),
+    Row(128, 0, 3, 2),
+    Row(129, 129, 1, 1),
+    Row(129, 0, 1, 1),
+];
+
+/// Whether one of the marks has the number 1,000.
+fn has_thousand(marks: &[Mark]) -> bool {
+    for mark in marks {
+        if mark.number == 1000 {
+            return true;
+        }
+    }
+    false
+}
+
+/// Whether the blocks of a row are taken, and the mark stands in the list.
+fn takes(list: &mut BlockList<Mark>, row: &Row) -> Result<bool, Memory> {
+    fill(list, row.0)?;
+    list.reserve(row.2)?;
+    // What is ready is not made again.
+    list.reserve(row.2)?;
+    let ready = list.spare();
+    put(list, row.1, 1000);
+    let left = list.spare();
+    let all = list.to_vec()?;
+    Ok(
+        ready == row.2
+            && left == row.3
+            && all.len() == row.0.saturating_add(1)
+            && has_thousand(&all),
+    )
+}
+
+/// The same of a list that is new.
+fn are_taken(alloc: Global, row: &Row) -> Result<bool, Memory> {
+    let mut list = BlockList::new(alloc);
+    let taken = takes(&mut list, row);
+    drop(list);
+    taken
+}
+
+/// The same of each row.
+fn are_all_taken(alloc: Global, rows: &[Row]) -> Result<bool, Memory> {
+    for row in rows {
+        if !are_taken(alloc, row)? {
+            return Ok(false);
+        }
+    }
+    Ok(true)
 }
 
 #[test]
 fn a_full_block_takes_a_ready_one(rt: HostRuntime) -> Result<(), Fail> {
-    // The items, the place of one more, the blocks that stand ready before it and after it.
-    for (items, place, ready, left) in [
-        (0, 0, 1, 0),
-        (1, 1, 1, 1),
-        (127, 127, 1, 1),
-        (127, 0, 2, 2),
-        (128, 128, 1, 0),
-        (128, 0, 3, 2),
-        (129, 129, 1, 1),
-        (129, 0, 1, 1),
-    ] {
-        let mut list = marks(rt.alloc(), items)?;
-        list.reserve(ready)?;
-        // What is ready is not made again.
-        list.reserve(ready)?;
-        assert_eq!(rt; list.spare(), ready, "{items} items");
-        put(&mut list, place, 1000);
-        assert_eq!(rt; list.spare(), left, "{items} items");
-        let all = list.to_vec()?;
-        assert_eq!(rt; all.len(), items.saturating_add(1));
-        assert!(rt;
-            all.iter()
-                .any(|mark: &Mark| -> bool { mark.number == 1000 })
-        );
-    }
+    assert!(rt; are_all_taken(rt.alloc(), &ROWS)?);
     Ok(())
 }

@@ -1,16 +1,18 @@
 // Puts where the system refuses a call: a full disk, a folder in which no file is made, a signal. The
 // files are those of the system, of which two calls can be refused.
-use doc_outer::{HostShelf, PutFault, Shelf};
+use crate::puts::{NEW, holds, put_by};
+use doc_outer::PutFault;
 use std::alloc::Allocator;
 use std::fs::{Metadata, OpenFile, OpenOptions, Permissions};
-use std::io::{Eprint, ErrorKind, Read, Seek, SeekFrom, Write};
+use std::io::{Eprint, ErrorKind, PipeReader, PipeWriter, Read, Seek, SeekFrom, Write};
+use std::os::fd::BorrowedFd;
+use std::os::unix::net::SocketAddr;
+use std::path::PathBuf;
 use std::rt::Files;
 use std::test::Fail;
 use std::{fs, io};
 
 const OLD: &[u8] = b"old";
-
-const NEW: &[u8] = b"new bytes";
 
 /// What is refused.
 #[derive(Clone, Copy)]
@@ -138,67 +140,115 @@ impl<R: Files + Drop> Files for Refusing<R> {
     fn remove_dir_all<B: Allocator>(&self, alloc: B, path: &str) -> io::Result<()> {
         self.files.remove_dir_all(alloc, path)
     }
+
+    // The puts below call none of these. Passed on, they are less dear to prove than as the trait has them.
+    fn canonicalize<B: Allocator>(&self, alloc: B, path: &str) -> io::Result<PathBuf<B>> {
+        self.files.canonicalize(alloc, path)
+    }
+
+    fn read_link<B: Allocator>(&self, alloc: B, path: &str) -> io::Result<PathBuf<B>> {
+        self.files.read_link(alloc, path)
+    }
+
+    fn hard_link(&self, original: &str, link: &str) -> io::Result<()> {
+        self.files.hard_link(original, link)
+    }
+
+    fn set_permissions(&self, path: &str, permissions: Permissions) -> io::Result<()> {
+        self.files.set_permissions(path, permissions)
+    }
+
+    fn symlink(&self, original: &str, link: &str) -> io::Result<()> {
+        self.files.symlink(original, link)
+    }
+
+    fn pipe(&self) -> io::Result<(PipeReader, PipeWriter)> {
+        self.files.pipe()
+    }
+
+    fn chown(&self, path: &str, uid: Option<u32>, gid: Option<u32>) -> io::Result<()> {
+        self.files.chown(path, uid, gid)
+    }
+
+    fn lchown(&self, path: &str, uid: Option<u32>, gid: Option<u32>) -> io::Result<()> {
+        self.files.lchown(path, uid, gid)
+    }
+
+    fn create_dir_with_mode(&self, path: &str, mode: u32) -> io::Result<()> {
+        self.files.create_dir_with_mode(path, mode)
+    }
+
+    fn bind_unix(&self, socket: BorrowedFd<'_>, addr: &SocketAddr) -> io::Result<()> {
+        self.files.bind_unix(socket, addr)
+    }
 }
 
-/// What a put over an old file answers with these refusals, and whether the name then holds these bytes.
-fn put<R: Files + Eprint + AllocGlobal>(
-    rt: &R,
-    refusals: Refusals,
-    answer: Result<(), PutFault>,
-    bytes: &[u8],
-) -> io::Result<bool> {
+/// What a put answers with these refusals.
+fn put<R: Files + Eprint + AllocGlobal>(rt: &R, refusals: Refusals) -> Result<(), PutFault> {
+    let files = Refusing {
+        files: rt,
+        refusals,
+    };
+    put_by(rt.alloc(), files, rt, "refused")
+}
+
+/// What is refused, what a put answers, and what its name holds then.
+struct Row(
+    Option<ErrorKind>,
+    Option<ErrorKind>,
+    Result<(), PutFault>,
+    &'static [u8],
+);
+
+const NONE: Option<ErrorKind> = Some(ErrorKind::OutOfMemory);
+
+const FULL: Option<ErrorKind> = Some(ErrorKind::StorageFull);
+
+const DENIED: Option<ErrorKind> = Some(ErrorKind::PermissionDenied);
+
+const SIGNAL: Option<ErrorKind> = Some(ErrorKind::Interrupted);
+
+const ROWS: [Row; 8] = [
+    // A full disk leaves the old file.
+    Row(None, FULL, Err(PutFault::Failed), OLD),
+    Row(FULL, None, Err(PutFault::Failed), OLD),
+    // A file in a folder that takes none is written directly.
+    Row(DENIED, None, Ok(()), NEW),
+    Row(DENIED, FULL, Err(PutFault::Failed), b""),
+    // A write that a signal cut short goes on.
+    Row(None, SIGNAL, Ok(()), NEW),
+    // Want of memory leaves the old file.
+    Row(NONE, None, Err(PutFault::Memory), OLD),
+    Row(None, NONE, Err(PutFault::Memory), OLD),
+    Row(DENIED, NONE, Err(PutFault::Failed), b""),
+];
+
+/// Whether a put over an old file answers as a row says, and the name then holds what it says.
+fn is_put<R: Files + Eprint + AllocGlobal>(rt: &R, row: &Row) -> io::Result<bool> {
     fs::write(rt, "refused", OLD)?;
-    let mut shelf = HostShelf::new(
-        rt.alloc(),
-        Refusing {
-            files: rt,
-            refusals,
-        },
-        rt,
-    );
-    let given = shelf.put("refused", NEW);
-    let held = fs::read(rt, "refused")?;
+    let refusals = Refusals {
+        making: row.0,
+        writing: row.1,
+    };
+    let answer = put(rt, refusals);
+    let held = holds(rt, "refused", row.3);
     let left = fs::exists(rt, ".docbin-0.tmp")?;
     fs::remove_file(rt, "refused")?;
-    Ok(given == answer && held.as_slice() == bytes && !left)
+    Ok(answer == row.2 && held && !left)
 }
 
-/// Files whose making and whose writing are refused so.
-fn refused_at(making: Option<ErrorKind>, writing: Option<ErrorKind>) -> Refusals {
-    Refusals { making, writing }
-}
-
-#[test]
-fn a_full_disk_leaves_the_old_file(rt: HostRuntime) -> Result<(), Fail> {
-    let full = Some(ErrorKind::StorageFull);
-    let failed = Err(PutFault::Failed);
-    assert!(rt; put(&rt, refused_at(None, full), failed, OLD)?);
-    assert!(rt; put(&rt, refused_at(full, None), failed, OLD)?);
-    Ok(())
+/// The same of each row.
+fn are_put<R: Files + Eprint + AllocGlobal>(rt: &R, rows: &[Row]) -> io::Result<bool> {
+    for row in rows {
+        if !is_put(rt, row)? {
+            return Ok(false);
+        }
+    }
+    Ok(true)
 }
 
 #[test]
-fn a_file_in_a_folder_that_takes_none_is_written_directly(rt: HostRuntime) -> Result<(), Fail> {
-    let denied = Some(ErrorKind::PermissionDenied);
-    assert!(rt; put(&rt, refused_at(denied, None), Ok(()), NEW)?);
-    let full = Some(ErrorKind::StorageFull);
-    assert!(rt; put(&rt, refused_at(denied, full), Err(PutFault::Failed), b"")?);
-    Ok(())
-}
-
-#[test]
-fn a_write_that_a_signal_cut_short_goes_on(rt: HostRuntime) -> Result<(), Fail> {
-    let signal = Some(ErrorKind::Interrupted);
-    assert!(rt; put(&rt, refused_at(None, signal), Ok(()), NEW)?);
-    Ok(())
-}
-
-#[test]
-fn want_of_memory_leaves_the_old_file(rt: HostRuntime) -> Result<(), Fail> {
-    let none = Some(ErrorKind::OutOfMemory);
-    assert!(rt; put(&rt, refused_at(none, None), Err(PutFault::Memory), OLD)?);
-    assert!(rt; put(&rt, refused_at(None, none), Err(PutFault::Memory), OLD)?);
-    let denied = Some(ErrorKind::PermissionDenied);
-    assert!(rt; put(&rt, refused_at(denied, none), Err(PutFault::Failed), b"")?);
+fn what_the_system_refuses_leaves_the_old_file(rt: HostRuntime) -> Result<(), Fail> {
+    assert!(rt; are_put(&rt, &ROWS)?);
     Ok(())
 }

@@ -27,14 +27,34 @@ fn fills(code: u16, list: &[u8], value: Option<(usize, usize)>) -> bool {
     operand(Code(code), rest) == value && list_fault(list, 0x22) == fault
 }
 
+/// A code and its bytes, how many bytes stand behind it, and the range of the value, where these are enough.
+struct Row(u16, [u8; 2], usize, Option<(usize, usize)>);
+
+const ROWS: [Row; 4] = [
+    Row(0xC60D, [0x0D, 0xC6], 255, None),
+    Row(0xC60D, [0x0D, 0xC6], 256, Some((1, 256))),
+    Row(0xD608, [0x08, 0xD6], 65_535, None),
+    Row(0xD608, [0x08, 0xD6], 65_536, Some((2, 65_536))),
+];
+
+/// Whether the list of a row is read so.
+fn is_read(alloc: Global, row: &Row) -> Result<bool, Memory> {
+    let list = list_of(alloc, &row.1, row.2)?;
+    Ok(fills(row.0, &list, row.3))
+}
+
+/// The same of each.
+fn are_read(alloc: Global, rows: &[Row]) -> Result<bool, Memory> {
+    for row in rows {
+        if !is_read(alloc, row)? {
+            return Ok(false);
+        }
+    }
+    Ok(true)
+}
+
 #[test]
 fn operands_have_the_greatest_counts(rt: HostRuntime) -> Result<(), Fail> {
-    let tabs = [0x0D, 0xC6];
-    let table = [0x08, 0xD6];
-    let alloc = rt.alloc();
-    assert!(rt; fills(0xC60D, &list_of(alloc, &tabs, 255)?, None));
-    assert!(rt; fills(0xC60D, &list_of(alloc, &tabs, 256)?, Some((1, 256))));
-    assert!(rt; fills(0xD608, &list_of(alloc, &table, 65_535)?, None));
-    assert!(rt; fills(0xD608, &list_of(alloc, &table, 65_536)?, Some((2, 65_536))));
+    assert!(rt; are_read(rt.alloc(), &ROWS)?);
     Ok(())
 }

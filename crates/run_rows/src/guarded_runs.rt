@@ -144,11 +144,3 @@ fn of_two_guards_the_first_that_refuses_is_named(rt: HostRuntime) -> Result<(), 
     );
     Ok(())
 }
-
-#[test]
-fn without_a_guard_each_edit_is_allowed(rt: HostRuntime) -> Result<(), Fail> {
-    let alloc = rt.alloc();
-    let ending = "edit: 4 commands, fast 0, full 1\n";
-    assert!(rt; ends(alloc, STYLED, Vec::new(alloc), 0, ending)?);
-    Ok(())
-}

@@ -61,16 +61,6 @@ fn guarded(index: usize, guard: usize) -> Result<bool, RunFault> {
     })
 }
 
-#[test]
-fn the_guard_of_least_index_stops_a_script(rt: HostRuntime) -> Result<(), Fail> {
-    let alloc = rt.alloc();
-    let mut guards: Vec<Box<dyn Guard>> = Vec::new(alloc);
-    guards.push(Box::new(alloc, UnitQuota::new(5))?)?;
-    guards.push(Box::new(alloc, UnitQuota::new(3))?)?;
-    assert!(rt; runs(alloc, LETTERS, &mut guards) == guarded(2, 1));
-    Ok(())
-}
-
 // A quota of 8 has 4 items left behind the first run and none behind the second one.
 #[test]
 fn guards_are_told_once_of_each_edit(rt: HostRuntime) -> Result<(), Fail> {

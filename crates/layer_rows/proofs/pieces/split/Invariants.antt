@@ -1,5 +1,0 @@
-use Rattle.layer_rows.proofs.pieces.split.Given as goal
-
--- the blank opens an account of its own
-abbrev pub ghosts-spot_and_steps : goal.ghosts-spot_and_steps
-ghosts-spot_and_steps a = record { name = a.blank.name; parts = a.blank.parts }
