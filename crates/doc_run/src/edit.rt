@@ -11,6 +11,7 @@ ghost use Rattle.doc_tasks.specs.declared.reply.Refusal.TheVariants.{Script as n
 ghost use Rattle.doc_run.specs.EditLines.{script_line as script_of, stop_line as stop_of, edited_line as edited_of};
 ghost use Rattle.doc_run.specs.Edits.{refusal_of as why_of, Edits, EditsBy, IsOverlongScript};
 
+use crate::beside::let_go;
 use crate::edit_lines::{edited_line, script_line, stop_line};
 use doc_bits::Memory;
 use doc_edit::{RunFault, Saved, Stop, run_script};
@@ -50,7 +51,7 @@ fn edit_by(
 {
     match read_script(alloc, script) {
         Ok(script) => edit(alloc, session, &script, guards),
-        Err(fault) => no_script(alloc, fault),
+        Err(fault) => let_go(session, no_script(alloc, fault)),
     }
 }
 

@@ -3,6 +3,7 @@
 #![tactic(auto)]
 
 mod begin;
+mod beside;
 mod command;
 mod edit;
 mod edit_lines;

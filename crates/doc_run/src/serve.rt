@@ -18,6 +18,7 @@ ghost use Rattle.doc_run.specs.Imports.{IsOverlongJson, ReadsJson};
 ghost use Rattle.doc_run.specs.Endings.{ReadsSecond};
 
 use crate::begin::{Begun, begin_taken};
+use crate::beside::{beside, let_go};
 use crate::edit::{edit_under, overlong_script};
 use crate::stage::{Taken, open_taken, overlong, take_whole};
 use doc_bits::Memory;
@@ -239,7 +240,8 @@ fn edit_by_name<S: Shelf>(
         ReadsScript script.now out.now (S.held shelf.old) (start_of session (map (λ b. policy b) guards.old)) e) }
     ensures cause { IfOk result (λ e. IsCaused S.Shelf shelf.old shelf.new e.status) }
 {
-    let taken = take_whole(alloc, shelf, script)?;
+    let read = take_whole(alloc, shelf, script);
+    let (session, taken) = beside(session, read)?;
     edit_taken(alloc, session, taken, out, guards)
 }
 
@@ -257,7 +259,7 @@ fn edit_taken(
 {
     match taken {
         Taken::Whole(bytes) => edit_under(alloc, session, bytes.as_slice(), out, guards),
-        Taken::Overlong => overlong_script(alloc),
-        Taken::Stopped(ending) => Ok(ending),
+        Taken::Overlong => let_go(session, overlong_script(alloc)),
+        Taken::Stopped(ending) => Ok(let_go(session, ending)),
     }
 }

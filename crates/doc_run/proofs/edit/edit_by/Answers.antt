@@ -1,4 +1,5 @@
-use Rattle.std.proofs.Common.{◌≡◌, inl, inr, map}
+use Rattle.std.proofs.Common.{◌≡◌, inl, inr, sym, subst, map}
+use Rattle.std.specs.Prelude.{IfOk}
 use Rattle.std.proofs.lemmas.Result.{IfOk-weaker}
 use Rattle.edit_script.specs.Laws.{IsCause}
 use Rattle.doc_edit.specs.States.{start_of}
@@ -18,9 +19,11 @@ returns-in-Err g c =
     start_of c.args.session (map (λ b. (goal.Guard-dyn g (b.vtable, b.value)).policy b.value) c.args.guards.now) in
     let bytes = c.args.script.now in
     let fault = c.in-Err.fault in
+    let edits : IfOk c.no_script.result (λ r. EditsBy start bytes r) =
     IfOk-weaker c.no_script.result (λ r. IsCause fault × (r ≡ Refused Script (script_line fault)))
     (λ r. EditsBy start bytes r)
-    (λ r h. inl (record { fault = fault; cause = h.0; is = c.in-Err.ensures; ends = h.1 })) c.no_script.ensures
+    (λ r h. inl (record { fault = fault; cause = h.0; is = c.in-Err.ensures; ends = h.1 })) c.no_script.ensures in
+    subst (λ result. IfOk result (λ r. EditsBy start bytes r)) (sym c.let_go.ensures) edits
 
 pub returns-in-Ok : goal.returns-in-Ok
 returns-in-Ok g c =

@@ -1,26 +1,42 @@
-use Rattle.std.proofs.Common.{Some, map, inr, arith}
+use Rattle.std.proofs.Common.{Some, map, inr, sym, subst, arith}
+use Rattle.std.specs.Prelude.{IfOk}
+use Rattle.fast_save.specs.Session.{SessionView}
 use Rattle.doc_edit.specs.States.{start_of}
+use Rattle.doc_edit.specs.Ends.{IsUnchanged}
 use Rattle.doc_tasks.specs.Replies.{EndsBy}
 use Rattle.doc_tasks.proofs.OutcomeLemmas.{said_inside, ends_inside}
+use Rattle.doc_run.specs.Reading.{Follows}
 use Rattle.doc_run.specs.Edits.{EditsBy, IsOverlongScript}
 use Rattle.doc_run.proofs.StageLemmas.{follows_reads, follows_caused}
 use Rattle.doc_run.proofs.serve.edit_by_name.Goals as goal
 
+pub edit_taken-requires : goal.edit_taken-requires
+edit_taken-requires g c = subst IsUnchanged (sym c.in_ok-session.ensures.0) c.requires
+
 pub returns-clause-ends : goal.returns-clause-ends
 returns-clause-ends g c =
     let out = c.args.out.now in
-    let start =
-    start_of c.args.session (map (λ b. (goal.Guard-dyn g (b.vtable, b.value)).policy b.value) c.args.guards.now) in
-    follows_reads c.args.script.now (g.S.Shelf.held c.args.shelf.now) c.in_ok-taken.taken IsOverlongScript
-    (λ bytes. EndsBy (Some out) (EditsBy start bytes)) c.edit_taken.result c.in_ok-taken.ensures.is
-    c.edit_taken.ensures
+    let policies = map (λ b. (goal.Guard-dyn g (b.vtable, b.value)).policy b.value) c.args.guards.now in
+    let both = c.in_ok-session.ensures in
+    let taken = c.in_ok-session.taken in
+    let is = rw both.1 at c.take_whole-read.ensures.is in
+    let follows =
+    subst
+    (λ (s : SessionView).
+    IfOk c.edit_taken.result
+    (λ e. Follows taken IsOverlongScript (λ bytes. EndsBy (Some out) (EditsBy (start_of s policies) bytes)) e))
+    both.0 c.edit_taken.ensures in
+    follows_reads c.args.script.now (g.S.Shelf.held c.args.shelf.now) taken IsOverlongScript
+    (λ bytes. EndsBy (Some out) (EditsBy (start_of c.args.session policies) bytes)) c.edit_taken.result is follows
 
 pub returns-clause-cause : goal.returns-clause-cause
 returns-clause-cause g c =
     let out = c.args.out.now in
-    let start =
-    start_of c.args.session (map (λ b. (goal.Guard-dyn g (b.vtable, b.value)).policy b.value) c.args.guards.now) in
-    follows_caused g.S.Shelf c.args.shelf.now c.take_whole.new.shelf c.in_ok-taken.taken IsOverlongScript
+    let policies = map (λ b. (goal.Guard-dyn g (b.vtable, b.value)).policy b.value) c.args.guards.now in
+    let both = c.in_ok-session.ensures in
+    let start = start_of c.in_ok-session.session policies in
+    let cause = rw both.1 at c.take_whole-read.ensures.cause in
+    follows_caused g.S.Shelf c.args.shelf.now c.take_whole-read.new.shelf c.in_ok-session.taken IsOverlongScript
     (λ bytes. EndsBy (Some out) (EditsBy start bytes)) c.edit_taken.result
     (λ o long. said_inside 7 _ o long (inr (omega arith)))
-    (λ bytes o x. ends_inside (Some out) (EditsBy start bytes) o x) c.in_ok-taken.ensures.cause c.edit_taken.ensures
+    (λ bytes o x. ends_inside (Some out) (EditsBy start bytes) o x) cause c.edit_taken.ensures

@@ -1,4 +1,5 @@
-use Rattle.std.proofs.Common.{Some, map}
+use Rattle.std.proofs.Common.{Some, map, sym, subst}
+use Rattle.std.specs.Prelude.{IfOk}
 use Rattle.doc_edit.specs.States.{start_of}
 use Rattle.doc_tasks.specs.Replies.{EndsBy}
 use Rattle.doc_run.specs.Edits.{EditsBy, IsOverlongScript}
@@ -20,4 +21,5 @@ returns-in-Overlong g c =
     let start =
     start_of c.args.session (map (λ b. (goal.Guard-dyn g (b.vtable, b.value)).policy b.value) c.args.guards.now) in
     overlong_follows c.args.taken IsOverlongScript (λ bytes. EndsBy (Some out) (EditsBy start bytes))
-    c.overlong_script.result c.in-Overlong.is c.overlong_script.ensures
+    c.let_go.result c.in-Overlong.is
+    (subst (λ r. IfOk r (λ o. IsOverlongScript o)) (sym c.let_go.ensures) c.overlong_script.ensures)
