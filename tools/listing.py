@@ -5,6 +5,7 @@ import re
 import shutil
 import stat
 import subprocess
+import sys
 
 import files
 from files import FAULT, MISSING, Ended
@@ -12,6 +13,8 @@ from files import FAULT, MISSING, Ended
 TOP = os.path.dirname(os.path.dirname(os.path.realpath(__file__)))
 # The name under which the program reads a file.
 INPUT = "/dev/stdin"
+# Statuses of the program where the system failed.
+SYSTEM = (3, 4, 5, 70)
 CELL, FIELD_BEGIN, FIELD_END = "\x07", "\x13", "\x15"
 # A row of a table ends with a mark that has this setting (sprmPFTtp).
 ROW_END = "2417=01"
@@ -114,11 +117,14 @@ class Listing:
 
 def run_on(name, *words):
     """Runs the program on a file, which it reads as its standard input, so that the bytes of the name do not matter. INPUT stands for the file
-    among the words. Returns the status, and what was printed, with the name in its line."""
+    among the words. Returns the status, and what was printed, with the name in its line. Why it ended so, which the program says beside it, is
+    said only where the system failed."""
     with open(name, "rb") as file:
         if stat.S_ISDIR(os.fstat(file.fileno()).st_mode):
             raise IsADirectoryError(errno.EISDIR, os.strerror(errno.EISDIR), name)
-        ran = subprocess.run([program(), *words], stdin=file, stdout=subprocess.PIPE, check=False)
+        ran = subprocess.run([program(), *words], stdin=file, stdout=subprocess.PIPE, stderr=subprocess.PIPE, check=False)
+    if ran.returncode in SYSTEM or ran.returncode < 0:
+        sys.stderr.write(ran.stderr.decode(errors="replace"))
     status, printed = ran.returncode if ran.returncode >= 0 else 128 - ran.returncode, ran.stdout.decode(errors="replace")
     return status, re.sub(f"^{INPUT}: ", "", printed) if status else printed
 

@@ -1,14 +1,17 @@
-"""What the scripts know of this repository: its crates, the kit that it needs, the machine that it is on."""
+"""What the scripts know of this repository: its crates, its programs, the kit, the machine that it is on, the words of a tool."""
+import argparse
 import os
 import re
 import shutil
 import signal
 import subprocess
 import sys
+from typing import NamedTuple
 
 TOP = os.path.dirname(os.path.dirname(os.path.realpath(__file__)))
-PROGRAM = "docbin"
-# Minutes of a crate that docs/DEVELOPING.md does not have yet.
+# The programs: a folder of crates each, and a script at the top that runs it. One that crates.txt does not have is not there yet.
+PROGRAMS = ("docbin", "docview", "docfit")
+# Minutes of a crate that docs/FIGURES.md does not have yet.
 UNKNOWN_MINUTES = 2.0
 # Status where the work cannot be begun or ended, which no run of the program has.
 NO_ANSWER = 70
@@ -22,29 +25,43 @@ def crates(top=TOP):
     return {name: [it for it in uses if it in names] for name, uses in names.items()}
 
 
-def stands_on(name, uses):
-    """A crate and those that it stands on, lowest first."""
-    needed = {name}
+def programs(uses):
+    """The programs that are there, by the crates of this repository."""
+    return [it for it in PROGRAMS if it in uses]
+
+
+def stands_on(names, uses):
+    """Some crates and those that they stand on, lowest first."""
+    needed = set(names)
     for it in reversed(list(uses)):
         if it in needed:
             needed.update(uses[it])
     return [it for it in uses if it in needed]
 
 
-def built_program(top=TOP):
-    """The program, where it is built and no source is newer, or None."""
-    program = f"{top}/crates/{PROGRAM}/out/{PROGRAM}"
+def built_program(top=TOP, name=PROGRAMS[0]):
+    """A program, where it is built and no source is newer, or None."""
+    return of_these_sources(f"{top}/crates/{name}/out/{name}", name, top)
+
+
+def tried_program(name, top=TOP):
+    """Where what a try compiled of a program is kept: without proofs, with checks."""
+    return f"{top}/crates/{name}/out/tried"
+
+
+def of_these_sources(program, name, top=TOP):
+    """A file that was made of the sources of a program, where it is there and none of them is newer, or None."""
     if not os.access(program, os.X_OK):
         return None
-    folders = [f"{top}/crates/{name}/{part}" for name in stands_on(PROGRAM, crates(top)) for part in ("src", "specs", "proofs")]
-    places = [f"{at}/{name}" for folder in folders for at, _, names in os.walk(folder) for name in [".", *names]]
+    folders = [f"{top}/crates/{it}/{part}" for it in stands_on([name], crates(top)) for part in ("src", "specs", "proofs")]
+    places = [f"{at}/{it}" for folder in folders for at, _, names in os.walk(folder) for it in [".", *names]]
     newest = max(os.stat(it).st_mtime_ns for it in [*places, f"{top}/crates.txt"])
     return None if newest > os.stat(program).st_mtime_ns else program
 
 
 def proof_minutes(top=TOP):
-    """Processor minutes of the proof of each crate, by the table of docs/DEVELOPING.md."""
-    with open(f"{top}/docs/DEVELOPING.md", encoding="utf8") as file:
+    """Processor minutes of the proof of each crate, by the table of docs/FIGURES.md."""
+    with open(f"{top}/docs/FIGURES.md", encoding="utf8") as file:
         table = file.read().partition("| crate | proof |")[2].partition("\n\n")[0]
     return {name: float(number) for name, number in re.findall(r"^\| (\w+) \| ([0-9.]+) \|", table, re.M)}
 
@@ -74,24 +91,49 @@ def clock_minutes(names, uses, minutes, at_once):
 def reckoned(top=TOP):
     """How many crates ./build proves, and what it takes: processor minutes, and minutes on two processors and on four."""
     uses, minutes = crates(top), proof_minutes(top)
-    names = stands_on(PROGRAM, uses)
+    names = stands_on(programs(uses), uses)
     return [len(names), *(round(it) for it in (processor_minutes(names, minutes), *(clock_minutes(names, uses, minutes, it) for it in (2, 4))))]
 
 
-def kit_needed(top=TOP):
-    """The line of the kit that README names."""
-    with open(f"{top}/README.md", encoding="utf8") as file:
-        return re.search(r"rattle-kit-\w+ logic [0-9a-f]+", file.read())[0]
+class Kit(NamedTuple):
+    """The Rattle kit of this machine: the line that it prints of itself, what is to be said of it where that is not the line of the file KIT,
+    and why there is none."""
+
+    line: str = ""
+    note: str = ""
+    fault: str = ""
+
+    @property
+    def logic(self):
+        """By which logic this kit proves."""
+        return logic_of(self.line)
 
 
-def kit_fault(top=TOP):
-    """Why the kit that is here does not serve, or None."""
-    needed = kit_needed(top)
+def logic_of(line):
+    return line.partition(" logic ")[2]
+
+
+def kit_line(top=TOP):
+    """The line of the kit with which the proofs were last run."""
+    with open(f"{top}/KIT", encoding="utf8") as file:
+        return file.read().strip()
+
+
+def kit(top=TOP):
+    """The kit that is here. Any one serves: what its logic proves is proved by that logic."""
+    last = kit_line(top)
+    todo = f"needed is a Rattle kit, best {last}: unpack one, put its folder bin into PATH, and begin again"
     if not shutil.which("rt"):
-        return f"the command rt of the Rattle kit is not there; needed is {needed}"
-    ran = subprocess.run(["rt", "version"], capture_output=True, text=True, check=False)
-    found = ran.stdout.strip() or ran.stderr.strip() or f"status {ran.returncode}"
-    return None if found == needed else f"another Rattle kit is here ({found}); needed is {needed}"
+        return Kit(fault=f"the command rt of the Rattle kit is not there; {todo}")
+    ran = subprocess.run(["rt", "version"], stdin=subprocess.DEVNULL, capture_output=True, text=True, errors="replace", check=False)
+    found = ran.stdout.strip()
+    if ran.returncode or not logic_of(found):
+        said = (ran.stderr.strip() or found).split("\n")[-1] or f"status {ran.returncode}"
+        return Kit(fault=f"the command rt does not say of which kit it is ({said}); {todo}")
+    if found == last:
+        return Kit(found)
+    rest = "" if logic_of(found) == logic_of(last) else ": another logic"
+    return Kit(found, f"this kit is {found}, the proofs were last run with {last}{rest}")
 
 
 def processors():
@@ -114,6 +156,47 @@ def free_memory():
     return int(found[1]) * 1024 // 1_000_000 if found else 1_000
 
 
+def below(root):
+    """The processes that come from this one, and it itself."""
+    todo, seen = [root], []
+    while todo:
+        pid = todo.pop()
+        seen.append(pid)
+        try:
+            threads = os.listdir(f"/proc/{pid}/task")
+        except OSError:
+            continue
+        for thread in threads:
+            todo += map(int, text_of(f"/proc/{pid}/task/{thread}/children").split())
+    return seen
+
+
+def crate_of(pid, names):
+    """The crate that a process works for, by its words and its folder, or None."""
+    words = text_of(f"/proc/{pid}/cmdline").replace("\0", " ")
+    try:
+        place = os.readlink(f"/proc/{pid}/cwd")
+    except OSError:
+        place = ""
+    named = re.search(r"--crate-name ([a-z0-9_]+)", words) or re.search(r"crates/([a-z0-9_]+)", f"{place} {words}")
+    return named[1] if named and named[1] in names else None
+
+
+def text_of(path):
+    """A file of the system, or nothing where it is not there, as of a process that has ended."""
+    try:
+        with open(path, "rb") as file:
+            return file.read().decode(errors="replace")
+    except OSError:
+        return ""
+
+
+def resident_memory(root):
+    """The memory that a process and those that come from it have now, in units of 1,000,000 bytes."""
+    pages = [text_of(f"/proc/{pid}/statm").split() for pid in below(root)]
+    return sum(int(it[1]) for it in pages if it) * os.sysconf("SC_PAGE_SIZE") // 1_000_000
+
+
 def end_on_signals(stop=lambda number, _: sys.exit(128 + number)):
     """Lets the usual signals end this process as an error does, so that what it began is ended and removed."""
     for number in (signal.SIGTERM, signal.SIGHUP, signal.SIGINT):
@@ -131,3 +214,25 @@ def clock(seconds):
     """Seconds as minutes, or as hours and minutes."""
     seconds = int(seconds)
     return f"{seconds // 60}:{seconds % 60:02}"
+
+
+class Words(argparse.ArgumentParser):
+    """The words of a tool. `--help` prints its page and does nothing else; words that it does not know are refused."""
+
+    def __init__(self, page, status=2, **how):
+        super().__init__(description=page, formatter_class=argparse.RawDescriptionHelpFormatter, allow_abbrev=False, **how)
+        self.status = status
+
+    def error(self, message):
+        self.print_usage(sys.stderr)
+        print(f"{self.prog}: {message}", file=sys.stderr)
+        sys.exit(self.status)
+
+
+# The name of the tool, where it is not that of its file.
+PROG = ""
+
+
+def words_of(page, status=2, **how):
+    """What reads the words of a tool with this page; wrong ones end it with this status."""
+    return Words(page, status, prog=PROG or os.path.relpath(os.path.realpath(sys.argv[0]), TOP), **how)

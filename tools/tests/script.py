@@ -31,7 +31,26 @@ class Lines(Made):
             "italic 0 5 off": [{"do": "char", "story": "main", "from": 0, "to": 5, "set": {"0836": "00"}}],
             "size 0 5 14pt": [{"do": "char", "story": "main", "from": 0, "to": 5, "set": {"4a43": "1c00"}}],
             "colour 0 5 #c05000": [{"do": "char", "story": "main", "from": 0, "to": 5, "set": {"6870": "c0500000"}}],
-            "first-line at 0 -360": [{"do": "para", "story": "main", "at": 0, "set": {"8411": "98fe"}}],
+            "first-line at 0 -18pt": [{"do": "para", "story": "main", "at": 0, "set": {"8411": "98fe"}}],
+            "size 0 5 14": [{"do": "char", "story": "main", "from": 0, "to": 5, "set": {"4a43": "1c00"}}],
+            "Size 0 5 10.5": [{"do": "char", "story": "main", "from": 0, "to": 5, "set": {"4a43": "1500"}}],
+            "color 0 5 #f00": [{"do": "char", "story": "main", "from": 0, "to": 5, "set": {"6870": "ff000000"}}],
+            "underline 0 5": [{"do": "char", "story": "main", "from": 0, "to": 5, "set": {"2a3e": "01"}}],
+            "underline 0 5 off": [{"do": "char", "story": "main", "from": 0, "to": 5, "set": {"2a3e": "00"}}],
+            "font 0 5 2": [{"do": "char", "story": "main", "from": 0, "to": 5, "set": {"4a4f": "0200"}}],
+            "line-spacing 0 1.5": [{"do": "para", "story": "main", "at": 0, "set": {"6412": "68010100"}}],
+            "line-spacing 0 double": [{"do": "para", "story": "main", "at": 0, "set": {"6412": "e0010100"}}],
+            "line-spacing 0 -14pt": [{"do": "para", "story": "main", "at": 0, "set": {"6412": "e8fe0000"}}],
+            "left-indent 0 0": [{"do": "para", "story": "main", "at": 0, "set": {"840f": "0000"}}],
+            "align 30 center": [{"do": "para", "story": "main", "at": 30, "set": {"2403": "01"}}],
+            "center at 30": [{"do": "para", "story": "main", "at": 30, "set": {"2403": "01"}}],
+            "justify 30": [{"do": "para", "story": "main", "at": 30, "set": {"2403": "03"}}],
+            "delete 3 5": [{"do": "erase", "story": "main", "from": 3, "to": 5}],
+            'insert 5 "a\\nb"': [{"do": "insert", "story": "main", "at": 5, "text": "a"}, {"do": "split", "story": "main", "at": 6},
+                                 {"do": "insert", "story": "main", "at": 7, "text": "b"}],
+            'insert 5 "\\r\\n"': [{"do": "split", "story": "main", "at": 5}],
+            'replace 3 5 "a\\nb"': [{"do": "insert", "story": "main", "at": 3, "text": "a"}, {"do": "split", "story": "main", "at": 4},
+                                    {"do": "insert", "story": "main", "at": 5, "text": "b"}, {"do": "erase", "story": "main", "from": 6, "to": 8}],
             "justification 30 centre": [{"do": "para", "story": "main", "at": 30, "set": {"2403": "01"}}],
             "page-width 0 A4": [{"do": "sect", "at": 0, "new": False, "set": {"b01f": "822e"}}],
             "tab-stops 0 hex:0001d00200": [{"do": "para", "story": "main", "at": 0, "set": {"c60d": "0001d00200"}}],
@@ -70,11 +89,17 @@ class Lines(Made):
         cases = {"foo 1 2": "foo is no command", "insert 5": "a text in quotes is missing", 'insert 5 "a': "no end", "row 0 a|b": "cells behind", "row : a": "a position is missing",
                  "bold 1 2 3": "bold is on or off", "size 0 5 huge": "size takes", "split 3 4": "no more words", "save slow": "no more words",
                  "underline 0 1 999": "cannot be 999", 'insert 5 "a" in notes': "is no text", "field x 3": "is no field", "bold 5": "is missing",
-                 'insert 5 "\\x"': "no text of JSON", "split -1": "a position is a number"}
+                 'insert 5 "\\x"': "no text of JSON", "split -1": "a position is a number", "bold M\u00fcller": 'a range is two numbers, or a text in quotes: "M\u00fcller"',
+                 'insert after M\u00fcller "x"': 'after "M\u00fcller"', "left-indent 0 300": "Say 300pt, 300mm or 300in", "line-spacing 0 wide": "lines, as 1.5",
+                 "colour 0 5 red": "#c05000", "bolt 0 5": "bold", "footnote 5": 'note AT "text"', 'note 5 "a\\nb"': "one paragraph", '"Hello"': 'append "text"',
+                 "left-indent 0 wide": "a length, as 14pt, 5mm or 1in", "insert 5 x": 'in place of x: "x"'}
         for line, why in cases.items():
             said = self.made(f"split 3\n{line}\n")
             self.assertIsInstance(said, str, line)
             self.assertTrue(said.startswith("line 2: ") and why in said, (line, said))
+
+    def test_a_byte_order_mark_is_no_part_of_a_line(self):
+        self.assertEqual(self.one("\ufeffsplit 3")[0]["do"], "split")
 
     def test_words_that_are_wrong(self):
         self.assertEqual(self.tool("letter.doc")[0], 2)
@@ -131,6 +156,40 @@ class Places(Made):
         shown = self.docbin("show", "out.doc")[1]
         self.assertIn("run 0835=01 | Bob\n", shown)
         self.assertIn("run |  NUMPAGES \n", shown)
+
+    def test_one_step(self):
+        self.write("lines", b'replace "Ann" "Bob"\nappend "\\nEnd."\n')
+        self.assertEqual(self.tool("--edit", "letter.doc", "lines", "out.doc"), (0, "edit: 5 commands, fast 0, full 1\n", ""))
+        self.assertEqual(self.docbin("text", "out.doc")[1], "Offer\nDear Bob,\\u0009see\\u0009below\\u0002.\nEnd.\n")
+        self.assertEqual(self.tool("--edit", "out.doc", "lines", "out.doc")[::2], (1, 'line 1: "Ann" stands nowhere in main\n'))
+        self.write("lines", b"split 5\nerase 90 91\n")
+        self.assertEqual(self.tool("--edit", "letter.doc", "lines", "letter.doc"), (1, "", "edit 1: range (line 2)\n"))
+        self.assertEqual(self.tool("--edit", "letter.doc", "lines")[0], 2)
+
+    def test_a_new_document(self):
+        self.write("lines", b'append "Report"\nheading 1 at start\nappend "\\nFirst"\nstyle "List Bullet" at end\nfont "First" "Arial"\n')
+        self.assertEqual(self.tool("--new", "lines", "out.doc"), (0, "edit: 7 commands, fast 0, full 1\n", ""))
+        self.assertEqual(self.docbin("outline", "out.doc")[1], "0 0 - | Report\n1 - \uf0b7 | First\n")
+        self.assertEqual(self.docbin("retitle", "out.doc", "Report", "out.doc")[0], 0)
+
+    def test_the_start_document_is_what_its_tool_prints(self):
+        with open(self.path("start.json"), "wb") as file:
+            subprocess.run([f"{TOP}/tools/start-document"], stdout=file, check=True)
+        self.assertEqual(self.docbin("import", "start.json", "start.doc")[0], 0)
+        for name in ("start.json", "start.doc"):
+            with open(f"{TOP}/examples/{name}", "rb") as file:
+                self.assertEqual(self.read(name), file.read())
+
+    def test_fonts_by_their_names(self):
+        self.assertIn('the file has no font "Arial", and docbin adds none; it has none', self.made('font "Ann" "Arial"'))
+        self.docbin("export", "letter.doc", "letter-doc.json")
+        document = json.loads(self.read("letter-doc.json"))
+        entries = [bytes(39) + name.encode("utf-16-le") + bytes(2) for name in ("Times New Roman", "Arial")]
+        document["carried"]["fonts"] = (b"\2\0\0\0" + b"".join(bytes([len(it)]) + it for it in entries)).hex()
+        self.write("fonts.json", json.dumps(document).encode())
+        self.assertEqual(self.docbin("import", "fonts.json", "fonts.doc")[0], 0)
+        self.assertEqual(self.made('font "Ann" "arial"', "fonts.doc")[0]["set"], {"4a4f": "0100", "4a51": "0100"})
+        self.assertIn('it has "Times New Roman", "Arial"', self.made('font "Ann" "Courier"', "fonts.doc"))
 
     def test_what_docbin_refuses(self):
         self.assertEqual(self.tool("letter.json", "lines"), (1, "", "lines: No such file or directory\n"))

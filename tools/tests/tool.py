@@ -18,7 +18,7 @@ class Tool(unittest.TestCase):
     def setUp(self):
         self.folder = tempfile.mkdtemp(prefix="docbin-tools-")
         self.addCleanup(shutil.rmtree, self.folder, ignore_errors=True)
-        for it in ("hello.doc", "letter.doc", "letter.json", "blank.doc"):
+        for it in ("hello.doc", "letter.doc", "letter.json", "blank.doc", "start.doc"):
             shutil.copyfile(f"{TOP}/examples/{it}", self.path(it))
 
     def path(self, name):
