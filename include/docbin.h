@@ -4,24 +4,13 @@
    The caller lends room for both. `text_len` and `bytes_len` tell how much there is; the rooms hold as much of it as they can, and behind that
    what stood there. So a call with rooms of length 0 asks for the lengths, and a call whose rooms were too small is made once more.
 
-   - No pointer is NULL, not even where its length is 0. Rooms overlap neither each other nor what a call is given.
+   - A pointer may be NULL where its length is 0, and nowhere else. Rooms overlap neither each other nor what a call is given.
+   - Texts, given and handed over, are UTF-8 without a final zero: their length alone says where they end.
    - A call keeps nothing, frees what it takes, and may be made by several threads at once. Memory is the program's own malloc, realloc and free.
      No call is made from a signal handler, or from the forked child of a process with threads.
    - In texts the file has the name `first`, the second file or the script `second`, as in `first: rule 1 File 356`.
 
-   What a status means, and its line, is said in docs/COMMANDS.md:
-
-     0   done
-     1   a file breaks a rule, which the line names with its place
-     2   the words are no command: a title that is no UTF-8 or may not be one, a position of more than nine digits
-     6   there was no memory: both lengths are 0, and the rooms are what they were
-     7   a script, or JSON, is none
-     8   a position is not there, an edit is refused, a document that is made is not sound
-     9   a file would be too large, or a fast save is refused
-     10  a guard does not allow an edit
-     11  the documents differ
-     13  there is no summary
-     14  the summary is wrong */
+   What a status means, and its line, is said in docs/COMMANDS.md. */
 #ifndef DOCBIN_H
 #define DOCBIN_H
 
@@ -33,11 +22,30 @@
 extern "C" {
 #endif
 
+/* The version of docbin, and as a number that grows: 10,000 times its first number, 100 times its second, and its third. */
+#define DOCBIN_VERSION "1.0.0"
+#define DOCBIN_VERSION_NUMBER 10000L
+
+/* What `status` may be. */
+enum docbin_status {
+  DOCBIN_DONE = 0,
+  DOCBIN_RULE_BROKEN = 1,    /* a file breaks a rule, which the line names with its place */
+  DOCBIN_NO_COMMAND = 2,     /* a title that is no UTF-8 or may not be one, a position of more than nine digits */
+  DOCBIN_NO_MEMORY = 6,      /* both lengths are 0, and the rooms are what they were */
+  DOCBIN_NO_SCRIPT = 7,      /* a script, or JSON, is none */
+  DOCBIN_EDIT_REFUSED = 8,   /* a position is not there, an edit is refused, a document that is made is not sound */
+  DOCBIN_SAVE_REFUSED = 9,   /* a file would be too large, or a fast save is refused */
+  DOCBIN_GUARD_REFUSED = 10, /* a guard does not allow an edit */
+  DOCBIN_DIFFERENT = 11,     /* the documents differ */
+  DOCBIN_NO_SUMMARY = 13,
+  DOCBIN_WRONG_SUMMARY = 14
+};
+
 /* What a call came to. */
 typedef struct {
   uint64_t text_len;  /* how long the text is */
   uint64_t bytes_len; /* how long the bytes are; 0 where the command puts none */
-  uint32_t status;
+  uint32_t status;    /* an enum docbin_status */
 } docbin_answer;
 
 /* The main text of a file, its paragraphs as lines. */

@@ -2,7 +2,7 @@
 
    usage: statuses EXAMPLES EDITED    (the folder examples/, and the letter as examples/letter.json edits it)
 
-   It is linked with --wrap=malloc and --wrap=realloc, so that memory can be refused. */
+   It is linked with --wrap=malloc, --wrap=realloc and --wrap=free, so that memory can be refused, and what is not freed is counted. */
 #include <stdio.h>
 #include <stdlib.h>
 #include <string.h>
@@ -11,13 +11,31 @@
 
 #define ROOM 4000000
 
+/* Memory is refused from the start on, or for the request of this number alone (0: for none). */
 static bool is_refusing;
+static long refused, requests, in_use;
 void *__real_malloc(size_t len);
 void *__real_realloc(void *at, size_t len);
+void __real_free(void *at);
 
-void *__wrap_malloc(size_t len) { return is_refusing ? NULL : __real_malloc(len); }
+static bool is_granted(void) { return !is_refusing && ++requests != refused; }
 
-void *__wrap_realloc(void *at, size_t len) { return is_refusing ? NULL : __real_realloc(at, len); }
+void *__wrap_malloc(size_t len) {
+  void *at = is_granted() ? __real_malloc(len) : NULL;
+  in_use += at != NULL;
+  return at;
+}
+
+void *__wrap_realloc(void *at, size_t len) {
+  void *moved = is_granted() ? __real_realloc(at, len) : NULL;
+  in_use += at == NULL && moved != NULL;
+  return moved;
+}
+
+void __wrap_free(void *at) {
+  in_use -= at != NULL;
+  __real_free(at);
+}
 
 static uint8_t text[ROOM], made[ROOM];
 static int wrong;
@@ -63,8 +81,52 @@ static void keep(bytes *all, docbin_answer got) {
   memcpy(all->at, made, got.bytes_len);
 }
 
+static bytes hello, letter, titled, json;
+
+/* Each call of docbin.h, by its number. */
+static docbin_answer call(int number) {
+  const char *script = "[{\"do\":\"insert\",\"story\":\"main\",\"at\":0,\"text\":\"a\"},{\"do\":\"save\",\"mode\":\"fast\"}]";
+  const uint8_t *name = (const uint8_t *)"New";
+  switch (number) {
+    case 0: return docbin_text(letter.at, letter.len, text, ROOM);
+    case 1: return docbin_streams(letter.at, letter.len, text, ROOM);
+    case 2: return docbin_check(letter.at, letter.len, text, ROOM);
+    case 3: return docbin_show(letter.at, letter.len, text, ROOM);
+    case 4: return docbin_props(letter.at, letter.len, 3, text, ROOM);
+    case 5: return docbin_outline(letter.at, letter.len, text, ROOM);
+    case 6: return docbin_title(titled.at, titled.len, text, ROOM);
+    case 7: return docbin_equal(letter.at, letter.len, hello.at, hello.len, text, ROOM);
+    case 8: return docbin_full(letter.at, letter.len, text, ROOM, made, ROOM);
+    case 9: return docbin_retitle(titled.at, titled.len, name, 3, text, ROOM, made, ROOM);
+    case 10: return edit(&letter, script, true);
+    case 11: return docbin_export(letter.at, letter.len, text, ROOM, made, ROOM);
+    case 12: return docbin_import(json.at, json.len, text, ROOM, made, ROOM);
+    case 13: return docbin_join(hello.at, hello.len, letter.at, letter.len, text, ROOM, made, ROOM);
+    default: return docbin_text(json.at, json.len, text, ROOM);
+  }
+}
+
+/* A call leaves nothing behind, also where any one request for memory is refused: then its status is 6, or what it is else. */
+static void leaves_nothing(int number) {
+  refused = requests = in_use = 0;
+  uint32_t status = call(number).status;
+  long asked = requests;
+  has(in_use == 0, "memory is left behind");
+  for (long at = 1; at <= asked; at++) {
+    refused = at;
+    requests = 0;
+    uint32_t got = call(number).status;
+    if (in_use != 0 || (got != 6 && got != status)) {
+      fprintf(stderr, "wrong: call %d, request %ld of %ld refused: status %u, %ld left\n", number, at, asked, got, in_use);
+      wrong = 1;
+      in_use = 0;
+    }
+  }
+  refused = 0;
+}
+
 int main(int count, char **words) {
-  static bytes hello, letter, titled, edited, other;
+  static bytes edited, other;
   static char script[1400000];
   if (count != 3) return 2;
   read_from(&hello, words[1], "hello.doc");
@@ -82,6 +144,18 @@ int main(int count, char **words) {
   got = docbin_text(hello.at, hello.len, text, 10);
   has(got.text_len == 6 && got.bytes_len == 0 && !memcmp(text, "Hello\n####", 10), "a room of ten bytes");
 
+  /* A pointer whose length is 0 may be NULL. */
+  got = docbin_text(hello.at, hello.len, NULL, 0);
+  has(got.status == DOCBIN_DONE && got.text_len == 6, "no room for the text");
+  got = docbin_full(hello.at, hello.len, NULL, 0, NULL, 0);
+  has(got.status == DOCBIN_DONE && got.bytes_len == 6656, "no room at all");
+  says(docbin_text(NULL, 0, text, ROOM), DOCBIN_RULE_BROKEN, "first: rule 1 File 0\n");
+  says(docbin_join(hello.at, hello.len, NULL, 0, text, ROOM, NULL, 0), DOCBIN_RULE_BROKEN, "second: rule 1 File 0\n");
+  says(docbin_edit(hello.at, hello.len, NULL, 0, true, text, ROOM, made, ROOM), DOCBIN_NO_SCRIPT, "script: not JSON\n");
+  says(docbin_import(NULL, 0, text, ROOM, made, ROOM), DOCBIN_NO_SCRIPT, "import: not JSON\n");
+  keep(&other, docbin_retitle(titled.at, titled.len, NULL, 0, text, ROOM, made, ROOM));
+  says(docbin_title(other.at, other.len, text, ROOM), DOCBIN_DONE, "title \nsubject Tables and chairs\nauthor Zo\\xeb Miller\n");
+
   /* Done. */
   says(docbin_check(hello.at, hello.len, text, ROOM), 0, "accepted: units 6 styles 3 sections 1 notes 0 streams 0\n");
   has(docbin_streams(letter.at, letter.len, text, ROOM).status == 0, "streams");
@@ -94,12 +168,21 @@ int main(int count, char **words) {
   says(docbin_equal(letter.at, letter.len, other.at, other.len, text, ROOM), 0, "equal\n");
   keep(&other, docbin_retitle(titled.at, titled.len, (const uint8_t *)"New", 3, text, ROOM, made, ROOM));
   says(docbin_title(other.at, other.len, text, ROOM), 0, "title New\nsubject Tables and chairs\nauthor Zo\\xeb Miller\n");
-  keep(&other, docbin_export(letter.at, letter.len, text, ROOM, made, ROOM));
-  keep(&other, docbin_import(other.at, other.len, text, ROOM, made, ROOM));
+  keep(&json, docbin_export(letter.at, letter.len, text, ROOM, made, ROOM));
+  keep(&other, docbin_import(json.at, json.len, text, ROOM, made, ROOM));
   says(docbin_equal(letter.at, letter.len, other.at, other.len, text, ROOM), 0, "equal\n");
   got = docbin_join(hello.at, hello.len, letter.at, letter.len, text, ROOM, made, ROOM);
   has(got.status == 0, "join");
   has(docbin_equal(letter.at, letter.len, edited.at, edited.len, text, ROOM).status == 11, "an edited file");
+
+  /* A pointer whose length is 0 may be NULL. */
+  got = docbin_full(hello.at, hello.len, NULL, 0, NULL, 0);
+  has(got.status == 0 && got.text_len == 17 && got.bytes_len > 0, "no rooms");
+  says(docbin_text(NULL, 0, text, ROOM), 1, "first: rule 1 File 0\n");
+  has(docbin_equal(hello.at, hello.len, NULL, 0, NULL, 0).status == 1, "no second file");
+
+  /* Nothing is left behind. */
+  for (int number = 0; number < 15; number++) leaves_nothing(number);
 
   /* Refused. */
   says(docbin_text((const uint8_t *)"no", 2, text, ROOM), 1, "first: rule 1 File 2\n");

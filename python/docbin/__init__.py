@@ -16,213 +16,183 @@ Traceback (most recent call last):
 docbin.RuleBroken: first: rule 1 File 11
 
 Each function takes the bytes of a file, and gives a text or bytes. What is refused raises a `Refused`, whose `status` is that of the program
-and whose `line` is the line that it prints: docs/COMMANDS.md tells what each means. What is proved of a call stands in crates/docbin_c; this
-package hands bytes over and proves nothing."""
-import ctypes
+and whose `line` is the line that it prints: docs/COMMANDS.md tells what each means. An argument of another kind raises a TypeError, a ValueError or
+an OverflowError, and nothing is called.
+
+The calls are those of the library libdocbin.so (DOCBIN_LIBRARY, or beside this file); where it is not there, runs of the program (DOCBIN, or
+docbin in the PATH), with the same results. What is proved of a call stands in crates/docbin_c and crates/doc_run; this package hands bytes over and
+proves nothing."""
 import json as _json
+import operator
 import os
 import pathlib
 import re
-from typing import Any, Callable, Iterable, Iterator, List, Optional, Tuple, Union
+from typing import Any, Callable, Dict, Iterable, Iterator, List, Mapping, Optional, Tuple, Union
 
+from . import backends as _backends
+from .document import Document, Heading, Note, Paragraph, Properties, Run, Stream, Style, Summary, Table
+from .refusals import EditRefused, GuardRefused, NoSummary, Refused, RuleBroken, SaveRefused, WrongScript
+from .refusals import refused as _refused
+
+__version__ = "1.0.0"
 __all__ = [
     "text", "streams", "check", "show", "props", "outline", "title", "equal", "full", "retitle", "edit", "export", "import_json", "join", "folder",
-    "Refused", "RuleBroken", "WrongScript", "EditRefused", "SaveRefused", "GuardRefused", "NoSummary",
+    "FULL", "FAST", "Document", "Heading", "Note", "Paragraph", "Properties", "Run", "Stream", "Style", "Summary", "Table", "Refused", "RuleBroken", "WrongScript", "EditRefused", "SaveRefused", "GuardRefused", "NoSummary",
 ]
+
+for _it in (Document, Refused, RuleBroken, WrongScript, EditRefused, SaveRefused, GuardRefused, NoSummary):
+    _it.__module__ = __name__
 
 FULL = {"do": "save", "mode": "full"}
 FAST = {"do": "save", "mode": "fast"}
+BytesLike = Union[bytes, bytearray, memoryview]
+# What the program takes: a position, and a title.
+_MOST_POSITION = 999_999_999
+_TITLE = re.compile(r"[ -~]{0,255}")
+
+_backend: Optional[Union[_backends.Library, _backends.Program]] = None
 
 
-class Refused(Exception):
-    """Why a call gives nothing: the status of the program, and the line that it prints."""
-
-    def __init__(self, status: int, line: str):
-        super().__init__(line)
-        self.status, self.line = status, line
-
-
-class RuleBroken(Refused):
-    """A rule that a file, or what is made, breaks first: its number, the place by name, and the offset in it."""
-
-    def __init__(self, status: int, line: str):
-        super().__init__(status, line)
-        found = re.search(r"rule (\d+) (.+) (\d+)$", line)
-        self.rule: int = int(found[1]) if found else 0
-        self.place: str = found[2] if found else ""
-        self.offset: int = int(found[3]) if found else 0
+def _call(name: str, *given: _backends.Given, puts: bool, guarded: Optional[bool] = None) -> _backends.Answer:
+    global _backend
+    if _backend is None:
+        _backend = _backends.found()
+    return _backend.call(name, given, puts, guarded)
 
 
-class WrongScript(Refused):
-    """A script is none, or what is imported is no document."""
+def _bytes(data: BytesLike) -> bytes:
+    """All bytes of an object that has bytes, whatever the width of its items."""
+    if isinstance(data, bytes):
+        return data
+    try:
+        return memoryview(data).tobytes()
+    except TypeError:
+        raise TypeError(f"the bytes of a file are needed, not {type(data).__name__!r}") from None
 
 
-class EditRefused(Refused):
-    """An edit may not be made, or a position is not there. `index` counts the commands from 0, where one is named."""
-
-    def __init__(self, status: int, line: str):
-        super().__init__(status, line)
-        found = re.match(r"edit (\d+): ", line)
-        self.index: Optional[int] = int(found[1]) if found else None
+def _json_bytes(value: Any) -> bytes:
+    return _json.dumps(value, allow_nan=False).encode()
 
 
-class SaveRefused(Refused):
-    """A file would be too large, or a fast save is refused."""
-
-
-class GuardRefused(Refused):
-    """The guard does not allow an edit."""
-
-
-class NoSummary(Refused):
-    """There is no summary, or it is wrong."""
-
-
-def _refused(status: int, line: str) -> Exception:
-    if status == 6:
-        return MemoryError("docbin")
-    if re.search(r"rule \d+ .+ \d+$", line):
-        return RuleBroken(status, line)
-    kinds = {7: WrongScript, 8: EditRefused, 9: SaveRefused, 10: GuardRefused, 13: NoSummary, 14: NoSummary}
-    return kinds.get(status, Refused)(status, line)
-
-
-class _Answer(ctypes.Structure):
-    _fields_ = [("text_len", ctypes.c_uint64), ("bytes_len", ctypes.c_uint64), ("status", ctypes.c_uint32)]
-
-
-def _library() -> ctypes.CDLL:
-    """The shared library: that of the environment's DOCBIN_LIBRARY, else the one beside this file."""
-    named = os.environ.get("DOCBIN_LIBRARY") or str(pathlib.Path(__file__).with_name("libdocbin.so"))
-    library = ctypes.CDLL(named)
-    for name in ("text", "streams", "check", "show", "props", "outline", "title", "equal", "full", "retitle", "edit", "export", "import", "join"):
-        getattr(library, f"docbin_{name}").restype = _Answer
-    return library
-
-
-_loaded: Optional[ctypes.CDLL] = None
-
-
-def _call(name: str, *given: Union[bytes, int, bool], puts: bool) -> Tuple[int, str, bytes]:
-    """Makes a call: first with some room, and once more where that was too small."""
-    global _loaded
-    if _loaded is None:
-        _loaded = _library()
-    words: List[Any] = []
-    for it in given:
-        if isinstance(it, bool):
-            words.append(ctypes.c_bool(it))
-        elif isinstance(it, int):
-            words.append(ctypes.c_uint32(it))
-        else:
-            words += [ctypes.c_char_p(bytes(it)), ctypes.c_size_t(len(it))]
-    rooms = [65_536, len(given[0]) + 65_536 if puts and isinstance(given[0], (bytes, bytearray)) else 0]
-    while True:
-        text, made = ctypes.create_string_buffer(rooms[0] or 1), ctypes.create_string_buffer(rooms[1] or 1)
-        ends = [text, ctypes.c_size_t(rooms[0])] + ([made, ctypes.c_size_t(rooms[1])] if puts else [])
-        answer = getattr(_loaded, f"docbin_{name}")(*words, *ends)
-        wanted = [answer.text_len, answer.bytes_len]
-        if all(most <= room for most, room in zip(wanted, rooms)):
-            return answer.status, text.raw[: wanted[0]].decode(), made.raw[: wanted[1]]
-        rooms = [max(pair) for pair in zip(wanted, rooms)]
-
-
-def _text(name: str, *given: Union[bytes, int]) -> str:
+def _text(name: str, *given: _backends.Given) -> str:
     status, line, _ = _call(name, *given, puts=False)
     if status:
         raise _refused(status, line.rstrip("\n"))
     return line
 
 
-def _made(name: str, *given: Union[bytes, bool]) -> bytes:
-    status, line, made = _call(name, *given, puts=True)
+def _lines(name: str, *given: _backends.Given) -> List[str]:
+    return _text(name, *given).split("\n")[:-1]
+
+
+def _made(name: str, *given: _backends.Given, guarded: Optional[bool] = None) -> bytes:
+    status, line, made = _call(name, *given, puts=True, guarded=guarded)
     if status:
         raise _refused(status, line.rstrip("\n"))
     return made
 
 
-def text(data: bytes) -> str:
+def text(data: BytesLike) -> str:
     """The main text, a line for each paragraph."""
-    return _text("text", data)
+    return _text("text", _bytes(data))
 
 
-def streams(data: bytes) -> List[str]:
+def streams(data: BytesLike) -> List[str]:
     """A line for each stream of the container."""
-    return _text("streams", data).splitlines()
+    return _lines("streams", _bytes(data))
 
 
-def check(data: bytes) -> str:
+def check(data: BytesLike) -> str:
     """How much an accepted file has; `RuleBroken` where it is refused."""
-    return _text("check", data).rstrip("\n")
+    return _lines("check", _bytes(data))[0]
 
 
-def show(data: bytes) -> List[str]:
+def show(data: BytesLike) -> List[str]:
     """The styles, texts and bookmarks, line by line."""
-    return _text("show", data).split("\n")[:-1]
+    return _lines("show", _bytes(data))
 
 
-def props(data: bytes, position: int) -> List[str]:
-    """What is in effect at an item of the main text."""
-    return _text("props", data, position).split("\n")[:-1]
+def props(data: BytesLike, position: int) -> List[str]:
+    """What is in effect at an item of the main text, which are counted from 0."""
+    held, at = _bytes(data), operator.index(position)
+    if at < 0:
+        raise ValueError(f"a position is counted from 0, and not {at}")
+    if at > _MOST_POSITION:
+        raise OverflowError(f"a position is {_MOST_POSITION} at most, and not {at}")
+    return _lines("props", held, at)
 
 
-def outline(data: bytes) -> List[str]:
+def outline(data: BytesLike) -> List[str]:
     """The paragraphs that have a number or a level in the outline."""
-    return _text("outline", data).split("\n")[:-1]
+    return _lines("outline", _bytes(data))
 
 
-def title(data: bytes) -> List[str]:
+def title(data: BytesLike) -> List[str]:
     """The lines on title, subject and author of the summary."""
-    return _text("title", data).split("\n")[:-1]
+    return _lines("title", _bytes(data))
 
 
-def equal(first: bytes, second: bytes) -> bool:
+def equal(first: BytesLike, second: BytesLike) -> bool:
     """Whether two files have equal documents."""
-    status, line, _ = _call("equal", first, second, puts=False)
+    status, line, _ = _call("equal", _bytes(first), _bytes(second), puts=False)
     if status not in (0, 11):
         raise _refused(status, line.rstrip("\n"))
     return status == 0
 
 
-def full(data: bytes) -> bytes:
+def full(data: BytesLike) -> bytes:
     """The full save of the document: a function of the document alone."""
-    return _made("full", data)
+    return _made("full", _bytes(data))
 
 
-def retitle(data: bytes, new: str) -> bytes:
-    """The full save of the document with another title, of plain ASCII."""
-    return _made("retitle", data, new.encode())
+def retitle(data: BytesLike, new: str) -> bytes:
+    """The full save of the document with another title: at most 255 characters of plain ASCII."""
+    held = _bytes(data)
+    if not isinstance(new, str):
+        raise TypeError(f"a title is a str, and not {type(new).__name__!r}")
+    if not _TITLE.fullmatch(new):
+        raise ValueError("a title has at most 255 characters, each from U+0020 to U+007E")
+    return _made("retitle", held, new)
 
 
-def edit(data: bytes, commands: Iterable[dict], guarded: bool = True) -> bytes:
-    """The last save of a script (docs/COMMANDS.md) over the document; where the last command is no save, a full one is added.
+def edit(data: BytesLike, commands: Iterable[Mapping[str, Any]], guarded: bool = True) -> bytes:
+    """The last save of a script (docs/COMMANDS.md) over the document; where the last command is no save, a full one is added. Without `guarded`,
+    which the library alone can do, edits may add as many items as a document can have.
 
     >>> docbin.edit(open("examples/hello.doc", "rb").read(), [{"do": "erase", "story": "main", "from": 9, "to": 10}])
     Traceback (most recent call last):
     docbin.EditRefused: edit 0: range
     """
-    script = list(commands)
+    held, script = _bytes(data), list(commands)
+    for it in script:
+        if not isinstance(it, Mapping):
+            raise TypeError(f"a command is a dict, and not {type(it).__name__!r}")
+    if not isinstance(guarded, bool):
+        raise TypeError(f"guarded is a bool, and not {type(guarded).__name__!r}")
     if not script or script[-1].get("do") != "save":
         script.append(FULL)
-    return _made("edit", data, _json.dumps(script).encode(), guarded)
+    return _made("edit", held, _json_bytes([dict(it) for it in script]), guarded=guarded)
 
 
-def export(data: bytes) -> dict:
+def export(data: BytesLike) -> Dict[str, Any]:
     """The document as JSON gives it (docs/JSON.md)."""
-    return _json.loads(_made("export", data))
+    document: Dict[str, Any] = _json.loads(_made("export", _bytes(data)))
+    return document
 
 
-def import_json(document: dict) -> bytes:
+def import_json(document: Mapping[str, Any]) -> bytes:
     """The full save of a document that is given as `export` gives it."""
-    return _made("import", _json.dumps(document).encode())
+    if not isinstance(document, Mapping):
+        raise TypeError(f"a document is a dict, as export gives it, and not {type(document).__name__!r}")
+    return _made("import", _json_bytes(dict(document)))
 
 
-def join(first: bytes, second: bytes) -> bytes:
+def join(first: BytesLike, second: BytesLike) -> bytes:
     """The full save of one document with another behind it."""
-    return _made("join", first, second)
+    return _made("join", _bytes(first), _bytes(second))
 
 
-def folder(path: Union[str, os.PathLike], call: Callable[[bytes], Any] = text, pattern: str = "**/*.doc") -> Iterator[Tuple[pathlib.Path, Any]]:
+def folder(path: Union[str, "os.PathLike[str]"], call: Callable[[bytes], Any] = text, pattern: str = "**/*.doc") -> Iterator[Tuple[pathlib.Path, Any]]:
     """What a call gives for each file of a folder, in order of the names; for a file that is refused, or cannot be read, the exception.
 
     >>> [(path.name, got) for path, got in docbin.folder("examples", pattern="hello*")]
@@ -231,6 +201,11 @@ def folder(path: Union[str, os.PathLike], call: Callable[[bytes], Any] = text, p
     for name in sorted(pathlib.Path(path).glob(pattern)):
         if name.is_file():
             try:
-                yield name, call(name.read_bytes())
-            except (Refused, OSError) as why:
+                data = name.read_bytes()
+            except OSError as why:
+                yield name, why
+                continue
+            try:
+                yield name, call(data)
+            except Refused as why:
                 yield name, why
