@@ -3,7 +3,7 @@ use Rattle.std.proofs.Common.{inl, inr, ℕ, List}
 use Rattle.doc_bits.specs.Rules.{rule, Nowhere}
 use Rattle.cfb_sectors.specs.declared.faults.CfbFault.{CfbFault}
 use Rattle.cfb_sectors.specs.declared.faults.CfbFault.TheVariants.{Rule, Memory}
-use Rattle.cfb_directory.specs.Reach.{BreaksRoot, BreaksTree, BreaksName, BreaksStorage}
+use Rattle.cfb_directory.specs.Reach.{BreaksRoot, BreaksTree, BreaksName}
 use Rattle.cfb_directory.specs.Entries.{tree_rules}
 use Rattle.cfb_sectors.specs.Judged.{IsCfbFault}
 
@@ -15,11 +15,5 @@ tree_fault file directory Memory root first = tt
 pub names_fault : (file directory : List ℕ) (e : CfbFault) → Nowhere (BreaksRoot file directory) →
     Nowhere (BreaksTree file directory) → IsCfbFault (rule 9 (BreaksName file directory)) e →
     IsCfbFault (tree_rules file directory) e
-names_fault file directory (Rule number place) root tree first = inr (root, inr (tree, inl first))
+names_fault file directory (Rule number place) root tree first = inr (root, inr (tree, first))
 names_fault file directory Memory root tree first = tt
-
-pub storages_fault : (file directory : List ℕ) (e : CfbFault) → Nowhere (BreaksRoot file directory) →
-    Nowhere (BreaksTree file directory) → Nowhere (BreaksName file directory) →
-    IsCfbFault (rule 10 (BreaksStorage file directory)) e → IsCfbFault (tree_rules file directory) e
-storages_fault file directory (Rule number place) root tree names first = inr (root, inr (tree, inr (names, first)))
-storages_fault file directory Memory root tree names first = tt

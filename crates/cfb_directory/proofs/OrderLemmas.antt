@@ -9,8 +9,7 @@ use Rattle.cfb_sectors.specs.SectorChain.{HasSector}
 use Rattle.cfb_directory.specs.Directory.{entry_type, entry_unit, entry_name_length, entry_name_units, upper_case}
 use Rattle.cfb_directory.specs.Directory.{EntryBefore, HaveOneName}
 use Rattle.cfb_directory.specs.Reach.{entry_place, entry_count, IsReached, ListsReached, BreaksName, IsWrongNameLength}
-use Rattle.cfb_directory.specs.StreamEntries.{IsStreamEntry}
-use Rattle.cfb_directory.specs.Order.{AreOrdered, ListsStreams, IsFirstAfter, PutsStream}
+use Rattle.cfb_directory.specs.Order.{AreOrdered, ListsKind, ListsStreams, IsFirstAfter, PutsWanted}
 
 -- one of the first `count` entries
 pub record IsEarly (reached : List ℕ) (count entry : ℕ) : Type 0 where
@@ -18,15 +17,16 @@ pub record IsEarly (reached : List ℕ) (count entry : ℕ) : Type 0 where
   pub below : index < count
   pub here : slice_index reached index ≡ entry
 
--- the streams among the first `count` entries that are reached, in the order of their names
-pub record ListsFront (file directory reached : List ℕ) (count : ℕ) (entries : List ℕ) : Type 0 where
-  pub sound : (i : ℕ) → i < length entries → IsStreamEntry file directory (slice_index entries i)
-  pub within : (i : ℕ) → i < length entries → slice_index entries i < entry_count directory
-  pub early : (i : ℕ) → i < length entries → IsEarly reached count (slice_index entries i)
-  pub complete : (k : ℕ) → k < count → entry_type file (entry_place directory (slice_index reached k)) ≡ 2 →
-      HasSector entries (slice_index reached k)
-  pub order : AreOrdered file directory entries
-  pub short : length entries ≤ count
+-- those among the first `count` entries that are reached which are wanted, in the order of their names
+pub record ListsFront (file directory reached : List ℕ) (wanted : ℕ → Type 0) (count : ℕ) (entries : List ℕ) : Type 0
+  where
+    pub are_reached : (i : ℕ) → i < length entries → IsReached file directory (slice_index entries i)
+    pub sound : (i : ℕ) → i < length entries → wanted (slice_index entries i)
+    pub within : (i : ℕ) → i < length entries → slice_index entries i < entry_count directory
+    pub early : (i : ℕ) → i < length entries → IsEarly reached count (slice_index entries i)
+    pub complete : (k : ℕ) → k < count → wanted (slice_index reached k) → HasSector entries (slice_index reached k)
+    pub order : AreOrdered file directory entries
+    pub short : length entries ≤ count
 
 -- a name that comes before a second comes before a third that the second comes before
 pub before_trans : (file : List ℕ) (a b c : ℕ) → EntryBefore file a b → EntryBefore file b c → EntryBefore file a c
@@ -78,6 +78,21 @@ before_trans file a b c h k = elim h [
           ],
         )
   ]
+]
+
+-- where a name does not come before the middle one, it comes before none of those in front of that
+pub before_behind : (file directory entries : List ℕ) (entry middle : ℕ) → AreOrdered file directory entries →
+    middle < length entries →
+    ¬ EntryBefore file (entry_place directory entry) (entry_place directory (slice_index entries middle)) →
+    (i : ℕ) → i < middle + 1 →
+    ¬ EntryBefore file (entry_place directory entry) (entry_place directory (slice_index entries i))
+before_behind file directory entries entry middle order inside not i low before = elim (cases_eq i middle) [
+  | inl same ↦
+      not (subst (λ k. EntryBefore file (entry_place directory entry) (entry_place directory (slice_index entries k)))
+      same before)
+  | inr other ↦
+      not (before_trans file (entry_place directory entry) (entry_place directory (slice_index entries i))
+      (entry_place directory (slice_index entries middle)) before (order i middle (omega arith) inside))
 ]
 
 -- two rows of numbers are equal up to n, or there is a first place where they differ
@@ -297,23 +312,23 @@ names_apart file directory a b holds distinct ra rb ha hb ne one = elim
       ]
     ]
 
--- one entry more, a stream or not
-pub front_put : (file directory reached : List ℕ) (count entry : ℕ) (old new : List ℕ) →
+-- one entry more, wanted or not
+pub front_put : (file directory reached : List ℕ) (wanted : ℕ → Type 0) (count entry : ℕ) (old new : List ℕ) →
     ListsReached file directory reached → Nowhere (BreaksName file directory) →
     ((i j : ℕ) → i < j → j < length directory → slice_index directory i ≢ slice_index directory j) →
-    count < length reached → entry ≡ slice_index reached count → ListsFront file directory reached count old →
-    PutsStream file directory entry old new → ListsFront file directory reached (count + 1) new
-front_put file directory reached count entry old new lists names distinct low e f puts = elim puts [
+    count < length reached → entry ≡ slice_index reached count → ListsFront file directory reached wanted count old →
+    PutsWanted file directory (wanted entry) entry old new → ListsFront file directory reached wanted (count + 1) new
+front_put file directory reached wanted count entry old new lists names distinct low e f puts = elim puts [
   | inl skips ↦ rw skips.1 (record {
+    are_reached = f.are_reached;
     sound = f.sound;
     within = f.within;
     early = λ i h. let w = f.early i h in record
         { index = w.index; below = (let b = w.below in omega arith); here = w.here };
-    complete = λ k h type. elim (cases_lt k count) [
-      | inl lo ↦ f.complete k lo type
+    complete = λ k h is. elim (cases_lt k count) [
+      | inl lo ↦ f.complete k lo is
       | inr hi ↦ let same : k ≡ count = omega arith in absurd
-          (skips.0 (ap (λ x. entry_type file (entry_place directory x)) (e ∙ ap (λ i. slice_index reached i) (sym same))
-          ∙ type))
+          (skips.0 (subst wanted (ap (λ i. slice_index reached i) same ∙ sym e) is))
     ];
     order = f.order;
     short = (let s = f.short in omega arith);
@@ -324,20 +339,20 @@ front_put file directory reached count entry old new lists names distinct low e 
       let there : entry < entry_count directory = subst (λ x. x < entry_count directory) (sym e)
       (lists.within count low).1 in
       let is_reached = subst (IsReached file directory) (sym e) (lists.sound count low) in
-      let is : IsStreamEntry file directory entry = record { reached = is_reached; stream = put.0 } in
       let ne : (i : ℕ) → i < length old → entry ≢ slice_index old i = λ i below same.
       let early = f.early i below in
       lists.distinct early.index count early.below low (early.here ∙ (sym same ∙ e)) in
       let len = length-insert old put.1.0 entry h in
       rw put.1.1.1 (record {
-        sound = all_insert (IsStreamEntry file directory) old put.1.0 entry h f.sound is;
+        are_reached = all_insert (IsReached file directory) old put.1.0 entry h f.are_reached is_reached;
+        sound = all_insert wanted old put.1.0 entry h f.sound put.0;
         within = all_insert (λ x. x < entry_count directory) old put.1.0 entry h f.within there;
         early = all_insert (IsEarly reached (count + 1)) old put.1.0 entry h
             (λ i below. let w = f.early i below in record
             { index = w.index; below = (let b = w.below in omega arith); here = w.here })
             (record { index = count; below = omega arith; here = sym e });
-        complete = λ k below type. elim (cases_lt k count) [
-          | inl lo ↦ has_insert old put.1.0 entry (slice_index reached k) h (f.complete k lo type)
+        complete = λ k below is. elim (cases_lt k count) [
+          | inl lo ↦ has_insert old put.1.0 entry (slice_index reached k) h (f.complete k lo is)
           | inr hi ↦
               let same : k ≡ count = omega arith in
               record {
@@ -349,20 +364,21 @@ front_put file directory reached count entry old new lists names distinct low e 
         ];
         order = order_insert file directory old entry put.1.0 f.order first
             (λ i below. names_apart file directory entry (slice_index old i) names distinct is_reached
-            (f.sound i below).reached there (f.within i below) (ne i below));
+            (f.are_reached i below) there (f.within i below) (ne i below));
         short = (let s = f.short in omega arith);
       })
 ]
 
--- all entries that are reached were put
-pub front_streams : (file directory reached entries : List ℕ) → ListsReached file directory reached →
-    ListsFront file directory reached (length reached) entries → ListsStreams file directory entries
-front_streams file directory reached entries lists f = record {
-  sound = f.sound;
-  complete = λ k is.
-      let has = lists.complete k is.reached in
-      subst (HasSector entries) has.here
-      (f.complete has.index has.inside (ap (λ x. entry_type file (entry_place directory x)) has.here ∙ is.stream));
+-- all entries that are reached and wanted were put
+pub front_all : (file directory reached : List ℕ) (wanted kind : ℕ → Type 0) (entries : List ℕ) →
+    ((k : ℕ) → IsReached file directory k → wanted k → kind k) → ((k : ℕ) → kind k → IsReached file directory k) →
+    ((k : ℕ) → kind k → wanted k) → ListsReached file directory reached →
+    ListsFront file directory reached wanted (length reached) entries → ListsKind file directory kind entries
+front_all file directory reached wanted kind entries make is_reached is lists f = record {
+  sound = λ i h. make (slice_index entries i) (f.are_reached i h) (f.sound i h);
+  complete = λ k here.
+      let has = lists.complete k (is_reached k here) in
+      subst (HasSector entries) has.here (f.complete has.index has.inside (subst wanted (sym has.here) (is k here)));
   order = f.order;
 }
 

@@ -1,4 +1,4 @@
--- The entries of a directory that breaks none of the rules 6 to 10.
+-- The entries of a directory that breaks none of the rules 6 to 9.
 use Rattle.std.specs.Prelude.{◌≡◌, ℕ, List}
 use Rattle.doc_bits.specs.Rules.{Rules, rule, ◌then◌, Nowhere}
 use Rattle.cfb_directory.specs.declared.body.Body.{Body}
@@ -7,7 +7,6 @@ use Rattle.cfb_sectors.specs.Chain.{AreSectorsOf}
 use Rattle.cfb_sectors.specs.Header.{sector_len, mini_sector_len}
 use Rattle.cfb_directory.specs.Directory.{entry_size}
 use Rattle.cfb_directory.specs.Reach.{entry_place, IsDirectory, ListsReached, BreaksRoot, BreaksTree, BreaksName}
-use Rattle.cfb_directory.specs.Reach.{BreaksStorage}
 use Rattle.cfb_directory.specs.StreamEntries.{IsLargeStream, IsSmallStream, stream_head}
 use Rattle.cfb_directory.specs.Order.{ListsStreams}
 
@@ -15,7 +14,6 @@ use Rattle.cfb_directory.specs.Order.{ListsStreams}
 abbrev pub tree_rules : List ℕ → List ℕ → Rules ℕ
 tree_rules file directory =
     rule 7 (BreaksRoot file directory) then rule 8 (BreaksTree file directory) then rule 9 (BreaksName file directory)
-    then rule 10 (BreaksStorage file directory)
 
 -- the directory's sectors, the entries that the root reaches, and those of the streams in the order of their names
 pub record EntryLists : Type 0 where
@@ -28,7 +26,7 @@ abbrev pub lists_of : List ℕ → List ℕ → List ℕ → List ℕ → EntryL
 lists_of file directory reached streams = record
     { file = file; directory = directory; reached = reached; streams = streams }
 
--- what the rules 6 to 10 promise of them
+-- what the rules 6 to 9 promise of them
 pub record AreEntries (entries : EntryLists) : Type 0 where
   pub is_directory : IsDirectory entries.file entries.directory
   pub inside : AreSectorsOf entries.file entries.directory
@@ -36,7 +34,6 @@ pub record AreEntries (entries : EntryLists) : Type 0 where
   pub root : Nowhere (BreaksRoot entries.file entries.directory)
   pub tree : Nowhere (BreaksTree entries.file entries.directory)
   pub names : Nowhere (BreaksName entries.file entries.directory)
-  pub storages : Nowhere (BreaksStorage entries.file entries.directory)
   pub in_order : ListsStreams entries.file entries.directory entries.streams
 
 -- what the stream of an entry has: nothing, a chain of mini sectors, or one of sectors

@@ -1,8 +1,11 @@
-// The entries of the directory that the root reaches, after the rules 6 to 10.
+// The entries of the directory that the root reaches, after the rules 6 to 9; and rule 10.
 ghost use Rattle.std.specs.Prelude.{◌≡◌, ◌+◌, ◌<◌, ◌≤◌, IfOk, MatchResult, length};
 ghost use Rattle.cfb_sectors.specs.Chain.{AreSectorsOf};
 ghost use Rattle.cfb_directory.specs.Directory.{IsNameOf, entry_clsid, entry_name_length};
-ghost use Rattle.cfb_directory.specs.Reach.{IsDirectory, IsWrongNameLength, entry_place as place_of};
+ghost use Rattle.cfb_directory.specs.Reach.{IsDirectory, IsReached, IsWrongNameLength, BreaksStorage};
+ghost use Rattle.cfb_directory.specs.Reach.{entry_place as place_of};
+ghost use Rattle.cfb_directory.specs.Order.{ListsFilled};
+ghost use Rattle.doc_bits.specs.Rules.{Nowhere, rule};
 ghost use Rattle.cfb_directory.specs.StreamEntries.{IsStreamEntry};
 ghost use Rattle.cfb_directory.specs.Entries.{AreEntries, IsBody, tree_rules};
 ghost use Rattle.cfb_sectors.specs.Judged.{IsCfbFault};
@@ -11,7 +14,7 @@ use crate::body::{Body, body_of};
 use crate::directory::{CLSID, NAME_LEN, entry_place, reached, wrong_root};
 use crate::links::{wrong_storages, wrong_tree};
 use crate::names::wrong_names;
-use crate::order::list_streams;
+use crate::order::{list_storages, list_streams};
 use cfb_sectors::{CfbFault, refuse};
 use doc_bits::{Memory, get16};
 use std::alloc::Global;
@@ -45,7 +48,7 @@ impl<'a> Model for Entries<'a> {
 }
 
 impl<'a> Entries<'a> {
-    /// Judges the rules 7 to 10 of the directory that has these sectors.
+    /// Judges the rules 7 to 9 of the directory that has these sectors.
     pub fn read(alloc: Global, file: &'a [u8], directory: Vec<u32>) -> Result<Entries<'a>, CfbFault>
         requires inside { AreSectorsOf file.now directory.items }
         requires directory_is { IsDirectory file.now directory.items }
@@ -58,7 +61,6 @@ impl<'a> Entries<'a> {
         let tree = wrong_tree(alloc, file, &directory, &reached)?;
         refuse(RULE_TREE, tree)?;
         refuse(RULE_NAMES, wrong_names(file, &directory, &reached))?;
-        refuse(RULE_STORAGES, wrong_storages(file, &directory, &reached))?;
         let streams = list_streams(alloc, file, &directory, &reached)?;
         Ok(Entries {
             file,
@@ -66,6 +68,24 @@ impl<'a> Entries<'a> {
             reached,
             streams,
         })
+    }
+
+    /// Judges rule 10.
+    pub fn judge_storages(&self) -> Result<(), CfbFault>
+        ensures { MatchResult result
+            (λ _. Nowhere (BreaksStorage self.now.file self.now.directory))
+            (IsCfbFault (rule 10 (BreaksStorage self.now.file self.now.directory))) }
+    {
+        let wrong = wrong_storages(self.file, &self.directory, &self.reached);
+        refuse(RULE_STORAGES, wrong)?;
+        Ok(())
+    }
+
+    /// The entries of the storages that have something, in the order of their names.
+    pub fn storages(&self, alloc: Global) -> Result<Vec<u32>, Memory>
+        ensures { IfOk result (λ entries. ListsFilled self.now.file self.now.directory entries.items) }
+    {
+        list_storages(alloc, self.file, &self.directory, &self.reached)
     }
 
     /// The file.
@@ -105,9 +125,9 @@ impl<'a> Entries<'a> {
         body_of(self.file, &self.directory, entry)
     }
 
-    /// The name of the stream of an entry.
+    /// The name of an entry that the root reaches.
     pub fn name(&self, alloc: Global, entry: u32) -> Result<Vec<u16>, Memory>
-        requires { IsStreamEntry self.now.file self.now.directory entry }
+        requires { IsReached self.now.file self.now.directory entry }
         ensures { IfOk result (λ name. IsNameOf self.now.file (place_of self.now.directory entry) name.items) }
     {
         let at = entry_place(self.file, &self.directory, entry as usize);

@@ -1,5 +1,6 @@
 -- What is kept of lists by the places where they stand in a stream: that they have no fault, and what they make.
 use Rattle.std.specs.Prelude.{◌≡◌, ℕ, ◌+◌, ◌<◌, ◌≤◌, ◌^◌, List, length, drop, slice_get, slice_range, Some, Option}
+use Rattle.std.specs.Prelude.{MatchOption, ⊤}
 use Rattle.std.specs.Option.{unwrap_or}
 use Rattle.doc_bits.specs.Number.{u16_at}
 use Rattle.doc_bits.specs.Rules.{Nowhere}
@@ -15,7 +16,7 @@ use Rattle.fkp_pages.specs.Fkp.{least_list}
 use Rattle.fkp_pages.specs.Runs.{run_groups}
 use Rattle.fkp_pages.specs.declared.kind.RunAnswer.{RunAnswer}
 use Rattle.fkp_pages.specs.Bin.{IsBinTable}
-use Rattle.fkp_pages.specs.Properties.{IsListAnswered, HasListAt}
+use Rattle.fkp_pages.specs.Properties.{IsListAnswered, HasListAt, bare_list}
 use Rattle.direct_props.specs.declared.kept.Made.{Made}
 use Rattle.direct_props.specs.declared.kept.MadeStretch.{MadeStretch}
 use Rattle.direct_props.specs.declared.kept.KeptLists.{KeptLists}
@@ -68,6 +69,10 @@ pub record AreKept (kind : PageKind) (wd : List ℕ) (modifier : Modifier) (plac
   pub right : HaveNoFault kind wd places
   pub made_are : AreMade kind wd modifier places made
 
+-- what a run without a list makes, where it is kept
+abbrev pub IsBareMade : PageKind → Modifier → Option Made → Type 0
+IsBareMade kind modifier bare = MatchOption bare ⊤ (IsMadeOf kind (bare_list kind) modifier)
+
 -- what settings of places are read from: the pages of a kind, and the modifier of pieces
 pub record PlaceSource : Type 0 where
   pub kind : PageKind
@@ -101,3 +106,4 @@ pub record IsReader (source : PlaceSource) (cursor : PageCursor) (kept : KeptLis
   pub small : length source.wd < 2 ^ 32
   pub cursor_is : IsPageCursor source.wd source.bin cursor
   pub kept_are : AreKept source.kind source.wd source.modifier kept.places kept.made.items
+  pub bare_is : IsBareMade source.kind source.modifier kept.bare

@@ -1,6 +1,6 @@
 // What the lists of pages make, each kept once.
 ghost use Rattle.std.specs.Prelude.{◌≡◌, ◌<◌, ◌≤◌, ◌+◌, ◌*◌, ℕ, List, drop, length, slice_range};
-ghost use Rattle.std.specs.Prelude.{IfOk, MatchOption, OnOk, OnErr};
+ghost use Rattle.std.specs.Prelude.{IfOk, MatchOption, None, OnOk, OnErr};
 ghost use Rattle.sprm_table.specs.Sprm.{IsAcceptedList};
 ghost use Rattle.prop_map.specs.declared.modifiers.Modifier.{Modifier as TheModifier};
 ghost use Rattle.fkp_pages.specs.declared.kind.PageKind.{PageKind as PageType};
@@ -8,10 +8,12 @@ ghost use Rattle.fkp_pages.specs.declared.kind.PageKind.TheVariants.{Chpx, Papx}
 ghost use Rattle.fkp_pages.specs.declared.kind.RunAnswer.TheVariants.{Found};
 ghost use Rattle.fkp_pages.specs.Fkp.{least_list};
 ghost use Rattle.fkp_pages.specs.Bin.{page_at};
+ghost use Rattle.fkp_pages.specs.Properties.{bare_list};
 ghost use Rattle.fkp_pages.specs.Runs.{run_groups};
 ghost use Rattle.direct_props.specs.Stretches.{HasRightList};
 ghost use Rattle.direct_props.specs.Pages.{IsPageIn};
-ghost use Rattle.direct_props.specs.Kept.{AreKept, HasNoFault, IsMadeByAnswer, IsMadeOf, MakesCharacter, MakesMark};
+ghost use Rattle.direct_props.specs.Kept.{AreKept, HasNoFault, IsBareMade, IsMadeByAnswer, IsMadeOf};
+ghost use Rattle.direct_props.specs.Kept.{MakesCharacter, MakesMark};
 
 use crate::characters::settings_of;
 use crate::lists::{bare, list_in};
@@ -56,26 +58,30 @@ pub(crate) struct ListSource<'a> {
     pub(crate) modifier: &'a Modifier,
 }
 
-/// What lists make, each with a place where the list stands.
+/// What lists make, each with a place where the list stands, and what runs without a list make.
 #[derive(Drop)]
 pub(crate) struct KeptLists {
     pub(crate) places: MetLists,
     pub(crate) made: Vec<Made>,
+    pub(crate) bare: Option<Made>,
 }
 
 impl KeptLists {
     /// No lists. It takes no memory.
     pub(crate) fn new(alloc: Global) -> KeptLists
-        ensures { (kind : PageType) (wd : List ℕ) (modifier : TheModifier)
+        ensures lists { (kind : PageType) (wd : List ℕ) (modifier : TheModifier)
             → AreKept kind wd modifier result.places result.made.items }
+        ensures bare { result.bare ≡ None }
     {
         KeptLists {
             places: MetLists::new(alloc),
             made: Vec::new(alloc),
+            bare: None,
         }
     }
 
     /// What the list makes that a page answers, where it is right.
+    #[inline(always)]
     pub(crate) fn made_of(
         &mut self,
         alloc: Global,
@@ -86,8 +92,10 @@ impl KeptLists {
         requires page { IsPageIn source.now.wd.now number }
         requires kept { AreKept source.now.kind source.now.wd.now source.now.modifier.now
             self.old.places self.old.made.items }
+        requires bare { IsBareMade source.now.kind source.now.modifier.now self.old.bare }
         ensures kept { AreKept source.now.kind source.now.wd.now source.now.modifier.now
             self.new.places self.new.made.items }
+        ensures bare { IsBareMade source.now.kind source.now.modifier.now self.new.bare }
         ensures made { IfOk result (λ made. MatchOption made
             (¬ (HasRightList source.now.kind (page_at source.now.wd.now number) answer))
             (λ made. HasRightList source.now.kind (page_at source.now.wd.now number) answer
@@ -97,7 +105,7 @@ impl KeptLists {
         match answer {
             RunAnswer::Found { from, to } => self.made_at(alloc, source, number, (from, to)),
             RunAnswer::Empty => {
-                let made = make(alloc, source, bare(source.kind))?;
+                let made = self.made_bare(alloc, source)?;
                 Ok(Some(made))
             }
             RunAnswer::NoRun => Ok(None),
@@ -106,8 +114,25 @@ impl KeptLists {
         }
     }
 
+    /// What a run without a list makes, which is made once.
+    fn made_bare(&mut self, alloc: Global, source: &ListSource<'_>) -> Result<Made, Memory>
+        requires bare { IsBareMade source.now.kind source.now.modifier.now self.old.bare }
+        ensures made { IfOk result (IsMadeOf source.now.kind (bare_list source.now.kind) source.now.modifier.now) }
+        ensures bare { IsBareMade source.now.kind source.now.modifier.now self.new.bare }
+        ensures lists { (self.new.places ≡ self.old.places) × (self.new.made.items ≡ self.old.made.items) }
+    {
+        if let Some(made) = &self.bare {
+            return made.copy(alloc);
+        }
+        let made = make(alloc, source, bare(source.kind))?;
+        let copy = made.copy(alloc)?;
+        self.bare = Some(made);
+        Ok(copy)
+    }
+
     /// What the list makes that stands in a range of a page, where it is right. A list that is not kept is judged and
     /// acted with, and kept.
+    #[inline(always)]
     fn made_at(
         &mut self,
         alloc: Global,
@@ -120,6 +145,7 @@ impl KeptLists {
             self.old.places self.old.made.items }
         ensures kept { AreKept source.now.kind source.now.wd.now source.now.modifier.now
             self.new.places self.new.made.items }
+        ensures bare { self.new.bare ≡ self.old.bare }
         ensures made { IfOk result (λ made. MatchOption made
             (¬ (HasRightList source.now.kind (page_at source.now.wd.now number) (Found range.0 range.1)))
             (λ made. HasRightList source.now.kind (page_at source.now.wd.now number) (Found range.0 range.1)
@@ -158,6 +184,7 @@ impl KeptLists {
             → AreKept kind wd modifier self.new.places self.new.made.items) }
         ensures err { OnErr result ((self.new.places ≡ self.old.places)
             × (self.new.made.items ≡ self.old.made.items)) }
+        ensures bare { self.new.bare ≡ self.old.bare }
     {
         let before = self.made.len();
         self.made.push(made)?;

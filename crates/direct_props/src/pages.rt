@@ -61,6 +61,7 @@ impl PageCursor {
 }
 
 /// What the page of a place answers, and how far around the place; nothing where no page of the stream has the place.
+#[inline(always)]
 pub(crate) fn page_around(
     kind: PageKind,
     wd: &[u8],

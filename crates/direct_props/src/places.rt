@@ -54,6 +54,7 @@ impl<'a> Places<'a> {
     }
 
     /// The first place.
+    #[inline(always)]
     pub fn first(&self) -> u32
         requires { 0 < length self.now }
         ensures { result ≡ slice_index self.now 0 }
@@ -83,6 +84,7 @@ impl<'a> Places<'a> {
     }
 
     /// The places behind the first `count`. It goes over the rows of these.
+    #[inline(always)]
     pub fn skip(&self, count: usize) -> Places<'a>
         requires { count ≤ length self.now }
         ensures { result ≡ drop count self.now }
@@ -117,6 +119,7 @@ impl<'a> Places<'a> {
     }
 
     /// How many places of the first row, from its first place on, are not above `last`, as the first is not.
+    #[inline(always)]
     pub(crate) fn count_up_to(&self, last: u32) -> usize
         requires there { 0 < length self.now }
         requires first { slice_index self.now 0 ≤ last }

@@ -6,7 +6,7 @@ use Rattle.style_sheet.specs.Sheet.{Sheet}
 use Rattle.plain_doc.specs.declared.document.Document.{Document}
 use Rattle.plain_doc.specs.RulesOfSheet.{item_count, section_count}
 use Rattle.doc_show.specs.declared.counts.Counts.{Counts}
-use Rattle.doc_show.specs.Story.{line}
+use Rattle.text_codes.specs.Shown.{line}
 
 -- the number of slots with a style
 abbrev pub style_count : Sheet → ℕ

@@ -11,7 +11,8 @@ use Rattle.style_sheet.specs.Sheet.{Sheet}
 use Rattle.plain_doc.specs.declared.item.Item.{Item}
 use Rattle.plain_doc.specs.declared.document.Document.{Document}
 use Rattle.doc_show.specs.Settings.{settings_text}
-use Rattle.doc_show.specs.Story.{line, story_lines}
+use Rattle.text_codes.specs.Shown.{line}
+use Rattle.doc_show.specs.Story.{story_lines}
 
 abbrev pub kind_word : Kind → List ℕ
 kind_word (Para pap chp) = codes " para "

@@ -12,7 +12,7 @@ use Rattle.plain_doc.specs.declared.document.Document.{Document}
 use Rattle.plain_doc.specs.Paragraphs.{IsParagraphEnd}
 use Rattle.text_codes.specs.Digits.{byte_text, word_text}
 use Rattle.doc_show.specs.Settings.{settings_text}
-use Rattle.doc_show.specs.Story.{line}
+use Rattle.text_codes.specs.Shown.{line}
 
 -- a word and settings
 abbrev pub settings_line : List ℕ → Settings → List ℕ

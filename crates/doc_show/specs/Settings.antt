@@ -2,13 +2,13 @@
 use Rattle.std.specs.Prelude.{ℕ, List, [], ◌∷◌, ◌++◌}
 use Rattle.std.specs.List.{flat_map}
 use Rattle.std.specs.FinMap.{entries}
-use Rattle.text_codes.specs.Digits.{byte_text, word_text}
+use Rattle.text_codes.specs.Digits.{bytes_text, word_text}
 use Rattle.sprm_table.specs.Sprm.{Prl}
 use Rattle.prop_map.specs.Settings.{Settings}
 
 -- the bytes of a value in their order
 abbrev pub value_text : List ℕ → List ℕ
-value_text value = flat_map byte_text value
+value_text value = bytes_text value
 
 -- a code and its value: a space, the code, an equals sign, the value
 abbrev pub setting_text : Prl → List ℕ

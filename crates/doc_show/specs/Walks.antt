@@ -4,7 +4,8 @@ use Rattle.text_codes.specs.Shown.{shown}
 use Rattle.prop_map.specs.Settings.{Settings}
 use Rattle.doc_columns.specs.declared.beside.Beside.{Beside}
 use Rattle.doc_show.specs.Settings.{settings_text}
-use Rattle.doc_show.specs.Story.{line, item_word}
+use Rattle.text_codes.specs.Shown.{line}
+use Rattle.doc_show.specs.Story.{item_word}
 
 -- no field character and no reference
 abbrev pub is_bare : Beside → Bool

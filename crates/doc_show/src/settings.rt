@@ -1,11 +1,11 @@
 // The text of settings: for each code ascending a space, four digits, an equals sign, and the bytes of its value.
 ghost use Rattle.std.specs.Prelude.{◌≡◌, ◌++◌, [], ◌∷◌, OnOk};
-ghost use Rattle.doc_show.specs.Settings.{value_text, setting_text, settings_text};
+ghost use Rattle.doc_show.specs.Settings.{setting_text, settings_text};
 
 use doc_bits::{Memory, Text};
 use prop_map::PropMap;
 use std::str;
-use text_codes::{hex_digit, push_byte, push_word};
+use text_codes::{hex_digit, push_bytes, push_word};
 
 /// Appends the text of settings. After want of memory a part of it may be there, as with each call here.
 pub(crate) fn push_settings(text: &mut Text, map: &PropMap) -> Result<(), Memory>
@@ -54,15 +54,5 @@ fn push_large(text: &mut Text, code: u16, value: &[u8]) -> Result<(), Memory>
     text.push_all(" ")?;
     push_word(text, code)?;
     text.push_all("=")?;
-    push_value(text, value)
-}
-
-/// Appends the digits of each byte.
-fn push_value(text: &mut Text, value: &[u8]) -> Result<(), Memory>
-    ensures { OnOk result (text.new ≡ text.old ++ value_text value.now) }
-{
-    for byte in value {
-        push_byte(text, *byte)?;
-    }
-    Ok(())
+    push_bytes(text, value)
 }

@@ -4,7 +4,7 @@ ghost use Rattle.std.specs.Fmt.{decimal};
 ghost use Rattle.std.specs.String.{string_bytes};
 ghost use Rattle.style_sheet.specs.Sheet.{style_at};
 ghost use Rattle.doc_show.specs.Settings.{settings_text};
-ghost use Rattle.doc_show.specs.Story.{line};
+ghost use Rattle.text_codes.specs.Shown.{line};
 ghost use Rattle.doc_show.specs.Listing.{base_word as word_of_base, kind_lines, kind_word as word_of_kind, sheet_lines};
 ghost use Rattle.doc_show.specs.Listing.{slot_lines, style_lines};
 

@@ -5,6 +5,7 @@ pub mod FirstLemmas
 pub mod CountLemmas
 pub mod CounterLemmas
 pub mod KnownLemmas
+pub mod ChainValueLemmas
 pub mod AlikeLemmas
 pub mod NumberedLemmas
 pub mod OneLemmas

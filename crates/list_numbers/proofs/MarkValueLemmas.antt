@@ -1,7 +1,7 @@
 -- The values of a mark, layer by layer.
 use Rattle.std.proofs.Common.{◌≡◌, ℕ, List, [], ◌∷◌, ◌++◌, Option, Some, None}
-use Rattle.std.proofs.Common.{refl, sym, ap, ◌∙◌, take, ◌+◌, ◌*◌, Bor, arith}
-use Rattle.std.specs.Prelude.{slice_get, slice_index, option_map, MatchOption}
+use Rattle.std.proofs.Common.{refl, ap, ◌∙◌, ◌+◌, ◌*◌, Bor, arith}
+use Rattle.std.specs.Prelude.{slice_index, option_map, MatchOption}
 use Rattle.std.specs.Option.{option_or}
 use Rattle.std.specs.FinMap.{get, empty}
 use Rattle.prop_map.specs.Settings.{Settings}
@@ -11,8 +11,8 @@ use Rattle.effective_props.proofs.ValueLemmas.{effective_more, none_put}
 use Rattle.doc_bits.specs.Number.{number_at, u16_at}
 use Rattle.style_sheet.specs.declared.styles.Style.{Style}
 use Rattle.style_sheet.specs.Sheet.{Sheet, style_at}
-use Rattle.effective_props.specs.Layers.{paragraph_settings, settings_of_styles}
-use Rattle.effective_props.proofs.LayerLemmas.{match_now, styles_more}
+use Rattle.effective_props.specs.Layers.{paragraph_settings}
+use Rattle.effective_props.proofs.LayerLemmas.{match_now}
 use Rattle.list_numbers.specs.declared.mark_values.MarkValues.{MarkValues}
 use Rattle.list_numbers.specs.MarkValues.{values_in, own_values, over, no_values, word_in, byte_in}
 
@@ -51,26 +51,13 @@ values_of_none = refl
 pub own_of_empty : own_values empty ≡ no_values
 own_of_empty = rw (none_put empty 0x460B refl, none_put empty 0x260A refl, none_put empty 0x2640 refl) refl
 
--- the settings of the next style of a chain
-abbrev settings_upto : Sheet → List ℕ → ℕ → List Settings
-settings_upto sheet chain i = settings_of_styles paragraph_settings sheet (take i chain)
-
--- one more style of a chain
-pub chain_more : (sheet : Sheet) (chain : List ℕ) (i number : ℕ) (style : Option (Bor Style)) (own before after :
-    MarkValues) → slice_get chain i ≡ Some number → MatchOption style (style_at sheet number ≡ None)
-    (λ s. style_at sheet number ≡ Some s.now) → own ≡ own_values (paragraph_settings (option_map (λ s. s.now) style)) →
-    before ≡ values_in (settings_upto sheet chain i) → after ≡ over own before →
-    after ≡ values_in (settings_upto sheet chain (i + 1))
-chain_more sheet chain i number style own before after there found is so_far new =
-    let layer : Settings = paragraph_settings (style_at sheet number) in
-    let layers : List Settings = settings_upto sheet chain i in
-    let same : option_map (λ s. s.now) style ≡ style_at sheet number = match_now (λ s. s.now) style (style_at sheet
-    number) found in
-    let longer : layers ++ layer ∷ [] ≡ settings_upto sheet chain (i + 1) =
-    styles_more paragraph_settings sheet chain i number [] layers (layers ++ layer ∷ []) layer refl there refl refl in
-    let named : own ≡ own_values layer = is ∙ ap (λ o. own_values (paragraph_settings o)) same in
-    new ∙ (ap (λ o. over o before) named ∙ (ap (over (own_values layer)) so_far ∙ (sym (values_more layers layer)
-    ∙ ap values_in longer)))
+-- what a slot says by itself
+pub slot_said : (sheet : Sheet) (number : ℕ) (style : Option (Bor Style)) (own : MarkValues) →
+    MatchOption style (style_at sheet number ≡ None) (λ s. style_at sheet number ≡ Some s.now) →
+    own ≡ own_values (paragraph_settings (option_map (λ s. s.now) style)) →
+    own ≡ own_values (paragraph_settings (style_at sheet number))
+slot_said sheet number style own found is =
+    is ∙ ap (λ o. own_values (paragraph_settings o)) (match_now (λ s. s.now) style (style_at sheet number) found)
 
 -- the number of two bytes
 pub word_of_bytes : (value : List ℕ) → slice_index value 0 + 256 * slice_index value 1 ≡ u16_at value 0

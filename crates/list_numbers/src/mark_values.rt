@@ -1,17 +1,14 @@
 // The three values of a paragraph mark that numbers and outlines go by.
-ghost use Rattle.std.specs.Prelude.{◌≡◌, ◌<◌, List, ℕ, IfOk, OnOk, length, slice_index, option_map};
+ghost use Rattle.std.specs.Prelude.{◌≡◌, slice_index, option_map};
 ghost use Rattle.std.specs.FinMap.{get};
 ghost use Rattle.doc_bits.specs.Number.{u16_at};
-ghost use Rattle.style_sheet.specs.Chain.{kind_at, HasSoundBases};
-ghost use Rattle.effective_props.specs.Layers.{paragraph_settings, settings_of_styles};
-ghost use Rattle.list_numbers.specs.MarkValues.{no_values, own_values, over, values_in};
-ghost use Rattle.list_numbers.specs.MarkValues.{word_in, byte_in, AreStyleValues};
+ghost use Rattle.effective_props.specs.Layers.{paragraph_settings};
+ghost use Rattle.list_numbers.specs.MarkValues.{no_values, own_values, over};
+ghost use Rattle.list_numbers.specs.MarkValues.{word_in, byte_in};
 
-use doc_bits::Memory;
 use prop_map::PropMap;
 use sprm_table::Code;
-use std::alloc::Global;
-use style_sheet::{Chain, Kind, Style, StyleSheet};
+use style_sheet::{Kind, Style};
 
 /// Names the use of a list, from 1.
 const SPRM_P_ILFO: Code = Code(0x460B);
@@ -66,38 +63,11 @@ impl MarkValues {
             outline: self.outline.or(below.outline),
         }
     }
-
-    /// What a style and its bases say. The styles are gone through once, from the root.
-    pub(crate) fn of_style(
-        alloc: Global,
-        sheet: &StyleSheet,
-        istd: u16,
-    ) -> Result<MarkValues, Memory>
-        requires bases { HasSoundBases sheet.now }
-        requires style { 0 < kind_at sheet.now istd }
-        ensures { IfOk result (AreStyleValues sheet.now istd) }
-    {
-        let chain = sheet.chain(alloc, istd)?;
-        let values = values_of_chain(sheet, &chain);
-        Ok(values)
-    }
-}
-
-/// What the styles of a chain say, the last of them above all others.
-fn values_of_chain(sheet: &StyleSheet, chain: &Chain) -> MarkValues
-    ensures { result ≡ values_in (settings_of_styles paragraph_settings sheet.now chain.now) }
-{
-    let mut values = MarkValues::none();
-    for i in 0..chain.len() {
-        let own = values_of_slot(sheet.get(chain.get(i)));
-        values = own.over(values);
-    }
-    values
 }
 
 /// What a style says by itself, where it is there.
 #[tactic(auto, using(crate::proofs::MarkValueLemmas::own_of_empty))]
-fn values_of_slot(style: Option<&Style>) -> MarkValues
+pub(crate) fn values_of_slot(style: Option<&Style>) -> MarkValues
     ensures { result ≡ own_values (paragraph_settings (option_map (λ s. s.now) style.entry)) }
 {
     let Some(style) = style else {

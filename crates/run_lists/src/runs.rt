@@ -56,6 +56,7 @@ impl<T: Shared> Runs<T> {
     }
 
     /// Puts a value last, `count` times. It joins the last run where that has the same value.
+    #[inline(always)]
     pub fn add(&mut self, count: u32, value: T) -> Result<(), Memory>
         requires few { length self.old + count < 2 ^ 32 }
         ensures ok { OnOk result (self.new ≡ self.old ++ replicate count value) }

@@ -1,4 +1,5 @@
 pub mod Compressed
 pub mod Digits
+pub mod Gathered
 pub mod Paragraph
 pub mod Shown

@@ -2,6 +2,10 @@
 use Rattle.std.specs.Prelude.{◌≡◌, ℕ, ◌+◌, ◌-◌, ◌*◌, ◌/◌, ◌%◌, ◌<◌, Bool, false, ◌&&◌, ◌||◌, ◌==◌, nat_lt, nat_le, List}
 use Rattle.std.specs.Prelude.{[], ◌∷◌, ◌++◌, if◌then◌else◌, encode_utf8}
 
+-- a line ends with a line feed
+abbrev pub line : List ℕ → List ℕ
+line text = text ++ 10 ∷ []
+
 -- the two units are a surrogate pair
 abbrev pub is_pair : ℕ → ℕ → Bool
 is_pair first second = nat_le 0xD800 first && (nat_lt first 0xDC00 && (nat_le 0xDC00 second && nat_lt second 0xE000))

@@ -1,77 +1,66 @@
-// The units at the front of a list that are shown as themselves, as bytes in a block.
-ghost use Rattle.std.specs.Prelude.{◌≡◌, ◌+◌, ◌%◌, ◌<◌, ◌≤◌, ◌++◌, ◌⊎◌};
-ghost use Rattle.std.specs.Prelude.{List, ℕ, length, take, slice_index, Bool, IsTrue, encode_utf8};
-ghost use Rattle.std.specs.Str.{IsUtf8};
-ghost use Rattle.text_codes.specs.Shown.{shown, IsPlain};
+// The text of the units at the front of a list, as bytes in a block.
+ghost use Rattle.std.specs.Prelude.{◌≡◌, ◌+◌, ◌%◌, ◌<◌, ◌≤◌, ◌++◌, ◌⊎◌, ◌∷◌, []};
+ghost use Rattle.std.specs.Prelude.{ℕ, length, take, slice_index, IsTrue, encode_utf8, true, false};
+ghost use Rattle.text_codes.specs.Gathered.{IsTextOf, HasTextBehind};
+ghost use Rattle.text_codes.specs.Shown.{shown_alone, is_escaped, escape, IsPlain};
 
-use crate::paragraph::PART_LEN;
+use crate::digits::hex_digit;
+use crate::paragraph::{PARAGRAPH_MARK, PART_LEN};
 use crate::showing::escapes;
 
 /// The bytes that a block has room for.
-pub(crate) const BLOCK_LEN: usize = 192;
+pub(crate) const BLOCK_LEN: usize = 512;
 
-/// The most bytes that a unit takes.
-const UNIT_LEN: usize = 3;
+/// The most bytes that a unit takes: those of its number.
+const UNIT_LEN: usize = 6;
 
 /// The first unit of two bytes, and the first one of three.
 const TWO_BYTES: u16 = 0x80;
 
 const THREE_BYTES: u16 = 0x800;
 
-/// How many units at the front are printable ASCII and no reverse solidus, as many as the block has room for. Their
-/// bytes stand at the front of the block.
-pub(crate) fn narrow(units: &[u16], block: &mut [u8]) -> usize
-    ensures inside { result ≤ length units.now }
-    ensures room { result ≤ length block.new }
-    ensures valid { IsUtf8 (take result block.new) }
-    ensures text { (lines : Bool) (after : List ℕ)
-        → shown lines (take result units.now ++ after) ≡ take result block.new ++ shown lines after }
+/// How many units at the front are in no pair whatever follows, as many as the block has room for, and how many bytes
+/// their text takes. It stands at the front of the block. With `lines` a paragraph mark is shown as a line feed.
+pub(crate) fn gather(units: &[u16], lines: bool, block: &mut [u8]) -> (usize, usize)
+    ensures inside { result.0 ≤ length units.now }
+    ensures room { result.1 ≤ length block.new }
+    ensures text { IsTextOf lines (take result.0 units.now) (take result.1 block.new) }
 {
-    let count = plain_len(units).min(block.len());
-    for i in 0..count {
-        block[i] = units[i] as u8;
-    }
-    count
-}
-
-/// How many units at the front are printable ASCII and no reverse solidus, at most those of a block.
-fn plain_len(units: &[u16]) -> usize
-    ensures inside { result ≤ length units.now }
-    ensures plain { (k : ℕ) → k < result → IsPlain (slice_index units.now k) }
-{
-    let most = units.len().min(BLOCK_LEN);
-    for i in plain_parts(units, most)..most {
-        if !is_plain(units[i]) {
-            return i;
+    let mut count = 0;
+    let mut len = 0;
+    while count < units.len() && block.len() - len >= PART_LEN {
+        let (more, end) = gather_part(&units[count..], lines, block, len);
+        count += more;
+        len = end;
+        if more == 0 {
+            break;
         }
     }
-    most
+    (count, len)
 }
 
-/// How many units stand in the parts at the front that have no other unit, at most so many.
-fn plain_parts(units: &[u16], most: usize) -> usize
-    requires { most ≤ length units.now }
-    ensures inside { result ≤ most }
-    ensures plain { (k : ℕ) → k < result → IsPlain (slice_index units.now k) }
+/// Puts the text of a part of units behind the first bytes of a block: how many units these are, and where it ends.
+fn gather_part(units: &[u16], lines: bool, block: &mut [u8], len: usize) -> (usize, usize)
+    requires { len + PART_LEN ≤ length block.old }
+    ensures long { length block.new ≡ length block.old }
+    ensures inside { result.0 ≤ length units.now }
+    ensures text { HasTextBehind lines (take result.0 units.now) (take len block.old) block.new result.1 }
 {
-    let mut done = 0;
-    while most - done >= PART_LEN {
-        if !are_plain(units, done) {
-            return done;
-        }
-        done += PART_LEN;
+    if units.len() >= PART_LEN && are_plain(units) {
+        put_plain(units, block, len);
+        return (PART_LEN, len + PART_LEN);
     }
-    done
+    gather_units(units, lines, block, len)
 }
 
-/// Whether each unit of the part from a place on is printable ASCII and no reverse solidus.
+/// Whether each unit of the first part is printable ASCII and no reverse solidus.
 #[inline(always)]
-fn are_plain(units: &[u16], at: usize) -> bool
-    requires { at + PART_LEN ≤ length units.now }
-    ensures { IsTrue result → (k : ℕ) → at ≤ k → k < at + PART_LEN → IsPlain (slice_index units.now k) }
+fn are_plain(units: &[u16]) -> bool
+    requires { PART_LEN ≤ length units.now }
+    ensures { IsTrue result → (k : ℕ) → k < PART_LEN → IsPlain (slice_index units.now k) }
 {
     let mut all = true;
-    for k in at..at + PART_LEN {
+    for k in 0..PART_LEN {
         all &= is_plain(units[k]);
     }
     all
@@ -85,33 +74,98 @@ fn is_plain(unit: u16) -> bool
     unit >= 0x20 && unit < TWO_BYTES && unit != 0x5C
 }
 
-/// How many units at the front are shown as themselves, as many as the block has room for, and how many bytes they
-/// take. Their bytes stand at the front of the block.
-pub(crate) fn gather(units: &[u16], block: &mut [u8]) -> (usize, usize)
-    ensures inside { result.0 ≤ length units.now }
-    ensures room { result.1 ≤ length block.new }
-    ensures valid { IsUtf8 (take result.1 block.new) }
-    ensures text { (lines : Bool) (after : List ℕ)
-        → shown lines (take result.0 units.now ++ after) ≡ take result.1 block.new ++ shown lines after }
+/// Puts the units of a part as bytes behind the first bytes of a block.
+#[inline(always)]
+fn put_plain(units: &[u16], block: &mut [u8], len: usize)
+    requires room { len + PART_LEN ≤ length block.old }
+    requires part { PART_LEN ≤ length units.now }
+    requires plain { (k : ℕ) → k < PART_LEN → IsPlain (slice_index units.now k) }
+    ensures long { length block.new ≡ length block.old }
+    ensures bytes { take (len + PART_LEN) block.new ≡ take len block.old ++ take PART_LEN units.now }
 {
-    let mut count = 0;
-    let mut len = 0;
-    while count < units.len() && block.len() - len >= UNIT_LEN {
-        let unit = units[count];
-        if escapes(unit) {
-            break;
-        }
-        len = put(block, len, unit);
-        count += 1;
+    for k in 0..PART_LEN {
+        block[len + k] = units[k] as u8;
     }
-    (count, len)
 }
 
-/// Puts the bytes of a unit that is no surrogate behind the first bytes of a block. It gives their number then.
+/// The same for units of any kind, one by one, up to a surrogate.
+fn gather_units(units: &[u16], lines: bool, block: &mut [u8], len: usize) -> (usize, usize)
+    requires { len ≤ length block.old }
+    ensures long { length block.new ≡ length block.old }
+    ensures inside { result.0 ≤ length units.now }
+    ensures text { HasTextBehind lines (take result.0 units.now) (take len block.old) block.new result.1 }
+{
+    let most = units.len().min(PART_LEN);
+    let mut count = 0;
+    let mut end = len;
+    while count < most && block.len() - end >= UNIT_LEN {
+        let unit = units[count];
+        if is_surrogate(unit) {
+            break;
+        }
+        end = put(block, end, lines, unit);
+        count += 1;
+    }
+    (count, end)
+}
+
+/// Whether a unit may be half of a pair.
 #[inline(always)]
-fn put(block: &mut [u8], len: usize, unit: u16) -> usize
-    requires room { len + 3 ≤ length block.old }
+fn is_surrogate(unit: u16) -> bool
+    ensures { result ≡ false → (unit < 0xD800) ⊎ (0xE000 ≤ unit) }
+{
+    unit >= 0xD800 && unit < 0xE000
+}
+
+/// Puts the text of a unit that is no surrogate behind the first bytes of a block. It gives their number then.
+#[inline(always)]
+fn put(block: &mut [u8], len: usize, lines: bool, unit: u16) -> usize
+    requires room { len + UNIT_LEN ≤ length block.old }
     requires alone { (unit < 0xD800) ⊎ (0xE000 ≤ unit) }
+    ensures long { length block.new ≡ length block.old }
+    ensures inside { result ≤ length block.new }
+    ensures bytes { take result block.new ≡ take len block.old ++ shown_alone lines unit }
+{
+    if escapes(unit) {
+        return put_escaped(block, len, lines, unit);
+    }
+    put_character(block, len, unit)
+}
+
+/// Puts a line feed for a paragraph mark where paragraphs are lines, and the number of other units.
+#[inline(always)]
+fn put_escaped(block: &mut [u8], len: usize, lines: bool, unit: u16) -> usize
+    requires room { len + UNIT_LEN ≤ length block.old }
+    requires escaped { is_escaped unit ≡ true }
+    ensures long { length block.new ≡ length block.old }
+    ensures inside { result ≤ length block.new }
+    ensures bytes { take result block.new ≡ take len block.old ++ shown_alone lines unit }
+{
+    if lines && unit == PARAGRAPH_MARK {
+        block[len] = b'\n';
+        return len + 1;
+    }
+    put_number(block, len, unit)
+}
+
+/// Puts a reverse solidus, the letter u and the four digits of a unit.
+fn put_number(block: &mut [u8], len: usize, unit: u16) -> usize
+    requires { len + UNIT_LEN ≤ length block.old }
+    ensures long { length block.new ≡ length block.old }
+    ensures inside { result ≤ length block.new }
+    ensures bytes { take result block.new ≡ take len block.old ++ escape unit }
+{
+    put_three(block, len, b'\\', b'u', hex_digit((unit / 0x1000) as u8));
+    let second = hex_digit((unit / 0x100 % 16) as u8);
+    let third = hex_digit((unit / 0x10 % 16) as u8);
+    put_three(block, len + 3, second, third, hex_digit((unit % 16) as u8));
+    len + UNIT_LEN
+}
+
+/// Puts the bytes of a unit that is a character.
+#[inline(always)]
+fn put_character(block: &mut [u8], len: usize, unit: u16) -> usize
+    requires { len + 3 ≤ length block.old }
     ensures long { length block.new ≡ length block.old }
     ensures inside { result ≤ length block.new }
     ensures bytes { take result block.new ≡ take len block.old ++ encode_utf8 unit }
@@ -125,10 +179,27 @@ fn put(block: &mut [u8], len: usize, unit: u16) -> usize
         block[len + 1] = continuation(unit);
         return len + 2;
     }
-    block[len] = (0xE0 + unit / 0x1000) as u8;
-    block[len + 1] = continuation(unit / 0x40);
-    block[len + 2] = continuation(unit);
-    len + UNIT_LEN
+    let first = (0xE0 + unit / 0x1000) as u8;
+    put_three(
+        block,
+        len,
+        first,
+        continuation(unit / 0x40),
+        continuation(unit),
+    );
+    len + 3
+}
+
+/// Puts three bytes behind the first ones of a block.
+#[inline(always)]
+fn put_three(block: &mut [u8], len: usize, first: u8, second: u8, third: u8)
+    requires { len + 3 ≤ length block.old }
+    ensures long { length block.new ≡ length block.old }
+    ensures bytes { take (len + 3) block.new ≡ take len block.old ++ first ∷ second ∷ third ∷ [] }
+{
+    block[len] = first;
+    block[len + 1] = second;
+    block[len + 2] = third;
 }
 
 /// A byte behind the first one of a character: the low six bits.

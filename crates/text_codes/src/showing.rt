@@ -7,7 +7,7 @@ ghost use Rattle.text_codes.specs.Shown.{Showing, shown, shown_alone, completed,
 ghost use Rattle.text_codes.specs.Shown.{pair_code, is_escaped};
 
 use crate::digits::hex_digit;
-use crate::gathering::{BLOCK_LEN, gather, narrow};
+use crate::gathering::{BLOCK_LEN, gather};
 use doc_bits::{Memory, Text};
 use std::alloc::Global;
 use std::marker::Model;
@@ -103,13 +103,7 @@ impl ShownText {
     {
         if self.waiting.is_none() {
             let mut block = [0u8; BLOCK_LEN];
-            let plain = narrow(units, &mut block);
-            if plain > 0 {
-                self.text
-                    .push_str(str::from_utf8(&block[..plain]).unwrap())?;
-                return Ok(plain);
-            }
-            let (count, len) = gather(units, &mut block);
+            let (count, len) = gather(units, self.lines, &mut block);
             if count > 0 {
                 self.text.push_str(str::from_utf8(&block[..len]).unwrap())?;
                 return Ok(count);

@@ -1,16 +1,13 @@
-use Rattle.std.proofs.Common.{length, ◌-◌, ◌≡◌, ◌≤◌, ◌++◌, List, ℕ, take, Bool}
-use Rattle.std.specs.Str.{IsUtf8}
-use Rattle.text_codes.specs.Shown.{shown}
+use Rattle.std.proofs.Common.{◌-◌, ◌≤◌, length, take}
+use Rattle.text_codes.specs.Gathered.{IsTextOf}
 use Rattle.text_codes.proofs.gathering.gather.Given as goal
 
--- the units so far are shown as the bytes so far
+-- the text of the units so far stands at the front of the block
 abbrev pub invariant-loop-count : goal.invariant-loop-count
 invariant-loop-count l = record {
   inside : l.count ≤ length l.units;
   room : l.len ≤ length l.block;
-  valid : IsUtf8 (take l.len l.block);
-  text : (lines : Bool) (after : List ℕ) →
-      shown lines (take l.count l.units ++ after) ≡ take l.len l.block ++ shown lines after;
+  text : IsTextOf l.lines (take l.count l.units) (take l.len l.block);
 }
 
 abbrev pub decreases-loop-count : goal.decreases-loop-count

@@ -1,9 +1,9 @@
 use Rattle.std.proofs.Common.{refl, sym, ◌∙◌, subst}
 use Rattle.std.proofs.lemmas.Result.{err_from_is_err_and}
 use Rattle.doc_bits.specs.Rules.{Nowhere, LeastOrNone}
-use Rattle.cfb_directory.specs.Reach.{ListsReached, BreaksRoot, BreaksTree, BreaksName, BreaksStorage}
+use Rattle.cfb_directory.specs.Reach.{ListsReached, BreaksRoot, BreaksTree, BreaksName}
 use Rattle.cfb_directory.specs.Order.{ListsStreams}
-use Rattle.cfb_directory.proofs.EntryLemmas.{tree_fault, names_fault, storages_fault}
+use Rattle.cfb_directory.proofs.EntryLemmas.{tree_fault, names_fault}
 use Rattle.cfb_sectors.proofs.TableLemmas.{refused_first, none_nowhere}
 use Rattle.cfb_directory.proofs.entries.Entries.read.Goals as goal
 
@@ -36,29 +36,9 @@ returns-in_err-refuse-3 c =
     (refused_first 9 (BreaksName c.args.file.now c.args.directory.items) c.wrong_names.result
     c.in_err-refuse-3.field-0.0 names c.in_err-refuse-3.ensures))
 
-pub returns-in_err-refuse-4 : goal.returns-in_err-refuse-4
-returns-in_err-refuse-4 c =
-    let root = subst (λ d. LeastOrNone (BreaksRoot c.args.file.now d) c.wrong_root.result) c.deref.ensures.value
-    c.wrong_root.ensures in
-    let tree = subst (λ d. LeastOrNone (BreaksTree c.args.file.now d) c.in_ok-tree.tree) c.deref-3.ensures.value
-    c.in_ok-tree.ensures in
-    let names = subst (λ d. LeastOrNone (BreaksName c.args.file.now d) c.wrong_names.result) c.deref-5.ensures.value
-    c.wrong_names.ensures in
-    let storages = subst (λ d. LeastOrNone (BreaksStorage c.args.file.now d) c.wrong_storages.result)
-    c.deref-7.ensures.value c.wrong_storages.ensures in
-    let p = err_from_is_err_and c.from_residual-in_err-refuse-4.result c.from_residual-in_err-refuse-4.ensures.1 in
-    rw (p.1, p.2)
-    (storages_fault c.args.file.now c.args.directory.items c.in_err-refuse-4.field-0.0
-    (none_nowhere (BreaksRoot c.args.file.now c.args.directory.items) c.wrong_root.result root c.in_ok-refuse.ensures)
-    (none_nowhere (BreaksTree c.args.file.now c.args.directory.items) c.in_ok-tree.tree tree c.in_ok-refuse-2.ensures)
-    (none_nowhere (BreaksName c.args.file.now c.args.directory.items) c.wrong_names.result names
-    c.in_ok-refuse-3.ensures)
-    (refused_first 10 (BreaksStorage c.args.file.now c.args.directory.items) c.wrong_storages.result
-    c.in_err-refuse-4.field-0.0 storages c.in_err-refuse-4.ensures))
-
 pub list_streams-requires-clause-names : goal.list_streams-requires-clause-names
 list_streams-requires-clause-names c =
-    let same = c.deref-5.ensures.value ∙ sym c.deref-9.ensures.value in
+    let same = c.deref-5.ensures.value ∙ sym c.deref-7.ensures.value in
     subst (λ d. Nowhere (BreaksName c.args.file.now d)) same
     (none_nowhere (BreaksName c.args.file.now c.deref-5.result.now) c.wrong_names.result c.wrong_names.ensures
     c.in_ok-refuse-3.ensures)
@@ -78,11 +58,7 @@ invariant_of-result c = record {
   names = subst (λ d. Nowhere (BreaksName c.args.file.now d)) c.deref-5.ensures.value
       (none_nowhere (BreaksName c.args.file.now c.deref-5.result.now) c.wrong_names.result c.wrong_names.ensures
       c.in_ok-refuse-3.ensures);
-  storages = subst (λ d. Nowhere (BreaksStorage c.args.file.now d)) c.deref-7.ensures.value
-      (none_nowhere (BreaksStorage c.args.file.now c.deref-7.result.now) c.wrong_storages.result
-      c.wrong_storages.ensures
-      c.in_ok-refuse-4.ensures);
-  in_order = subst (λ d. ListsStreams c.args.file.now d c.in_ok-streams.streams.items) c.deref-9.ensures.value
+  in_order = subst (λ d. ListsStreams c.args.file.now d c.in_ok-streams.streams.items) c.deref-7.ensures.value
       c.in_ok-streams.ensures.lists;
 }
 
