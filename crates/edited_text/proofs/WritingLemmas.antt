@@ -45,9 +45,10 @@ use Rattle.save_laws.specs.Sessions.{StandInSession}
 use Rattle.save_laws.proofs.SlotLemmas.{IsShownAs, all_shown}
 use Rattle.edited_text.specs.declared.added.Added.{Added}
 use Rattle.edited_text.specs.declared.session_text.SessionText.{SessionText}
+use Rattle.edited_text.specs.declared.old_pieces.OldPieces.{OldPieces}
 use Rattle.edited_text.specs.AddedText.{plan_of, IsAddedFor, added_piece}
 use Rattle.piece_table.specs.Renewals.{renewed_piece, renewed_pieces, HasRoomAt}
-use Rattle.edited_text.specs.WrittenAgain.{SetsMarks, IsRewritten, IsChosen, renewed_units, slot_item}
+use Rattle.edited_text.specs.WrittenAgain.{IsAmong, IsRewritten, IsChosen, renewed_units, slot_item}
 use Rattle.edited_text.specs.WrittenAgain.{place_at, len_for, values_for}
 use Rattle.edited_text.specs.WrittenAgain.{AreWritten, AreChosen, IsWrittenAgain, renewed_values}
 use Rattle.edited_text.specs.SessionText.{HaveFitModifiers, HaveNoModifiers, HaveModifiersWithin}
@@ -211,10 +212,10 @@ units_for : (base number : ℕ) (again : Bool) (piece : TextPiece) (slots : List
 units_for base number true piece slots len = omega (arith, length-map slots slot_item, len)
 units_for base number false piece slots len = refl
 
-chosen_for : (base number : ℕ) (marks again : Bool) (piece : TextPiece) → IsTrue again ↔ IsRewritten base marks piece →
-    IsChosen base marks (place_at again (base + 2 * number)) piece
-chosen_for base number marks true piece is = (λ some. is.0 refl, λ rewritten. refl)
-chosen_for base number marks false piece is =
+chosen_for : (base number : ℕ) (which : OldPieces) (again : Bool) (piece : TextPiece) →
+    IsTrue again ↔ IsRewritten base which piece → IsChosen base which (place_at again (base + 2 * number)) piece
+chosen_for base number which true piece is = (λ some. is.0 refl, λ rewritten. refl)
+chosen_for base number which false piece is =
     (λ some. absurd (grind (arith, some)), λ rewritten. absurd (grind (arith, is.1 rewritten)))
 
 room_for : (base number : ℕ) (again : Bool) (piece : TextPiece) → base + 2 * (number + piece.len) < 2 ^ 32 →
@@ -230,26 +231,26 @@ short_for true items short = short
 short_for false items short = All-nil HasShortSettings
 
 -- a piece that is not written again ends before added text
-kept_end : (base : ℕ) (marks : Bool) (piece : TextPiece) → IsTrue false ↔ IsRewritten base marks piece →
+kept_end : (base : ℕ) (which : OldPieces) (piece : TextPiece) → IsTrue false ↔ IsRewritten base which piece →
     piece_end (bare_piece piece) ≤ base
-kept_end base marks piece is = elim (cases_lt base (piece_end (bare_piece piece))) [
+kept_end base which piece is = elim (cases_lt base (piece_end (bare_piece piece))) [
   | inl behind ↦ absurd (grind (arith, is.1 (inl behind)))
   | inr before ↦ before
 ]
 
 -- what stands for the slots of a piece before it is written again, or stays, stands for them after
-piece_stands : (stream : PagedStream) (added : Added) (items : List Item) (marks again : Bool) (piece : TextPiece)
-    (slots : List Slot) → IsTrue again ↔ IsRewritten added.base marks piece →
+piece_stands : (stream : PagedStream) (added : Added) (items : List Item) (which : OldPieces) (again : Bool)
+    (piece : TextPiece) (slots : List Slot) → IsTrue again ↔ IsRewritten added.base which piece →
     StandInSession stream (plan_of added) (unit_places piece) slots →
     StandInSession stream
     (plan_of (record { base = added.base; items = items ++ values_for again (map slot_item slots) }))
     (unit_places (renewed_piece (place_at again (added.base + 2 * length items)) piece)) slots
-piece_stands stream added items marks true piece slots is stand =
+piece_stands stream added items which true piece slots is stand =
     fresh_stand stream added.base items piece slots (omega (arith, stand.len, length-unit_places piece))
-piece_stands stream added items marks false piece slots is stand =
+piece_stands stream added items which false piece slots is stand =
     kept_stand stream (plan_of added)
     (plan_of (record { base = added.base; items = items ++ values_for false (map slot_item slots) }))
-    (unit_places piece) slots (old_units piece added.base (kept_end added.base marks piece is)) stand
+    (unit_places piece) slots (old_units piece added.base (kept_end added.base which piece is)) stand
 
 -- the units of a piece, which are bounded where they are old, at its new place or where it was
 old_for : (stream : PagedStream) (base number : ℕ) (again : Bool) (piece : TextPiece) (slots : List Slot) →
@@ -272,16 +273,16 @@ total_within before behind piece =
     let units : TextPiece → ℕ = λ p. p.len in
     omega (arith, sum_by-append units before (piece ∷ behind), sum_by-cons units piece behind)
 
-pub written_more : (marks again : Bool) (old : SessionText) (slots : List Slot) (before behind : List TextPiece)
+pub written_more : (which : OldPieces) (again : Bool) (old : SessionText) (slots : List Slot) (before behind : List TextPiece)
     (piece : TextPiece) (items : List Item) (places : List (Option ℕ)) →
     old.pieces.pieces ≡ before ++ (piece ∷ behind) → length slots ≡ total_length old.pieces.pieces →
     old.added.base + 2 * total_length old.pieces.pieces < 2 ^ 32 → All HasShortSettings (map slot_item slots) →
-    IsTrue again ↔ IsRewritten old.added.base marks piece → AreWritten marks old slots before items places →
-    AreWritten marks old slots (before ++ piece ∷ [])
+    IsTrue again ↔ IsRewritten old.added.base which piece → AreWritten which old slots before items places →
+    AreWritten which old slots (before ++ piece ∷ [])
     (items ++ values_for again (slice_range (map slot_item slots) (total_length before)
     (total_length before + piece.len)))
     (places ++ place_at again (old.added.base + 2 * length items) ∷ [])
-written_more marks again old slots before behind piece items places pieces_are counted room short is written =
+written_more which again old slots before behind piece items places pieces_are counted room short is written =
     let base : ℕ = old.added.base in
     let cp : ℕ = total_length before in
     let end : ℕ = cp + piece.len in
@@ -300,8 +301,8 @@ written_more marks again old slots before behind piece items places pieces_are c
     let space : base + 2 * (length items + piece.len) < 2 ^ 32 = omega (arith, few, units, within, counted, room) in
     rw mapped (record {
       chosen =
-          together_joined (IsChosen base marks) places before (place ∷ []) (piece ∷ []) written.chosen
-          (one_together (IsChosen base marks) place piece (chosen_for base (length items) marks again piece is));
+          together_joined (IsChosen base which) places before (place ∷ []) (piece ∷ []) written.chosen
+          (one_together (IsChosen base which) place piece (chosen_for base (length items) which again piece is));
       room =
           together_joined HasRoomAt places before (place ∷ []) (piece ∷ []) written.room
           (one_together HasRoomAt place piece (room_for base (length items) again piece space));
@@ -344,7 +345,7 @@ written_more marks again old slots before behind piece items places pieces_are c
           grown_stands stream one all (values_for again (map slot_item range)) (flat_pieces (renewed_pieces places
           before)) (take cp slots) refl refl (written.stands stream below stand) in
           let back : StandInSession stream (plan_of all) (unit_places (renewed_piece place piece)) range =
-          piece_stands stream old.added items marks again piece range is here in
+          piece_stands stream old.added items which again piece range is here in
           let both = together_joined (IsPlaced (StandsInEither stream (plan_of all)) (IsGivenBy stream (plan_of all)))
           (flat_pieces (renewed_pieces places before)) (take cp slots) (unit_places (renewed_piece place piece)) range
           front back in
@@ -365,19 +366,20 @@ pub told : {A : Type 0} (o : Option A) (P : A → Type 0) (x : A) → o ≡ Some
 told None P x is match = absurd match
 told (Some y) P x is match = subst P (same_Some y x is) match
 
--- a piece that ends before added text is written again where its modifier sets marks, and marks are written
-pub judged_piece : (o : Option TextPiece) (base : ℕ) (marks set : Bool) (bare : Piece) (modifier : Modifier) →
+-- a piece that ends before added text is written again where it is among the old ones that are
+pub judged_piece : (o : Option TextPiece) (base : ℕ) (which : OldPieces) (among : Bool) (bare : Piece)
+    (modifier : Modifier) →
     option_map bare_piece o ≡ Some bare → option_map (λ piece. piece.modifier) o ≡ Some modifier →
-    piece_end bare ≤ base → IsTrue marks → IsTrue set ↔ SetsMarks modifier →
-    MatchOption o ⊥ (λ piece. IsTrue set ↔ IsRewritten base marks piece)
-judged_piece None base marks set bare modifier is has end on sets = absurd (none-some bare is)
-judged_piece (Some piece) base marks set bare modifier is has end on sets =
+    piece_end bare ≤ base → IsTrue among ↔ IsAmong which modifier →
+    MatchOption o ⊥ (λ piece. IsTrue among ↔ IsRewritten base which piece)
+judged_piece None base which among bare modifier is has end told = absurd (none-some bare is)
+judged_piece (Some piece) base which among bare modifier is has end told =
     let same : bare_piece piece ≡ bare = same_Some (bare_piece piece) bare is in
     let its : piece.modifier ≡ modifier = same_Some piece.modifier modifier has in (
-      λ told. inr (on, subst SetsMarks (sym its) (sets.0 told)),
+      λ set. inr (subst (IsAmong which) (sym its) (told.0 set)),
       λ rewritten. elim rewritten [
         | inl behind ↦ absurd (omega (arith, behind, end, ap piece_end same))
-        | inr both ↦ sets.1 (subst SetsMarks its both.1)
+        | inr old ↦ told.1 (subst (IsAmong which) its old)
       ],
     )
 
@@ -395,13 +397,13 @@ some_place true at = refl
 some_place false at = refl
 
 -- a piece more is at its place, where it is written again
-pub chosen_more : (marks again : Bool) (old : SessionText) (before behind : List TextPiece) (piece : TextPiece)
+pub chosen_more : (which : OldPieces) (again : Bool) (old : SessionText) (before behind : List TextPiece) (piece : TextPiece)
     (places : List (Option ℕ)) (at : ℕ) → old.pieces.pieces ≡ before ++ (piece ∷ behind) →
     old.added.base + 2 * total_length old.pieces.pieces < 2 ^ 32 →
-    IsTrue again ↔ IsRewritten old.added.base marks piece → at ≡ old.added.base + 2 * renewed_units places before →
-    length places ≡ length before → AreChosen marks old before places →
-    AreChosen marks old (before ++ piece ∷ []) (places ++ place_at again at ∷ [])
-chosen_more marks again old before behind piece places at pieces_are room is at_is len chosen slots counted short =
+    IsTrue again ↔ IsRewritten old.added.base which piece → at ≡ old.added.base + 2 * renewed_units places before →
+    length places ≡ length before → AreChosen which old before places →
+    AreChosen which old (before ++ piece ∷ []) (places ++ place_at again at ∷ [])
+chosen_more which again old before behind piece places at pieces_are room is at_is len chosen slots counted short =
     let all : List Item = map slot_item slots in
     let items : List Item = renewed_values places before all in
     let written = chosen slots counted short in
@@ -413,14 +415,14 @@ chosen_more marks again old before behind piece places at pieces_are room is at_
     ≡ items ++ values_for again (slice_range all (total_length before) end) =
     renewed_values-push places before (place_at again at) piece all len
     ∙ ap (λ b. items ++ values_for b (slice_range all (total_length before) end)) (some_place again at) in
-    let more = written_more marks again old slots before behind piece items places pieces_are counted room short is
+    let more = written_more which again old slots before behind piece items places pieces_are counted room short is
     written in
-    subst (λ l. AreWritten marks old slots (before ++ piece ∷ []) l (places ++ place_at again at ∷ [])) (sym values)
-    (subst (λ n. AreWritten marks old slots (before ++ piece ∷ []) (items ++ values_for again (slice_range all
+    subst (λ l. AreWritten which old slots (before ++ piece ∷ []) l (places ++ place_at again at ∷ [])) (sym values)
+    (subst (λ n. AreWritten which old slots (before ++ piece ∷ []) (items ++ values_for again (slice_range all
     (total_length before) end)) (places ++ place_at again n ∷ [])) same more)
 
-pub nothing_written : (marks : Bool) (old : SessionText) → AreChosen marks old [] []
-nothing_written marks old slots counted short = record {
+pub nothing_written : (which : OldPieces) (old : SessionText) → AreChosen which old [] []
+nothing_written which old slots counted short = record {
   chosen = record { len = refl; each = λ k place piece here there. absurd (none-some piece there) };
   room = record { len = refl; each = λ k place piece here there. absurd (none-some piece there) };
   units = refl;
@@ -441,13 +443,13 @@ nothing_written marks old slots counted short = record {
 -- ---- the text that is written again
 
 -- a text that was written again
-pub written_text : (document : Document) (marks : Bool) (old new : SessionText) (places : List (Option ℕ)) →
+pub written_text : (document : Document) (which : OldPieces) (old new : SessionText) (places : List (Option ℕ)) →
     total_length old.pieces.pieces ≡ length (whole_text document (ends_of old.ends)) →
-    AreWritten marks old (whole_text document (ends_of old.ends)) old.pieces.pieces new.added.items places →
+    AreWritten which old (whole_text document (ends_of old.ends)) old.pieces.pieces new.added.items places →
     new.pieces.pieces ≡ renewed_pieces places old.pieces.pieces → new.ends ≡ old.ends →
     new.added.base ≡ old.added.base → new.sections.items ≡ old.sections.items →
-    IsWrittenAgain document marks old new
-written_text document marks old new places counted written pieces ends base sections =
+    IsWrittenAgain document which old new
+written_text document which old new places counted written pieces ends base sections =
     let slots : List Slot = whole_text document (ends_of old.ends) in
     let units = written.units in
     let all : take (total_length old.pieces.pieces) slots ≡ slots =

@@ -1,11 +1,12 @@
--- A text that is written again before it is saved: pieces in added text, and old ones that give marks a style or
--- settings, get fresh added units, in the order of the text and with the settings that the document has now. No piece
--- is cut and none is joined.
+-- A text that is written again before it is saved: pieces in added text, and old ones that have a modifier, or one that
+-- gives marks a style or settings, get fresh added units, in the order of the text and with the settings that the
+-- document has now. No piece is cut and none is joined.
 use Rattle.std.specs.Prelude.{◌≡◌, ◌≢◌, ◌⊎◌, ◌↔◌, ℕ, ◌+◌, ◌<◌, ◌≤◌, List, [], ◌∷◌, length, map, take, All, Bool}
 use Rattle.std.specs.Prelude.{◌++◌, drop, is_some, Option, Some, None, IsSome, IsTrue, if◌then◌else◌}
 use Rattle.std.specs.FinMap.{empty}
 use Rattle.doc_bits.specs.Together.{AreTogether}
 use Rattle.prop_map.specs.declared.modifiers.Modifier.{Modifier}
+use Rattle.prop_map.specs.Modifiers.{no_modifier}
 use Rattle.piece_table.specs.Piece.{TextPiece, bare_piece, piece_end, flat_pieces, total_length}
 use Rattle.piece_table.specs.Renewals.{renewed_pieces, AreNewPlaces}
 use Rattle.plain_doc.specs.declared.item.Item.{Item}
@@ -19,6 +20,8 @@ use Rattle.edited_text.specs.AddedText.{plan_of}
 use Rattle.edited_text.specs.SessionText.{IsSessionText, HaveFitModifiers, HaveNoModifiers, HaveModifiersWithin}
 use Rattle.edited_text.specs.OldUnits.{IsOldBounded, OldUnitsAreBounded}
 use Rattle.edited_text.specs.declared.session_text.SessionText.{SessionText}
+use Rattle.edited_text.specs.declared.old_pieces.OldPieces.{OldPieces}
+use Rattle.edited_text.specs.declared.old_pieces.OldPieces.TheVariants.{Kept, Marking, Modified}
 
 -- ---- what is written
 
@@ -26,13 +29,19 @@ use Rattle.edited_text.specs.declared.session_text.SessionText.{SessionText}
 abbrev pub SetsMarks : Modifier → Type 0
 SetsMarks modifier = IsSome modifier.istd ⊎ (modifier.pap ≢ empty)
 
--- a piece is written again where it ends behind the base, in added text; with marks, also where its modifier sets marks
-abbrev pub IsRewritten : ℕ → Bool → TextPiece → Type 0
-IsRewritten base marks piece = (base < piece_end (bare_piece piece)) ⊎ (IsTrue marks × SetsMarks piece.modifier)
+-- old pieces with this modifier are written again
+abbrev pub IsAmong : OldPieces → Modifier → Type 0
+IsAmong Kept modifier = ⊥
+IsAmong Marking modifier = SetsMarks modifier
+IsAmong Modified modifier = modifier ≢ no_modifier
+
+-- a piece is written again where it ends behind the base, in added text, or is among the old ones that are
+abbrev pub IsRewritten : ℕ → OldPieces → TextPiece → Type 0
+IsRewritten base which piece = (base < piece_end (bare_piece piece)) ⊎ IsAmong which piece.modifier
 
 -- it has a new place then, and no other piece has
-abbrev pub IsChosen : ℕ → Bool → Option ℕ → TextPiece → Type 0
-IsChosen base marks place piece = IsSome place ↔ IsRewritten base marks piece
+abbrev pub IsChosen : ℕ → OldPieces → Option ℕ → TextPiece → Type 0
+IsChosen base which place piece = IsSome place ↔ IsRewritten base which piece
 
 -- the units of the pieces at new places
 abbrev pub renewed_units : List (Option ℕ) → List TextPiece → ℕ
@@ -42,9 +51,9 @@ renewed_units (None ∷ places) (piece ∷ pieces) = renewed_units places pieces
 renewed_units (Some at ∷ places) (piece ∷ pieces) = piece.len + renewed_units places pieces
 
 -- the pieces that are written again stand at new places, and nothing else is added
-pub record HasWritten (marks : Bool) (old new : SessionText) : Type 0 where
+pub record HasWritten (which : OldPieces) (old new : SessionText) : Type 0 where
   pub places : List (Option ℕ)
-  pub chosen : AreTogether (IsChosen old.added.base marks) places old.pieces.pieces
+  pub chosen : AreTogether (IsChosen old.added.base which) places old.pieces.pieces
   pub pieces : new.pieces.pieces ≡ renewed_pieces places old.pieces.pieces
   pub units : length new.added.items ≡ renewed_units places old.pieces.pieces
 
@@ -55,7 +64,7 @@ pub record IsSameBeside (old new : SessionText) : Type 0 where
   pub sections : new.sections.items ≡ old.sections.items
 
 -- it is the text of the document, as before, and no modifier is one that was not there
-pub record IsWrittenAgain (document : Document) (marks : Bool) (old new : SessionText) : Type 0 where
+pub record IsWrittenAgain (document : Document) (which : OldPieces) (old new : SessionText) : Type 0 where
   pub text : (stream : PagedStream) → IsSessionText stream document old → IsSessionText stream document new
   pub bounded : (stream : PagedStream) → OldUnitsAreBounded stream document old → OldUnitsAreBounded stream document new
   pub fit : HaveFitModifiers old.pieces.pieces → HaveFitModifiers new.pieces.pieces
@@ -63,7 +72,7 @@ pub record IsWrittenAgain (document : Document) (marks : Bool) (old new : Sessio
   pub printed :
       (most : ℕ) → HaveModifiersWithin most old.pieces.pieces → HaveModifiersWithin most new.pieces.pieces
   pub count : length new.pieces.pieces ≡ length old.pieces.pieces
-  pub pieces : HasWritten marks old new
+  pub pieces : HasWritten which old new
   pub few : length new.added.items ≤ total_length old.pieces.pieces
   pub beside : IsSameBeside old new
 
@@ -94,9 +103,9 @@ renewed_values (place ∷ places) (piece ∷ pieces) values =
 
 -- the first pieces are written again where they are to be, and stand for the slots that they stood for
 pub record AreWritten
-    (marks : Bool) (old : SessionText) (slots : List Slot) (pieces : List TextPiece) (items : List Item)
+    (which : OldPieces) (old : SessionText) (slots : List Slot) (pieces : List TextPiece) (items : List Item)
     (places : List (Option ℕ)) : Type 0 where
-  pub chosen : AreTogether (IsChosen old.added.base marks) places pieces
+  pub chosen : AreTogether (IsChosen old.added.base which) places pieces
   pub room : AreNewPlaces places pieces
   pub units : length items ≡ renewed_units places pieces
   pub short : All HasShortSettings items
@@ -112,7 +121,7 @@ pub record AreWritten
       (flat_pieces (renewed_pieces places pieces)) (take (total_length pieces) slots)
 
 -- whatever text the pieces are of, its items at their new places are written so
-abbrev pub AreChosen : Bool → SessionText → List TextPiece → List (Option ℕ) → Type 0
-AreChosen marks old pieces places =
+abbrev pub AreChosen : OldPieces → SessionText → List TextPiece → List (Option ℕ) → Type 0
+AreChosen which old pieces places =
     (slots : List Slot) → length slots ≡ total_length old.pieces.pieces → All HasShortSettings (map slot_item slots) →
-    AreWritten marks old slots pieces (renewed_values places pieces (map slot_item slots)) places
+    AreWritten which old slots pieces (renewed_values places pieces (map slot_item slots)) places

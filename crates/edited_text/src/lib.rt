@@ -5,6 +5,7 @@
 mod added;
 mod blocks;
 mod gathered;
+mod old_pieces;
 mod picked;
 mod sections;
 mod session_laws;
@@ -15,6 +16,7 @@ mod text_changes;
 mod writing;
 
 pub use added::Added;
+pub use old_pieces::OldPieces;
 pub use session_laws::{
     blocks_stand, bookmarks_stay, commands_are_steps, heads_splice, modifiers_act, notes_splice,
     one_section_is_set, one_text_splices, pieces_are_few, saved_sections_stand, saved_texts_stand,

@@ -5,19 +5,19 @@ ghost use Rattle.piece_table.specs.Piece.{total_length};
 ghost use Rattle.plain_doc.specs.Sound.{IsSound};
 ghost use Rattle.save_laws.specs.Slots.{whole_text};
 ghost use Rattle.save_laws.specs.Ends.{ends_of};
-ghost use Rattle.edited_text.specs.WrittenAgain.{SetsMarks, IsRewritten, IsWrittenAgain, AreChosen, slot_item};
+ghost use Rattle.edited_text.specs.WrittenAgain.{IsRewritten, IsWrittenAgain, AreChosen, slot_item};
 ghost use Rattle.edited_text.specs.WrittenAgain.{place_at, len_for, renewed_values};
 ghost use Rattle.edited_text.specs.Picked.{whole_items};
 ghost use Rattle.piece_table.specs.Renewals.{renewed_pieces, AreNewPlaces};
 
 use crate::added::Added;
 use crate::gathered::Gathered;
+use crate::old_pieces::OldPieces;
 use crate::picked::{NewPlaces, WholeText};
 use crate::session_text::SessionText;
 use doc_bits::Memory;
 use doc_columns::{ColumnDocument, Columns};
 use piece_table::PieceWalk;
-use prop_map::Modifier;
 use save_laws::Ends;
 use std::alloc::Global;
 
@@ -33,36 +33,33 @@ fn behind_main(alloc: Global, document: &ColumnDocument, ends: Ends) -> Result<C
     Ok(all.finish())
 }
 
-/// Whether a modifier gives marks a style or settings.
-fn sets_marks(modifier: &Modifier) -> bool
-    ensures { IsTrue result ↔ SetsMarks modifier.now }
-{
-    modifier.istd.is_some() || !modifier.pap.is_empty()
-}
-
-/// Whether a piece is written again: it ends in added text, from a byte on, or, with marks, its modifier sets marks.
-fn is_rewritten(walk: &mut PieceWalk<'_>, number: usize, base: u32, marks: bool) -> bool
+/// Whether a piece is written again: it ends in added text, from a byte on, or is among the old pieces that are.
+fn is_rewritten(walk: &mut PieceWalk<'_>, number: usize, base: u32, which: OldPieces) -> bool
     requires { number < length walk.old }
     ensures again { MatchOption (slice_get walk.old number) ⊥
-        (λ piece. IsTrue result ↔ IsRewritten base marks piece) }
+        (λ piece. IsTrue result ↔ IsRewritten base which piece) }
     ensures walk { walk.new ≡ walk.old }
 {
     let piece = walk.piece(number);
     let modifier = walk.modifier(number);
-    piece.end() > base as u64 || marks && sets_marks(modifier)
+    piece.end() > base as u64 || which.include(modifier)
 }
 
 /// Beside each piece of a text its place in fresh added text, where it is written again.
-fn new_places(alloc: Global, text: &SessionText, marks: bool) -> Result<Vec<Option<u32>>, Memory>
+fn new_places(
+    alloc: Global,
+    text: &SessionText,
+    which: OldPieces,
+) -> Result<Vec<Option<u32>>, Memory>
     requires { text.now.added.base + 2 * total_length text.now.pieces.pieces < 2 ^ 32 }
-    ensures { IfOk result (λ places. AreChosen marks text.now text.now.pieces.pieces places.items) }
+    ensures { IfOk result (λ places. AreChosen which text.now text.now.pieces.pieces places.items) }
 {
     let mut places = Vec::new(alloc);
     let mut walk = text.pieces.walk();
     let mut at = text.added.base;
     for number in 0..text.pieces.len() {
         let piece = walk.piece(number);
-        let again = is_rewritten(&mut walk, number, text.added.base, marks);
+        let again = is_rewritten(&mut walk, number, text.added.base, which);
         let (place, end) = place_for(again, at, piece.len);
         places.push(place)?;
         at = end;
@@ -85,22 +82,21 @@ fn place_for(again: bool, at: u32, len: u32) -> (Option<u32>, u32)
 
 impl SessionText {
     /// The text of the document with its added pieces written again, in the order of the text, with the settings that
-    /// the document has now and without modifiers; with `marks`, also the old pieces whose modifier gives marks a style
-    /// or settings.
+    /// the document has now and without modifiers, and the old pieces of these.
     pub fn written_again(
         &self,
         alloc: Global,
         document: &ColumnDocument,
-        marks: bool,
+        which: OldPieces,
     ) -> Result<SessionText, Memory>
         requires sound { IsSound document.now }
         requires count { total_length self.now.pieces.pieces
             ≡ length (whole_text document.now (ends_of self.now.ends)) }
         requires room { self.now.added.base + 2 * total_length self.now.pieces.pieces < 2 ^ 32 }
-        ensures { IfOk result (λ text. IsWrittenAgain document.now marks self.now text) }
+        ensures { IfOk result (λ text. IsWrittenAgain document.now which self.now text) }
     {
         let behind = behind_main(alloc, document, self.ends)?;
-        let made = self.written_over(alloc, document, &behind, marks);
+        let made = self.written_over(alloc, document, &behind, which);
         drop(behind);
         made
     }
@@ -111,7 +107,7 @@ impl SessionText {
         alloc: Global,
         document: &ColumnDocument,
         behind: &Columns,
-        marks: bool,
+        which: OldPieces,
     ) -> Result<SessionText, Memory>
         requires sound { IsSound document.now }
         requires count { total_length self.now.pieces.pieces
@@ -119,13 +115,13 @@ impl SessionText {
         requires room { self.now.added.base + 2 * total_length self.now.pieces.pieces < 2 ^ 32 }
         requires behind { document.now.main ++ behind.now
             ≡ map slot_item (whole_text document.now (ends_of self.now.ends)) }
-        ensures { IfOk result (λ text. IsWrittenAgain document.now marks self.now text) }
+        ensures { IfOk result (λ text. IsWrittenAgain document.now which self.now text) }
     {
         let whole = WholeText {
             main: &document.main,
             behind,
         };
-        let places = new_places(alloc, self, marks)?;
+        let places = new_places(alloc, self, which)?;
         let made = self.renewed_at(alloc, &whole, &places)?;
         Ok(made)
     }

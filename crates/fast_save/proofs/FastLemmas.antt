@@ -1,6 +1,7 @@
 -- The file of a fast save, and the session after it.
 use Rattle.std.specs.Prelude.{ℕ, List, min}
-use Rattle.std.proofs.Common.{◌≡◌, ◌∙◌, ◌+◌, ◌-◌, ◌*◌, ◌/◌, ◌^◌, ◌≤◌, [], refl, sym, ap, subst, true, length}
+use Rattle.std.proofs.Common.{◌≡◌, ◌∙◌, ◌⊎◌, ◌+◌, ◌-◌, ◌*◌, ◌/◌, ◌^◌, ◌≤◌, [], inl, inr, refl, sym, ap, subst, true}
+use Rattle.std.proofs.Common.{length}
 use Rattle.std.proofs.Common.{arith}
 use Rattle.cfb_sectors.specs.Header.{sector_count}
 use Rattle.cfb_streams.specs.Names.{wd_name}
@@ -31,10 +32,10 @@ use Rattle.save_laws.proofs.SavedLemmas.{Save as SavedCopy, part_is}
 use Rattle.save_bounds.specs.SharedPages.{page_bound}
 use Rattle.append_save.specs.declared.fault.AppendFault.TheVariants.{Sixteenth, TooLarge}
 use Rattle.append_save.specs.Saves.{FastSave, plan_of}
-use Rattle.append_save.specs.Appended.{old_wd, old_stream, fast_fib, fast_wd, fast_table}
+use Rattle.append_save.specs.Appended.{old_wd, old_stream, fast_fib, fast_wd, fast_table, change_of, table_name_of}
 use Rattle.append_save.specs.Appended.{fast_bin_table, fast_saved_text}
 use Rattle.append_save.specs.FastByRuns.{AreBoundedBefore}
-use Rattle.append_save.specs.Answers.{IsAppended, IsAppendFault}
+use Rattle.append_save.specs.Answers.{IsAnew, IsAppended, IsAppendFault, IsInPlace}
 use Rattle.append_save.proofs.FastByRuns.{fast_saves_are_bounded}
 use Rattle.append_save.proofs.ReadyLemmas.{Ready}
 use Rattle.append_save.proofs.SavedInPlace.{stays}
@@ -47,7 +48,7 @@ use Rattle.fast_save.specs.Ledgers.{modifier_bytes, sector_bound, after_fast}
 use Rattle.fast_save.specs.Session.{IsBoundedFile, IsSession, IsCounted, saved_stream, bin_length}
 use Rattle.fast_save.specs.Started.{IsOpenFile}
 use Rattle.fast_save.specs.Fast.{CanSaveFast, IsFastFile, AreFastParts, IsSavedFast, IsBehind, IsWithin, counts_over}
-use Rattle.fast_save.specs.Fast.{KeepsSectors, save_in, save_counts}
+use Rattle.fast_save.specs.Fast.{KeepsSectors, KeepsOtherSectors, IsInOwnSectors, save_in, save_counts}
 use Rattle.fast_save.proofs.BoundedLemmas.{same_ends}
 use Rattle.fast_save.proofs.CanLemmas.{small, wd_is, old_stream_is, can_append, counted}
 use Rattle.fast_save.proofs.CountLemmas.{no_pages}
@@ -240,6 +241,22 @@ module _ {old : List ℕ} (document : Document) (parts : SessionParts) (can : Ca
         subst (λ (wd : List ℕ). StaysInPlace wd_name (fib_end wd) old file wd) same
         (stays ready file made (omega (arith, ap length same, long)))
 
+    in_own_sectors : (IsAnew save made.clx file made.contents ⊎ IsInPlace save made.clx file made.contents) →
+        4096 ≤ length (old_wd save) → IsInOwnSectors old file
+    in_own_sectors (inl anew) long = absurd (omega (arith, anew.short, long))
+    in_own_sectors (inr place) long = record {
+      contents = save.contents;
+      change = change_of save made.clx;
+      table = table_name_of save;
+      saved = place.in_place;
+    }
+
+    -- the other streams stay in theirs
+    others : KeepsOtherSectors old file can.session.held.parts.text.wd
+    others long =
+        let same = wd_is document parts can formed items pieces in
+        in_own_sectors made.written (omega (arith, ap length same, long))
+
     pub fast_file : IsFastFile can file
     fast_file =
         record {
@@ -252,6 +269,7 @@ module _ {old : List ℕ} (document : Document) (parts : SessionParts) (can : Ca
           within = within;
           bounded = bounded;
           in_place = in_place;
+          others = others;
         }
 
 -- ---- the session after it
@@ -358,4 +376,5 @@ module _ {old : List ℕ} (document : Document) (parts : SessionParts) (can : Ca
     within = made.within;
     bounded = record { saved = can.session.saved; held = can.session.held; stays = made.bounded };
     in_place = made.in_place;
+    others = made.others;
   }

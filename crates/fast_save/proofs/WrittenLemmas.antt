@@ -1,8 +1,8 @@
 -- A session can be saved with its text written again: the new text is one of its document, and is counted.
 use Rattle.std.specs.Prelude.{MatchOption}
 use Rattle.std.specs.Option.{option_map, unwrap_or}
-use Rattle.std.proofs.Common.{◌≡◌, ◌∙◌, refl, sym, ap, subst, inl, inr, ℕ, ◌+◌, ◌*◌, ◌^◌, ◌<◌, ◌≤◌, Bool, true}
-use Rattle.std.proofs.Common.{false, List, length, Option, Some, None, arith}
+use Rattle.std.proofs.Common.{◌≡◌, ◌∙◌, refl, sym, ap, subst, inl, inr, ℕ, ◌+◌, ◌*◌, ◌^◌, ◌<◌, ◌≤◌}
+use Rattle.std.proofs.Common.{List, length, Option, Some, None, arith}
 use Rattle.cfb_streams.specs.Names.{wd_name}
 use Rattle.fib_form.specs.FibFields.{fib_fields}
 use Rattle.fkp_pages.specs.declared.kind.PageKind.TheVariants.{Papx}
@@ -16,6 +16,8 @@ use Rattle.append_save.specs.AddedPages.{HasParagraphBins, HavePages}
 use Rattle.append_save.proofs.ReadyLemmas.{Ready, paragraphs_within, paragraphs_named, old_table_is}
 use Rattle.edited_text.specs.SessionText.{ArePlannedSections, unwritten_count}
 use Rattle.edited_text.specs.WrittenAgain.{IsWrittenAgain}
+use Rattle.edited_text.specs.declared.old_pieces.OldPieces.{OldPieces}
+use Rattle.edited_text.specs.declared.old_pieces.OldPieces.TheVariants.{Kept, Marking, Modified}
 use Rattle.edited_text.specs.declared.session_text.SessionText.{SessionText}
 use Rattle.edited_text.proofs.GrowLemmas.{sound_count, whole_length}
 use Rattle.edited_text.proofs.StartLemmas.{text_counted}
@@ -24,16 +26,17 @@ use Rattle.fast_save.specs.declared.parts.SessionParts.{SessionParts}
 use Rattle.fast_save.specs.Session.{IsSession, saved_stream}
 use Rattle.fast_save.specs.Started.{IsReadFile}
 use Rattle.fast_save.specs.Fast.{IsCountedText, CanSaveFast, save_in}
-use Rattle.fast_save.specs.Written.{with_text, IsFitting, IsTooMuch, IsTextToWrite, CanWrite, pieces_after}
+use Rattle.fast_save.specs.Written.{with_text, IsFitting, IsTooMuch, IsTextToWrite, IsTextOfFewer, CanWrite}
+use Rattle.fast_save.specs.Written.{pieces_after}
 use Rattle.fast_save.proofs.CanLemmas.{can_append}
 use Rattle.fast_save.proofs.OpenLemmas.{named_short}
 
 -- ---- the session with another text
 
-session_again : (file : List ℕ) (document : Document) (parts : SessionParts) (marks : Bool) (text : SessionText) →
-    IsSession file document parts → IsWrittenAgain document marks parts.text text →
+session_again : (file : List ℕ) (document : Document) (parts : SessionParts) (which : OldPieces) (text : SessionText) →
+    IsSession file document parts → IsWrittenAgain document which parts.text text →
     IsSession file document (with_text parts text)
-session_again file document parts marks text session again = record {
+session_again file document parts which text session again = record {
   bytes = session.bytes;
   accepted = session.accepted;
   saved = session.saved;
@@ -51,10 +54,10 @@ session_again file document parts marks text session again = record {
   contents = session.contents;
 }
 
-counted_again : (file : List ℕ) (document : Document) (parts : SessionParts) (counts : Counts) (marks : Bool)
-    (text : SessionText) → IsCountedText file parts counts → IsFitting document parts counts marks text →
+counted_again : (file : List ℕ) (document : Document) (parts : SessionParts) (counts : Counts) (which : OldPieces)
+    (text : SessionText) → IsCountedText file parts counts → IsFitting document parts counts which text →
     IsCountedText file (with_text parts text) counts
-counted_again file document parts counts marks text counted fits =
+counted_again file document parts counts which text counted fits =
     let count = fits.again.count in
     let pieces = counted.pieces in
     record {
@@ -81,9 +84,11 @@ pub chosen_session : (file : List ℕ) (document : Document) (parts : SessionPar
     IsTextToWrite document parts counts chosen → IsSession file document (with_text parts (unwrap_or chosen parts.text))
 chosen_session file document parts counts None can is = can.session
 chosen_session file document parts counts (Some text) can (inl fits) =
-    session_again file document parts true text can.session fits.again
-chosen_session file document parts counts (Some text) can (inr (much, fits)) =
-    session_again file document parts false text can.session fits.again
+    session_again file document parts Modified text can.session fits.again
+chosen_session file document parts counts (Some text) can (inr (much, inl fits)) =
+    session_again file document parts Marking text can.session fits.again
+chosen_session file document parts counts (Some text) can (inr (much, inr (more, fits))) =
+    session_again file document parts Kept text can.session fits.again
 
 pub chosen_counted : (file : List ℕ) (document : Document) (parts : SessionParts) (counts : Counts)
     (chosen : Option SessionText) → (can : CanWrite file document parts counts) →
@@ -91,9 +96,11 @@ pub chosen_counted : (file : List ℕ) (document : Document) (parts : SessionPar
     IsCountedText file (with_text parts (unwrap_or chosen parts.text)) counts
 chosen_counted file document parts counts None can is = can.counted
 chosen_counted file document parts counts (Some text) can (inl fits) =
-    counted_again file document parts counts true text can.counted fits
-chosen_counted file document parts counts (Some text) can (inr (much, fits)) =
-    counted_again file document parts counts false text can.counted fits
+    counted_again file document parts counts Modified text can.counted fits
+chosen_counted file document parts counts (Some text) can (inr (much, inl fits)) =
+    counted_again file document parts counts Marking text can.counted fits
+chosen_counted file document parts counts (Some text) can (inr (much, inr (more, fits))) =
+    counted_again file document parts counts Kept text can.counted fits
 
 -- the session can be saved with it
 abbrev pub can_written : (file : List ℕ) (document : Document) (parts : SessionParts) (counts : Counts)
@@ -108,11 +115,18 @@ can_written file document parts counts chosen can is = record {
 
 -- added text alone is tried where both take too much
 pub next_text : (document : Document) (parts : SessionParts) (counts : Counts) (text : Option SessionText) →
-    IsTooMuch document parts counts true →
-    MatchOption text (IsTooMuch document parts counts false) (IsFitting document parts counts false) →
-    IsTextToWrite document parts counts text
+    IsTooMuch document parts counts Marking →
+    MatchOption text (IsTooMuch document parts counts Kept) (IsFitting document parts counts Kept) →
+    IsTextOfFewer document parts counts text
 next_text document parts counts None much is = (much, is)
 next_text document parts counts (Some text) much is = inr (much, is)
+
+-- fewer old pieces are tried where those that have a modifier take too much
+pub fewer_text : (document : Document) (parts : SessionParts) (counts : Counts) (text : Option SessionText) →
+    IsTooMuch document parts counts Modified → IsTextOfFewer document parts counts text →
+    IsTextToWrite document parts counts text
+fewer_text document parts counts None much is = (much, is)
+fewer_text document parts counts (Some text) much is = inr (much, is)
 
 -- the pieces in place of the old ones are those of the text that was chosen
 pub pieces_chosen : (chosen : Option SessionText) (new : Option PieceTable) (old : SessionText) →
@@ -180,10 +194,10 @@ bins_there file document parts can formed items pieces =
     }
 
 -- the new items can stand on pages
-pub pages_there : (file : List ℕ) (document : Document) (parts : SessionParts) (marks : Bool) (text : SessionText) →
-    IsSession file document parts → IsWrittenAgain document marks parts.text text →
+pub pages_there : (file : List ℕ) (document : Document) (parts : SessionParts) (which : OldPieces) (text : SessionText) →
+    IsSession file document parts → IsWrittenAgain document which parts.text text →
     HavePages text.added.base text.added.items
-pages_there file document parts marks text session again =
+pages_there file document parts which text session again =
     let few = again.few in
     record {
       short = (again.text (saved_stream session.held) session.text).short;

@@ -3,6 +3,9 @@ use Rattle.std.specs.Prelude.{◌≡◌, ℕ, ◌+◌, ◌*◌, ◌<◌, ◌≤�
 use Rattle.doc_bits.specs.Number.{AreBytes}
 use Rattle.cfb_sectors.specs.Header.{sector_count}
 use Rattle.cfb_streams.specs.Names.{wd_name}
+use Rattle.cfb_streams.specs.Contents.{Contents}
+use Rattle.cfb_append.specs.Change.{StreamChange}
+use Rattle.cfb_append.specs.Contract.{IsSavedInPlace}
 use Rattle.cfb_append.specs.InPlace.{StaysInPlace}
 use Rattle.cfb_layout.specs.Counts.{most_sectors}
 use Rattle.cfb_layout.specs.Sectors.{units_for}
@@ -169,6 +172,17 @@ pub record IsWithin (counts : Counts) (table_bytes : ℕ) (file wd stream : List
 abbrev pub KeepsSectors : List ℕ → List ℕ → List ℕ → Type 0
 KeepsSectors old new wd = 4096 ≤ length wd → StaysInPlace wd_name (fib_end wd) old new wd
 
+-- where that stream has sectors of its own, the file is the old one in whose own sectors it grew and the table stream was
+-- written anew: each sector that is none of theirs, of the FAT's, of the directory's and of the mini FAT's is the old one
+pub record IsInOwnSectors (old new : List ℕ) : Type 0 where
+  pub contents : Contents
+  pub change : StreamChange
+  pub table : List ℕ
+  pub saved : IsSavedInPlace old new contents change table
+
+abbrev pub KeepsOtherSectors : List ℕ → List ℕ → List ℕ → Type 0
+KeepsOtherSectors old new wd = 4096 ≤ length wd → IsInOwnSectors old new
+
 -- the file of a fast save: the document is saved behind the old WordDocument, by the pieces that are there, with one
 -- quick save more, and within what is reckoned over the old file
 pub record IsFastFile {old : List ℕ} {document : Document} {parts : SessionParts}
@@ -182,6 +196,7 @@ pub record IsFastFile {old : List ℕ} {document : Document} {parts : SessionPar
       held.holds.parts.text.wd held.holds.parts.text.table
   pub bounded : IsBoundedFile can.session.held → IsBoundedFile held.holds
   pub in_place : KeepsSectors old file can.session.held.parts.text.wd
+  pub others : KeepsOtherSectors old file can.session.held.parts.text.wd
 
 -- ---- the session after it
 
@@ -193,7 +208,7 @@ pub record StaysBounded (old : List ℕ) {new : List ℕ} {document : Document} 
   pub stays : IsBoundedFile held → IsBoundedFile holds
 
 -- the counts did not refuse it; the file is accepted and holds the document, behind the old WordDocument, and is within
--- what is reckoned over the old file; WordDocument stays in its sectors; there is one quick save more, as its FIB says,
+-- what is reckoned over the old file; WordDocument stays in its sectors, and so do the other streams; there is one quick save more, as its FIB says,
 -- and the counts are those after a fast save
 pub record IsSavedFast (old new : SessionView) : Type 0 where
   pub judged : IsJudged old.quick_saves old.counts (length (table_stream old.document))
@@ -211,3 +226,4 @@ pub record IsSavedFast (old new : SessionView) : Type 0 where
       holds.parts.text.wd holds.parts.text.table
   pub bounded : StaysBounded old.bytes holds
   pub in_place : KeepsSectors old.bytes new.bytes before.text.wd
+  pub others : KeepsOtherSectors old.bytes new.bytes before.text.wd

@@ -1,12 +1,14 @@
 -- The text that a fast save writes: one that is written again, where it takes no more than is reckoned, or the text as
 -- it was added.
-use Rattle.std.specs.Prelude.{◌≡◌, ◌⊎◌, ℕ, ◌+◌, ◌*◌, ◌≤◌, List, length, Bool, true, false, Option, Some, None}
+use Rattle.std.specs.Prelude.{◌≡◌, ◌⊎◌, ℕ, ◌+◌, ◌*◌, ◌≤◌, List, length, Option, Some, None}
 use Rattle.std.specs.Option.{option_map, unwrap_or}
 use Rattle.cfb_layout.specs.Sectors.{units_for}
 use Rattle.piece_table.specs.Piece.{PieceTable, TextPiece}
 use Rattle.plain_doc.specs.declared.document.Document.{Document}
 use Rattle.full_save.specs.WordDocument.{table_stream}
 use Rattle.edited_text.specs.WrittenAgain.{IsWrittenAgain}
+use Rattle.edited_text.specs.declared.old_pieces.OldPieces.{OldPieces}
+use Rattle.edited_text.specs.declared.old_pieces.OldPieces.TheVariants.{Kept, Marking, Modified}
 use Rattle.edited_text.specs.declared.session_text.SessionText.{SessionText}
 use Rattle.fast_save.specs.declared.ledgers.Counts.{Counts}
 use Rattle.fast_save.specs.declared.parts.SessionParts.{SessionParts}
@@ -26,25 +28,33 @@ pub record HasFewPages (parts : SessionParts) (counts : Counts) : Type 0 where
       ≤ 2 * counts.units + 512 * counts.runs + 1536
 
 -- the text is written again, and takes no more than is reckoned
-pub record IsFitting (document : Document) (parts : SessionParts) (counts : Counts) (marks : Bool)
+pub record IsFitting (document : Document) (parts : SessionParts) (counts : Counts) (which : OldPieces)
     (text : SessionText) : Type 0 where
-  pub again : IsWrittenAgain document marks parts.text text
+  pub again : IsWrittenAgain document which parts.text text
   pub few : HasFewPages (with_text parts text) counts
 
 -- or it takes more
-pub record IsTooMuch (document : Document) (parts : SessionParts) (counts : Counts) (marks : Bool) : Type 0 where
+pub record IsTooMuch (document : Document) (parts : SessionParts) (counts : Counts) (which : OldPieces) : Type 0 where
   pub text : SessionText
-  pub again : IsWrittenAgain document marks parts.text text
+  pub again : IsWrittenAgain document which parts.text text
   pub much : ¬ HasFewPages (with_text parts text) counts
 
 -- added text and old pieces that set marks are written again; where that takes more than is reckoned, added text alone;
 -- and where that does, too, the text stays as it was added
+abbrev pub IsTextOfFewer : Document → SessionParts → Counts → Option SessionText → Type 0
+IsTextOfFewer document parts counts None =
+    IsTooMuch document parts counts Marking × IsTooMuch document parts counts Kept
+IsTextOfFewer document parts counts (Some text) =
+    IsFitting document parts counts Marking text
+    ⊎ (IsTooMuch document parts counts Marking × IsFitting document parts counts Kept text)
+
+-- added text and old pieces that have a modifier are written again, or fewer where that takes more than is reckoned
 abbrev pub IsTextToWrite : Document → SessionParts → Counts → Option SessionText → Type 0
 IsTextToWrite document parts counts None =
-    IsTooMuch document parts counts true × IsTooMuch document parts counts false
+    IsTooMuch document parts counts Modified × IsTextOfFewer document parts counts None
 IsTextToWrite document parts counts (Some text) =
-    IsFitting document parts counts true text
-    ⊎ (IsTooMuch document parts counts true × IsFitting document parts counts false text)
+    IsFitting document parts counts Modified text
+    ⊎ (IsTooMuch document parts counts Modified × IsTextOfFewer document parts counts (Some text))
 
 -- a session on a file, whose counts, which are these, do not refuse a fast save
 pub record CanWrite (file : List ℕ) (document : Document) (parts : SessionParts) (counts : Counts) : Type 0 where

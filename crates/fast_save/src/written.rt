@@ -2,8 +2,8 @@
 ghost use Rattle.std.specs.Prelude.{◌≡◌, ◌↔◌, ◌+◌, ◌*◌, ◌≤◌, IsTrue, IfOk, MatchResult, MatchOption, length};
 ghost use Rattle.append_save.specs.AddedPages.{HasParagraphBins, HavePages};
 ghost use Rattle.fast_save.specs.declared.fast.FastFault.TheVariants.{Memory as NoMemory};
-ghost use Rattle.fast_save.specs.Written.{CanWrite, HasFewPages, IsFitting, IsTooMuch, IsTextToWrite, IsWrittenFile};
-ghost use Rattle.fast_save.specs.Written.{with_text, pieces_after};
+ghost use Rattle.fast_save.specs.Written.{CanWrite, HasFewPages, IsFitting, IsTooMuch, IsTextToWrite, IsTextOfFewer};
+ghost use Rattle.fast_save.specs.Written.{IsWrittenFile, with_text, pieces_after};
 
 use crate::fast::{FastFault, appended, text_is_formed};
 use crate::ledgers::Counts;
@@ -11,7 +11,7 @@ use crate::parts::SessionParts;
 use append_save::{EditedText, SavedFile, added_pages};
 use doc_bits::{Bytes, Memory};
 use doc_columns::ColumnDocument;
-use edited_text::SessionText;
+use edited_text::{OldPieces, SessionText};
 use piece_table::PieceList;
 use std::alloc::Global;
 
@@ -50,7 +50,8 @@ pub(crate) fn written_file(
     }
 }
 
-/// The text that is written again, with old pieces that set marks or without, where it takes no more than is reckoned.
+/// The text that is written again with the old pieces that have a modifier, where it takes no more than is reckoned;
+/// else with fewer of them.
 fn text_to_write(
     alloc: Global,
     bytes: &[u8],
@@ -61,10 +62,29 @@ fn text_to_write(
     requires { CanWrite bytes.now document.now parts.now counts.now }
     ensures { IfOk result (IsTextToWrite document.now parts.now counts.now) }
 {
-    let whole = fitting(alloc, bytes, document, parts, counts, true)?;
+    let whole = fitting(alloc, bytes, document, parts, counts, OldPieces::Modified)?;
     match whole {
         Some(text) => Ok(Some(text)),
-        None => fitting(alloc, bytes, document, parts, counts, false),
+        None => text_of_fewer(alloc, bytes, document, parts, counts),
+    }
+}
+
+/// The text that is written again with the old pieces that set marks, where it takes no more than is reckoned; else with
+/// none, where that does not.
+fn text_of_fewer(
+    alloc: Global,
+    bytes: &[u8],
+    document: &ColumnDocument,
+    parts: &SessionParts,
+    counts: &Counts,
+) -> Result<Option<SessionText>, Memory>
+    requires { CanWrite bytes.now document.now parts.now counts.now }
+    ensures { IfOk result (IsTextOfFewer document.now parts.now counts.now) }
+{
+    let marking = fitting(alloc, bytes, document, parts, counts, OldPieces::Marking)?;
+    match marking {
+        Some(text) => Ok(Some(text)),
+        None => fitting(alloc, bytes, document, parts, counts, OldPieces::Kept),
     }
 }
 
@@ -75,14 +95,14 @@ fn fitting(
     document: &ColumnDocument,
     parts: &SessionParts,
     counts: &Counts,
-    marks: bool,
+    which: OldPieces,
 ) -> Result<Option<SessionText>, Memory>
     requires { CanWrite bytes.now document.now parts.now counts.now }
-    ensures { IfOk result (λ text. MatchOption text (IsTooMuch document.now parts.now counts.now marks)
-        (IsFitting document.now parts.now counts.now marks)) }
+    ensures { IfOk result (λ text. MatchOption text (IsTooMuch document.now parts.now counts.now which)
+        (IsFitting document.now parts.now counts.now which)) }
 {
     text_is_formed(document, &parts.text);
-    let text = parts.text.written_again(alloc, document, marks)?;
+    let text = parts.text.written_again(alloc, document, which)?;
     let few = has_few_pages(alloc, bytes, parts, &text, counts)?;
     if few { Ok(Some(text)) } else { Ok(None) }
 }

@@ -5,12 +5,12 @@ use Rattle.piece_table.specs.Piece.{TextPiece}
 use Rattle.edited_text.proofs.WritingLemmas.{judged_piece}
 use Rattle.edited_text.proofs.writing.is_rewritten.Goals as goal
 
-pub returns-then-marks-clause-again : goal.returns-then-marks-clause-again
-returns-then-marks-clause-again c =
+pub returns-else-end-base-clause-again : goal.returns-else-end-base-clause-again
+returns-else-end-base-clause-again c =
     let number = c.args.number in
     let modifier =
     subst (λ (pieces : List TextPiece). option_map (λ (piece : TextPiece). piece.modifier) (slice_get pieces number)
     ≡ Some c.modifier-modifier.result.now) c.piece-piece.ensures.same c.modifier-modifier.ensures.value in
-    judged_piece (slice_get c.args.walk.now number) c.args.base c.args.marks c.sets_marks.result c.piece-piece.result
+    judged_piece (slice_get c.args.walk.now number) c.args.base c.args.which c.include.result c.piece-piece.result
     c.modifier-modifier.result.now c.piece-piece.ensures.value modifier
-    (omega (arith, c.end.ensures, c.if-end-base.false)) c.if-marks.true c.sets_marks.ensures
+    (omega (arith, c.end.ensures, c.if-end-base.false)) c.include.ensures

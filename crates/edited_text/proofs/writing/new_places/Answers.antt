@@ -14,7 +14,7 @@ loop-number-init c = record {
   walk = c.walk-walk.ensures;
   at = rw c.new-places.ensures.items (omega arith);
   len = ap length c.new-places.ensures.items;
-  chosen = rw c.new-places.ensures.items (nothing_written c.args.marks c.args.text.now);
+  chosen = rw c.new-places.ensures.items (nothing_written c.args.which c.args.text.now);
 }
 
 pub piece-piece-requires : goal.piece-piece-requires
@@ -63,12 +63,12 @@ loop-number-preserved c =
     let same = c.piece-piece.ensures.same ∙ c.loop-number.invariant.walk in
     let judged =
     subst (λ (all : List TextPiece). MatchOption (slice_get all number) ⊥
-    (λ piece. IsTrue again ↔ IsRewritten old.added.base c.args.marks piece)) same c.is_rewritten-again.ensures.again in
-    let is = told (slice_get pieces number) (λ piece. IsTrue again ↔ IsRewritten old.added.base c.args.marks piece)
+    (λ piece. IsTrue again ↔ IsRewritten old.added.base c.args.which piece)) same c.is_rewritten-again.ensures.again in
+    let is = told (slice_get pieces number) (λ piece. IsTrue again ↔ IsRewritten old.added.base c.args.which piece)
     next.piece next.here judged in
     let len = c.loop-number.invariant.len in
     let begin = c.loop-number.invariant.at in
-    let more = chosen_more c.args.marks again old before (drop (suc number) pieces) next.piece so_far at next.whole
+    let more = chosen_more c.args.which again old before (drop (suc number) pieces) next.piece so_far at next.whole
     c.requires is begin len c.loop-number.invariant.chosen in
     let places : c.push.new.self.items ≡ so_far ++ place_at again at ∷ [] =
     c.in_ok-push.ensures.items ∙ ap (λ p. so_far ++ p ∷ []) c.place_for-place.ensures.place in

@@ -8,5 +8,5 @@ invariant-loop-number l = record {
   walk : l.walk ≡ l.text.pieces.pieces;
   at : l.at ≡ l.text.added.base + 2 * renewed_units l.places.items (take l.number l.text.pieces.pieces);
   len : length l.places.items ≡ length (take l.number l.text.pieces.pieces);
-  chosen : AreChosen l.marks l.text (take l.number l.text.pieces.pieces) l.places.items;
+  chosen : AreChosen l.which l.text (take l.number l.text.pieces.pieces) l.places.items;
 }

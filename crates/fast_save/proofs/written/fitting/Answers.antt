@@ -25,7 +25,7 @@ has_few_pages-requires c =
           bins_there c.args.bytes.now c.args.document.now c.args.parts.now (can_save can) right.document right.items
           right.pieces;
       text =
-          pages_there c.args.bytes.now c.args.document.now c.args.parts.now c.args.marks c.in_ok-text.text can.session
+          pages_there c.args.bytes.now c.args.document.now c.args.parts.now c.args.which c.in_ok-text.text can.session
           c.in_ok-text.ensures;
       few = omega (arith, few, written_few c.args.bytes.now c.args.document.now c.args.parts.now can.session);
       runs = omega (arith, text);

@@ -44,6 +44,6 @@ returns c =
     let pieces =
     subst (λ (l : List (Option ℕ)). made.pieces.pieces ≡ renewed_pieces l old.pieces.pieces) c.deref.ensures.value
     c.in_ok-made.ensures.pieces in
-    written_text document c.args.marks old made places c.requires.count
-    (subst (λ (l : List Item). AreWritten c.args.marks old slots old.pieces.pieces l places) (sym items) written) pieces
+    written_text document c.args.which old made places c.requires.count
+    (subst (λ (l : List Item). AreWritten c.args.which old slots old.pieces.pieces l places) (sym items) written) pieces
     c.in_ok-made.ensures.ends c.in_ok-made.ensures.base c.in_ok-made.ensures.sections
