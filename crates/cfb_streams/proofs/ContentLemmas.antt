@@ -1,6 +1,6 @@
 -- The streams that are read, one after another, and the bytes of the mini stream.
 use Rattle.std.proofs.Common.{◌≡◌, inl, inr, ℕ, ◌+◌, ◌*◌, ◌≤◌, List, [], ◌∷◌, ◌++◌, Some, Result, Ok, Err, MatchResult}
-use Rattle.std.proofs.Common.{length, get_or, slice_index, refl, sym, ap, ◌∙◌, subst, arith, length-append}
+use Rattle.std.proofs.Common.{length, get_or, slice_index, slice_get, refl, sym, ap, ◌∙◌, subst, arith, length-append}
 use Rattle.std.specs.List.{flat_map}
 use Rattle.std.proofs.lemmas.Bool.{cases_lt}
 use Rattle.std.proofs.lemmas.List.{get_or_append_left}
@@ -9,15 +9,35 @@ use Rattle.std.proofs.lemmas.Option.{slice_get_within, slice_get-get_or, get_or_
 use Rattle.cfb_sectors.specs.Header.{sector_bytes, valid_below}
 use Rattle.cfb_sectors.specs.Opening.{IsWhole}
 use Rattle.cfb_sectors.specs.Chain.{Head, fat_table, HoldsChain, AreSectorsOf}
-use Rattle.cfb_directory.specs.Directory.{entry_size}
+use Rattle.cfb_directory.specs.Directory.{entry_size, IsNameOf}
 use Rattle.cfb_directory.specs.Reach.{entry_place}
 use Rattle.cfb_streams.specs.StreamRules.{Parts, IsMiniFat, IsMiniStream, mini_table_of}
 use Rattle.cfb_sectors.specs.Tables.{TablePlace}
 use Rattle.cfb_streams.specs.FoundParts.{mini_place}
 use Rattle.cfb_streams.specs.Contents.{Stream}
-use Rattle.cfb_streams.specs.Container.{AreStreamsOf, IsStreamOf}
+use Rattle.cfb_streams.specs.Container.{AreStreamsOf, IsStreamOf, AreNamesOf}
 use Rattle.cfb_sectors.proofs.ChainLemmas.{path_short}
 use Rattle.cfb_sectors.proofs.StreamLemmas.{length_all, length-sector}
+
+-- what holds of each entry of a list, and of one more
+pub each_push : {A : Type 0} (P : ℕ → A → Type 0) (xs : List A) (x : A) (count : ℕ) → length xs ≡ count →
+    ((i : ℕ) (y : A) → slice_get xs i ≡ Some y → P i y) → P count x → (i : ℕ) (y : A) →
+    slice_get (xs ++ x ∷ []) i ≡ Some y → P i y
+each_push P xs x count n each is i y at =
+    let len = length-append xs (x ∷ []) in
+    let inside = slice_get_within (xs ++ x ∷ []) i y at in
+    let here = get_or_from_slice_get (xs ++ x ∷ []) i y x at in
+    elim (cases_lt i (length xs)) [
+      | inl lo ↦
+          let old : get_or xs i x ≡ y = sym (get_or_append_left xs (x ∷ []) x i lo) ∙ here in
+          each i y (slice_get-get_or xs i x lo ∙ ap Some old)
+      | inr hi ↦
+          let e : i ≡ length xs = omega arith in
+          let same : x ≡ y = sym (get_or-append_seam xs x [] x)
+          ∙ (ap (λ k. get_or (xs ++ x ∷ []) k x) (sym e) ∙ here) in
+          let place : count ≡ i = omega arith in
+          subst (P i) same (subst (λ k. P k x) place is)
+    ]
 
 -- one stream more
 pub streams_push : (file : List ℕ) (parts : Parts) (entries : List ℕ) (count : ℕ) (streams : List Stream)
@@ -29,23 +49,29 @@ streams_push file parts entries count streams stream are is =
     let n = are.len in
     record {
       len = omega arith;
-      each = λ i s at.
-          let inside = slice_get_within (streams ++ stream ∷ []) i s at in
-          let here = get_or_from_slice_get (streams ++ stream ∷ []) i s stream at in
-          elim (cases_lt i (length streams)) [
-            | inl lo ↦
-                let old : get_or streams i stream ≡ s = sym (get_or_append_left streams (stream ∷ []) stream i lo)
-                ∙ here in
-                are.each i s (slice_get-get_or streams i stream lo ∙ ap Some old)
-            | inr hi ↦
-                let e : i ≡ length streams = omega arith in
-                let same : stream ≡ s = sym (get_or-append_seam streams stream [] stream)
-                ∙ (ap (λ k. get_or (streams ++ stream ∷ []) k stream) (sym e) ∙ here) in
-                let place : count ≡ i = omega arith in
-                subst (IsStreamOf file parts (slice_index entries i)) same
-                (subst (λ k. IsStreamOf file parts (slice_index entries k) stream) place is)
-          ];
+      each = each_push (λ i s. IsStreamOf file parts (slice_index entries i) s) streams stream count n are.each is;
     }
+
+-- one name more
+pub names_push : (file directory entries : List ℕ) (count : ℕ) (names : List (List ℕ)) (name : List ℕ) →
+    AreNamesOf file directory entries count names →
+    IsNameOf file (entry_place directory (slice_index entries count)) name →
+    AreNamesOf file directory entries (count + 1) (names ++ name ∷ [])
+names_push file directory entries count names name are is =
+    let len = length-append names (name ∷ []) in
+    let n = are.len in
+    record {
+      len = omega arith;
+      each = each_push (λ i x. IsNameOf file (entry_place directory (slice_index entries i)) x) names name count n
+          are.each is;
+    }
+
+-- at first there is no name
+pub names_none : (file directory entries : List ℕ) (names : List (List ℕ)) → names ≡ [] →
+    AreNamesOf file directory entries 0 names
+names_none file directory entries names e =
+    let len = ap length e in
+    record { len = len; each = λ i name at. let inside = slice_get_within names i name at in absurd (omega arith) }
 
 -- the mini stream's bytes are whole sectors, and hold the root's size
 pub stored_length : (file sectors stored : List ℕ) → AreSectorsOf file sectors →

@@ -8,3 +8,4 @@ pub mod UniqueLemmas
 pub mod SameNameLemmas
 pub mod AddLemmas
 pub mod StoredLemmas
+pub mod OuterLemmas

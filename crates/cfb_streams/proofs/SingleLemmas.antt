@@ -7,7 +7,8 @@ use Rattle.cfb_streams.specs.StreamRules.{mini_fat_head, IsMiniFat, IsMiniStream
 use Rattle.cfb_directory.specs.StreamEntries.{stream_head}
 use Rattle.cfb_sectors.specs.Opening.{opening_rules}
 use Rattle.cfb_sectors.specs.HeaderRules.{header_rules}
-use Rattle.cfb_streams.specs.Container.{container_rules, directory_rules, entry_rules, stream_rules, sector_rules}
+use Rattle.cfb_streams.specs.Container.{container_rules, outer_rules, directory_rules, entry_rules, chain_rules}
+use Rattle.cfb_streams.specs.Container.{stream_rules, sector_rules}
 use Rattle.cfb_sectors.proofs.JudgeLemmas.{holds_unique}
 
 pub directory_unique : (file x y : List ℕ) → IsDirectory file x → IsDirectory file y → x ≡ y
@@ -34,6 +35,15 @@ mini_stream_unique file directory x y a b = elim a [
   ]
 ]
 
+chains_single : (file directory : List ℕ) → IsSingle (chain_rules file directory)
+chains_single file directory = (
+  tt,
+  (
+    mini_fat_unique file,
+    λ mini_fat has. (tt, (mini_stream_unique file directory, λ mini_stream holds. (tt, tt))),
+  ),
+)
+
 pub container_single : (file : List ℕ) → IsSingle (container_rules file)
 container_single file = (
   (tt, tt),
@@ -43,25 +53,22 @@ container_single file = (
       tt,
       (
         directory_unique file,
-        λ directory is. (
-          tt,
-          (
-            tt,
-            (
-              tt,
-              (
-                tt,
-                (
-                  tt,
-                  (
-                    mini_fat_unique file,
-                    λ mini_fat has. (tt, (mini_stream_unique file directory, λ mini_stream holds. (tt, tt))),
-                  ),
-                ),
-              ),
-            ),
-          ),
-        ),
+        λ directory is. (tt, (tt, (tt, (tt, chains_single file directory)))),
+      ),
+    ),
+  ),
+)
+
+pub outer_single : (file : List ℕ) → IsSingle (outer_rules file)
+outer_single file = (
+  (tt, tt),
+  (
+    (tt, (tt, tt)),
+    (
+      tt,
+      (
+        directory_unique file,
+        λ directory is. (tt, (tt, (tt, chains_single file directory))),
       ),
     ),
   ),

@@ -9,21 +9,23 @@ use Rattle.cfb_sectors.specs.Chain.{fat_table}
 use Rattle.cfb_directory.specs.Directory.{entry_size, entry_clsid, EntryBefore, IsNameOf}
 use Rattle.cfb_directory.specs.Reach.{entry_place}
 use Rattle.cfb_streams.specs.StreamRules.{Parts, IsMiniStream, mini_table_of}
-use Rattle.cfb_directory.specs.StreamEntries.{stream_head}
-use Rattle.cfb_directory.specs.Order.{ListsStreams}
+use Rattle.cfb_directory.specs.StreamEntries.{IsStreamEntry, stream_head}
+use Rattle.cfb_directory.specs.Storages.{IsFilledStorage}
+use Rattle.cfb_directory.specs.Order.{ListsKind, ListsStreams, ListsFilled}
 use Rattle.cfb_streams.specs.Contents.{Stream, Contents}
-use Rattle.cfb_streams.specs.Container.{mini_bytes, IsStreamOf, HasContents}
+use Rattle.cfb_streams.specs.Container.{mini_bytes, IsStreamOf, HasContents, AreNamesOf, ListsStorages}
 use Rattle.cfb_sectors.proofs.JudgeLemmas.{holds_unique}
 use Rattle.cfb_directory.proofs.OrderLemmas.{before_trans, before_irreflexive}
 use Rattle.cfb_streams.proofs.SingleLemmas.{directory_unique, mini_fat_unique, mini_stream_unique}
 
--- two lists of the streams in their order have the same entries, up to a place
-lists_agree : (file directory xs ys : List ℕ) → ListsStreams file directory xs → ListsStreams file directory ys →
+-- two lists of the entries of a kind in their order have the same entries, up to a place
+lists_agree : (file directory : List ℕ) (kind : ℕ → Type 0) (xs ys : List ℕ) → ListsKind file directory kind xs →
+    ListsKind file directory kind ys →
     (n i : ℕ) → i < n → i < length xs → i < length ys → slice_index xs i ≡ slice_index ys i
-lists_agree file directory xs ys a b zero i low h k = absurd (omega arith)
-lists_agree file directory xs ys a b (suc n) i low h k =
+lists_agree file directory kind xs ys a b zero i low h k = absurd (omega arith)
+lists_agree file directory kind xs ys a b (suc n) i low h k =
     let before : (j : ℕ) → j < i →
-    slice_index xs j ≡ slice_index ys j = λ j less. lists_agree file directory xs ys a b n j (omega arith)
+    slice_index xs j ≡ slice_index ys j = λ j less. lists_agree file directory kind xs ys a b n j (omega arith)
     (omega arith) (omega arith) in
     let there = b.complete (slice_index xs i) (a.sound i h) in
     let back = a.complete (slice_index ys i) (b.sound i k) in
@@ -62,14 +64,15 @@ lists_agree file directory xs ys a b (suc n) i low h k =
     ]
 
 -- one list is no longer than the other
-lists_short : (file directory xs ys : List ℕ) → ListsStreams file directory xs → ListsStreams file directory ys →
+lists_short : (file directory : List ℕ) (kind : ℕ → Type 0) (xs ys : List ℕ) → ListsKind file directory kind xs →
+    ListsKind file directory kind ys →
     length ys ≤ length xs
-lists_short file directory xs ys a b = elim (cases_lt (length xs) (length ys)) [
+lists_short file directory kind xs ys a b = elim (cases_lt (length xs) (length ys)) [
   | inr h ↦ h
   | inl h ↦
       let there = a.complete (slice_index ys (length xs)) (b.sound (length xs) h) in
       let inside = there.inside in
-      let same = lists_agree file directory xs ys a b (suc there.index) there.index (omega arith) inside
+      let same = lists_agree file directory kind xs ys a b (suc there.index) there.index (omega arith) inside
       (omega arith) in
       let e : slice_index ys there.index ≡ slice_index ys (length xs) = sym same ∙ there.here in
       absurd
@@ -78,14 +81,19 @@ lists_short file directory xs ys a b = elim (cases_lt (length xs) (length ys)) [
       (b.order there.index (length xs) inside h)))
 ]
 
--- there is one list of the streams in their order
+-- there is one list of them in their order
+pub kind_unique : (file directory : List ℕ) (kind : ℕ → Type 0) (xs ys : List ℕ) → ListsKind file directory kind xs →
+    ListsKind file directory kind ys →
+    xs ≡ ys
+kind_unique file directory kind xs ys a b =
+    let short = lists_short file directory kind xs ys a b in
+    let long = lists_short file directory kind ys xs b a in
+    let len : length xs ≡ length ys = omega arith in
+    ext_get_or 0 xs ys len (λ i h. lists_agree file directory kind xs ys a b (suc i) i (omega arith) h (omega arith))
+
 pub lists_unique : (file directory xs ys : List ℕ) → ListsStreams file directory xs → ListsStreams file directory ys →
     xs ≡ ys
-lists_unique file directory xs ys a b =
-    let short = lists_short file directory xs ys a b in
-    let long = lists_short file directory ys xs b a in
-    let len : length xs ≡ length ys = omega arith in
-    ext_get_or 0 xs ys len (λ i h. lists_agree file directory xs ys a b (suc i) i (omega arith) h (omega arith))
+lists_unique file directory = kind_unique file directory (IsStreamEntry file directory)
 
 -- an entry has one name
 name_unique : (file : List ℕ) (at : ℕ) (xs ys : List ℕ) → IsNameOf file at xs → IsNameOf file at ys → xs ≡ ys
@@ -153,14 +161,14 @@ stream_unique file parts entry s t a b =
     ]
 
 -- lists with equal elements at each place are equal
-same_streams : (xs ys : List Stream) → length xs ≡ length ys →
-    ((i : ℕ) (s t : Stream) → slice_get xs i ≡ Some s → slice_get ys i ≡ Some t → s ≡ t) → xs ≡ ys
-same_streams [] [] len each = refl
-same_streams [] (y ∷ ys) len each = absurd (omega arith)
-same_streams (x ∷ xs) [] len each = absurd (omega arith)
-same_streams (x ∷ xs) (y ∷ ys) len each =
+same_lists : {A : Type 0} (xs ys : List A) → length xs ≡ length ys →
+    ((i : ℕ) (s t : A) → slice_get xs i ≡ Some s → slice_get ys i ≡ Some t → s ≡ t) → xs ≡ ys
+same_lists [] [] len each = refl
+same_lists [] (y ∷ ys) len each = absurd (omega arith)
+same_lists (x ∷ xs) [] len each = absurd (omega arith)
+same_lists (x ∷ xs) (y ∷ ys) len each =
     let head : x ≡ y = each zero x y refl refl in
-    let tail : xs ≡ ys = same_streams xs ys (omega arith) (λ i s t a b. each (suc i) s t a b) in
+    let tail : xs ≡ ys = same_lists xs ys (omega arith) (λ i s t a b. each (suc i) s t a b) in
     ap (λ z. z ∷ xs) head ∙ ap (λ zs. y ∷ zs) tail
 
 -- the parts of a file are the only ones
@@ -192,7 +200,7 @@ contents_unique file a b h k =
     let n = h.streams.len in
     let m = k.streams.len in
     let len = ap length entries in
-    let streams = same_streams a.streams b.streams (omega arith) (λ i s t x y.
+    let streams = same_lists a.streams b.streams (omega arith) (λ i s t x y.
     stream_unique file k.parts (slice_index k.entries i) s t
     (subst (λ xs. IsStreamOf file k.parts (slice_index xs i) s) entries
     (subst (λ p. IsStreamOf file p (slice_index h.entries i) s) parts (h.streams.each i s x)))
@@ -204,3 +212,18 @@ contents_unique file a b h k =
     let second : record { streams = b.streams; clsid = a.clsid } ≡ b =
     ap (λ xs. record { streams = b.streams; clsid = xs }) clsid in
     first ∙ second
+
+-- a file has one list of the storages that have something
+pub storages_unique : (file : List ℕ) (names other : List (List ℕ)) → ListsStorages file names →
+    ListsStorages file other → names ≡ other
+storages_unique file names other a b =
+    let same = directory_unique file a.directory b.directory a.is_directory b.is_directory in
+    let lists = subst (λ d. ListsFilled file d a.entries) same a.lists in
+    let entries = kind_unique file b.directory (IsFilledStorage file b.directory) a.entries b.entries lists b.lists in
+    let named = subst (λ xs. AreNamesOf file b.directory xs (length xs) names) entries
+    (subst (λ d. AreNamesOf file d a.entries (length a.entries) names) same a.named) in
+    let n = named.len in
+    let m = b.named.len in
+    same_lists names other (omega arith) (λ i x y at here.
+    name_unique file (entry_place b.directory (slice_index b.entries i)) x y (named.each i x at)
+    (b.named.each i y here))

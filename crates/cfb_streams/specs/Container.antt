@@ -1,8 +1,8 @@
 -- A compound file: its rules as one list, and what is read from a file that breaks none.
 use Rattle.std.specs.Prelude.{◌≡◌, ◌⊎◌, ℕ, List, [], length, take, slice_index, slice_get, Some, None}
 use Rattle.std.specs.List.{flat_map}
-use Rattle.cfb_streams.specs.Contents.{Stream, Contents}
-use Rattle.cfb_directory.specs.Order.{ListsStreams}
+use Rattle.cfb_streams.specs.Contents.{Stream, Contents, OuterContents}
+use Rattle.cfb_directory.specs.Order.{ListsStreams, ListsFilled}
 use Rattle.doc_bits.specs.Rules.{Rules, rule, ◌then◌, given}
 use Rattle.cfb_sectors.specs.Opening.{opening_rules}
 use Rattle.cfb_sectors.specs.Header.{sector_len, mini_sector_len, sector_bytes}
@@ -29,12 +29,21 @@ stream_rules file directory mini_fat =
     rule 12 (BreaksMiniStream file directory) then given (IsMiniStream file directory)
     (sector_rules file directory mini_fat)
 
+-- the rule of the mini FAT, and all that follow
+abbrev pub chain_rules : List ℕ → List ℕ → Rules ℕ
+chain_rules file directory = rule 11 (BreaksMiniFat file) then given (IsMiniFat file) (stream_rules file directory)
+
 -- the rules of the directory's entries, and all that follow
 abbrev pub entry_rules : List ℕ → List ℕ → Rules ℕ
 entry_rules file directory =
     rule 7 (BreaksRoot file directory) then rule 8 (BreaksTree file directory) then rule 9 (BreaksName file directory)
-    then rule 10 (BreaksStorage file directory) then rule 11 (BreaksMiniFat file)
-    then given (IsMiniFat file) (stream_rules file directory)
+    then rule 10 (BreaksStorage file directory) then chain_rules file directory
+
+-- the same but for rule 10: storages may have something
+abbrev pub outer_entry_rules : List ℕ → List ℕ → Rules ℕ
+outer_entry_rules file directory =
+    rule 7 (BreaksRoot file directory) then rule 8 (BreaksTree file directory) then rule 9 (BreaksName file directory)
+    then chain_rules file directory
 
 -- the rule of the directory's chain, and all that follow
 abbrev pub directory_rules : List ℕ → Rules ℕ
@@ -43,6 +52,12 @@ directory_rules file = rule 6 (BreaksDirectory file) then given (IsDirectory fil
 -- the rules 1 to 14
 abbrev pub container_rules : List ℕ → Rules ℕ
 container_rules file = opening_rules file then header_rules file then directory_rules file
+
+-- the rules 1 to 14 but for rule 10
+abbrev pub outer_rules : List ℕ → Rules ℕ
+outer_rules file =
+    opening_rules file then header_rules file then rule 6 (BreaksDirectory file)
+    then given (IsDirectory file) (outer_entry_rules file)
 
 -- the whole sectors of the mini stream, in a row
 abbrev pub mini_bytes : List ℕ → Parts → List ℕ
@@ -103,3 +118,21 @@ pub record HasContents (file : List ℕ) (contents : Contents) : Type 0 where
   pub lists : ListsStreams file parts.directory entries
   pub streams : AreStreamsOf file parts entries (length entries) contents.streams
   pub clsid : contents.clsid ≡ entry_clsid file (entry_place parts.directory 0)
+
+-- the names of the first `count` entries, in their order
+pub record AreNamesOf (file directory entries : List ℕ) (count : ℕ) (names : List (List ℕ)) : Type 0 where
+  pub len : length names ≡ count
+  pub each : (i : ℕ) (name : List ℕ) → slice_get names i ≡ Some name →
+      IsNameOf file (entry_place directory (slice_index entries i)) name
+
+-- exactly the names of the root's storages that have something, in their order
+pub record ListsStorages (file : List ℕ) (names : List (List ℕ)) : Type 0 where
+  pub directory : List ℕ
+  pub is_directory : IsDirectory file directory
+  pub entries : List ℕ
+  pub lists : ListsFilled file directory entries
+  pub named : AreNamesOf file directory entries (length entries) names
+
+-- the streams of the root, its CLSID, and the names of its storages that have something
+abbrev pub IsOuterOf : List ℕ → OuterContents → Type 0
+IsOuterOf file outer = HasContents file outer.container × ListsStorages file outer.storages

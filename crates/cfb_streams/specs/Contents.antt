@@ -16,6 +16,11 @@ pub record Contents : Type 0 where
   pub streams : List Stream
   pub clsid : List ℕ
 
+-- the same, and the names of the root's storages that have something
+pub record OuterContents : Type 0 where
+  pub container : Contents
+  pub storages : List (List ℕ)
+
 -- a stream has sectors of its own exactly where it has 4,096 bytes or more
 abbrev pub HasChainByLength : List ℕ → Option (List ℕ) → Type 0
 HasChainByLength bytes chain = MatchOption chain (length bytes < 4096) (λ _. 4096 ≤ length bytes)

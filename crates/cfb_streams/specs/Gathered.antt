@@ -10,12 +10,18 @@ use Rattle.cfb_sectors.specs.Claims.{Claimed, HasFront, IsUnshared, Takes, IsClo
 use Rattle.cfb_streams.specs.Sharing.{IsShareFront, IsDone}
 use Rattle.cfb_streams.specs.Layout.{Places}
 use Rattle.cfb_streams.specs.Contents.{Stream}
+use Rattle.cfb_streams.specs.Container.{sector_rules}
+use Rattle.doc_bits.specs.Rules.{Rules}
 
 -- the sectors of a chain, taken, and their bytes, joined and cut
 pub record IsRead (table : Table) (head : Head) (base : ℕ) (stored bytes sectors : List ℕ) : Type 0 where
   pub holds : HoldsChain table head sectors
   pub joined : bytes ≡ take head.size (flat_map (sector_bytes base head.unit stored) sectors)
   pub len : length bytes ≡ head.size
+
+-- the rules 13 and 14, on these parts
+abbrev pub places_rules : Places → Rules ℕ
+places_rules places = sector_rules places.file places.parts.directory places.parts.mini_fat places.parts.mini_stream
 
 -- the sectors of a chain are taken
 pub record TakesChain (table : Table) (head : Head) (old new : Claimed) : Type 0 where

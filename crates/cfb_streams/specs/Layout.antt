@@ -1,4 +1,4 @@
--- Where the parts of a file stand that breaks none of the rules 1 to 12.
+-- Where the parts of a file stand that breaks none of the rules 1 to 9, 11 and 12.
 use Rattle.std.specs.Prelude.{◌≡◌, ℕ, List}
 use Rattle.std.specs.List.{flat_map}
 use Rattle.doc_bits.specs.Rules.{Hold}
@@ -20,7 +20,7 @@ pub record Places : Type 0 where
 abbrev pub entries_of : Places → EntryLists
 entries_of places = lists_of places.file places.parts.directory places.reached places.streams
 
--- what the rules 1 to 12 promise of them
+-- what the rules 1 to 9, 11 and 12 promise of them
 pub record IsLayout (places : Places) : Type 0 where
   pub opening : Hold (opening_rules places.file)
   pub header : Hold (header_rules places.file)
@@ -36,6 +36,12 @@ places_of entries mini_fat mini_stream = record {
   reached = entries.reached;
   streams = entries.streams;
 }
+
+-- a layout of these entries
+pub record IsLayoutOf (entries : EntryLists) (places : Places) : Type 0 where
+  pub file : places.file ≡ entries.file
+  pub directory : places.parts.directory ≡ entries.directory
+  pub is_layout : IsLayout places
 
 -- what is kept of a layout; the sectors of the mini stream in a row are `stored`
 pub record KeepsLayout (entries : EntryLists) (fat mini : TablePlace) (mini_stream stored : List ℕ) : Type 0 where

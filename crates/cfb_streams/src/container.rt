@@ -2,11 +2,12 @@
 ghost use Rattle.std.specs.Prelude.{◌≡◌, ◌<◌, IfSome, MatchOption, MatchResult, option_map, length, slice_get};
 ghost use Rattle.doc_bits.specs.Rules.{Hold};
 ghost use Rattle.cfb_streams.specs.Contents.{HasNamed, HasNoNamed, HasChainByLength};
-ghost use Rattle.cfb_streams.specs.Container.{container_rules, HasContents};
+ghost use Rattle.cfb_streams.specs.Container.{container_rules, outer_rules, HasContents, ListsStorages};
 ghost use Rattle.cfb_sectors.specs.Judged.{IsCfbFault};
 
 use crate::CfbFault;
 use crate::layout::Layout;
+use crate::outer::OuterContainer;
 use crate::root_stream::{RootStream, find_named};
 use std::alloc::Global;
 use std::marker::Model;
@@ -35,6 +36,19 @@ impl Container {
     {
         let mut layout = Layout::judge(alloc, file)?;
         let loaded = layout.contents(alloc);
+        drop(layout);
+        loaded
+    }
+
+    /// Reads the root of a compound file of version 3, and the names of its storages that have
+    /// something. What these have is not read. Refused is what breaks one of the rules 1 to 14 but for rule 10.
+    pub fn load_outer(alloc: Global, file: &[u8]) -> Result<OuterContainer, CfbFault>
+        ensures { MatchResult result
+            (λ o. Hold (outer_rules file.now) × (HasContents file.now o.container × ListsStorages file.now o.storages))
+            (IsCfbFault (outer_rules file.now)) }
+    {
+        let mut layout = Layout::judge_outer(alloc, file)?;
+        let loaded = layout.outer_contents(alloc);
         drop(layout);
         loaded
     }

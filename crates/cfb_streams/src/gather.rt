@@ -10,15 +10,17 @@ ghost use Rattle.cfb_streams.specs.StreamRules.{IsWrongStream, BreaksStream, Bre
 ghost use Rattle.cfb_sectors.specs.Claims.{IsUnshared, IsClosed};
 ghost use Rattle.cfb_sectors.specs.Tables.{table_at};
 ghost use Rattle.cfb_streams.specs.Layout.{IsLayout};
+ghost use Rattle.cfb_streams.specs.Gathered.{places_rules};
 ghost use Rattle.cfb_streams.specs.Gathered.{IsRead, TakesChain, TakesStream, HasMarks};
 ghost use Rattle.cfb_streams.specs.Gathered.{AreUnshared, with_some, IsTakenFront};
-ghost use Rattle.cfb_streams.specs.Container.{container_rules, HasContents, IsStreamOf, AreStreamsOf};
+ghost use Rattle.cfb_streams.specs.Container.{HasContents, IsOuterOf, IsStreamOf, AreStreamsOf};
 ghost use Rattle.cfb_sectors.specs.Judged.{IsCfbFault};
 ghost use Rattle.cfb_sectors.specs.Header.{sector_len, mini_sector_len};
 
 use crate::CfbFault;
 use crate::container::Container;
 use crate::layout::Layout;
+use crate::outer::OuterContainer;
 use crate::root_stream::RootStream;
 use cfb_directory::Body;
 use cfb_sectors::{Claim, Claims, SECTOR_LEN, Table, join, refuse};
@@ -74,14 +76,28 @@ impl<'a> Layout<'a> {
 
     /// Judges the rules 13 and 14, and reads the streams.
     pub(crate) fn contents(&mut self, alloc: Global) -> Result<Container, CfbFault>
-        requires { IsLayout self.old }
-        ensures { MatchResult result
-            (λ c. Hold (container_rules self.old.file) × HasContents self.old.file c)
-            (IsCfbFault (container_rules self.old.file)) }
+        ensures judged { MatchResult result
+            (λ c. Hold (places_rules self.old) × HasContents self.old.file c)
+            (IsCfbFault (places_rules self.old)) }
+        ensures kept { self.new ≡ self.old }
     {
         self.judge_streams(alloc)?;
         let container = self.gather(alloc)?;
         Ok(container)
+    }
+
+    /// The same, and the names of the storages that have something.
+    pub(crate) fn outer_contents(&mut self, alloc: Global) -> Result<OuterContainer, CfbFault>
+        ensures { MatchResult result
+            (λ o. Hold (places_rules self.old) × IsOuterOf self.old.file o)
+            (IsCfbFault (places_rules self.old)) }
+    {
+        let container = self.contents(alloc)?;
+        let storages = self.storages(alloc)?;
+        Ok(OuterContainer {
+            container,
+            storages,
+        })
     }
 
     /// The sectors of the directory, of the mini FAT and of the mini stream, taken.

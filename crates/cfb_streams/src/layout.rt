@@ -1,18 +1,23 @@
-// Where the parts of a file stand that breaks none of the rules 1 to 12.
+// Where the parts of a file stand that breaks none of the rules 1 to 12, but maybe rule 10.
 ghost use Rattle.std.specs.Prelude.{◌≡◌, ◌<◌, MatchResult, IfOk, length, slice_index};
-ghost use Rattle.doc_bits.specs.Rules.{Hold};
+ghost use Rattle.doc_bits.specs.Rules.{Hold, Nowhere, ◌then◌};
 ghost use Rattle.cfb_sectors.specs.Opening.{opening_rules};
 ghost use Rattle.cfb_sectors.specs.HeaderRules.{header_rules};
 ghost use Rattle.cfb_sectors.specs.Tables.{fat_place};
-ghost use Rattle.cfb_streams.specs.Layout.{IsLayout, places_of};
-ghost use Rattle.cfb_streams.specs.Container.{container_rules};
+ghost use Rattle.cfb_directory.specs.Entries.{AreEntries};
+ghost use Rattle.cfb_directory.specs.Reach.{BreaksStorage};
+ghost use Rattle.cfb_streams.specs.FoundParts.{found_rules};
+ghost use Rattle.cfb_streams.specs.Layout.{IsLayout, IsLayoutOf, places_of};
+ghost use Rattle.cfb_streams.specs.Container.{container_rules, outer_rules, chain_rules};
+ghost use Rattle.cfb_streams.specs.Container.{AreNamesOf, ListsStorages};
+ghost use Rattle.cfb_directory.specs.Order.{ListsFilled};
 ghost use Rattle.cfb_sectors.specs.Judged.{IsCfbFault};
 
 use crate::CfbFault;
 use crate::parts::{find_directory, find_mini_fat, find_mini_stream, mini_sectors};
 use cfb_directory::Entries;
 use cfb_sectors::{Table, judge_header, judge_opening, read_fat, read_sectors, whole};
-use doc_bits::Memory;
+use doc_bits::{Memory, Units};
 use std::alloc::Global;
 use std::marker::Model;
 
@@ -26,7 +31,7 @@ const RULE_MINI_STREAM: u8 = 12;
 fn judge_front(file: &[u8]) -> Result<(), CfbFault>
     ensures { MatchResult result
         (λ _. Hold (opening_rules file.now) × Hold (header_rules file.now))
-        (IsCfbFault (container_rules file.now)) }
+        (IsCfbFault (opening_rules file.now then header_rules file.now)) }
 {
     if let Some(broken) = judge_opening(file) {
         return Err(CfbFault::from(broken));
@@ -35,6 +40,39 @@ fn judge_front(file: &[u8]) -> Result<(), CfbFault>
         return Err(CfbFault::from(broken));
     }
     Ok(())
+}
+
+/// Judges the rules 6 to 9.
+fn judge_entries<'a>(
+    alloc: Global,
+    file: &'a [u8],
+    fat: &mut Table<'_>,
+) -> Result<Entries<'a>, CfbFault>
+    requires opening { Hold (opening_rules file.now) }
+    requires is_fat { fat.old ≡ fat_place file.now }
+    ensures judged { MatchResult result
+        (λ entries. (entries.file ≡ file.now) × AreEntries entries)
+        (IsCfbFault (found_rules file.now)) }
+    ensures kept { fat.new ≡ fat.old }
+{
+    let directory = whole(RULE_DIRECTORY, find_directory(alloc, file, fat)?)?;
+    let entries = Entries::read(alloc, file, directory)?;
+    Ok(entries)
+}
+
+/// The names of some storages.
+fn names_of(alloc: Global, entries: &Entries<'_>, listed: &[u32]) -> Result<Vec<Units>, Memory>
+    requires { ListsFilled entries.now.file entries.now.directory listed.now }
+    ensures { IfOk result
+        (λ n. AreNamesOf entries.now.file entries.now.directory listed.now (length listed.now) n.items) }
+{
+    let mut names = Vec::new(alloc);
+    for entry in listed {
+        let name = entries.name(alloc, *entry)?;
+        let units = Units::from_slice(alloc, &name)?;
+        names.push(units)?;
+    }
+    Ok(names)
 }
 
 /// The entries of a file, its FAT, its mini FAT, and its mini stream: by its sectors, and by the bytes of these.
@@ -61,13 +99,41 @@ impl<'a> Layout<'a> {
     /// Judges the rules 1 to 12.
     pub(crate) fn judge(alloc: Global, file: &'a [u8]) -> Result<Layout<'a>, CfbFault>
         ensures { MatchResult result
-            (λ layout. (layout.file ≡ file.now) × IsLayout layout)
+            (λ l. (l.file ≡ file.now) × (IsLayout l × Nowhere (BreaksStorage l.file l.parts.directory)))
             (IsCfbFault (container_rules file.now)) }
     {
         judge_front(file)?;
         let mut fat = read_fat(alloc, file)?;
-        let directory = whole(RULE_DIRECTORY, find_directory(alloc, file, &mut fat)?)?;
-        let entries = Entries::read(alloc, file, directory)?;
+        let entries = judge_entries(alloc, file, &mut fat)?;
+        entries.judge_storages()?;
+        let layout = Layout::of(alloc, entries, fat)?;
+        Ok(layout)
+    }
+
+    /// Judges the rules 1 to 9, 11 and 12: storages may have something.
+    pub(crate) fn judge_outer(alloc: Global, file: &'a [u8]) -> Result<Layout<'a>, CfbFault>
+        ensures { MatchResult result
+            (λ layout. (layout.file ≡ file.now) × IsLayout layout)
+            (IsCfbFault (outer_rules file.now)) }
+    {
+        judge_front(file)?;
+        let mut fat = read_fat(alloc, file)?;
+        let entries = judge_entries(alloc, file, &mut fat)?;
+        let layout = Layout::of(alloc, entries, fat)?;
+        Ok(layout)
+    }
+
+    /// Judges the rules 11 and 12 of a file that has these entries and this FAT.
+    fn of(alloc: Global, entries: Entries<'a>, mut fat: Table<'a>) -> Result<Layout<'a>, CfbFault>
+        requires opening { Hold (opening_rules entries.file) }
+        requires header { Hold (header_rules entries.file) }
+        requires are_entries { AreEntries entries }
+        requires is_fat { fat ≡ fat_place entries.file }
+        ensures { MatchResult result
+            (IsLayoutOf entries.entry)
+            (IsCfbFault (chain_rules entries.entry.file entries.entry.directory)) }
+    {
+        let file = entries.file();
         let mini_fat = whole(RULE_MINI_FAT, find_mini_fat(alloc, file, &mut fat)?)?;
         let found = find_mini_stream(alloc, file, entries.directory(), &mut fat)?;
         let mini_stream = whole(RULE_MINI_STREAM, found)?;
@@ -136,6 +202,15 @@ impl<'a> Layout<'a> {
         ensures { result.now ≡ self.now.parts.mini_stream }
     {
         &self.mini_stream
+    }
+
+    /// The names of the storages that have something, in their order.
+    pub(crate) fn storages(&self, alloc: Global) -> Result<Vec<Units>, Memory>
+        ensures { IfOk result (λ names. ListsStorages self.now.file names.items) }
+    {
+        let listed = self.entries.storages(alloc)?;
+        let names = names_of(alloc, &self.entries, &listed)?;
+        Ok(names)
     }
 
     /// The number of the root's streams.

@@ -24,7 +24,7 @@ use Rattle.doc_load.specs.SheetRules.{rules_of_sheet}
 use Rattle.doc_load.specs.Source.{DocSource, part_bytes}
 use Rattle.doc_load.specs.PartRules.{layout_rules, story_rules, part_rules}
 use Rattle.doc_load.specs.FileRules.{table_stream_name, clx_of, source_of, table_rules, wd_rules, loading_rules}
-use Rattle.doc_load.specs.FileRules.{contents_rules, file_rules}
+use Rattle.doc_load.specs.FileRules.{contents_rules, file_rules, rules_of_pieces}
 use Rattle.cfb_streams.specs.Names.{wd_name}
 use Rattle.doc_load.proofs.RefusalLemmas.{single_in}
 use Rattle.doc_load.proofs.OneLemmas.{sections_one, sections_single, notes_one, heads_one}
@@ -32,7 +32,7 @@ use Rattle.doc_load.proofs.NameLemmas.{named_one}
 use Rattle.doc_load.proofs.TextLemmas.{text_one}
 
 -- the rules of a layer ascend in any part
-ascends_in : (place : Where) (rules : Rules ℕ) (low high : ℕ) → Ascends rules low high →
+pub ascends_in : (place : Where) (rules : Rules ℕ) (low high : ℕ) → Ascends rules low high →
     Ascends (rules_in place rules) low high
 ascends_in place (rule number breaks) low high up = up
 ascends_in place (first then next) low high up =
@@ -73,7 +73,7 @@ story_single source = (
 )
 
 -- the rules 33 to 57
-part_single : (source : DocSource) → IsSingle (part_rules source)
+pub part_single : (source : DocSource) → IsSingle (part_rules source)
 part_single source = (layout_single source, (format_single source, ((tt, (tt, tt)), story_single source)))
 
 layout_ascends : (source : DocSource) → Ascends (layout_rules source) 33 39
@@ -190,7 +190,7 @@ sheet_ascends source = (
   ),
 )
 
-part_ascends : (source : DocSource) → Ascends (part_rules source) 33 58
+pub part_ascends : (source : DocSource) → Ascends (part_rules source) 33 58
 part_ascends source = (
   39,
   (
@@ -213,24 +213,29 @@ part_ascends source = (
   ),
 )
 
-table_single : (wd table : List ℕ) → IsSingle (table_rules wd table)
-table_single wd table =
+-- the rules on pieces that have so many CPs
+pub pieces_single : (wd table : List ℕ) (text_len : ℕ) → IsSingle (rules_of_pieces wd table text_len)
+pieces_single wd table text_len =
     let clx = clx_of wd table in
     let at = (fib_pair wd (pair_of Clx)).0 in
-    let text_len = text_length (fib_fields wd).ccps in (
+    let bounds = text_bounds (fib_size wd) (length wd) in (
       tt,
-      single_in Table (clx_rules clx at (text_bounds (fib_size wd) (length wd)) text_len) (clx_rules-IsSingle clx at
-          (text_bounds (fib_size wd) (length wd)) text_len),
+      single_in Table (clx_rules clx at bounds text_len) (clx_rules-IsSingle clx at bounds text_len),
     )
 
-table_ascends : (wd table : List ℕ) → Ascends (table_rules wd table) 26 33
-table_ascends wd table =
+pub pieces_ascend : (wd table : List ℕ) (text_len : ℕ) → Ascends (rules_of_pieces wd table text_len) 26 33
+pieces_ascend wd table text_len =
     let clx = clx_of wd table in
     let at = (fib_pair wd (pair_of Clx)).0 in
-    let text_len = text_length (fib_fields wd).ccps in
     let bounds = text_bounds (fib_size wd) (length wd) in
     let clx_up = ascends_in Table (clx_rules clx at bounds text_len) 27 33 (clx_rules-Ascends clx at bounds text_len) in
     (27, ((lit≤ tt, lit< tt), (lit≤ tt, lit≤ tt, clx_up)))
+
+table_single : (wd table : List ℕ) → IsSingle (table_rules wd table)
+table_single wd table = pieces_single wd table (text_length (fib_fields wd).ccps)
+
+table_ascends : (wd table : List ℕ) → Ascends (table_rules wd table) 26 33
+table_ascends wd table = pieces_ascend wd table (text_length (fib_fields wd).ccps)
 
 wd_ascends : (contents : Contents) (wd : List ℕ) → Ascends (wd_rules contents wd) 16 33
 wd_ascends contents wd = (

@@ -15,6 +15,7 @@ pub mod OneLemmas
 pub mod TextLemmas
 pub mod FileLemmas
 pub mod RightPlaces
+pub mod StandLemmas
 pub mod PageLemmas
 pub mod FormatLemmas
 pub mod EndLemmas

@@ -1,5 +1,5 @@
 -- The rules of a file, in their order: of the container, of the FIB, of the pieces of its text, and of the parts.
-use Rattle.std.specs.Prelude.{◌≡◌, ◌<◌, ◌^◌, ℕ, List, length, slice_get, Some}
+use Rattle.std.specs.Prelude.{◌≡◌, ◌<◌, ◌^◌, ℕ, List, length, take, slice_get, Some}
 use Rattle.doc_bits.specs.declared.places.Where.TheVariants.{File, Wd, Table}
 use Rattle.doc_bits.specs.Rules.{Rules, rule, ◌then◌, given, Breaks, IsLeastOfAll}
 use Rattle.doc_bits.specs.Places.{Place, Upto, IsFirstPlace, rules_in}
@@ -9,13 +9,13 @@ use Rattle.cfb_streams.specs.Names.{wd_name, table_name}
 use Rattle.fib_form.specs.Fib.{fib_size, fib_pair, fib_which_table, table_part}
 use Rattle.fib_form.specs.FibFields.{FibFields, fib_fields, text_length}
 use Rattle.fib_form.specs.FibRules.{fib_rules}
-use Rattle.piece_table.specs.Piece.{TextPiece}
+use Rattle.piece_table.specs.Piece.{TextPiece, flat_pieces}
 use Rattle.piece_table.specs.Clx.{IsClx}
 use Rattle.piece_table.specs.ClxRules.{clx_rules, text_bounds}
 use Rattle.fib_form.specs.declared.table_parts.TablePart.TheVariants.{Clx}
 use Rattle.doc_load.specs.PairRules.{BreaksPairs}
 use Rattle.fib_form.specs.TableParts.{pair_of}
-use Rattle.doc_load.specs.Units.{UnitText, text_of}
+use Rattle.doc_load.specs.Units.{UnitText, text_of, text_units}
 use Rattle.doc_load.specs.Source.{DocSource, IsSource}
 use Rattle.doc_load.specs.PartRules.{part_rules}
 
@@ -64,13 +64,25 @@ pub record IsLoaded (text : FileText) (fib : FibFields) (units : UnitText) : Typ
   pub source : IsSource (source_of text) fib
   pub same : units ≡ text_of text.wd text.pieces
 
--- rules 26 to 32
-abbrev pub table_rules : List ℕ → List ℕ → Rules Place
-table_rules wd table =
+-- rules 26 to 32, of pieces that have so many CPs
+abbrev pub rules_of_pieces : List ℕ → List ℕ → ℕ → Rules Place
+rules_of_pieces wd table text_len =
     rules_in Wd (rule 26 (BreaksPairs wd (length table)))
     then rules_in Table
-    (clx_rules (clx_of wd table) (fib_pair wd (pair_of Clx)).0 (text_bounds (fib_size wd) (length wd))
-    (text_length (fib_fields wd).ccps))
+    (clx_rules (clx_of wd table) (fib_pair wd (pair_of Clx)).0 (text_bounds (fib_size wd) (length wd)) text_len)
+
+-- the same of as many CPs as the FIB counts
+abbrev pub table_rules : List ℕ → List ℕ → Rules Place
+table_rules wd table = rules_of_pieces wd table (text_length (fib_fields wd).ccps)
+
+-- the front of the text of these streams: of the CPs of all pieces as many as the FIB counts; and the units of them all
+pub record IsFrontOf (wd table : List ℕ) (text : FileText) (units : List ℕ) : Type 0 where
+  pub wd_is : text.wd ≡ wd
+  pub table_is : text.table ≡ table
+  pub all : List TextPiece
+  pub has_pieces : IsClx (clx_of wd table) all
+  pub front : flat_pieces text.pieces ≡ take (text_length (fib_fields wd).ccps) (flat_pieces all)
+  pub units_are : units ≡ text_units wd all
 
 -- rules 16 to 32
 abbrev pub wd_rules : Contents → List ℕ → Rules Place

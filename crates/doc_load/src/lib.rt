@@ -31,7 +31,7 @@ pub use heads::read_heads;
 pub use judging::judge;
 pub use laws::{first_file_fault_is_least, parts_are_one};
 pub use levels::read_levels;
-pub use loading::{LoadedText, load_text};
+pub use loading::{FrontText, LoadedText, load_front, load_text};
 pub use notes::{Notes, read_notes};
 pub use parts::{DocParts, read_parts, read_unjudged};
 pub use sections::{read_sections, sepx_place, sepx_ranges};

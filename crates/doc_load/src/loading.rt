@@ -1,11 +1,14 @@
 // The streams of a document, its FIB, and the text by CP.
-ghost use Rattle.std.specs.Prelude.{◌≡◌, ◌<◌, ◌^◌, length, MatchResult};
+ghost use Rattle.std.specs.Prelude.{◌≡◌, ◌<◌, ◌≤◌, ◌^◌, length, All, IfOk, MatchResult};
 ghost use Rattle.doc_bits.specs.Rules.{Hold};
-ghost use Rattle.fib_form.specs.FibFields.{fib_fields};
+ghost use Rattle.fib_form.specs.Fib.{fib_size};
+ghost use Rattle.fib_form.specs.FibFields.{fib_fields, text_length};
 ghost use Rattle.doc_load.specs.Faults.{IsReadFault};
+ghost use Rattle.piece_table.specs.Piece.{bare_piece, total_length};
 ghost use Rattle.piece_table.specs.Clx.{IsClx};
-ghost use Rattle.doc_load.specs.FileRules.{AreSmall, HasText, IsTextOf, clx_of, source_of, table_rules};
-ghost use Rattle.doc_load.specs.FileRules.{wd_rules, loading_rules};
+ghost use Rattle.piece_table.specs.ClxRules.{StaysInStream, text_bounds};
+ghost use Rattle.doc_load.specs.FileRules.{AreSmall, HasText, IsFrontOf, IsTextOf, clx_of, source_of, table_rules};
+ghost use Rattle.doc_load.specs.FileRules.{rules_of_pieces, wd_rules, loading_rules};
 
 use crate::fault::refused_clx;
 use crate::pair_rules::wrong_pair;
@@ -161,7 +164,80 @@ fn load_table<'a>(
         × IsClx (clx_of wd.now table.now) text.pieces)
         (IsReadFault (table_rules wd.now table.now)) }
 {
-    if let Some(offset) = wrong_pair(&fib, table.len()) {
+    let pieces = read_pieces(alloc, wd, &fib, table, fib.text_len())?;
+    let units = read_units(alloc, wd, &pieces)?;
+    Ok(LoadedText {
+        wd,
+        table,
+        fib,
+        pieces,
+        units,
+    })
+}
+
+/// The front of a text, and the units of all its CPs.
+#[derive(Drop)]
+pub struct FrontText<'a> {
+    pub text: LoadedText<'a>,
+    pub units: Vec<u16>,
+}
+
+/// Loads the front of a text from both streams. Its pieces have `text_len` CPs, those that the FIB counts and others
+/// behind them, of which only the units are handed over.
+pub fn load_front<'a>(
+    alloc: Global,
+    wd: &'a [u8],
+    fib: Fib,
+    table: &'a [u8],
+    text_len: u32,
+) -> Result<FrontText<'a>, ReadFault>
+    requires small { length wd.now < 2 ^ 32 }
+    requires table_small { length table.now < 2 ^ 32 }
+    requires fields { fib ≡ fib_fields wd.now }
+    requires front { text_length (fib_fields wd.now).ccps ≤ text_len }
+    requires few { text_len ≤ 500001 }
+    ensures { MatchResult result
+        (λ front. Hold (rules_of_pieces wd.now table.now text_len)
+        × IsFrontOf wd.now table.now front.text front.units.items)
+        (IsReadFault (rules_of_pieces wd.now table.now text_len)) }
+{
+    let mut pieces = read_pieces(alloc, wd, &fib, table, text_len)?;
+    let all = read_units(alloc, wd, &pieces)?;
+    pieces.truncate(fib.text_len())?;
+    let units = read_units(alloc, wd, &pieces)?;
+    Ok(FrontText {
+        text: LoadedText {
+            wd,
+            table,
+            fib,
+            pieces,
+            units,
+        },
+        units: all.into_units(),
+    })
+}
+
+/// Reads the pieces of a text that has `text_len` CPs.
+fn read_pieces(
+    alloc: Global,
+    wd: &[u8],
+    fib: &Fib,
+    table: &[u8],
+    text_len: u32,
+) -> Result<PieceList, ReadFault>
+    requires small { length wd.now < 2 ^ 32 }
+    requires table_small { length table.now < 2 ^ 32 }
+    requires fields { fib.now ≡ fib_fields wd.now }
+    requires few { text_len ≤ 500001 }
+    ensures read { MatchResult result
+        (λ list. Hold (rules_of_pieces wd.now table.now text_len) × IsClx (clx_of wd.now table.now) list.pieces)
+        (IsReadFault (rules_of_pieces wd.now table.now text_len)) }
+    ensures within { IfOk result
+        (λ list. All (λ piece. StaysInStream (text_bounds (fib_size wd.now) (length wd.now)) (bare_piece piece))
+        list.pieces) }
+    ensures total { IfOk result (λ list. total_length list.pieces ≡ text_len) }
+{
+    if let Some(offset) = wrong_pair(fib, table.len()) {
         return Err(ReadFault::Refused {
             rule: RULE_PARTS,
             place: Where::Wd,
@@ -171,16 +247,8 @@ fn load_table<'a>(
     let pair = fib.pair(TablePart::Clx.pair());
     let clx = part_at(table, pair);
     let wd_len = wd.len() as u32;
-    let pieces = match read_clx(alloc, clx, pair.0, wd_len, fib.text_len(), fib.size()) {
-        Ok(pieces) => pieces,
-        Err(fault) => return Err(refused_clx(fault)),
-    };
-    let units = read_units(alloc, wd, &pieces)?;
-    Ok(LoadedText {
-        wd,
-        table,
-        fib,
-        pieces,
-        units,
-    })
+    match read_clx(alloc, clx, pair.0, wd_len, text_len, fib.size()) {
+        Ok(pieces) => Ok(pieces),
+        Err(fault) => Err(refused_clx(fault)),
+    }
 }

@@ -81,15 +81,12 @@ stream-name file parts entry stream names is =
     let long = is.name.long in
     (omega arith, omega arith)
 
-pub contents-bounded : (file : List ℕ) (contents : Contents) → Hold (container_rules file) → HasContents file contents →
-    AreWithinBounds contents
-contents-bounded file contents holds has =
-    let whole = whole_length file holds.0.0 in
+-- the streams of a whole file whose names break no rule
+pub bounded : (file : List ℕ) (contents : Contents) → IsWhole file → (has : HasContents file contents) →
+    Nowhere (BreaksName file has.parts.directory) → AreWithinBounds contents
+bounded file contents whole has names =
     let directory = has.parts.directory in
     let entries = has.entries in
-    let same = directory_unique file holds.1.1.1.0 directory holds.1.1.1.1.0 has.directory in
-    let names : Nowhere (BreaksName file has.parts.directory) =
-    subst (λ sectors. Nowhere (BreaksName file sectors)) same holds.1.1.1.1.1.1.1.0 in
     let count = has.streams.len in
     record {
       few = (let few = entries-few file directory entries has.directory.short has.lists in omega arith);
@@ -105,3 +102,10 @@ contents-bounded file contents holds has =
           (has.streams.each i stream here).name (has.streams.each j later there).name
           (has.lists.order i j less (let within = slice_get_within contents.streams j later there in omega arith));
     }
+
+pub contents-bounded : (file : List ℕ) (contents : Contents) → Hold (container_rules file) → HasContents file contents →
+    AreWithinBounds contents
+contents-bounded file contents holds has =
+    let same = directory_unique file holds.1.1.1.0 has.parts.directory holds.1.1.1.1.0 has.directory in
+    bounded file contents (whole_length file holds.0.0) has
+    (subst (λ sectors. Nowhere (BreaksName file sectors)) same holds.1.1.1.1.1.1.1.0)

@@ -28,6 +28,7 @@ use Rattle.doc_bits.proofs.ByteListLemmas.{AreBytes-range}
 use Rattle.doc_read.proofs.ExistParts.{part_bytes_are}
 use Rattle.doc_read.proofs.PartLemmas.{short-cons}
 use Rattle.doc_read.proofs.StreamLemmas.{carried-are_streams, carried-fit}
+use Rattle.doc_read.proofs.FewLemmas.{leaves_room}
 
 pub clsid_long : (file : List ℕ) (contents : Contents) → Hold (container_rules file) → HasContents file contents →
     length contents.clsid ≡ 16
@@ -94,7 +95,7 @@ pub carried_there : (contents : Contents) (text : FileText) (levels : List ℕ) 
 carried_there contents text levels bounds has bytes long are short lists stored =
     let source = source_of text in
     let kept = (fib_fields text.wd).kept in
-    let fit = carried-fit contents text bounds has in
+    let fit = carried-fit contents text.table bounds (leaves_room contents text bounds has) in
     let flags = kept_flags-kept (fib_flags text.wd) in
     record {
       carried = record {

@@ -8,7 +8,8 @@ use Rattle.doc_load.specs.Source.{DocSource, part_bytes}
 use Rattle.doc_load.specs.SectionRules.{HasSections}
 use Rattle.doc_load.specs.NoteRules.{HasNoteCuts}
 use Rattle.doc_load.specs.FileRules.{FileText, AreSmall, HasText}
-use Rattle.doc_read.specs.CarriedParts.{AreWithinBounds}
+use Rattle.doc_read.specs.CarriedParts.{AreWithinBounds, LeavesRoom}
+use Rattle.doc_read.proofs.StreamLemmas.{carried-few}
 
 -- the longest stream
 abbrev most_bytes : ℕ
@@ -26,6 +27,12 @@ table-short contents text bounds has =
     let named = has.has_table in
     let short = bounds.short named.index named.stream named.here in
     omega (arith, ap length named.same)
+
+-- two of them are not carried
+pub leaves_room : (contents : Contents) (text : FileText) → AreWithinBounds contents → HasText contents text →
+    LeavesRoom contents text.table
+leaves_room contents text bounds has =
+    record { few = carried-few contents text has; short = table-short contents text bounds has }
 
 -- a part of it is no longer
 part-short : (source : DocSource) (part : TablePart) → length source.table ≤ most_bytes →

@@ -1,31 +1,30 @@
 -- The bookmarks of a document that a file holds are in order, and within its main text.
-use Rattle.std.proofs.Common.{◌≡◌, sym, subst, ℕ, List, length, arith}
+use Rattle.std.proofs.Common.{◌≡◌, sym, subst, ℕ, length, arith}
 use Rattle.doc_bits.specs.Rules.{Hold}
 use Rattle.fib_form.specs.declared.stories.StoryKind.TheVariants.{Main}
 use Rattle.doc_parts.specs.Bookmarks.{AreFormedBookmarks}
 use Rattle.plain_doc.specs.declared.document.Document.{Document}
 use Rattle.plain_doc.specs.Marks.{HasFormedBookmarks}
 use Rattle.doc_load.specs.Source.{DocSource, story_length}
-use Rattle.doc_load.specs.PartRules.{part_rules}
+use Rattle.doc_load.specs.PartRules.{HasPartLists, part_rules}
 use Rattle.doc_load.specs.FileRules.{source_of}
 use Rattle.doc_load.proofs.KeptLemmas.{bookmarks-formed}
-use Rattle.doc_read.specs.Holds.{FileParts, HasFileParts, IsDocumentOf}
+use Rattle.doc_read.specs.Holds.{FileParts, IsDocumentOf}
 use Rattle.doc_read.specs.Laws.{HeldBookmarksAreFormed}
 use Rattle.doc_read.proofs.OneDocument.{held_parts}
 
 -- those of the document of parts that break no rule
-pub parts-formed : (file : List ℕ) (parts : FileParts) (document : Document) →
-    Hold (part_rules (source_of parts.text)) → HasFileParts file parts → IsDocumentOf parts document →
-    HasFormedBookmarks document
-parts-formed file parts document hold has is =
+pub parts-formed : (parts : FileParts) (document : Document) → Hold (part_rules (source_of parts.text)) →
+    HasPartLists (source_of parts.text) parts.lists → IsDocumentOf parts document → HasFormedBookmarks document
+parts-formed parts document hold has is =
     let source : DocSource = source_of parts.text in
     let len : story_length source Main ≡ length document.main = omega (arith, is.main.len) in
     let formed : AreFormedBookmarks (story_length source Main) parts.lists.bookmarks =
-    bookmarks-formed source parts.lists.bookmarks hold.1.1.1.1.1.1.1.1 has.has_lists.has_bookmarks in
+    bookmarks-formed source parts.lists.bookmarks hold.1.1.1.1.1.1.1.1 has.has_bookmarks in
     subst (λ (n : ℕ). AreFormedBookmarks n document.bookmarks) len
     (subst (AreFormedBookmarks (story_length source Main)) (sym is.bookmarks) formed)
 
 pub held_formed : HeldBookmarksAreFormed
 held_formed file document holds =
-    parts-formed file holds.parts document (held_parts file holds.parts holds.rules holds.has_parts) holds.has_parts
-    holds.document_is
+    parts-formed holds.parts document (held_parts file holds.parts holds.rules holds.has_parts)
+    holds.has_parts.has_lists holds.document_is

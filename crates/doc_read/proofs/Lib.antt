@@ -14,6 +14,7 @@ pub mod PlaceLemmas
 pub mod ReaderLemmas
 pub mod AddLemmas
 pub mod RightLemmas
+pub mod GivenPlaces
 pub mod PageLemmas
 pub mod ReadableLemmas
 pub mod PlacedLemmas

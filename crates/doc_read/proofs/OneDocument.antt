@@ -134,7 +134,7 @@ same_document a b e0 e1 e2 e3 e4 e5 = λ i. record {
 }
 
 -- the parts of a file make one document
-parts_make_one : (parts : FileParts) → HaveBins (source_of parts.text) → (a b : Document) → IsDocumentOf parts a →
+pub parts_make_one : (parts : FileParts) → HaveBins (source_of parts.text) → (a b : Document) → IsDocumentOf parts a →
     IsDocumentOf parts b → a ≡ b
 parts_make_one parts bins a b ha hb =
     let source = source_of parts.text in

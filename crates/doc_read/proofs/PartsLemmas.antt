@@ -6,14 +6,14 @@ use Rattle.fib_form.specs.declared.stories.StoryKind.TheVariants.{Main, Notes, H
 use Rattle.fib_form.specs.FibFields.{fib_fields}
 use Rattle.doc_load.specs.FormatRules.{judged_units, text_count}
 use Rattle.doc_load.specs.PartRules.{PartLists, HasPartLists}
-use Rattle.doc_load.specs.FileRules.{FileText, HasText, source_of}
+use Rattle.doc_load.specs.FileRules.{FileText, source_of}
 use Rattle.doc_load.proofs.StoryLemmas.{story_count, story_front}
 use Rattle.doc_columns.specs.Columns.{items_of}
 use Rattle.doc_read.specs.Texts.{AreCutsWithin, AreCutFrom}
-use Rattle.doc_read.specs.CarriedParts.{AreWithinBounds}
+use Rattle.doc_read.specs.CarriedParts.{LeavesRoom}
 use Rattle.doc_read.specs.Items.{TextParts}
 use Rattle.doc_read.specs.Holds.{IsDocumentFrom, head_texts}
-use Rattle.doc_read.proofs.FewLemmas.{table-short, notes-few, heads-few}
+use Rattle.doc_read.proofs.FewLemmas.{notes-few, heads-few}
 use Rattle.doc_read.proofs.DocumentLemmas.{notes_within, heads_within, document-from}
 use Rattle.doc_read.specs.declared.columns.ReadColumns.{ReadColumns}
 use Rattle.doc_read.specs.declared.document.StoryCuts.{StoryCuts}
@@ -32,14 +32,14 @@ units_long parts read are =
 
 -- the cuts of a file are within its text
 pub cuts_fit : (contents : Contents) (text : FileText) (lists : PartLists) (parts : DocumentParts) →
-    AreWithinBounds contents → HasText contents text → HasPartLists (source_of text) lists →
+    LeavesRoom contents text.table → HasPartLists (source_of text) lists →
     AreDocumentParts contents text lists parts →
     AreCutsOf (fib_fields text.wd) parts.cuts (length (judged_units (source_of text)))
-cuts_fit contents text lists parts bounds has_text has are =
+cuts_fit contents text lists parts room has are =
     let source = source_of text in
     let len = length (judged_units source) in
     let long : len ≡ text_count source = units_long _ parts.columns are.columns_are in
-    let short = table-short contents text bounds has_text in
+    let short = room.short in
     let main = story_count source Main in
     subst (λ (cuts : StoryCuts). AreCutsOf (fib_fields text.wd) cuts len) (sym are.cuts_are)
     (record {

@@ -15,7 +15,7 @@ use Rattle.cfb_streams.specs.Contents.{Stream, Contents, NamedBytes, AreStreams,
 use Rattle.plain_doc.specs.Carried.{IsCarriedName, AreCarriedStreams}
 use Rattle.doc_bits.proofs.ListLemmas.{slice_get-take}
 use Rattle.doc_load.specs.FileRules.{FileText, HasText}
-use Rattle.doc_read.specs.CarriedParts.{is_carried, carried_streams, AreWithinBounds}
+use Rattle.doc_read.specs.CarriedParts.{is_carried, carried_streams, AreWithinBounds, LeavesRoom}
 use Rattle.doc_read.proofs.CarriedLemmas.{without_chain, carried-from, carried-order, carried-count, left_out-two}
 use Rattle.doc_read.proofs.NameLemmas.{carried_name, wd-not_carried, table-not_carried}
 
@@ -72,7 +72,7 @@ table_name-length true = refl
 table_name-length false = refl
 
 -- two streams of the document are not carried
-carried-few : (contents : Contents) (text : FileText) → HasText contents text →
+pub carried-few : (contents : Contents) (text : FileText) → HasText contents text →
     length (carried_streams contents.streams) + 2 ≤ length contents.streams
 carried-few contents text has =
     let wd = has.has_wd in
@@ -98,10 +98,10 @@ carried-few contents text has =
     ]
 
 -- a document carries fewer streams than its file has
-pub carried-fit : (contents : Contents) (text : FileText) → AreWithinBounds contents → HasText contents text →
+pub carried-fit : (contents : Contents) (table : List ℕ) → AreWithinBounds contents → LeavesRoom contents table →
     AreCarriedStreams (carried_streams contents.streams)
-carried-fit contents text bounds has = record {
-  few = (let count = carried-few contents text has in let few = bounds.few in omega arith);
+carried-fit contents table bounds room = record {
+  few = (let count = room.few in let few = bounds.few in omega arith);
   total = carried-total contents bounds;
   names = λ i stream here.
       let from = carried-from contents.streams i stream here in

@@ -1,5 +1,5 @@
 -- What a document carries along unread, as its file has it.
-use Rattle.std.specs.Prelude.{◌≡◌, ℕ, ◌<◌, ◌≤◌, Bool, ◌&&◌, not, List, length, map, filter, slice_get, Some}
+use Rattle.std.specs.Prelude.{◌≡◌, ℕ, ◌+◌, ◌<◌, ◌≤◌, Bool, ◌&&◌, not, List, length, map, filter, slice_get, Some}
 use Rattle.cfb_streams.specs.Contents.{Stream, Contents, NamedBytes}
 use Rattle.cfb_directory.specs.Directory.{ComesBefore}
 use Rattle.cfb_streams.specs.Names.{wd_name, first_table_name, second_table_name, is_same_name}
@@ -35,6 +35,11 @@ pub record AreWithinBounds (contents : Contents) : Type 0 where
   pub order :
       (i j : ℕ) (stream later : Stream) → i < j → slice_get contents.streams i ≡ Some stream →
       slice_get contents.streams j ≡ Some later → ComesBefore stream.name later.name
+
+-- two streams at least are not carried, and the table stream is no longer than the longest file
+pub record LeavesRoom (contents : Contents) (table : List ℕ) : Type 0 where
+  pub few : length (carried_streams contents.streams) + 2 ≤ length contents.streams
+  pub short : length table ≤ 7143936
 
 -- the parts of the table stream, the fields of the FIB, the CLSID and the streams
 pub record HoldsCarried (contents : Contents) (source : DocSource) (levels : List ℕ) (carried : Carried) : Type 0 where

@@ -31,6 +31,12 @@ pub record IsFoundIn
   pub fib_is : fib ≡ fib_fields text.wd
   pub pieces_are : pieces ≡ text.pieces
 
+-- the document is that of these streams and of this text, by what its parts hold
+pub record IsReadOf (contents : Contents) (text : FileText) (document : Document) : Type 0 where
+  pub lists : PartLists
+  pub has_lists : HasPartLists (source_of text) lists
+  pub document_is : IsDocumentFrom contents text lists document
+
 -- these are the streams of some file, whose container breaks no rule
 pub record AreOfFile (contents : Contents) : Type 0 where
   pub file : List ℕ

@@ -2,8 +2,9 @@
 ghost use Rattle.std.specs.Prelude.{◌≡◌, ◌<◌, ◌^◌, length, IfOk};
 ghost use Rattle.doc_load.specs.Source.{part_bytes};
 ghost use Rattle.doc_load.specs.PartRules.{HasPartLists, HoldButFormats};
-ghost use Rattle.doc_load.specs.FileRules.{HasText, source_of};
-ghost use Rattle.doc_read.specs.CarriedParts.{AreWithinBounds, HoldsCarried, carried_streams, is_carried as is_other};
+ghost use Rattle.doc_load.specs.FileRules.{source_of};
+ghost use Rattle.doc_read.specs.CarriedParts.{AreWithinBounds, LeavesRoom, HoldsCarried, carried_streams};
+ghost use Rattle.doc_read.specs.CarriedParts.{is_carried as is_other};
 
 use cfb_streams::{Container, Streams, TABLE_0, TABLE_1, WORD_DOCUMENT, equal_names};
 use doc_bits::{Bytes, Memory};
@@ -20,7 +21,7 @@ pub fn read_carried(
     parts: &DocParts<'_>,
 ) -> Result<Carried, Memory>
     requires bounds { AreWithinBounds container.now }
-    requires text { HasText container.now text.now }
+    requires room { LeavesRoom container.now text.now.table }
     requires rules { HoldButFormats (source_of text.now) }
     requires lists { HasPartLists (source_of text.now) parts.now }
     ensures { IfOk result (HoldsCarried container.now (source_of text.now) parts.now.levels) }

@@ -10,12 +10,12 @@ ghost use Rattle.fib_form.specs.FibFields.{fib_fields};
 ghost use Rattle.doc_load.specs.Faults.{IsReadFault};
 ghost use Rattle.doc_load.specs.FormatRules.{judged_units, rules_of_formats};
 ghost use Rattle.doc_load.specs.PartRules.{layout_rules, part_rules};
-ghost use Rattle.doc_load.specs.FileRules.{HasText, contents_rules, source_of};
-ghost use Rattle.doc_read.specs.CarriedParts.{AreWithinBounds};
+ghost use Rattle.doc_load.specs.FileRules.{contents_rules, source_of};
+ghost use Rattle.doc_read.specs.CarriedParts.{AreWithinBounds, LeavesRoom};
 ghost use Rattle.doc_read.specs.Holds.{all_rules};
 ghost use Rattle.doc_read.specs.ReadParts.{FitUnits, IsReadFrom};
 ghost use Rattle.doc_read.specs.ReadTexts.{AreCutsOf, IsDocumentWith};
-ghost use Rattle.doc_read.specs.Opened.{AreOfFile, IsFoundIn, IsOpened};
+ghost use Rattle.doc_read.specs.Opened.{AreOfFile, IsFoundIn, IsOpened, IsReadOf};
 
 use crate::document::{DocumentParts, document_with, read_document_parts};
 use cfb_streams::Container;
@@ -164,7 +164,7 @@ fn read_judged(alloc: Global, container: &Container) -> Result<Found, ReadFault>
         (IsReadFault (all_rules file)) }
 {
     let found = read_contents(alloc, container)?;
-    match judge(alloc, &found.document) {
+    match judge_document(alloc, &found.document) {
         Ok(()) => Ok(found),
         Err(fault) => let_go(found, Err(fault)),
     }
@@ -187,6 +187,40 @@ fn read_contents(alloc: Global, container: &Container) -> Result<Found, ReadFaul
         (IsReadFault (contents_rules container.now)) }
 {
     let text = load_text(alloc, container)?;
+    let found = read_found(alloc, container, text)?;
+    Ok(found)
+}
+
+/// Reads the document of a text that was loaded in place of the one that the streams name. What is carried is that of
+/// the streams. The document is not judged.
+pub fn read_loaded(
+    alloc: Global,
+    container: &Container,
+    text: LoadedText<'_>,
+) -> Result<ColumnDocument, ReadFault>
+    requires bounds { AreWithinBounds container.now }
+    requires room { LeavesRoom container.now text.table }
+    ensures { MatchResult result
+        (λ document. Hold (part_rules (source_of text.entry)) × IsReadOf container.now text.entry document)
+        (IsReadFault (part_rules (source_of text.entry))) }
+{
+    let found = read_found(alloc, container, text)?;
+    Ok(found.document)
+}
+
+/// Reads the document of a text, with the FIB and the pieces.
+fn read_found(
+    alloc: Global,
+    container: &Container,
+    text: LoadedText<'_>,
+) -> Result<Found, ReadFault>
+    requires bounds { AreWithinBounds container.now }
+    requires room { LeavesRoom container.now text.table }
+    ensures { MatchResult result
+        (λ found. Hold (part_rules (source_of text.entry)) × IsReadOf container.now text.entry found.document
+        × (found.fib ≡ fib_fields text.entry.wd) × (found.pieces.pieces ≡ text.entry.pieces))
+        (IsReadFault (part_rules (source_of text.entry))) }
+{
     let read = read_text(alloc, container, &text)?;
     let found = found_of(alloc, text, read)?;
     Ok(found)
@@ -199,7 +233,7 @@ fn read_text(
     text: &LoadedText<'_>,
 ) -> Result<DocumentParts, ReadFault>
     requires bounds { AreWithinBounds container.now }
-    requires text { HasText container.now text.now }
+    requires room { LeavesRoom container.now text.now.table }
     ensures { MatchResult result
         (λ parts. Hold (part_rules (source_of text.now)) × IsReadFrom container.now text.now parts)
         (IsReadFault (part_rules (source_of text.now))) }
@@ -243,7 +277,7 @@ fn format_fault(alloc: Global, source: &Source<'_>) -> ReadFault
 }
 
 /// Judges a document by the rules on documents. Where its columns do not tell, its items are put one by one.
-fn judge(alloc: Global, document: &ColumnDocument) -> Result<(), ReadFault>
+pub fn judge_document(alloc: Global, document: &ColumnDocument) -> Result<(), ReadFault>
     requires { HasFormedBookmarks document.now }
     ensures { MatchResult result
         (λ _. IsSound document.now)

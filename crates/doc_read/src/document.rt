@@ -3,8 +3,8 @@ ghost use Rattle.std.specs.Prelude.{◌≡◌, length, IfOk, MatchOption};
 ghost use Rattle.doc_bits.specs.Rules.{Hold};
 ghost use Rattle.doc_load.specs.FormatRules.{rules_of_formats};
 ghost use Rattle.doc_load.specs.PartRules.{HasPartLists, HoldButFormats};
-ghost use Rattle.doc_load.specs.FileRules.{HasText, source_of};
-ghost use Rattle.doc_read.specs.CarriedParts.{AreWithinBounds};
+ghost use Rattle.doc_load.specs.FileRules.{source_of};
+ghost use Rattle.doc_read.specs.CarriedParts.{AreWithinBounds, LeavesRoom};
 ghost use Rattle.doc_columns.specs.Columns.{items_of};
 ghost use Rattle.doc_read.specs.ReadParts.{AreDocumentParts, FitUnits, IsReadFromText, cuts_of};
 ghost use Rattle.doc_read.specs.ReadTexts.{AreCutsOf, AreTextsOf, IsDocumentWith};
@@ -59,7 +59,7 @@ pub(crate) fn read_document_parts(
     parts: DocParts<'_>,
 ) -> Result<Option<DocumentParts>, Memory>
     requires bounds { AreWithinBounds container.now }
-    requires text { HasText container.now text.now }
+    requires room { LeavesRoom container.now text.now.table }
     requires rules { HoldButFormats (source_of text.now) }
     requires lists { HasPartLists (source_of text.now) parts }
     ensures { IfOk result (λ read. MatchOption read
@@ -92,7 +92,7 @@ fn read_from_text(
     parts: &DocParts<'_>,
 ) -> Result<Option<ReadFromText>, Memory>
     requires bounds { AreWithinBounds container.now }
-    requires text { HasText container.now text.now }
+    requires room { LeavesRoom container.now text.now.table }
     requires rules { HoldButFormats (source_of text.now) }
     requires lists { HasPartLists (source_of text.now) parts.now }
     ensures { IfOk result (λ read. MatchOption read

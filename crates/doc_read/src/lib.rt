@@ -15,7 +15,7 @@ mod reading;
 mod sections;
 mod texts;
 
-pub use column_file::{ColumnFile, open};
+pub use column_file::{ColumnFile, judge_document, open, read_loaded};
 pub use doc_load::ReadFault;
 pub use laws::{
     carried_streams_are_short, document_is_one, files_hold_documents, first_fault_is_least,

@@ -120,7 +120,7 @@ fn fault(rule: u8, offset: usize) -> FibFault
 }
 
 /// Bit `place` of the flags, counted from the lowest.
-fn bit_of(flags: u16, place: u32) -> u16
+pub fn bit_of(flags: u16, place: u32) -> u16
     requires { place < 16 }
     ensures { result ≡ bit place flags }
 {
@@ -243,6 +243,20 @@ fn pair_place(n: usize) -> u32
     (RG_FC_LCB + 8 * n) as u32
 }
 
+impl KeptFib {
+    /// What is kept of the FIB of a `WordDocument` stream.
+    pub fn of(wd: &[u8]) -> KeptFib
+        requires { form_size Early ≤ length wd.now }
+        ensures { result ≡ (fib_fields wd.now).kept }
+    {
+        KeptFib {
+            lid: get16(wd, LID),
+            lid_fe: get16(wd, LID_FE),
+            flags: kept_of(get16(wd, FLAGS)),
+        }
+    }
+}
+
 /// The fields that are kept.
 fn fields(wd: &[u8]) -> Fib
     requires { Hold (fib_rules wd.now) }
@@ -252,11 +266,7 @@ fn fields(wd: &[u8]) -> Fib
     let form = form_of(wd);
     Fib {
         form,
-        kept: KeptFib {
-            lid: get16(wd, LID),
-            lid_fe: get16(wd, LID_FE),
-            flags: kept_of(flags),
-        },
+        kept: KeptFib::of(wd),
         quick_saves: quick_saves_of(wd, form),
         complex: bit_of(flags, F_COMPLEX) == 1,
         which_table: bit_of(flags, F_WHICH_TBL_STM) as u8,

@@ -52,7 +52,7 @@ impl PageKind {
     }
 
     /// The fewest bytes of a list that is written: a paragraph's begins with a style number.
-    pub(crate) fn least_list(self) -> usize
+    pub fn least_list(self) -> usize
         ensures { result ≡ least_list self }
     {
         match self {

@@ -30,6 +30,9 @@ pub use page_laws::{
     runs_have_pages,
 };
 pub use page_writers::{write_chpx_pages, write_papx_pages};
-pub use reading::{Met, Stretch, chpx_at, chpx_stretch, next_stretch, papx_at, papx_stretch};
+pub use reading::{
+    Met, Stretch, answer_of, chpx_at, chpx_stretch, entry_at, has_run_count, next_stretch, papx_at,
+    papx_stretch,
+};
 pub use runs::RunCursor;
 pub use writable::{are_chp_runs, are_pap_runs};

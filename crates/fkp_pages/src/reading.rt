@@ -2,7 +2,7 @@
 ghost use Rattle.std.specs.Prelude.{◌≡◌, ◌+◌, ◌*◌, ◌<◌, ◌≤◌, ℕ, List};
 ghost use Rattle.std.specs.Prelude.{◌↔◌, length, IsTrue, MatchOption};
 ghost use Rattle.fkp_pages.specs.declared.kind.PageKind.TheVariants.{Chpx, Papx};
-ghost use Rattle.fkp_pages.specs.Fkp.{page_count, HasRunCount, list_from, list_to};
+ghost use Rattle.fkp_pages.specs.Fkp.{page_count, entry_place, HasRunCount, list_from, list_to};
 ghost use Rattle.fkp_pages.specs.Fkp.{IsListWithin, IsAnswerOf, HasRunAnswer};
 ghost use Rattle.fkp_pages.specs.Stretch.{HasStretch, IsRunCursor};
 
@@ -58,6 +58,7 @@ pub fn papx_stretch(page: &[u8], fc: u32) -> Stretch
 
 /// The same of a page of this kind, from a cursor on where it serves. A reader of a whole text needs one call for each
 /// stretch, and where its places ascend each call looks at one run.
+#[inline(always)]
 pub fn next_stretch(kind: PageKind, page: &[u8], fc: u32, cursor: RunCursor) -> Met
     requires page { length page.now ≡ 512 }
     requires cursor { IsRunCursor page.now cursor }
@@ -96,7 +97,7 @@ pub fn next_stretch(kind: PageKind, page: &[u8], fc: u32, cursor: RunCursor) -> 
 }
 
 /// Whether the last byte is a number of runs.
-fn has_run_count(kind: PageKind, page: &[u8]) -> bool
+pub fn has_run_count(kind: PageKind, page: &[u8]) -> bool
     requires { length page.now ≡ 512 }
     ensures { IsTrue result ↔ HasRunCount kind page.now }
 {
@@ -104,15 +105,26 @@ fn has_run_count(kind: PageKind, page: &[u8]) -> bool
     1 <= count && count <= kind.most_runs()
 }
 
+/// Where the entry of a run stands, and behind the last run where the entries end.
+pub fn entry_at(kind: PageKind, page: &[u8], run: usize) -> usize
+    requires page { length page.now ≡ 512 }
+    requires counted { HasRunCount kind page.now }
+    requires run { run ≤ page_count page.now }
+    ensures place { result ≡ entry_place kind page.now run }
+    ensures within { result ≤ 509 }
+{
+    let count = page[COUNT_AT] as usize;
+    4 * (count + 1) + kind.entry_size() * run
+}
+
 /// What a run answers.
-fn answer_of(kind: PageKind, page: &[u8], run: usize) -> RunAnswer
+pub fn answer_of(kind: PageKind, page: &[u8], run: usize) -> RunAnswer
     requires page { length page.now ≡ 512 }
     requires counted { HasRunCount kind page.now }
     requires run { run < page_count page.now }
     ensures { IsAnswerOf kind page.now run result }
 {
-    let count = page[COUNT_AT] as usize;
-    let entry = 4 * (count + 1) + kind.entry_size() * run;
+    let entry = entry_at(kind, page, run);
     let half = page[entry];
     if half == 0 {
         return RunAnswer::Empty;

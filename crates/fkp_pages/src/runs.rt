@@ -79,6 +79,7 @@ impl Gap {
 }
 
 /// The first run that holds the place, which is looked for from a cursor on.
+#[inline(always)]
 pub(crate) fn first_run(page: &[u8], fc: u32, from: RunCursor) -> FoundRun
     requires page { length page.now ≡ 512 }
     requires fcs { page_count page.now ≤ 101 }

@@ -6,7 +6,7 @@ use Rattle.std.specs.Bool.{⊤}
 use Rattle.std.specs.List.{splice}
 use Rattle.std.proofs.Math.ListN.{length-map}
 use Rattle.std.specs.Option.{MatchOption, option_to_list}
-use Rattle.std.proofs.lemmas.List.{append-nil, take_at, drop_at, length-take-le, take-map}
+use Rattle.std.proofs.lemmas.List.{append-nil, take_at, drop_at, drop_all, length-take-le, take-map}
 use Rattle.std.proofs.lemmas.List.Elements.{All-append, All-take, All-drop, All-cons, All-nil, All-map}
 use Rattle.std.proofs.lemmas.List.Sums.{sum_by-cons, sum_by-append, sum_by-take-drop}
 use Rattle.std.proofs.lemmas.Option.{get_or_from_slice_get, slice_get_within}
@@ -14,12 +14,12 @@ use Rattle.prop_map.specs.declared.modifiers.Modifier.{Modifier}
 use Rattle.prop_map.specs.Modifiers.{no_modifier}
 use Rattle.piece_table.specs.declared.pieces.Piece.{Piece}
 use Rattle.piece_table.specs.declared.pieces.Entry.{Entry}
-use Rattle.piece_table.specs.Piece.{unit_places, total_length, IsPiece, IsTextPiece, ArePieces}
+use Rattle.piece_table.specs.Piece.{TextPiece, unit_places, flat_pieces, total_length, IsPiece, IsTextPiece, ArePieces}
 use Rattle.piece_table.specs.Numbering.{text_piece, AreNumbered}
 use Rattle.piece_table.specs.Changes.{fresh_piece, fresh_places, fresh_units, HasBegin}
 use Rattle.piece_table.specs.Cuts.{entry_units, flat_entries, fresh_entries, AreEntries, IsSeam, KeepsText, IsCutTwice}
 use Rattle.piece_table.proofs.SprmModifierLemmas.{none_formed}
-use Rattle.piece_table.proofs.PieceLemmas.{All-seen, length-unit_places}
+use Rattle.piece_table.proofs.PieceLemmas.{All-seen, length-unit_places, length-flat_pieces}
 use Rattle.piece_table.proofs.FlatLemmas.{flat_pieces-cons, flat_pieces-nil, flat_entries-append, take-flat_entries}
 use Rattle.piece_table.proofs.FlatLemmas.{drop-flat_entries, total_length-seen}
 
@@ -219,3 +219,14 @@ spliced modifiers old cut from to first last fresh numbered are twice low sound 
           rw (twice.keeps.flat modifiers, fresh_seen modifiers fresh numbered.first) refl;
       count = omega arith;
     }
+
+-- a splice of nothing in place of all behind the first entries leaves these
+pub splice_front : {A : Type 0} (xs : List A) (count : ℕ) → splice xs count (length xs) [] ≡ take count xs
+splice_front xs count = ap (λ rest. take count xs ++ rest) (drop_all (length xs) xs (omega arith))
+    ∙ append-nil (take count xs)
+
+pub truncated : (old new : List TextPiece) (count total : ℕ) → total ≡ total_length old →
+    flat_pieces new ≡ splice (flat_pieces old) count total [] → flat_pieces new ≡ take count (flat_pieces old)
+truncated old new count total sum is =
+    let len : total ≡ length (flat_pieces old) = sum ∙ sym (length-flat_pieces old) in
+    is ∙ (ap (λ n. splice (flat_pieces old) count n []) len ∙ splice_front (flat_pieces old) count)

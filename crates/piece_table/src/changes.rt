@@ -1,9 +1,9 @@
 // Changes of a list of pieces, each by its meaning on the flat entries.
-ghost use Rattle.std.specs.Prelude.{◌≡◌, ◌+◌, ◌-◌, ◌/◌, ◌<◌, ◌≤◌, length};
+ghost use Rattle.std.specs.Prelude.{◌≡◌, ◌+◌, ◌-◌, ◌/◌, ◌<◌, ◌≤◌, length, take};
 ghost use Rattle.std.specs.Prelude.{⊤, OnOk, OnErr, Option, MatchOption, option_to_list};
 ghost use Rattle.std.specs.List.{splice};
 ghost use Rattle.prop_map.specs.Modifiers.{IsFormedModifier};
-ghost use Rattle.piece_table.specs.Piece.{IsPiece, IsNoLarger, flat_pieces, total_length};
+ghost use Rattle.piece_table.specs.Piece.{ArePieces, IsPiece, IsNoLarger, flat_pieces, total_length};
 ghost use Rattle.piece_table.specs.Changes.{IsSpot, HasBegin, fresh_places, fresh_units, AreModified};
 
 use crate::cutting::{cut, cut_range, met, put, units_of};
@@ -14,6 +14,9 @@ use prop_map::Modifier;
 
 /// So many modifiers are kept, whether pieces name them or not.
 const MODIFIERS_KEPT: usize = 64;
+
+/// So many further pieces a splice may need.
+const SPLICE_PIECES: usize = 3;
 
 impl PieceList {
     /// Takes memory for the blocks that so many further pieces may divide, less those that stand ready.
@@ -73,6 +76,20 @@ impl PieceList {
         self.entries.remove(first, last);
         put(&mut self.entries, first, fresh);
         self.total = self.total - (to - from) + units_of(fresh);
+    }
+
+    /// Takes out all CPs behind the first `count`.
+    pub fn truncate(&mut self, count: u32) -> Result<(), Memory>
+        requires { count ≤ total_length self.old.pieces }
+        ensures text { OnOk result (flat_pieces self.new.pieces ≡ take count (flat_pieces self.old.pieces)) }
+        ensures sound { OnOk result (ArePieces self.new.pieces) }
+        ensures err { OnErr result (self.new.pieces ≡ self.old.pieces) }
+    {
+        self.reserve(SPLICE_PIECES)?;
+        let total = self.total();
+        self.splice(count, total, None);
+        let _ = &self.entries;
+        Ok(())
     }
 
     /// Composes the modifiers of a range of CPs with another. Its ends are split first.

@@ -120,7 +120,7 @@ fn prcs_of(alloc: Global, clx: &[u8]) -> Result<(Prcs<'_>, usize), Memory>
 }
 
 /// The length of the sprm list of a Prc that stands at the front.
-fn prc_front(bytes: &[u8]) -> Option<usize>
+pub fn prc_front(bytes: &[u8]) -> Option<usize>
     ensures { MatchOption result ((size : ℕ) → ¬ IsPrcFront bytes.now size) (IsPrcFront bytes.now) }
 {
     if bytes.len() < PRC_HEAD || bytes[0] != CLXT_PRC {

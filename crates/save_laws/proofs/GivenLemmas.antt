@@ -1,57 +1,41 @@
 -- The places of the text of a file stand for the document that it holds.
 use Rattle.std.specs.Prelude.{slice_get, slice_index, is_some, ℕ, List}
-use Rattle.std.specs.List.{flat_map, range_with_len}
 use Rattle.std.specs.Option.{ForSome, unwrap_or}
-use Rattle.std.proofs.Common.{◌≡◌, ◌⊎◌, ◌∙◌, ◌∷◌, ◌+◌, ◌-◌, ◌*◌, ◌<◌, ◌≤◌, [], refl, sym, ap, subst, inl, inr, zero}
-use Rattle.std.proofs.Common.{suc, Bool, true, false, Option, Some, None, length, map, take, arith, All}
+use Rattle.std.proofs.Common.{◌≡◌, ◌⊎◌, ◌∙◌, ◌∷◌, ◌+◌, ◌-◌, ◌<◌, ◌≤◌, [], refl, sym, ap, subst, inl, inr, zero}
+use Rattle.std.proofs.Common.{suc, Bool, true, false, Option, Some, None, length, take, arith}
 use Rattle.std.proofs.lemmas.Bool.{cases_lt, cases_eq, eq-eqb}
 use Rattle.std.proofs.lemmas.Option.{slice_get_within, get_or_from_slice_get, same_Some, none-some}
-use Rattle.std.proofs.lemmas.List.{length-map, length-take, get_or-map}
-use Rattle.std.proofs.lemmas.List.Elements.{All-nil, All-append, All-map, All-head, All-tail, All-weaker}
+use Rattle.std.proofs.lemmas.List.{get_or-map}
 use Rattle.std.proofs.Math.Seq.{take-nil}
-use Rattle.std.proofs.lemmas.List.FromFn.{get_or-range_with_len, length-range_with_len}
-use Rattle.doc_bits.proofs.ListLemmas.{All_at, there_is, slice_get_before}
+use Rattle.doc_bits.proofs.ListLemmas.{there_is, slice_get_before}
 use Rattle.doc_bits.specs.Number.{u16_at}
 use Rattle.doc_bits.specs.Rules.{Hold, Nowhere}
-use Rattle.doc_bits.specs.declared.places.Where.TheVariants.{Table}
 use Rattle.prop_map.specs.Settings.{Settings}
 use Rattle.prop_map.specs.declared.modifiers.Modifier.{Modifier}
-use Rattle.fib_form.specs.Fib.{fib_size, fib_pair}
 use Rattle.fib_form.specs.FibFields.{fib_fields, text_length}
-use Rattle.fib_form.specs.TableParts.{pair_of}
-use Rattle.fib_form.specs.declared.table_parts.TablePart.TheVariants.{Clx}
 use Rattle.fib_form.specs.declared.stories.StoryKind.TheVariants.{Main, Notes, Heads}
 use Rattle.fkp_pages.specs.declared.kind.PageKind.TheVariants.{Chpx, Papx}
 use Rattle.direct_props.specs.PageRules.{IsRightPlace}
 use Rattle.direct_props.proofs.RightLemmas.{right_places_have_lists}
-use Rattle.piece_table.specs.declared.pieces.TextBounds.{TextBounds}
-use Rattle.piece_table.specs.Piece.{TextPiece, UnitPlace, unit_bytes, unit_places, bare_piece, flat_pieces}
-use Rattle.piece_table.specs.Clx.{ClxParts, IsClx, clx_pieces, plc_place}
-use Rattle.piece_table.specs.ClxRules.{StaysInStream, clx_rules, text_bounds}
-use Rattle.piece_table.proofs.ClxLemmas.{parts_unique}
-use Rattle.piece_table.proofs.ClxRuleLemmas.{stays_of}
-use Rattle.piece_table.proofs.PieceLemmas.{All-seen}
+use Rattle.piece_table.specs.Piece.{UnitPlace, flat_pieces}
+use Rattle.piece_table.specs.Clx.{IsClx}
 use Rattle.text_codes.specs.Paragraph.{is_paragraph_end}
 use Rattle.plain_doc.specs.declared.item.Item.{Item}
 use Rattle.plain_doc.specs.declared.item.Mark.{Mark}
 use Rattle.plain_doc.specs.declared.document.Document.{Document}
 use Rattle.plain_doc.specs.Collected.{joined_texts}
-use Rattle.plain_doc.specs.Entries.{entry_at}
 use Rattle.doc_load.specs.Source.{story_begin, story_length, DocSource}
 use Rattle.doc_load.specs.Units.{unit_at}
 use Rattle.doc_load.specs.EndRules.{last_end, IsLooseUnit, HasLooseUnit}
-use Rattle.doc_load.specs.FormatRules.{text_count, judged_units, ends_section, ends_paragraph}
+use Rattle.doc_load.specs.FormatRules.{text_count}
 use Rattle.doc_load.specs.PartRules.{PartLists, HasPartLists, part_rules}
 use Rattle.doc_load.specs.FileRules.{FileText, source_of, clx_of, table_rules}
-use Rattle.doc_load.proofs.RightPlaces.{hold_out, right_characters, right_paragraphs}
-use Rattle.doc_read.specs.Sections.{section_marks}
+use Rattle.doc_load.proofs.StandLemmas.{place_stands}
 use Rattle.doc_read.specs.Items.{TextParts, IsMarkAt, IsItemAt, HoldsItems, HoldsTexts}
 use Rattle.doc_read.specs.Texts.{AreCutsWithin}
 use Rattle.doc_read.proofs.ExistFits.{TextFits}
 use Rattle.doc_read.proofs.ExistItems.{parts_of}
-use Rattle.doc_read.proofs.MarkListLemmas.{some_section, ends_up}
-use Rattle.doc_read.proofs.PlaceLemmas.{read_at_place}
-use Rattle.doc_read.proofs.RightLemmas.{paragraph_right, section_ends_there, ends_more}
+use Rattle.doc_read.proofs.GivenPlaces.{RightText, character_place, mark_place}
 use Rattle.doc_read.specs.Holds.{head_texts}
 use Rattle.save_laws.specs.Places.{PagedStream, given_of, GivesMark, StandsInside, GivesAt, IsMarkedAfter}
 use Rattle.save_laws.specs.GivenFiles.{stream_of}
@@ -94,68 +78,17 @@ read_stream r = stream_of (source_of r.text)
 
 -- ---- each place stands in the stream
 
--- a place within the bounds of text
-abbrev StandsBy : TextBounds → UnitPlace → Type 0
-StandsBy bounds place = (bounds.from ≤ place.at) × (place.at + unit_bytes place.wide ≤ bounds.end)
-
-unit_stands : (from at len j end : ℕ) (wide : Bool) → from ≤ at → at + len * unit_bytes wide ≤ end → j < len →
-    (from ≤ at + j * unit_bytes wide) × (at + j * unit_bytes wide + unit_bytes wide ≤ end)
-unit_stands from at len j end true low high below = (omega (arith, low), omega (arith, high, below))
-unit_stands from at len j end false low high below = (omega (arith, low), omega (arith, high, below))
-
-below_len : (n : ℕ) → All (λ c. c < n) (range_with_len 0 n)
-below_len n = λ k d below.
-    let len = length-range_with_len 0 n in
-    let at = get_or-range_with_len 0 n k d (omega (arith, below, len)) in
-    omega (arith, at, below, len)
-
-units_stand : (bounds : TextBounds) (piece : TextPiece) → StaysInStream bounds (bare_piece piece) →
-    All (StandsBy bounds) (unit_places piece)
-units_stand bounds piece stays =
-    let place : ℕ → UnitPlace =
-    λ j. record { at = piece.at + j * unit_bytes piece.wide; wide = piece.wide; modifier = piece.modifier } in
-    All-map (StandsBy bounds) place (range_with_len 0 piece.len)
-    (All-weaker (λ c. c < piece.len) (λ j. StandsBy bounds (place j))
-    (λ j below. unit_stands bounds.from piece.at piece.len j bounds.end piece.wide stays.0 stays.1 below)
-    (range_with_len 0 piece.len) (below_len piece.len))
-
-flat_stands : (bounds : TextBounds) (pieces : List TextPiece) →
-    All (λ (piece : TextPiece). StaysInStream bounds (bare_piece piece)) pieces →
-    All (StandsBy bounds) (flat_map unit_places pieces)
-flat_stands bounds [] all = All-nil (StandsBy bounds)
-flat_stands bounds (piece ∷ pieces) all =
-    let Stays : TextPiece → Type 0 = λ piece. StaysInStream bounds (bare_piece piece) in
-    All-append (StandsBy bounds) (unit_places piece) (flat_map unit_places pieces)
-    (units_stand bounds piece (All-head Stays piece pieces all))
-    (flat_stands bounds pieces (All-tail Stays piece pieces all))
-
--- the bounds of the text that was read
-abbrev read_bounds : ReadText → TextBounds
-read_bounds r = text_bounds (fib_size r.text.wd) (length r.text.wd)
-
-pieces_stand : (r : ReadText) →
-    All (λ (piece : TextPiece). StaysInStream (read_bounds r) (bare_piece piece)) r.text.pieces
-pieces_stand r =
-    let wd = r.text.wd in
-    let clx = clx_of wd r.text.table in
-    let at = (fib_pair wd (pair_of Clx)).0 in
-    let bounds = read_bounds r in
-    let rules = hold_out Table (clx_rules clx at bounds (text_length (fib_fields wd).ccps)) r.table.1 in
-    let parts = rules.1.0 in
-    let same : r.clx.parts ≡ parts = parts_unique clx r.clx.parts parts r.clx.spelt rules.1.1.0 in
-    let stays = stays_of parts.plc (at + plc_place parts) bounds rules.1.1.1.0.1.0 in
-    let are : map bare_piece r.text.pieces ≡ clx_pieces parts.plc =
-    r.clx.pieces_are ∙ ap (λ (p : ClxParts). clx_pieces p.plc) same in
-    All-seen bare_piece (StaysInStream bounds) r.text.pieces (subst (All (StaysInStream bounds)) (sym are) stays)
-
-pub place_stands : (r : ReadText) (cp : ℕ) (place : UnitPlace) → slice_get (read_places r) cp ≡ Some place →
+pub place_given : (r : ReadText) (cp : ℕ) (place : UnitPlace) → slice_get (read_places r) cp ≡ Some place →
     StandsInside (read_stream r) place.at place.wide
-unfolding flat_pieces
-place_stands r cp place here =
-    let bounds = read_bounds r in
-    let by = All_at (StandsBy bounds) (flat_map unit_places r.text.pieces) cp place
-    (flat_stands bounds r.text.pieces (pieces_stand r)) here in
+place_given r cp place here =
+    let wd = r.text.wd in
+    let by = place_stands wd r.text.table (text_length (fib_fields wd).ccps) r.text.pieces r.table r.clx cp place
+    here in
     record { behind_fib = by.0; inside = by.1 }
+
+-- the text, of which the rules on the parts hold
+abbrev right_text : ReadText → RightText
+right_text r = record { text = r.text; lists = r.lists; hold = r.parts_hold; has = r.has }
 
 -- ---- an item that is read at a CP is shown there
 
@@ -187,48 +120,6 @@ mark_given stream at modifier true (Some mark) is right =
       after = (is.style_is, is.modified);
     }
 
-character_place : (r : ReadText) (cp : ℕ) (place : UnitPlace) → cp < text_count (the_text r) →
-    slice_get (read_places r) cp ≡ Some place →
-    IsRightPlace Chpx r.text.wd (read_stream r).characters place.at
-character_place r cp place below here =
-    let source = the_text r in
-    let stream = read_stream r in
-    let right = right_characters source r.lists.sections r.parts_hold.1.0 r.has.has_sections in
-    let at = read_at_place (λ (p : UnitPlace). p.at) r.text.pieces cp (text_count source) place here below in
-    let inside = slice_get_within (read_places r) cp place here in
-    let len = length-take (text_count source) source.text.places in
-    let all = length-map (read_places r) (λ (p : UnitPlace). p.at) in
-    subst (IsRightPlace Chpx stream.wd stream.characters) at (right cp (omega (arith, below, inside, len, all)))
-
-mark_place : (r : ReadText) (cp : ℕ) (place : UnitPlace) (item : Item) → cp < text_count (the_text r) →
-    slice_get (read_places r) cp ≡ Some place → item.unit ≡ unit_at r.text.wd place →
-    item.sect ≡ entry_at (section_marks r.lists.sections (story_length (the_text r) Main) r.maps) cp →
-    is_paragraph_end item.unit (is_some item.sect) ≡ true →
-    IsRightPlace Papx r.text.wd (read_stream r).paragraphs place.at
-mark_place r cp place item below here unit sect ends =
-    let source = the_text r in
-    let stream = read_stream r in
-    let sections = r.lists.sections in
-    let main_len = story_length source Main in
-    let right = right_paragraphs source sections r.parts_hold.1.0 r.has.has_sections in
-    let at = read_at_place (λ (p : UnitPlace). p.at) r.text.pieces cp (text_count source) place here below in
-    let unit_is : slice_index (judged_units source) cp ≡ unit_at r.text.wd place =
-    read_at_place (unit_at r.text.wd) r.text.pieces cp (text_count source) place here below in
-    let inside = slice_get_within (read_places r) cp place here in
-    let len = length-take (text_count source) source.text.units in
-    let all = length-map (read_places r) (unit_at r.text.wd) in
-    let up = ends_up sections main_len (some_section source sections r.parts_hold.0.0 r.has.has_sections)
-    r.has.has_sections.leading.in_order in
-    let there : is_some item.sect ≡ true → ends_section sections main_len cp ≡ true = λ some.
-    section_ends_there sections main_len r.maps cp up (ap is_some (sym sect) ∙ some) in
-    let same : slice_index (judged_units source) cp ≡ item.unit = unit_is ∙ sym unit in
-    let paragraph : ends_paragraph source sections cp ≡ true =
-    ends_more (slice_index (judged_units source) cp) (is_some item.sect) (ends_section sections main_len cp) there
-    (ap (λ u. is_paragraph_end u (is_some item.sect)) same ∙ ends) in
-    subst (IsRightPlace Papx stream.wd stream.paragraphs) at
-    (paragraph_right stream.wd stream.paragraphs source sections right cp
-    (omega (arith, below, inside, len, all)) paragraph)
-
 -- the slot stands at a CP
 abbrev pub StandsAt : ReadText → ℕ → Slot → Type 0
 StandsAt r cp slot =
@@ -245,17 +136,17 @@ item_shown r cp item below is place here =
     let characters = is.characters in
     let mark =
     mark_given stream is.place.at is.place.modifier (is_paragraph_end item.unit (is_some item.sect)) item.mark is.mark
-    (mark_place r cp is.place item below own is.unit is.section) in
+    (mark_place (right_text r) r.maps cp is.place item below own is.unit is.section) in
     let read : ReadsAfter (GivesAt stream) is.place (given_of item) = record {
       before = record { unit = item.unit; chp = characters.made; mark = mark.before };
       gives = record {
-        stands = place_stands r cp is.place own;
+        stands = place_given r cp is.place own;
         unit = is.unit;
         characters = record {
           list = characters.list;
           has =
               right_places_have_lists Chpx stream.wd stream.characters is.place.at characters.list
-              (character_place r cp is.place below own) characters.has;
+              (character_place (right_text r) cp is.place below own) characters.has;
           style = characters.style;
           makes = characters.makes;
         };

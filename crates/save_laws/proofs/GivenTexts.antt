@@ -35,7 +35,7 @@ use Rattle.save_laws.specs.Slots.{note_slots, head_slots, story_counts, Slot, sh
 use Rattle.save_laws.specs.Slots.{story_slots, last_slots, whole_text}
 use Rattle.doc_bits.proofs.TogetherLemmas.{from_behind}
 use Rattle.save_laws.proofs.SlotLemmas.{length-story_slots, length-whole}
-use Rattle.save_laws.proofs.GivenLemmas.{ReadText, read_parts, place_stands, StandsAt, item_shown, mark_loose}
+use Rattle.save_laws.proofs.GivenLemmas.{ReadText, read_parts, place_given, StandsAt, item_shown, mark_loose}
 use Rattle.save_laws.proofs.GivenLemmas.{end_count, texts_shown, end_or_mark}
 
 -- slots that stand from a CP on
@@ -72,7 +72,7 @@ stand_none r from i slot here = absurd (none-some slot here)
 
 stand_last : (r : ReadText) (from : ℕ) (slots : List Slot) → AllStand r from (last_slots slots)
 stand_last r from [] = stand_none r from
-stand_last r from (slot ∷ slots) = stand_one r from last (λ place here. place_stands r from place here)
+stand_last r from (slot ∷ slots) = stand_one r from last (λ place here. place_given r from place here)
 
 -- ---- a story of texts
 

@@ -40,7 +40,7 @@ pub(crate) fn counted_bytes(bytes: &[u8], at: usize) -> &[u8]
 }
 
 /// Where the next count stands.
-pub(crate) fn next_place(bytes: &[u8], at: usize) -> usize
+pub fn next_place(bytes: &[u8], at: usize) -> usize
     requires { IsCounted bytes.now at }
     ensures next { result ≡ even_up (counted_end bytes.now at) }
     ensures bound { result ≤ length bytes.now + 1 }

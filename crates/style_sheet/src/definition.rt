@@ -45,7 +45,7 @@ fn upxes_start(std: &[u8], base: usize) -> usize
 }
 
 /// The number of the kind.
-pub(crate) fn kind_number(std: &[u8]) -> u16
+pub fn kind_number(std: &[u8]) -> u16
     requires { 4 ≤ length std.now }
     ensures { result ≡ stk std.now }
 {
@@ -89,7 +89,7 @@ fn has_upxes(std: &[u8], base: usize) -> bool
 }
 
 /// Where the first upx stands.
-pub(crate) fn first_upx(std: &[u8], base: usize) -> usize
+pub fn first_upx(std: &[u8], base: usize) -> usize
     requires { (base + 2 ≤ length std.now) × (base < 20) }
     ensures place { result ≡ upx_place std.now base 0 }
     ensures bound { result < 2 ^ 19 }

@@ -17,11 +17,14 @@ mod styles;
 mod upxes;
 
 pub use chains::Chain;
+pub use counted::next_place;
+pub use definition::{first_upx, kind_number};
 pub use fault::StyleFault;
 pub use laws::{
     base_chain_is_one, parts_hold_sheets, sheet_is_one, sheet_is_read_back,
     unbroken_bases_are_sound,
 };
+pub use reading::{first_slot, has_stshif, wrong_slot};
 pub use sheet::StyleSheet;
 pub use styles::{Kind, Style};
 pub use upxes::UpxList;

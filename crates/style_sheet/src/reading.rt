@@ -54,7 +54,7 @@ impl StyleSheet {
 }
 
 /// Whether the Stshif is there, with a number of slots and a base that are read.
-fn has_stshif(part: &[u8]) -> bool
+pub fn has_stshif(part: &[u8]) -> bool
     ensures { IsTrue result ↔ HasStshif part.now }
 {
     part.len() >= 20
@@ -65,7 +65,7 @@ fn has_stshif(part: &[u8]) -> bool
 }
 
 /// Where the first slot stands.
-fn first_slot(part: &[u8]) -> usize
+pub fn first_slot(part: &[u8]) -> usize
     requires { HasStshif part.now }
     ensures place { result ≡ slot_place part.now 0 }
     ensures bound { result < 2 ^ 17 }
@@ -74,7 +74,7 @@ fn first_slot(part: &[u8]) -> usize
 }
 
 /// The first slot that leaves the part, or holds what is no STD.
-fn wrong_slot(part: &[u8], at: u32) -> Option<u32>
+pub fn wrong_slot(part: &[u8], at: u32) -> Option<u32>
     requires stshif { HasStshif part.now }
     requires room { at + length part.now < 2 ^ 32 }
     ensures first { LeastOrNone (Among (cstd part.now) (IsWrongSlot part.now at)) result }

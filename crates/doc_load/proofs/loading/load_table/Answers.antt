@@ -1,51 +1,24 @@
-use Rattle.std.proofs.Common.{◌≡◌, ◌∙◌, inl, refl, ap, length}
-use Rattle.doc_bits.specs.declared.places.Where.TheVariants.{Wd, Table}
-use Rattle.doc_bits.specs.Rules.{rule}
-use Rattle.doc_bits.specs.Places.{rules_in}
-use Rattle.doc_bits.proofs.RuleLemmas.{hold_in}
-use Rattle.fib_form.specs.Fib.{form_size, fib_size, fib_pair}
+use Rattle.std.proofs.Common.{◌≡◌, ◌∙◌, refl, ap}
+use Rattle.std.proofs.lemmas.Result.{err_from_is_err_and}
 use Rattle.fib_form.specs.FibFields.{FibFields, fib_fields, text_length}
 use Rattle.piece_table.specs.Piece.{total_length}
-use Rattle.piece_table.specs.ClxRules.{clx_rules, text_bounds}
-use Rattle.fib_form.specs.declared.table_parts.TablePart.TheVariants.{Clx}
-use Rattle.doc_load.specs.PairRules.{BreaksPairs}
-use Rattle.fib_form.specs.TableParts.{pair_of}
-use Rattle.doc_load.specs.Faults.{clx_refusal}
-use Rattle.doc_load.specs.FileRules.{clx_of}
-use Rattle.doc_load.proofs.RefusalLemmas.{refused-rule, holds-rule, refused-next, refused-clx}
-use Rattle.doc_load.proofs.PartLemmas.{clx_pair}
 use Rattle.doc_load.proofs.UnitLemmas.{length-text_units, length-text_places}
 use Rattle.doc_load.proofs.loading.load_table.Goals as goal
 
-pub returns-in-Some : goal.returns-in-Some
-returns-in-Some c = inl (refused-rule Wd 26 (BreaksPairs c.args.wd.now (length c.args.table.now)) c.in-Some.offset
-    (c.in-Some.ensures c.args.wd.now c.requires.fields))
-
-pub returns-in-Err : goal.returns-in-Err
-returns-in-Err c =
-    let wd = c.args.wd.now in
-    let table = c.args.table.now in
-    let len : c.text_len.result ≡ text_length (fib_fields wd).ccps = c.text_len.ensures.value ∙ ap (λ (f : FibFields).
-    text_length f.ccps) c.requires.fields in
-    let bounds = text_bounds (fib_size wd) (length wd) in
-    let rules = clx_rules (clx_of wd table) (fib_pair wd (pair_of Clx)).0 bounds (text_length (fib_fields wd).ccps) in
-    let pair : c.pair-pair.result ≡ fib_pair wd (pair_of Clx) = clx_pair c.pair.result wd c.args.fib
-    c.pair-pair.result c.pair.ensures.number c.pair-pair.ensures c.requires.fields in
-    let from : c.size.result ≡ fib_size wd = c.size.ensures.value ∙ ap (λ (f : FibFields). form_size f.form)
-    c.requires.fields in
-    let first = rw (len, c.part_at-clx.ensures.bytes, pair, from) at c.in-Err.ensures.read in
-    let pairs = BreaksPairs wd (length table) in
-    rw c.refused_clx.ensures (refused-next (rules_in Wd (rule 26 pairs)) (rules_in Table rules) (clx_refusal
-    c.in-Err.fault) (holds-rule Wd 26 pairs (c.in_default.ensures wd c.requires.fields)) (refused-clx rules
-    c.in-Err.fault first))
+pub returns-in_err-pieces : goal.returns-in_err-pieces
+returns-in_err-pieces c =
+    let len : c.text_len.result ≡ text_length (fib_fields c.args.wd.now).ccps =
+    c.text_len.ensures.value ∙ ap (λ (f : FibFields). text_length f.ccps) c.requires.fields in
+    let p = err_from_is_err_and c.from_residual.result c.from_residual.ensures.1 in
+    rw (p.1, p.2) (rw len at c.in_err-pieces.ensures.read)
 
 pub invariant_of-result : goal.invariant_of-result
 invariant_of-result c =
     let wd = c.args.wd.now in
-    let pieces = c.in-Ok.pieces.pieces in
-    let len : c.text_len.result ≡ text_length (fib_fields wd).ccps = c.text_len.ensures.value ∙ ap (λ (f : FibFields).
-    text_length f.ccps) c.requires.fields in
-    let total : total_length pieces ≡ text_length (fib_fields wd).ccps = c.in-Ok.ensures.total ∙ len in
+    let pieces = c.in_ok-pieces.pieces.pieces in
+    let len : c.text_len.result ≡ text_length (fib_fields wd).ccps =
+    c.text_len.ensures.value ∙ ap (λ (f : FibFields). text_length f.ccps) c.requires.fields in
+    let total : total_length pieces ≡ text_length (fib_fields wd).ccps = c.in_ok-pieces.ensures.total ∙ len in
     record {
       source = record {
         fields = c.requires.fields;
@@ -59,22 +32,6 @@ invariant_of-result c =
 
 pub returns : goal.returns
 returns c =
-    let wd = c.args.wd.now in
-    let table = c.args.table.now in
-    let len : c.text_len.result ≡ text_length (fib_fields wd).ccps = c.text_len.ensures.value ∙ ap (λ (f : FibFields).
-    text_length f.ccps) c.requires.fields in
-    let bounds = text_bounds (fib_size wd) (length wd) in
-    let rules = clx_rules (clx_of wd table) (fib_pair wd (pair_of Clx)).0 bounds (text_length (fib_fields wd).ccps) in
-    let pair : c.pair-pair.result ≡ fib_pair wd (pair_of Clx) = clx_pair c.pair.result wd c.args.fib
-    c.pair-pair.result c.pair.ensures.number c.pair-pair.ensures c.requires.fields in
-    let from : c.size.result ≡ fib_size wd = c.size.ensures.value ∙ ap (λ (f : FibFields). form_size f.form)
-    c.requires.fields in
-    let read = rw (len, c.part_at-clx.ensures.bytes, pair, from) at c.in-Ok.ensures.read in (
-      (
-        holds-rule Wd 26 (BreaksPairs wd (length table)) (c.in_default.ensures wd c.requires.fields),
-        hold_in Table rules read.0,
-      ),
-      refl,
-      refl,
-      read.1,
-    )
+    let len : c.text_len.result ≡ text_length (fib_fields c.args.wd.now).ccps =
+    c.text_len.ensures.value ∙ ap (λ (f : FibFields). text_length f.ccps) c.requires.fields in
+    let read = rw len at c.in_ok-pieces.ensures.read in (read.0, refl, refl, read.1)

@@ -41,5 +41,5 @@ invariant_of-result-clause-lists c =
 
 pub invariant_of-result-clause-others : goal.invariant_of-result-clause-others
 invariant_of-result-clause-others c =
-    subst AreCarriedStreams (sym c.in_ok-copy_streams.ensures) (carried-fit c.args.container.now c.args.text.now
-    c.requires.bounds c.requires.text)
+    subst AreCarriedStreams (sym c.in_ok-copy_streams.ensures) (carried-fit c.args.container.now
+    c.args.text.now.table c.requires.bounds c.requires.room)

@@ -4,8 +4,8 @@ use Rattle.doc_read.proofs.FormedBookmarks.{held_formed}
 use Rattle.doc_read.proofs.OpeningLemmas.{file-refused-contents, file-refused-document, holds-found, opened-found}
 use Rattle.doc_read.proofs.column_file.read_judged.Goals as goal
 
-pub judge-requires : goal.judge-requires
-judge-requires c =
+pub judge_document-requires : goal.judge_document-requires
+judge_document-requires c =
     let found = c.in_ok-found.found in
     let of_file = c.requires.of_file in
     let read = c.in_ok-found.ensures in

@@ -3,7 +3,7 @@ use Rattle.plain_doc.specs.declared.document.Document.{Document}
 use Rattle.plain_doc.specs.Marks.{HasFormedBookmarks}
 use Rattle.plain_doc.specs.Sound.{IsSound, document_rules}
 use Rattle.doc_load.specs.Faults.{IsReadFault}
-use Rattle.doc_read.proofs.column_file.judge.Goals as goal
+use Rattle.doc_read.proofs.column_file.judge_document.Goals as goal
 
 pub judge_items-verdict-requires : goal.judge_items-verdict-requires
 judge_items-verdict-requires c = subst HasFormedBookmarks (sym c.in_ok-items.ensures) c.requires

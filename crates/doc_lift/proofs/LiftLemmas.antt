@@ -1,0 +1,142 @@
+-- What the front of a text, behind a FIB of the early form, tells of the streams.
+use Rattle.std.proofs.Common.{◌≡◌, ◌∙◌, ◌++◌, ◌<◌, ◌≤◌, ◌^◌, refl, sym, ap, subst, inl, inr, ℕ, List}
+use Rattle.std.proofs.Common.{length, drop, arith}
+use Rattle.std.proofs.lemmas.Bool.{cases_lt}
+use Rattle.std.proofs.lemmas.List.{length-drop, length-append}
+use Rattle.doc_bits.specs.Rules.{Rules, Hold, Nowhere}
+use Rattle.doc_bits.specs.Places.{Place}
+use Rattle.cfb_streams.specs.Contents.{Contents, HasNamed}
+use Rattle.fib_form.specs.Fib.{form_size}
+use Rattle.fib_form.specs.FibFields.{FibFields, fib_fields, text_length}
+use Rattle.fib_form.specs.FibBytes.{written_fib}
+use Rattle.fib_form.specs.declared.form.Form.TheVariants.{Early}
+use Rattle.fib_form.proofs.WriteLemmas.{length-written_fib}
+use Rattle.fib_versions.specs.Early.{early_pairs, early_fields}
+use Rattle.fib_versions.specs.Versions.{all_text_length}
+use Rattle.fib_versions.specs.VersionRules.{version_rules}
+use Rattle.plain_doc.specs.declared.document.Document.{Document}
+use Rattle.plain_doc.specs.Marks.{HasFormedBookmarks}
+use Rattle.doc_load.specs.PartRules.{part_rules}
+use Rattle.doc_load.specs.FileRules.{FileText, IsFrontOf, source_of, rules_of_pieces, table_stream_name}
+use Rattle.cfb_sectors.proofs.OpeningLemmas.{whole_length}
+use Rattle.cfb_directory.specs.Reach.{BreaksName}
+use Rattle.cfb_streams.specs.Container.{outer_rules, HasContents}
+use Rattle.cfb_streams.specs.Names.{wd_name}
+use Rattle.cfb_streams.proofs.SingleLemmas.{directory_unique}
+use Rattle.doc_read.specs.CarriedParts.{AreWithinBounds, LeavesRoom}
+use Rattle.doc_read.specs.Opened.{IsReadOf}
+use Rattle.doc_read.proofs.ContentsBounds.{bounded}
+use Rattle.doc_read.proofs.FewLemmas.{leaves_room}
+use Rattle.doc_read.proofs.FormedBookmarks.{parts-formed}
+use Rattle.doc_meaning.specs.Meaning.{MeansFrom}
+use Rattle.doc_meaning.proofs.EarlyLemmas.{early_count}
+use Rattle.doc_meaning.proofs.FrontLemmas.{HasFront, whole_text, front_loaded, front_text}
+use Rattle.doc_meaning.proofs.LoadedLemmas.{loaded_is_meant}
+use Rattle.doc_lift.specs.declared.text_lifting.LiftedText.{LiftedText}
+use Rattle.doc_lift.specs.LiftedRules.{lifted_wd}
+use Rattle.doc_lift.specs.LiftedTexts.{IsLiftedBy}
+
+-- a FIB that is long enough for the rules is as long as the early form
+pub early_long : (wd : List ℕ) → Hold (version_rules wd) → form_size Early ≤ length wd
+early_long wd hold = elim (cases_lt (length wd) (form_size Early)) [
+  | inl less ↦ absurd (hold.0 (length wd) (refl, inl less))
+  | inr enough ↦ enough
+]
+
+-- the stream stays as long as it was
+pub length-lifted_wd : (wd : List ℕ) → form_size Early ≤ length wd → length (lifted_wd wd) ≡ length wd
+length-lifted_wd wd long =
+    let fib = early_fields wd (early_pairs wd) in
+    omega (
+      arith,
+      long,
+      length-append (written_fib fib) (drop (form_size Early) wd),
+      length-written_fib fib (early_count wd),
+      length-drop (form_size Early) wd,
+    )
+
+-- the FIB counts no more CPs than all stories have
+pub front_short : (wd early : List ℕ) → fib_fields early ≡ early_fields wd (early_pairs wd) →
+    text_length (fib_fields early).ccps ≤ all_text_length wd
+front_short wd early fields =
+    let same : text_length (fib_fields early).ccps ≡ text_length (fib_fields wd).ccps =
+    ap (λ (f : FibFields). text_length f.ccps) fields in
+    let own : text_length (fib_fields wd).ccps ≤ all_text_length wd = omega arith in
+    omega (arith, same, own)
+
+pub front_room : (contents : Contents) (wd table : List ℕ) (text_len : ℕ) (text : FileText) (units : List ℕ) →
+    AreWithinBounds contents → HasFront contents wd table text_len → IsFrontOf (lifted_wd wd) table text units →
+    LeavesRoom contents text.table
+front_room contents wd table text_len text units bounds has front =
+    subst (LeavesRoom contents) (sym front.table_is)
+    (leaves_room contents (whole_text wd table front.all) bounds
+    (front_text contents wd table text_len text units has front))
+
+pub front_meant : (contents : Contents) (wd table : List ℕ) (text_len : ℕ) (text : FileText) (units : List ℕ)
+    (document : Document) → HasFront contents wd table text_len → IsFrontOf (lifted_wd wd) table text units →
+    Hold (part_rules (source_of text)) → IsReadOf contents text document → MeansFrom contents document
+front_meant contents wd table text_len text units document has front hold read =
+    loaded_is_meant contents (whole_text wd table front.all) text read.lists document
+    (front_text contents wd table text_len text units has front)
+    (front_loaded contents wd table text_len text units has front) hold read.has_lists read.document_is
+
+pub read_formed : (contents : Contents) (text : FileText) (document : Document) →
+    Hold (part_rules (source_of text)) → IsReadOf contents text document → HasFormedBookmarks document
+read_formed contents text document hold read =
+    parts-formed (record {
+      contents = contents;
+      text = text;
+      lists = read.lists;
+      sections = read.document_is.sections;
+    }) document hold read.has_lists read.document_is.document_is
+
+-- a stream of the root has 32-bit places
+pub stream_small : (contents : Contents) (name bytes : List ℕ) → AreWithinBounds contents →
+    HasNamed contents.streams name bytes → length bytes < 2 ^ 32
+stream_small contents name bytes bounds named =
+    let short = bounds.short named.index named.stream named.here in
+    omega (arith, ap length named.same, short)
+
+-- what is lifted, under the rules of the layer above
+pub lifted_under : (rules below : Rules Place) (contents : Contents) (lifted : LiftedText) → Hold rules →
+    IsLiftedBy below contents lifted → IsLiftedBy rules contents lifted
+lifted_under rules below contents lifted hold is = record {
+  hold = hold;
+  text = is.text;
+  has_text = is.has_text;
+  fib = is.fib;
+  units = is.units;
+  means = is.means;
+  formed = is.formed;
+}
+
+-- a stream with the early FIB in front, as it was written
+pub record IsWrittenFront (wd lifted : List ℕ) : Type 0 where
+  pub bytes : lifted ≡ lifted_wd wd
+  pub fields : fib_fields lifted ≡ early_fields wd (early_pairs wd)
+
+pub written_front : (wd : List ℕ) (early : FibFields) (lifted : List ℕ) → early ≡ early_fields wd (early_pairs wd) →
+    lifted ≡ written_fib early ++ drop (form_size early.form) wd → fib_fields lifted ≡ early → IsWrittenFront wd lifted
+written_front wd early lifted is bytes fields = record {
+  bytes = bytes ∙ ap (λ (f : FibFields). written_fib f ++ drop (form_size f.form) wd) is;
+  fields = fields ∙ is;
+}
+
+-- so its front can be loaded
+pub has_front : (contents : Contents) (wd table lifted : List ℕ) → IsWrittenFront wd lifted →
+    HasNamed contents.streams wd_name wd → HasNamed contents.streams (table_stream_name wd) table →
+    Hold (rules_of_pieces lifted table (all_text_length wd)) → HasFront contents wd table (all_text_length wd)
+has_front contents wd table lifted front has_wd has_table hold = record {
+  fields = sym (ap fib_fields front.bytes) ∙ front.fields;
+  has_wd = has_wd;
+  has_table = has_table;
+  hold = subst (λ w. Hold (rules_of_pieces w table (all_text_length wd))) front.bytes hold;
+}
+
+-- the streams of the root are within bounds, whatever its storages have
+pub outer_bounded : (file : List ℕ) (contents : Contents) → Hold (outer_rules file) → HasContents file contents →
+    AreWithinBounds contents
+outer_bounded file contents holds has =
+    let same = directory_unique file holds.1.1.1.0 has.parts.directory holds.1.1.1.1.0 has.directory in
+    bounded file contents (whole_length file holds.0.0) has
+    (subst (λ sectors. Nowhere (BreaksName file sectors)) same holds.1.1.1.1.1.1.1.0)

@@ -1,0 +1,181 @@
+-- The rules that are left ascend, and each of their objects is the only one.
+use Rattle.std.proofs.Common.{◌≡◌, ◌∙◌, sym, ap, ℕ, List, map, take, lit<, lit≤, arith}
+use Rattle.doc_bits.specs.declared.places.Where.TheVariants.{File, Wd}
+use Rattle.doc_bits.specs.Rules.{IsSingle, Ascends}
+use Rattle.doc_bits.proofs.RuleLemmas.{ascends_wider}
+use Rattle.cfb_streams.specs.Contents.{Contents}
+use Rattle.cfb_streams.specs.Container.{chain_rules, entry_rules, outer_entry_rules, outer_rules, HasContents}
+use Rattle.cfb_streams.specs.Names.{wd_name}
+use Rattle.cfb_streams.proofs.SingleLemmas.{outer_single, container_ascends}
+use Rattle.cfb_streams.proofs.UniqueLemmas.{contents_unique}
+use Rattle.fib_form.specs.FibFields.{fib_fields, text_length}
+use Rattle.fib_versions.specs.Versions.{all_text_length}
+use Rattle.fib_versions.specs.VersionRules.{version_rules}
+use Rattle.fib_versions.proofs.VersionLemmas.{version_rules-IsSingle, version_rules-Ascends}
+use Rattle.piece_table.specs.Piece.{TextPiece, UnitPlace, flat_pieces}
+use Rattle.piece_table.proofs.UniqueLemmas.{clx_pieces_one}
+use Rattle.doc_load.specs.Units.{unit_at}
+use Rattle.doc_load.specs.Source.{DocSource}
+use Rattle.doc_load.specs.FileRules.{FileText, IsFrontOf, source_of, clx_of, table_stream_name}
+use Rattle.doc_load.proofs.FileLemmas.{ascends_in, part_single, part_ascends, pieces_single, pieces_ascend}
+use Rattle.doc_load.proofs.NameLemmas.{named_one}
+use Rattle.doc_load.proofs.RefusalLemmas.{single_in}
+use Rattle.doc_lift.specs.LiftedRules.{IsLiftedSource, lifted_wd, lifted_table_rules, lifted_wd_rules}
+use Rattle.doc_lift.specs.LiftedFiles.{lifted_rules}
+
+-- the source of the first places of a text
+abbrev source_by : List ℕ → List ℕ → List UnitPlace → DocSource
+source_by wd table places = record {
+  wd = wd;
+  table = table;
+  text = record { places = map (λ place. place.at) places; units = map (unit_at wd) places };
+}
+
+-- that of the front is one
+front_source : (wd table : List ℕ) (text : FileText) (units : List ℕ) (front : IsFrontOf wd table text units) →
+    source_of text ≡ source_by wd table (take (text_length (fib_fields wd).ccps) (flat_pieces front.all))
+front_source wd table text units front =
+    ap (λ (w : List ℕ). source_by w text.table (flat_pieces text.pieces)) front.wd_is
+    ∙ (ap (λ (t : List ℕ). source_by wd t (flat_pieces text.pieces)) front.table_is
+    ∙ ap (source_by wd table) front.front)
+
+source_one : (wd table : List ℕ) (one other : DocSource) → IsLiftedSource wd table one →
+    IsLiftedSource wd table other → one ≡ other
+source_one wd table one other a b =
+    let early = lifted_wd wd in
+    let count = text_length (fib_fields early).ccps in
+    let pieces : a.front.all ≡ b.front.all =
+    clx_pieces_one (clx_of early table) a.front.all b.front.all a.front.has_pieces b.front.has_pieces in
+    a.source_is
+    ∙ (front_source early table a.text a.units a.front
+    ∙ (ap (λ (ps : List TextPiece). source_by early table (take count (flat_pieces ps))) pieces
+    ∙ (sym (front_source early table b.text b.units b.front) ∙ sym b.source_is)))
+
+table_single : (wd table : List ℕ) → IsSingle (lifted_table_rules wd table)
+table_single wd table = (
+  pieces_single (lifted_wd wd) table (all_text_length wd),
+  ((λ a b ha hb. source_one wd table a b ha hb), λ source h. part_single source),
+)
+
+wd_single : (file : List ℕ) (contents : Contents) (wd : List ℕ) → HasContents file contents →
+    IsSingle (lifted_wd_rules contents wd)
+wd_single file contents wd has = (
+  single_in Wd (version_rules wd) (version_rules-IsSingle wd),
+  (
+    tt,
+    ((λ x y hx hy. named_one file contents (table_stream_name wd) x y has hx hy), λ table h. table_single wd table),
+  ),
+)
+
+pub lifted_single : (file : List ℕ) → IsSingle (lifted_rules file)
+lifted_single file = (
+  single_in File (outer_rules file) (outer_single file),
+  (
+    (λ x y hx hy. contents_unique file x y hx hy),
+    λ contents has. (
+      tt,
+      ((λ x y hx hy. named_one file contents wd_name x y has hx hy), λ wd h. wd_single file contents wd has),
+    ),
+  ),
+)
+
+-- the rules of a container ascend without rule 10 as they do with it
+entries_ascend : (file directory : List ℕ) (low high : ℕ) → Ascends (entry_rules file directory) low high →
+    Ascends (outer_entry_rules file directory) low high
+entries_ascend file directory low high up =
+    let first = up.1.1.2 in
+    let next = first.1.1.2 in
+    let last = next.1.1.2 in
+    let chain = ascends_wider (chain_rules file directory) last.0 high next.0 high last.1.1.0 (omega arith)
+    last.1.1.2 in (
+      up.0,
+      (
+        up.1.0,
+        (
+          up.1.1.0,
+          up.1.1.1,
+          (
+            first.0,
+            (
+              first.1.0,
+              (
+                first.1.1.0,
+                first.1.1.1,
+                (next.0, (next.1.0, (next.1.1.0, next.1.1.1, chain))),
+              ),
+            ),
+          ),
+        ),
+      ),
+    )
+
+pub outer_ascends : (file : List ℕ) → Ascends (outer_rules file) 1 15
+outer_ascends file =
+    let up = container_ascends file in
+    let header = up.1.1.2 in
+    let directory = header.1.1.2 in
+    let entries = directory.1.1.2 in (
+      up.0,
+      (
+        up.1.0,
+        (
+          up.1.1.0,
+          up.1.1.1,
+          (
+            header.0,
+            (
+              header.1.0,
+              (
+                header.1.1.0,
+                header.1.1.1,
+                (
+                  directory.0,
+                  (
+                    directory.1.0,
+                    (
+                      directory.1.1.0,
+                      directory.1.1.1,
+                      (entries.0, λ d is. entries_ascend file d directory.0 15 (entries.1 d is)),
+                    ),
+                  ),
+                ),
+              ),
+            ),
+          ),
+        ),
+      ),
+    )
+
+table_ascends : (wd table : List ℕ) → Ascends (lifted_table_rules wd table) 26 58
+table_ascends wd table = (
+  33,
+  (
+    pieces_ascend (lifted_wd wd) table (all_text_length wd),
+    (lit≤ tt, lit≤ tt, (lit≤ tt, λ source h. part_ascends source)),
+  ),
+)
+
+wd_ascends : (contents : Contents) (wd : List ℕ) → Ascends (lifted_wd_rules contents wd) 16 58
+wd_ascends contents wd = (
+  24,
+  (
+    ascends_in Wd (version_rules wd) 16 24 (version_rules-Ascends wd),
+    (lit≤ tt, lit≤ tt, (26, ((lit≤ tt, lit< tt), (lit≤ tt, lit≤ tt, (lit≤ tt, λ table h. table_ascends wd table))))),
+  ),
+)
+
+pub lifted_ascend : (file : List ℕ) → Ascends (lifted_rules file) 1 58
+lifted_ascend file = (
+  15,
+  (
+    ascends_in File (outer_rules file) 1 15 (outer_ascends file),
+    (
+      lit≤ tt,
+      lit≤ tt,
+      (
+        lit≤ tt,
+        λ contents h. (16, ((lit≤ tt, lit< tt), (lit≤ tt, lit≤ tt, (lit≤ tt, λ wd there. wd_ascends contents wd)))),
+      ),
+    ),
+  ),
+)

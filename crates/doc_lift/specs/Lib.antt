@@ -1,0 +1,3 @@
+pub mod LiftedRules
+pub mod LiftedTexts
+pub mod LiftedFiles

@@ -1,0 +1,11 @@
+//! Lifts the document that a file means out of it, whatever program wrote the file, or names the first of the rules
+//! that are left that it breaks.
+#![tactic(auto)]
+
+mod laws;
+mod lifting;
+mod text_lifting;
+
+pub use doc_load::ReadFault;
+pub use laws::first_lifted_fault_is_least;
+pub use lifting::{Lifted, lift};

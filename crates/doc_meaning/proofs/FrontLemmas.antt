@@ -1,0 +1,118 @@
+-- The front of a text, behind a FIB of the early form, is loaded in place of the text that the streams name.
+use Rattle.std.specs.Prelude.{slice_get, slice_range}
+use Rattle.std.proofs.Common.{◌≡◌, ◌∙◌, ◌∷◌, [], ◌+◌, ◌<◌, ◌≤◌, refl, sym, ap, subst, inl, inr, ℕ, List, length, map}
+use Rattle.std.proofs.Common.{take, drop, Some, All, arith}
+use Rattle.std.proofs.lemmas.Bool.{cases_lt}
+use Rattle.std.proofs.lemmas.Option.{slice_get_past}
+use Rattle.std.proofs.lemmas.List.{length-take, take-append-drop}
+use Rattle.std.proofs.lemmas.List.Elements.{All-head, All-tail, All-weaker}
+use Rattle.doc_bits.specs.Rules.{Hold}
+use Rattle.doc_bits.proofs.ListLemmas.{slice_get-take, slice_get_before}
+use Rattle.cfb_streams.specs.Contents.{Contents, HasNamed}
+use Rattle.cfb_streams.specs.Names.{wd_name}
+use Rattle.fib_form.specs.Fib.{fib_size, form_size}
+use Rattle.fib_form.specs.FibFields.{FibFields, fib_fields, text_length}
+use Rattle.fib_form.specs.declared.form.Form.TheVariants.{Early}
+use Rattle.fib_form.specs.declared.table_parts.TablePart.TheVariants.{Clx}
+use Rattle.fib_versions.specs.Early.{early_pairs, early_fields, early_wd}
+use Rattle.piece_table.specs.Piece.{TextPiece, UnitPlace, flat_pieces}
+use Rattle.piece_table.specs.Clx.{IsClx}
+use Rattle.piece_table.specs.ClxRules.{text_bounds}
+use Rattle.doc_load.specs.Units.{unit_at, text_units}
+use Rattle.doc_load.specs.FormatRules.{text_count}
+use Rattle.doc_load.specs.FileRules.{FileText, HasText, IsFrontOf, source_of, clx_of, rules_of_pieces}
+use Rattle.doc_load.specs.FileRules.{table_stream_name}
+use Rattle.doc_load.proofs.StandLemmas.{StandsBy, place_stands, places_stand}
+use Rattle.doc_meaning.specs.Loaded.{IsLoadedFor}
+use Rattle.doc_meaning.proofs.EarlyLemmas.{early_behind, pair_same}
+use Rattle.doc_meaning.proofs.ItemLemmas.{unit_same}
+
+-- the streams of a text, and as many CPs of its pieces as all stories have
+pub record HasFront (contents : Contents) (wd table : List ℕ) (text_len : ℕ) : Type 0 where
+  pub fields : fib_fields (early_wd wd (early_pairs wd)) ≡ early_fields wd (early_pairs wd)
+  pub has_wd : HasNamed contents.streams wd_name wd
+  pub has_table : HasNamed contents.streams (table_stream_name wd) table
+  pub hold : Hold (rules_of_pieces (early_wd wd (early_pairs wd)) table text_len)
+
+-- the text that the streams name
+abbrev pub whole_text : List ℕ → List ℕ → List TextPiece → FileText
+whole_text wd table pieces = record { wd = wd; table = table; pieces = pieces }
+
+-- what stands at a place of the front stands there in the list
+front_get : {A : Type 0} (xs : List A) (n i : ℕ) → i < n → slice_get (take n xs) i ≡ slice_get xs i
+front_get xs n i below =
+    let len = length-take n xs in
+    elim (cases_lt i (length xs)) [
+      | inl inside ↦
+          sym (slice_get_before (take n xs) (drop n xs) i (omega (arith, below, inside, len)))
+          ∙ ap (λ l. slice_get l i) (take-append-drop n xs)
+      | inr past ↦
+          slice_get_past (take n xs) i (omega (arith, past, len)) ∙ sym (slice_get_past xs i past)
+    ]
+
+-- the FIB of the early form ends where that form does
+early_size : (wd early : List ℕ) → fib_fields early ≡ early_fields wd (early_pairs wd) →
+    fib_size early ≡ form_size Early
+early_size wd early fields = ap (λ (f : FibFields). form_size f.form) fields
+
+pub front_loaded : (contents : Contents) (wd table : List ℕ) (text_len : ℕ) (text : FileText) (units : List ℕ) →
+    HasFront contents wd table text_len → (front : IsFrontOf (early_wd wd (early_pairs wd)) table text units) →
+    IsLoadedFor (whole_text wd table front.all) text
+front_loaded contents wd table text_len text units has front =
+    let early = early_wd wd (early_pairs wd) in
+    let flat = flat_pieces front.all in
+    let count = text_length (fib_fields early).ccps in
+    let most : text_count (source_of text) ≤ text_length (fib_fields text.wd).ccps = omega arith in
+    let few : text_count (source_of text) ≤ count =
+    subst (λ (w : List ℕ). text_count (source_of text) ≤ text_length (fib_fields w).ccps) front.wd_is most in
+    record {
+      wd = front.wd_is;
+      fields = ap fib_fields front.wd_is ∙ has.fields;
+      table = front.table_is;
+      places = λ cp below.
+          ap (λ (places : List UnitPlace). slice_get places cp) front.front
+          ∙ front_get flat count cp (omega (arith, below, few));
+      low = λ cp place here.
+          let there : slice_get flat cp ≡ Some place =
+          slice_get-take count flat cp place (sym (ap (λ (places : List UnitPlace). slice_get places cp) front.front)
+          ∙ here) in
+          let by = place_stands early table text_len front.all has.hold front.has_pieces cp place there in
+          omega (arith, by.0, early_size wd early has.fields);
+    }
+
+-- the streams have the text of all pieces
+pub front_text : (contents : Contents) (wd table : List ℕ) (text_len : ℕ) (text : FileText) (units : List ℕ) →
+    HasFront contents wd table text_len → (front : IsFrontOf (early_wd wd (early_pairs wd)) table text units) →
+    HasText contents (whole_text wd table front.all)
+front_text contents wd table text_len text units has front =
+    let pair = pair_same wd (early_wd wd (early_pairs wd)) Clx has.fields in
+    let same : clx_of (early_wd wd (early_pairs wd)) table ≡ clx_of wd table =
+    λ i. slice_range table (pair i).0 ((pair i).0 + (pair i).1) in
+    record {
+      has_wd = has.has_wd;
+      has_table = has.has_table;
+      has_pieces = subst (λ bytes. IsClx bytes front.all) same front.has_pieces;
+    }
+
+-- what two functions say alike of each entry
+mapped_same : (f g : UnitPlace → ℕ) (xs : List UnitPlace) → All (λ x. f x ≡ g x) xs → map f xs ≡ map g xs
+mapped_same f g [] all = refl
+mapped_same f g (x ∷ xs) all =
+    let first = All-head (λ x. f x ≡ g x) x xs all in
+    let rest = mapped_same f g xs (All-tail (λ x. f x ≡ g x) x xs all) in
+    λ i. first i ∷ rest i
+
+-- the units of all CPs are those of the input's own stream
+pub front_units : (contents : Contents) (wd table : List ℕ) (text_len : ℕ) (text : FileText) (units : List ℕ) →
+    HasFront contents wd table text_len → (front : IsFrontOf (early_wd wd (early_pairs wd)) table text units) →
+    units ≡ text_units wd front.all
+front_units contents wd table text_len text units has front =
+    let early = early_wd wd (early_pairs wd) in
+    let bounds = text_bounds (fib_size early) (length early) in
+    let behind = early_behind wd in
+    let stand = places_stand early table text_len front.all has.hold front.has_pieces in
+    front.units_are
+    ∙ mapped_same (unit_at early) (unit_at wd) (flat_pieces front.all)
+    (All-weaker (StandsBy bounds) (λ place. unit_at early place ≡ unit_at wd place)
+    (λ place by. unit_same wd early place place.wide behind (omega (arith, by.0, early_size wd early has.fields)))
+    (flat_pieces front.all) stand)

@@ -1,0 +1,3 @@
+pub mod EarlyLemmas
+pub mod NameLemmas
+pub mod VersionLemmas

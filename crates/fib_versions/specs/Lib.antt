@@ -1,0 +1,4 @@
+pub mod Versions
+pub mod VersionRules
+pub mod Early
+pub mod PartNames

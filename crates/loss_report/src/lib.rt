@@ -1,0 +1,9 @@
+//! What of a file this profile has no meaning for, named feature by feature, and the lines that say so.
+#![tactic(auto)]
+
+mod feature_lines;
+mod lines;
+mod reporting;
+
+pub use lines::LossLines;
+pub use reporting::report;

@@ -1,0 +1,4 @@
+pub mod PutLemmas
+pub mod RangeLemmas
+pub mod SkipLemmas
+pub mod WalkLemmas
