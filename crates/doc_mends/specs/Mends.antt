@@ -1,0 +1,57 @@
+-- A document changed by named mends. Each mend is a value, and a function of documents.
+use Rattle.std.specs.Prelude.{ℕ, ◌+◌, Bool, not, List, [], ◌∷◌, length, map, filter, nat_le, slice_range, All}
+use Rattle.std.specs.List.{list_all}
+use Rattle.std.specs.FinMap.{empty, insert}
+use Rattle.prop_map.specs.declared.modifiers.Modifier.{Modifier}
+use Rattle.prop_map.specs.Settings.{Settings}
+use Rattle.prop_map.specs.Overlay.{modified_characters}
+use Rattle.prop_map.specs.Printing.{printed_list}
+use Rattle.plain_doc.specs.declared.item.Item.{Item}
+use Rattle.plain_doc.specs.declared.document.Document.{Document}
+use Rattle.edit_changes.specs.declared.changes.Change.{Change}
+use Rattle.edit_changes.specs.declared.changes.Change.TheVariants.{ModifyItems}
+use Rattle.edit_changes.specs.Changes.{all_changed}
+use Rattle.edit_changes.specs.Modifiers.{setting_characters}
+use Rattle.edit_changes.specs.Places.{HasText, HasRange, items_at}
+use Rattle.doc_mends.specs.declared.mends.DeletedRange.{DeletedRange}
+use Rattle.doc_mends.specs.declared.mends.Mend.{Mend}
+use Rattle.doc_mends.specs.declared.mends.Mend.TheVariants.{StrikeDeleted}
+
+-- [MS-DOC] sprmCFStrike: struck through
+abbrev pub strike : Settings
+strike = insert empty 0x0837 (1 ∷ [])
+
+abbrev pub striking : Modifier
+striking = setting_characters strike
+
+-- what a mend changes
+abbrev pub change_of : Mend → Change
+change_of (StrikeDeleted range) = ModifyItems range.story range.from range.to striking
+
+-- the document after mends, one after another
+abbrev pub all_mended : List Mend → Document → Document
+all_mended mends document = all_changed (map change_of mends) document
+
+-- the settings of a character fit a page once it is struck
+abbrev pub is_short : Settings → Bool
+is_short chp = nat_le (length (printed_list (modified_characters striking chp))) 255
+
+-- the settings of the items of a range
+abbrev pub range_chps : Document → DeletedRange → List Settings
+range_chps document range =
+    slice_range (map (λ item. item.chp) (items_at document range.story)) range.from range.to
+
+-- all items of a range can be struck
+abbrev pub can_strike : Document → DeletedRange → Bool
+can_strike document range = list_all is_short (range_chps document range)
+
+-- the ranges that are struck, each a mend, and those that stay as they are
+abbrev pub strikes : Document → List DeletedRange → List Mend
+strikes document ranges = map StrikeDeleted (filter (can_strike document) ranges)
+
+abbrev pub kept_ranges : Document → List DeletedRange → List DeletedRange
+kept_ranges document ranges = filter (λ range. not (can_strike document range)) ranges
+
+-- the document has the text of each range, and the range is one of it
+abbrev pub AreRanges : Document → List DeletedRange → Type 0
+AreRanges document ranges = All (λ range. HasText document range.story (HasRange range.from range.to)) ranges

@@ -1,0 +1,5 @@
+pub mod Places
+pub mod Copies
+pub mod Tables
+pub mod Copying
+pub mod Laws

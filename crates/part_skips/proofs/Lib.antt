@@ -1,0 +1,3 @@
+pub mod PrcLemmas
+pub mod StyleLemmas
+pub mod SheetLemmas

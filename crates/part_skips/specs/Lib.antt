@@ -1,0 +1,2 @@
+pub mod Prcs
+pub mod Sheets

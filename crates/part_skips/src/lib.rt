@@ -1,0 +1,10 @@
+//! Parts of the table stream in whose lists the codes that are not read are skipped, in place.
+#![tactic(auto)]
+
+mod laws;
+mod prcs;
+mod sheets;
+
+pub use laws::{skipped_prcs_mean_the_same, skipped_sheets_mean_the_same};
+pub use prcs::skip_prcs;
+pub use sheets::skip_sheet;

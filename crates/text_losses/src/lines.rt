@@ -1,0 +1,104 @@
+// The line of a feature.
+ghost use Rattle.std.specs.Prelude.{◌≡◌, ◌++◌, IfOk, OnOk};
+ghost use Rattle.loss_report.specs.Lines.{story_word as word_of_story};
+ghost use Rattle.text_losses.specs.Lines.{list_word as word_of_list, place_text, code_text, feature_line};
+
+use crate::features::{ListKind, TextFeature};
+use doc_bits::{Memory, Story, Text};
+use fib_versions::Further;
+use std::alloc::Global;
+use text_codes::{push_word, show_units};
+
+/// Appends the line of a feature. After want of memory a part of it may be there.
+pub fn push_feature(alloc: Global, text: &mut Text, feature: &TextFeature) -> Result<(), Memory>
+    ensures { OnOk result (text.new ≡ text.old ++ feature_line feature.now) }
+{
+    let line = feature_line(alloc, feature)?;
+    text.push_all(line.as_str())
+}
+
+/// The line of a feature.
+fn feature_line(alloc: Global, feature: &TextFeature) -> Result<Text, Memory>
+    ensures { IfOk result (λ line. line ≡ feature_line feature.now) }
+{
+    let line = match feature {
+        TextFeature::Reference { to, story, at } => {
+            let word = story_word(*to);
+            let place = place(alloc, *story)?;
+            let place = place.as_str();
+            format!(in alloc; "reference {word} {place} {at}\n")?
+        }
+        TextFeature::Skipped { kind, code, count } => {
+            let codes = codes(alloc, *kind, *code, *count)?;
+            let codes = codes.as_str();
+            format!(in alloc; "code {codes}\n")?
+        }
+        TextFeature::Repeated { kind, code, count } => {
+            let codes = codes(alloc, *kind, *code, *count)?;
+            let codes = codes.as_str();
+            format!(in alloc; "repeat {codes}\n")?
+        }
+        TextFeature::Deleted { story, from, to } => {
+            let place = place(alloc, *story)?;
+            let place = place.as_str();
+            format!(in alloc; "deleted {place} {from} {to}\n")?
+        }
+        TextFeature::Bookmark { name, from, to } => {
+            let shown = show_units(alloc, name.as_slice())?;
+            let shown = shown.as_str();
+            format!(in alloc; "bookmark {shown} {from} {to}\n")?
+        }
+        TextFeature::SheetBeyond { len } => format!(in alloc; "sheet {len}\n")?,
+    };
+    Ok(Text::from_string(line))
+}
+
+/// A list, a code and a count.
+fn codes(alloc: Global, kind: ListKind, code: u16, count: u32) -> Result<Text, Memory>
+    ensures { IfOk result (λ text. text ≡ code_text kind code count) }
+{
+    let word = list_word(kind);
+    let mut digits = Text::new(alloc);
+    push_word(&mut digits, code)?;
+    let digits = digits.as_str();
+    let text = format!(in alloc; "{word} {digits} {count}")?;
+    Ok(Text::from_string(text))
+}
+
+/// A text by its name.
+fn place(alloc: Global, story: Story) -> Result<Text, Memory>
+    ensures { IfOk result (λ text. text ≡ place_text story) }
+{
+    let text = match story {
+        Story::Main => format!(in alloc; "main")?,
+        Story::Note(number) => format!(in alloc; "note {number}")?,
+        Story::Head(number) => format!(in alloc; "head {number}")?,
+    };
+    Ok(Text::from_string(text))
+}
+
+/// How a kind of list is named.
+fn list_word(kind: ListKind) -> &'static str
+    ensures { result.now ≡ word_of_list kind }
+{
+    match kind {
+        ListKind::Chpx => "char",
+        ListKind::Papx => "par",
+        ListKind::StyleChpx => "style-char",
+        ListKind::StylePapx => "style-par",
+        ListKind::Prc => "modifier",
+        ListKind::Sepx => "sect",
+    }
+}
+
+/// How a story is named.
+fn story_word(story: Further) -> &'static str
+    ensures { result.now ≡ word_of_story story }
+{
+    match story {
+        Further::Comments => "comments",
+        Further::Endnotes => "endnotes",
+        Further::TextBoxes => "textboxes",
+        Further::HeaderTextBoxes => "header-textboxes",
+    }
+}
