@@ -1,0 +1,138 @@
+-- The format of a character, by the changes of its layers.
+use Rattle.std.proofs.Common.{◌≡◌, ◌≢◌, ℕ, ◌==◌, ◌<◌, true, false, List, [], ◌∷◌, ◌++◌, Option, None, Some, refl}
+use Rattle.std.proofs.Common.{sym, ap, ◌∙◌, arith}
+use Rattle.std.proofs.lemmas.Bool.{eqb-true, eq-eqb}
+use Rattle.std.specs.FinMap.{get}
+use Rattle.prop_map.specs.Settings.{Settings}
+use Rattle.style_sheet.specs.Sheet.{Sheet}
+use Rattle.style_sheet.specs.Chain.{kind_at, HasSoundBases}
+use Rattle.style_sheet.proofs.OneChainLemmas.{base_chains_agree}
+use Rattle.effective_props.specs.Values.{effective_value}
+use Rattle.effective_props.specs.ValueSteps.{layer_over}
+use Rattle.effective_props.specs.Layers.{character_settings, settings_of_styles, named_style, AreChainLayers}
+use Rattle.effective_props.specs.Layers.{AreNamedLayers}
+use Rattle.char_formats.specs.declared.change.Change.{Change}
+use Rattle.char_formats.specs.declared.format.CharFormat.{CharFormat}
+use Rattle.char_formats.specs.Formats.{format_in, IsCharFormat}
+use Rattle.char_formats.specs.Changes.{Act, no_act, with_layer, over_all, IsChangeOf}
+use Rattle.char_formats.specs.Styles.{IsStyleChange, IsNamedChange}
+use Rattle.char_formats.specs.Laws.{CharFormatIsOne, CharFormatIsThere}
+use Rattle.char_formats.proofs.ChangeLemmas.{format_in-same}
+use Rattle.char_formats.proofs.EffectLemmas.{over_all-append, over_all-effective}
+
+-- no style of characters is named
+pub named-none : (sheet : Sheet) (change : Change) → IsChangeOf no_act change → IsNamedChange sheet None change
+named-none sheet change said = record { layers = []; are = refl; said = said }
+
+-- what is named is no style of characters
+pub named-other : (sheet : Sheet) (istd : ℕ) (change : Change) → kind_at sheet istd ≢ 2 → IsChangeOf no_act change →
+    IsNamedChange sheet (Some istd) change
+named-other sheet istd change other said =
+    record { layers = []; are = ((λ is. absurd (other is)), (λ _. refl)); said = said }
+
+-- it is one
+pub named-style : (sheet : Sheet) (istd : ℕ) (change : Change) → kind_at sheet istd ≡ 2 →
+    IsStyleChange sheet istd change → IsNamedChange sheet (Some istd) change
+named-style sheet istd change is own =
+    record { layers = own.layers; are = ((λ _. own.are), (λ other. absurd (other is))); said = own.said }
+
+-- the layers of a character
+abbrev layers_of : List Settings → List Settings → Settings → List Settings
+layers_of style named direct = style ++ (named ++ direct ∷ [])
+
+value_through : (style named : List Settings) (direct : Settings) (code : ℕ) → layer_over code (over_all named code
+    (over_all style code None)) (get direct code) ≡ effective_value (layers_of style named direct) code
+value_through style named direct code =
+    sym (over_all-append named (direct ∷ []) code (over_all style code None))
+    ∙ (sym (over_all-append style (named ++ direct ∷ []) code None)
+    ∙ over_all-effective (layers_of style named direct) code)
+
+-- the format is that of the changes of the style, of the named style and of the direct settings, one after the other
+pub format_said : (sheet : Sheet) (istd : ℕ) (direct : Settings) (style named then change : Change) (format :
+    CharFormat) → IsStyleChange sheet istd style → IsNamedChange sheet (named_style direct) named → ((one other : Act) →
+    IsChangeOf one style → IsChangeOf other named → IsChangeOf (λ code before. other code (one code before)) then) →
+    ((act : Act) → IsChangeOf act then → IsChangeOf (with_layer direct act) change) → ((act : Act) → IsChangeOf act
+    change → format ≡ format_in (λ code. act code None)) → IsCharFormat sheet istd direct format
+format_said sheet istd direct style named then change format h k both laid said =
+    let act : Act = λ code before. over_all k.layers code (over_all h.layers code before) in
+    record {
+      layers = layers_of h.layers k.layers direct;
+      are = record { of_style = h.layers; style = h.are; of_named = k.layers; named = k.are; are = refl };
+      said = said (with_layer direct act) (laid act (both (over_all h.layers) (over_all k.layers) h.said k.said))
+          ∙ format_in-same (λ code. with_layer direct act code None) (effective_value (layers_of h.layers k.layers
+          direct)) (value_through h.layers k.layers direct);
+    }
+
+-- ---- a character has one format
+
+chain_layers_one : (sheet : Sheet) (istd : ℕ) (a b : List Settings) → AreChainLayers character_settings sheet istd a →
+    AreChainLayers character_settings sheet istd b → a ≡ b
+chain_layers_one sheet istd a b h k =
+    h.are ∙ (ap (settings_of_styles character_settings sheet) (base_chains_agree sheet istd h.chain k.chain h.bases
+    k.bases) ∙ sym k.are)
+
+is_of_kind : (kind : ℕ) → (kind == 2) ≡ false → kind ≢ 2
+is_of_kind kind e is = absurd (cc (eq-eqb kind 2 is, e))
+
+named_layers_one : (sheet : Sheet) (named : Option ℕ) (a b : List Settings) → AreNamedLayers sheet named a →
+    AreNamedLayers sheet named b → a ≡ b
+named_layers_one sheet None a b h k = h ∙ sym k
+named_layers_one sheet (Some istd) a b h k =
+    elim (kind_at sheet istd == 2) as (λ t. (kind_at sheet istd == 2) ≡ t → a ≡ b) [
+      | true ↦ λ e. let is = eqb-true (kind_at sheet istd) 2 e in chain_layers_one sheet istd a b (h.0 is) (k.0 is)
+      | false ↦ λ e. let other = is_of_kind (kind_at sheet istd) e in h.1 other ∙ sym (k.1 other)
+    ] refl
+
+pub format_one : CharFormatIsOne
+format_one sheet istd direct one other h k =
+    let style = chain_layers_one sheet istd h.are.of_style k.are.of_style h.are.style k.are.style in
+    let named = named_layers_one sheet (named_style direct) h.are.of_named k.are.of_named h.are.named k.are.named in
+    let layers : h.layers ≡ k.layers = h.are.are ∙ (ap (λ l. layers_of l h.are.of_named direct) style ∙ (ap (λ l.
+    layers_of k.are.of_style l direct) named ∙ sym k.are.are)) in
+    h.said ∙ (ap (λ l. format_in (effective_value l)) layers ∙ sym k.said)
+
+-- ---- and it has one
+
+named_there : (sheet : Sheet) (named : Option ℕ) → HasSoundBases sheet → (layers : List Settings) × AreNamedLayers sheet
+    named layers
+named_there sheet None sound = ([], refl)
+named_there sheet (Some istd) sound =
+    elim (kind_at sheet istd == 2) as (λ t. (kind_at sheet istd == 2) ≡ t → (layers : List Settings) × AreNamedLayers
+    sheet (Some istd) layers) [
+      | true ↦ λ e.
+          let is : kind_at sheet istd ≡ 2 = eqb-true (kind_at sheet istd) 2 e in
+          let some : 0 < kind_at sheet istd = omega arith in
+          let chain = sound.chains istd some in (
+            settings_of_styles character_settings sheet chain.0,
+            (
+              (λ _. record {
+                chain = chain.0;
+                bases = chain.1;
+                are =
+                    refl;
+              }),
+              (λ other. absurd (other is)),
+            ),
+          )
+      | false ↦ λ e. ([], ((λ is. absurd (is_of_kind (kind_at sheet istd) e is)), (λ _. refl)))
+    ] refl
+
+pub format_there : CharFormatIsThere
+format_there sheet istd direct sound kind =
+    let some : 0 < kind_at sheet istd = omega arith in
+    let chain = sound.chains istd some in
+    let style : List Settings = settings_of_styles character_settings sheet chain.0 in
+    let named = named_there sheet (named_style direct) sound in (
+      format_in (effective_value (layers_of style named.0 direct)),
+      record {
+        layers = layers_of style named.0 direct;
+        are = record {
+          of_style = style;
+          style = record { chain = chain.0; bases = chain.1; are = refl };
+          of_named = named.0;
+          named = named.1;
+          are = refl;
+        };
+        said = refl;
+      },
+    )

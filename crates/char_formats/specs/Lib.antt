@@ -1,0 +1,5 @@
+pub mod Formats
+pub mod Flags
+pub mod Changes
+pub mod Styles
+pub mod Laws

@@ -1,0 +1,12 @@
+// Laws over the definitions alone.
+ghost use Rattle.field_links.specs.Laws.{AnchorsDiffer, LinksAreAllowed};
+
+/// Each URL has one of the five schemes, or leads to a bookmark of the document.
+pub fn links_are_allowed()
+    ensures { LinksAreAllowed }
+{}
+
+/// Bookmarks of different names have different anchors.
+pub fn anchors_differ()
+    ensures { AnchorsDiffer }
+{}

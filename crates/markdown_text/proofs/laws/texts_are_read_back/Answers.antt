@@ -1,0 +1,5 @@
+use Rattle.markdown_text.proofs.ReadLemmas.{text_back}
+use Rattle.markdown_text.proofs.laws.texts_are_read_back.Goals as goal
+
+pub returns : goal.returns
+returns c = text_back

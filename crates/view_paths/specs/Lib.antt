@@ -1,0 +1,4 @@
+pub mod Paths
+pub mod Events
+pub mod Turns
+pub mod Laws
