@@ -1,0 +1,4 @@
+pub mod WriteLemmas
+pub mod TextLemmas
+pub mod NoteLemmas
+pub mod PageLemmas

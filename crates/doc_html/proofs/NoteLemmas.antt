@@ -1,0 +1,130 @@
+-- The notes are written one by one.
+use Rattle.std.proofs.Common.{◌≡◌, ◌∙◌, ℕ, ◌+◌, ◌<◌, ◌≤◌, List, [], ◌∷◌, ◌++◌, length, drop, refl, sym, ap, subst}
+use Rattle.std.proofs.Common.{arith}
+use Rattle.std.proofs.Common.{append_assoc, append-nil, Some, Bool, true, false, not, ◌⊎◌, inl, inr}
+use Rattle.std.specs.Prelude.{slice_get, if◌then◌else◌}
+use Rattle.std.proofs.Math.ListN.{drop_of_length-le}
+use Rattle.run_lists.proofs.CutLemmas.{run_and_rest}
+use Rattle.plain_doc.specs.declared.item.Item.{Item}
+use Rattle.doc_outer.specs.declared.sink.Sink.{Ghosts}
+use Rattle.view_places.specs.declared.element.Element.{Element}
+use Rattle.view_places.specs.declared.element.Element.TheVariants.{BackLink}
+use Rattle.html_page.specs.declared.printer.HtmlPage.{HtmlPage}
+use Rattle.html_page.specs.Pages.{Places}
+use Rattle.html_page.specs.Printed.{PutsPlaces}
+use Rattle.html_page.proofs.PutLemmas.{places_none, places_then}
+use Rattle.doc_view.specs.declared.reading.Manner.{Manner}
+use Rattle.doc_view.specs.declared.references.Reference.{Reference}
+use Rattle.doc_view.specs.Seen.{Formats, paragraphs_of}
+use Rattle.doc_places.specs.Places.{label_of, note_path, note_places, notes_places, shown, text_places}
+use Rattle.doc_html.proofs.WriteLemmas.{puts_same}
+
+-- what was written of the notes, where those from a place on are left
+pub record NotesAt {K : Type 0} (sink : Ghosts K) (start : K) (html : HtmlPage) (out : K) (now : HtmlPage) (formats :
+    Formats)
+    (manner : Manner) (number : ℕ) (references rest : List Reference) (notes others : List (List Item)) : Type 0 where
+  pub places : Places
+  pub puts : PutsPlaces sink start html out now places
+  pub whole : places ++ notes_places formats manner number rest others ≡ notes_places formats manner 1 references notes
+
+pub notes_start : {K : Type 0} (sink : Ghosts K) (start : K) (html : HtmlPage) (formats : Formats) (manner : Manner)
+    (references :
+    List Reference) (notes : List (List Item)) → NotesAt sink start html start html formats manner 1 references (drop
+    0 references)
+    notes (drop 0 notes)
+notes_start sink start html formats manner references notes =
+    record { places = []; puts = places_none sink start html; whole = refl }
+
+pub note_on : {K : Type 0} (sink : Ghosts K) (start : K) (html : HtmlPage) (out : K) (now : HtmlPage) (next : K)
+    (after : HtmlPage)
+    (formats : Formats) (manner : Manner) (references : List Reference) (notes : List (List Item)) (k : ℕ) (reference
+    : Reference)
+    (note : List Item) → NotesAt sink start html out now formats manner (k + 1) references (drop k references) notes
+    (drop k notes)
+    → slice_get references k ≡ Some reference → slice_get notes k ≡ Some note → PutsPlaces sink out now next after
+    (note_places
+    formats manner (k + 1) reference note) → NotesAt sink start html next after formats manner (k + 1 + 1) references
+    (drop (k + 1)
+    references) notes (drop (k + 1) notes)
+unfolding notes_places
+note_on sink start html out now next after formats manner references notes k reference note at here there put =
+    let said = note_places formats manner (k + 1) reference note in
+    let rest = drop (k + 1) references in
+    let others = drop (k + 1) notes in
+    record {
+      places = at.places ++ said;
+      puts = places_then sink start out next html now after at.places said at.puts put;
+      whole =
+          append_assoc at.places said (notes_places formats manner (k + 1 + 1) rest others)
+          ∙ (λ i. at.places ++ notes_places formats manner (k + 1) (sym (run_and_rest references k reference here) i)
+          (sym (run_and_rest notes k note there) i))
+          ∙ at.whole;
+    }
+
+no_notes : (formats : Formats) (manner : Manner) (number : ℕ) (references : List Reference) →
+    notes_places formats manner number references [] ≡ []
+unfolding notes_places
+no_notes formats manner number [] = refl
+no_notes formats manner number (reference ∷ references) = refl
+
+none_left : (formats : Formats) (manner : Manner) (number : ℕ) (references : List Reference)
+    (notes : List (List Item)) (k : ℕ) → (length references ≤ k) ⊎ (length notes ≤ k) →
+    notes_places formats manner number (drop k references) (drop k notes) ≡ []
+unfolding notes_places
+none_left formats manner number references notes k (inl h) =
+    ap (λ (r : List Reference). notes_places formats manner number r (drop k notes)) (drop_of_length-le references h)
+none_left formats manner number references notes k (inr h) =
+    ap (λ (n : List (List Item)). notes_places formats manner number (drop k references) n) (drop_of_length-le notes h)
+    ∙ no_notes formats manner number (drop k references)
+
+pub notes_written : {K : Type 0} (sink : Ghosts K) (start : K) (html : HtmlPage) (out : K) (now : HtmlPage)
+    (formats : Formats) (manner : Manner) (number : ℕ) (references : List Reference) (notes : List (List Item))
+    (k : ℕ) → (length references ≤ k) ⊎ (length notes ≤ k) →
+    NotesAt sink start html out now formats manner number references (drop k references) notes (drop k notes) →
+    PutsPlaces sink start html out now (notes_places formats manner 1 references notes)
+notes_written sink start html out now formats manner number references notes k ended at =
+    puts_same sink start out html now at.places (notes_places formats manner 1 references notes)
+    (sym (append-nil at.places)
+    ∙ ap (λ (x : Places). at.places ++ x) (sym (none_left formats manner number references notes k ended))
+    ∙ at.whole)
+    at.puts
+
+-- ---- one note
+
+pub is_hidden : (shown : Bool) → not shown ≡ true → shown ≡ false
+is_hidden true is = absurd (cc (is))
+is_hidden false is = refl
+
+pub is_not_hidden : (shown : Bool) → not shown ≡ false → shown ≡ true
+is_not_hidden true is = refl
+is_not_hidden false is = absurd (cc (is))
+
+-- one that is not shown
+pub note_hidden : {K : Type 0} (sink : Ghosts K) (a : K) (html : HtmlPage) (formats : Formats) (manner : Manner)
+    (number : ℕ)
+    (reference : Reference) (note : List Item) → reference.is_shown ≡ false → PutsPlaces sink a html a html
+    (note_places formats
+    manner number reference note)
+note_hidden sink a html formats manner number reference note hidden =
+    let none : Places = [] in
+    puts_same sink a a html html none (note_places formats manner number reference note) (sym (ap (λ (b : Bool). if b
+    then shown
+    (note_path number ++ BackLink number ∷ []) (label_of reference.number) ∷ text_places (note_path number)
+    (paragraphs_of formats
+    manner note) else none) hidden)) (places_none sink a html)
+
+-- one that is shown: its label, and its text
+pub note_shown : {K : Type 0} (sink : Ghosts K) (a b c : K) (p q r : HtmlPage) (formats : Formats) (manner : Manner)
+    (number : ℕ)
+    (reference : Reference) (note : List Item) → reference.is_shown ≡ true → PutsPlaces sink a p b q (shown (note_path
+    number ++
+    BackLink number ∷ []) (label_of reference.number) ∷ []) → PutsPlaces sink b q c r (text_places (note_path number)
+    (paragraphs_of
+    formats manner note)) → PutsPlaces sink a p c r (note_places formats manner number reference note)
+note_shown sink a b c p q r formats manner number reference note is label text =
+    let label_place = shown (note_path number ++ BackLink number ∷ []) (label_of reference.number) in
+    let rest = text_places (note_path number) (paragraphs_of formats manner note) in
+    let none : Places = [] in
+    puts_same sink a c p r (label_place ∷ rest) (note_places formats manner number reference note) (sym (ap (λ (b :
+    Bool). if b
+    then label_place ∷ rest else none) is)) (places_then sink a b c p q r (label_place ∷ []) rest label text)

@@ -1,0 +1,94 @@
+-- The item of the place.
+use Rattle.std.proofs.Common.{◌≡◌, ◌∙◌, ◌+◌, ℕ, sym, ap, subst, arith}
+use Rattle.std.specs.Prelude.{slice_index}
+use Rattle.doc_columns.specs.Walks.{items_in}
+use Rattle.doc_view.specs.declared.text.Course.{Course}
+use Rattle.doc_view.specs.Course.{IsCourse}
+use Rattle.doc_view.proofs.CourseLemmas.{item_course, item_room, item_there, few_numbered, seen_is}
+use Rattle.doc_view.proofs.RangeLemmas.{seen_range}
+use Rattle.doc_places.specs.Places.{count_of}
+use Rattle.doc_html.specs.Writes.{At, IsReading, Writes, at}
+use Rattle.doc_html.proofs.WriteLemmas.{count_few, item_written}
+use Rattle.doc_html.proofs.reading.write_item.Goals as goal
+
+pub pass-requires-clause-room : goal.pass-requires-clause-room
+pass-requires-clause-room g c =
+    let parts = c.args.text.now.parts in
+    let manner = c.args.text.now.manner in
+    let course = c.args.reading.now.course in
+    let format = c.args.stretch.now.format in
+    let beside = c.args.stretch.now.beside.now in
+    let ahead = c.requires.ahead in
+    let within = c.requires.within in
+    let unit = slice_index parts.units.now course.place in
+    let one = item_there parts c.requires.parts course.place (omega (arith, ahead, within)) in
+    let same =
+    seen_is manner format course.front one.0 unit beside c.see-seen.result one.1.1
+    (c.requires.beside course.place one.0 (omega arith) ahead one.1.0) c.see-seen.ensures in
+    item_room manner (items_in parts) course format one.0 c.see-seen.result c.requires.reading.course one.1.0 same
+
+pub returns-clause-reading : goal.returns-clause-reading
+returns-clause-reading g c =
+    let parts = c.args.text.now.parts in
+    let manner = c.args.text.now.manner in
+    let course = c.args.reading.now.course in
+    let format = c.args.stretch.now.format in
+    let beside = c.args.stretch.now.beside.now in
+    let ahead = c.requires.ahead in
+    let within = c.requires.within in
+    let unit = slice_index parts.units.now course.place in
+    let one = item_there parts c.requires.parts course.place (omega (arith, ahead, within)) in
+    let beside_is = c.requires.beside course.place one.0 (omega arith) ahead one.1.0 in
+    let same = seen_is manner format course.front one.0 unit beside c.see-seen.result one.1.1 beside_is
+    c.see-seen.ensures
+    in
+    let place : c.pass.new.self.place ≡ course.place + 1 = ap (λ (x : Course). x.place) c.pass.ensures in
+    let few = c.requires.reading.few in
+    let counted = c.count_behind-reading.ensures in
+    let one_more = count_few c.see-seen.result.reference in
+    record {
+      course =
+          subst (λ (x : Course). IsCourse manner (items_in parts) x) (sym c.pass.ensures)
+          (item_course manner (items_in parts) course format one.0 unit beside c.see-seen.result
+          c.requires.reading.course
+          one.1.0 one.1.1 beside_is same);
+      few = omega (arith, place, few, counted, one_more);
+    }
+
+pub returns-clause-writes : goal.returns-clause-writes
+returns-clause-writes g c = λ formats istd has.
+    let parts = c.args.text.now.parts in
+    let manner = c.args.text.now.manner in
+    let writer = c.args.writer.now in
+    let reading = c.args.reading.now in
+    let course = reading.course in
+    let format = c.args.stretch.now.format in
+    let beside = c.args.stretch.now.beside.now in
+    let ahead = c.requires.ahead in
+    let within = c.requires.within in
+    let unit = slice_index parts.units.now course.place in
+    let one = item_there parts c.requires.parts course.place (omega (arith, ahead, within)) in
+    let same =
+    seen_is manner format course.front one.0 unit beside c.see-seen.result one.1.1
+    (c.requires.beside course.place one.0 (omega arith) ahead one.1.0) c.see-seen.ensures in
+    let written =
+    item_written g.K.Sink c.args.out.now c.write.new.out writer.html c.write.new.self.html reading.count writer.path
+    manner
+    (items_in parts) course format one.0 c.see-seen.result formats istd c.requires.reading.course one.1.0 same
+    (has course.place one.0 (omega arith) ahead one.1.0) c.write.ensures.puts in
+    subst (λ (n : ℕ). Writes g.K.Sink (at c.args.out.now writer reading) (record {
+      out = c.write.new.out;
+      html = c.write.new.self.html;
+      count = n;
+      references =
+          c.pass.new.self.references.list;
+    }) writer.path (seen_range formats manner istd (items_in parts) course.place (course.place + 1))) (sym
+    c.count_behind-reading.ensures)
+    (subst (λ (x : Course). Writes g.K.Sink (at c.args.out.now writer reading) (record {
+      out = c.write.new.out;
+      html = c.write.new.self.html;
+      count = reading.count + count_of c.see-seen.result.reference;
+      references = x.references.list;
+    }) writer.path (seen_range formats manner istd (items_in parts) course.place (course.place + 1))) (sym
+    c.pass.ensures)
+    written)

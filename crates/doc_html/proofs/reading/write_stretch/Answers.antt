@@ -1,0 +1,78 @@
+-- The items of the stretch, one by one.
+use Rattle.std.proofs.Common.{◌≡◌, ◌∙◌, ◌+◌, ◌≤◌, ℕ, refl, sym, arith, List, length, subst}
+use Rattle.doc_columns.specs.Walks.{items_in}
+use Rattle.view_places.specs.declared.element.Element.{Element}
+use Rattle.doc_html.specs.Writes.{At, IsReading, Writes, at}
+use Rattle.doc_html.proofs.WriteLemmas.{writes_further, writes_in, writes_start, writes_to}
+use Rattle.doc_view.proofs.RangeLemmas.{seen_range}
+use Rattle.doc_html.proofs.reading.write_stretch.Goals as goal
+
+pub loop-reading-init : goal.loop-reading-init
+loop-reading-init g c = record {
+  low = omega arith;
+  within = c.requires.ahead;
+  walk = refl;
+  reading = c.requires.reading;
+  path = refl;
+  writes = λ formats istd has.
+      writes_start g.K.Sink (at c.args.out.now c.args.writer.now c.args.reading.now) c.args.writer.now.path formats
+      c.args.text.now.manner istd (items_in c.args.text.now.parts) c.args.reading.now.course.place;
+}
+
+pub write_item-requires-clause-reading : goal.write_item-requires-clause-reading
+write_item-requires-clause-reading g c = c.loop-reading.invariant.reading
+
+pub write_item-requires-clause-beside : goal.write_item-requires-clause-beside
+write_item-requires-clause-beside g c = λ k item low until here.
+    let start = c.loop-reading.invariant.low in
+    c.requires.beside k item (omega (arith, start, low)) until here
+
+pub write_item-requires-clause-depth : goal.write_item-requires-clause-depth
+write_item-requires-clause-depth g c =
+    subst (λ (path : List Element). length path + 8 ≤ 24) (sym c.loop-reading.invariant.path) c.requires.depth
+
+pub loop-reading-preserved : goal.loop-reading-preserved
+loop-reading-preserved g c =
+    let old = c.loop-reading in
+    let item = c.write_item in
+    let first = c.args.reading.now.course.place in
+    let at_place = old.reading.course.place in
+    let low = old.invariant.low in
+    let place = item.ensures.place in
+    let more = c.loop-reading-test.true in
+    let items = items_in c.args.text.now.parts in
+    let manner = c.args.text.now.manner in
+    let block = c.args.writer.now.path in
+    let a = at c.args.out.now c.args.writer.now c.args.reading.now in
+    let b = at old.out old.writer old.reading in
+    let d = at item.new.out item.new.writer item.new.reading in
+    record {
+      low = omega (arith, low, place);
+      within = omega (arith, more, place);
+      walk = item.ensures.walk ∙ old.invariant.walk;
+      reading = item.ensures.reading;
+      path = item.ensures.path ∙ old.invariant.path;
+      writes = λ formats istd has.
+          writes_to g.K.Sink a d block formats manner istd items first (at_place + 1) item.new.reading.course.place
+          (sym place)
+          (writes_further g.K.Sink a b d block formats manner istd items first at_place (at_place + 1) low (omega arith)
+          (old.invariant.writes formats istd has)
+          (writes_in g.K.Sink b d old.writer.path block (seen_range formats manner istd items at_place (at_place + 1))
+          old.invariant.path
+          (item.ensures.writes formats istd
+          (λ k x le until here. has k x (omega (arith, low, le)) until here))));
+    }
+
+pub returns-clause-reading : goal.returns-clause-reading
+returns-clause-reading g c = c.loop-reading.invariant.reading
+
+pub returns-clause-writes : goal.returns-clause-writes
+returns-clause-writes g c = λ formats istd has.
+    let within = c.loop-reading.invariant.within in
+    let done = c.loop-reading-test.false in
+    let all : c.loop-reading.reading.course.place ≡ c.args.stretch.now.until = omega (arith, within, done) in
+    writes_to g.K.Sink (at c.args.out.now c.args.writer.now c.args.reading.now) (at c.loop-reading.out
+    c.loop-reading.writer
+    c.loop-reading.reading) c.args.writer.now.path formats c.args.text.now.manner istd (items_in c.args.text.now.parts)
+    c.args.reading.now.course.place c.loop-reading.reading.course.place c.args.stretch.now.until all
+    (c.loop-reading.invariant.writes formats istd has)

@@ -1,0 +1,31 @@
+use Rattle.std.proofs.Common.{◌≡◌, ◌≤◌, ◌-◌, length, take, drop}
+use Rattle.run_lists.specs.Places.{IsAt}
+use Rattle.plain_doc.specs.Settings.{is_inside}
+use Rattle.plain_doc.specs.Stretches.{stretches}
+use Rattle.doc_columns.specs.Walks.{items_in, IsWalk}
+use Rattle.doc_view.specs.Page.{AreFormats}
+use Rattle.doc_view.specs.Seen.{Formats, paragraphs_from, paragraphs_of}
+use Rattle.doc_html.specs.Writes.{IsReading}
+use Rattle.doc_html.proofs.TextLemmas.{TextAt}
+use Rattle.doc_html.proofs.reading.write_text.Given as goal
+
+-- the paragraphs so far were written
+abbrev pub invariant-loop-reading : goal.invariant-loop-reading
+invariant-loop-reading g l = record {
+  within : l.reading.course.place ≤ length l.text.parts.units.now;
+  walk : IsWalk l.text.parts l.reading.course.walk l.reading.course.place;
+  marks : IsAt l.text.parts.besides.now l.marks;
+  ahead : l.marks.begin ≤ l.reading.course.place;
+  reading : IsReading l.text.manner (items_in l.text.parts) l.reading;
+  path : l.writer.path ≡ l.fn.writer.path;
+  number : l.grid.number ≤ l.reading.course.place;
+  cell : l.grid.cell ≤ l.grid.number;
+  text : (formats : Formats) → AreFormats l.text.formats.now formats → TextAt g.K.Sink l.fn.out l.fn.writer.html l.out
+      l.writer.html l.fn.writer.path (paragraphs_of formats l.text.manner (items_in l.text.parts))
+      (paragraphs_from formats l.text.manner (take l.reading.course.place (items_in l.text.parts))
+      (stretches is_inside (drop l.reading.course.place (items_in l.text.parts))))
+      l.grid l.reading.count l.fn.references.list l.reading.course.references.list;
+}
+
+abbrev pub decreases-loop-reading : goal.decreases-loop-reading
+decreases-loop-reading g l = length l.text.parts.units.now - l.reading.course.place

@@ -1,0 +1,85 @@
+-- The main text, and then the notes.
+use Rattle.std.proofs.Common.{◌≡◌, ◌∙◌, ◌++◌, ◌+◌, ◌≤◌, [], ℕ, List, Some, sym, ap, subst, false, true, refl, length}
+use Rattle.std.proofs.Common.{arith}
+use Rattle.std.specs.Prelude.{slice_get}
+use Rattle.style_sheet.specs.Sheet.{Sheet}
+use Rattle.doc_bits.specs.declared.places.Where.TheVariants.{Main, Note}
+use Rattle.plain_doc.specs.declared.document.Document.{Document}
+use Rattle.plain_doc.specs.declared.item.Item.{Item}
+use Rattle.plain_doc.specs.RightDocument.{HoldsAtItems}
+use Rattle.plain_doc.specs.RulesOfTexts.{HasParagraphStyle}
+use Rattle.doc_columns.specs.Walks.{items_in}
+use Rattle.view_places.specs.declared.element.Element.{Element}
+use Rattle.html_page.specs.Printed.{PutsPlaces}
+use Rattle.html_page.specs.Pages.{Places}
+use Rattle.html_page.proofs.PutLemmas.{places_then}
+use Rattle.doc_view.specs.declared.reading.Manner.{Manner}
+use Rattle.doc_view.specs.Kept.{KeptReferences}
+use Rattle.doc_view.specs.Page.{AreFormats}
+use Rattle.doc_view.specs.Seen.{paragraphs_of, references_of}
+use Rattle.doc_view.proofs.PageLemmas.{sound_normal, sound_styles}
+use Rattle.doc_places.specs.Places.{notes_places, text_places}
+use Rattle.doc_html.proofs.view.Shown.write_places.Goals as goal
+
+pub write_text-references-requires-clause-normal : goal.write_text-references-requires-clause-normal
+write_text-references-requires-clause-normal g c =
+    sound_normal c.args.self.now.document.now c.args.self.now.formats.now c.requires.sound c.requires.formats
+
+pub write_text-references-requires-clause-styles : goal.write_text-references-requires-clause-styles
+write_text-references-requires-clause-styles g c =
+    let document = c.args.self.now.document.now in
+    let sheet = c.args.self.now.formats.now in
+    let same : items_in c.parts.result ≡ document.main =
+    c.parts.ensures.items ∙ ap (λ (d : Document). d.main) c.document.view_is in
+    subst (λ (text : List Item). HoldsAtItems text (λ i item. HasParagraphStyle sheet item)) (sym same)
+    (sound_styles document sheet Main document.main c.requires.sound c.requires.formats refl)
+
+pub write_text-references-requires-clause-depth : goal.write_text-references-requires-clause-depth
+write_text-references-requires-clause-depth g c =
+    subst (λ (path : List Element). length path + 13 ≤ 24) (sym c.requires.path) (omega arith)
+
+pub write-requires-clause-normal : goal.write-requires-clause-normal
+write-requires-clause-normal g c =
+    sound_normal c.args.self.now.document.now c.args.self.now.formats.now c.requires.sound c.requires.formats
+
+pub write-requires-clause-styles : goal.write-requires-clause-styles
+write-requires-clause-styles g c = λ k note there.
+    let document = c.args.self.now.document.now in
+    let sheet = c.args.self.now.formats.now in
+    let same : c.document.inside.notes ≡ document.notes = ap (λ (d : Document). d.notes) c.document.view_is in
+    sound_styles document sheet (Note k) note c.requires.sound c.requires.formats
+    (subst (λ (notes : List (List Item)). slice_get notes k ≡ Some note) same there)
+
+pub returns : goal.returns
+returns g c = λ formats are.
+    let document = c.args.self.now.document.now in
+    let right : AreFormats c.args.self.now.formats.now formats =
+    subst (λ (s : Sheet). AreFormats s formats) (sym c.requires.formats) are in
+    let main_manner : Manner = record { hidden = c.args.self.now.hidden; is_note = false } in
+    let note_manner : Manner = record { hidden = c.args.self.now.hidden; is_note = true } in
+    let main = c.write_text-references in
+    let same : items_in c.parts.result ≡ document.main =
+    c.parts.ensures.items ∙ ap (λ (d : Document). d.main) c.document.view_is in
+    let same_notes : c.document.inside.notes ≡ document.notes = ap (λ (d : Document). d.notes) c.document.view_is in
+    let met : main.result.list ≡ references_of (paragraphs_of formats main_manner document.main) =
+    main.ensures.references formats right
+    ∙ ap (λ (r : KeptReferences). r.list ++ references_of (paragraphs_of formats main_manner (items_in c.parts.result)))
+    c.requires.references
+    ∙ ap (λ (items : List Item). references_of (paragraphs_of formats main_manner items)) same in
+    let before = c.args.writer.now.html in
+    let text : PutsPlaces g.K.Sink c.args.out.now before main.new.out main.new.writer.html (text_places []
+    (paragraphs_of formats
+    main_manner document.main)) =
+    subst (λ (places : Places). PutsPlaces g.K.Sink c.args.out.now before main.new.out main.new.writer.html places) (λ
+    i. text_places
+    (c.requires.path i) (paragraphs_of formats main_manner (same i))) (main.ensures.puts formats right) in
+    let notes : PutsPlaces g.K.Sink main.new.out main.new.writer.html c.write.new.out c.write.new.writer.html
+    (notes_places formats
+    note_manner 1 (references_of (paragraphs_of formats main_manner document.main)) document.notes) =
+    subst (λ (places : Places). PutsPlaces g.K.Sink main.new.out main.new.writer.html c.write.new.out
+    c.write.new.writer.html
+    places) (λ i. notes_places formats note_manner 1 (met i) (same_notes i)) (c.write.ensures.puts formats right) in
+    places_then g.K.Sink c.args.out.now main.new.out c.write.new.out before main.new.writer.html c.write.new.writer.html
+    (text_places [] (paragraphs_of formats main_manner document.main)) (notes_places formats note_manner 1
+    (references_of
+    (paragraphs_of formats main_manner document.main)) document.notes) text notes

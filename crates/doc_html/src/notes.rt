@@ -1,0 +1,106 @@
+// The notes of a page.
+ghost use Rattle.std.specs.Prelude.{◌≡◌, ℕ, ◌+◌, ◌^◌, ◌<◌, ◌++◌, [], ◌∷◌, length, List, slice_get, true, Some};
+ghost use Rattle.style_sheet.specs.Chain.{kind_at};
+ghost use Rattle.plain_doc.specs.declared.item.Item.{Item};
+ghost use Rattle.plain_doc.specs.RightDocument.{HoldsAtItems};
+ghost use Rattle.plain_doc.specs.RulesOfTexts.{HasParagraphStyle};
+ghost use Rattle.doc_view.specs.Page.{AreFormats};
+ghost use Rattle.doc_view.specs.Seen.{Formats};
+ghost use Rattle.doc_places.specs.Places.{label_of, note_path, note_places, notes_places, shown};
+ghost use Rattle.html_page.specs.Printed.{PutsPlaces};
+ghost use Rattle.view_places.specs.declared.element.Element.TheVariants.{BackLink};
+
+use crate::reading::write_text;
+use crate::writer::Writer;
+use char_formats::StyleFormats;
+use doc_columns::ColumnTexts;
+use doc_outer::Sink;
+use doc_view::{Manner, Reference, References, Text};
+use std::alloc::Global;
+use view_places::{Element, Glyph};
+
+/// An arrow back: the label of a note without a number.
+const ARROW_BACK: u16 = 0x21A9;
+
+/// The notes of a document, the formats of its styles, and whether hidden text is shown.
+#[derive(Drop)]
+pub(crate) struct Notes<'a> {
+    pub(crate) alloc: Global,
+    pub(crate) texts: &'a ColumnTexts,
+    pub(crate) formats: &'a StyleFormats,
+    pub(crate) hidden: bool,
+}
+
+impl Notes<'_> {
+    /// Writes each note whose reference is shown behind its label.
+    pub(crate) fn write<K: Sink>(&self, writer: &mut Writer, out: &mut K, references: &References)
+        requires normal { kind_at self.now.formats.now 0 ≡ 1 }
+        requires styles { (k : ℕ) (note : List Item) → slice_get self.now.texts.now k ≡ Some note
+            → HoldsAtItems note (λ i item. HasParagraphStyle self.now.formats.now item) }
+        requires path { writer.old.path ≡ [] }
+        ensures path { writer.new.path ≡ [] }
+        ensures puts { (formats : Formats) → AreFormats self.now.formats.now formats
+            → PutsPlaces K.Sink out.old writer.old.html out.new writer.new.html
+            (notes_places formats (record { hidden = self.now.hidden; is_note = true }) 1 references.now.list
+            self.now.texts.now) }
+    {
+        let count = references.len().min(self.texts.len());
+        for k in 0..count {
+            self.write_note(writer, out, k, references.get(k));
+        }
+    }
+
+    /// Writes the note of a place where its reference is shown.
+    fn write_note<K: Sink>(&self, writer: &mut Writer, out: &mut K, k: usize, reference: Reference)
+        requires normal { kind_at self.now.formats.now 0 ≡ 1 }
+        requires styles { (k : ℕ) (note : List Item) → slice_get self.now.texts.now k ≡ Some note
+            → HoldsAtItems note (λ i item. HasParagraphStyle self.now.formats.now item) }
+        requires there { k < length self.now.texts.now }
+        requires few { k + 1 < 2 ^ 64 }
+        requires path { writer.old.path ≡ [] }
+        ensures path { writer.new.path ≡ [] }
+        ensures puts { (formats : Formats) (note : List Item) → AreFormats self.now.formats.now formats
+            → slice_get self.now.texts.now k ≡ Some note
+            → PutsPlaces K.Sink out.old writer.old.html out.new writer.new.html
+            (note_places formats (record { hidden = self.now.hidden; is_note = true }) (k + 1) reference note) }
+    {
+        if !reference.is_shown {
+            return;
+        }
+        open_note(writer, out, k + 1, reference.number);
+        let text = Text {
+            parts: self.texts.get(k).parts(),
+            formats: self.formats,
+            manner: Manner {
+                hidden: self.hidden,
+                is_note: true,
+            },
+        };
+        let _ = write_text(writer, out, &text, References::none(self.alloc));
+        writer.path.truncate(0);
+    }
+}
+
+/// Opens the note with this number, and writes its label.
+fn open_note<K: Sink>(writer: &mut Writer, out: &mut K, number: usize, label: Option<u32>)
+    requires { writer.old.path ≡ [] }
+    ensures path { writer.new.path ≡ note_path number }
+    ensures puts { PutsPlaces K.Sink out.old writer.old.html out.new writer.new.html
+        (shown (note_path number ++ BackLink number ∷ []) (label_of label) ∷ []) }
+{
+    writer.path.push(Element::Notes);
+    writer.path.push(Element::Note(number));
+    writer.path.push(Element::BackLink(number));
+    writer.html.put(out, &writer.path, Some(label_of(label)));
+    writer.path.truncate(2);
+}
+
+/// The label of a note.
+fn label_of(number: Option<u32>) -> Glyph
+    ensures { result ≡ label_of number }
+{
+    match number {
+        None => Glyph::Unit(ARROW_BACK),
+        Some(number) => Glyph::NoteMark(number),
+    }
+}

@@ -1,0 +1,185 @@
+// A text that is read and written: its paragraphs, one behind the other.
+ghost use Rattle.std.specs.Prelude.{◌≡◌, ℕ, ◌+◌, ◌^◌, ◌<◌, ◌≤◌, ◌++◌, List, length, take, slice_range};
+ghost use Rattle.std.specs.List.{count_by};
+ghost use Rattle.style_sheet.specs.Chain.{kind_at};
+ghost use Rattle.plain_doc.specs.declared.item.Item.{Item};
+ghost use Rattle.plain_doc.specs.RightDocument.{HoldsAtItems};
+ghost use Rattle.plain_doc.specs.RulesOfTexts.{HasParagraphStyle};
+ghost use Rattle.doc_columns.specs.Walks.{items_in, AreParts, IsWalk};
+ghost use Rattle.doc_view.specs.Course.{HasBeside, HasFormat, has_reference};
+ghost use Rattle.doc_view.specs.Page.{AreFormats};
+ghost use Rattle.doc_view.specs.Seen.{Formats, paragraphs_of, references_of, seen_from};
+ghost use Rattle.doc_places.specs.Places.{count_of, text_places};
+ghost use Rattle.html_page.specs.Printed.{PutsPlaces};
+ghost use Rattle.doc_html.specs.Writes.{IsReading, Writes, at};
+
+use crate::writer::Writer;
+use doc_columns::{alike_from, paragraph_end};
+use doc_outer::Sink;
+use doc_places::{Grid, push_block};
+use doc_view::{Bounds, Course, Reference, References, Standing, Stretch, Text, see, style_of};
+use run_lists::{Cursor, seek};
+use view_paths::MAX_DEPTH;
+
+/// Where the reading of a text is, and to how many notes the items in front refer.
+#[derive(Drop)]
+pub(crate) struct Reading {
+    pub(crate) course: Course,
+    pub(crate) count: usize,
+}
+
+/// Writes a text inside of the elements that are open. It answers the notes that the text refers to. It is linear in the
+/// units and the runs.
+pub(crate) fn write_text<K: Sink>(
+    writer: &mut Writer,
+    out: &mut K,
+    text: &Text<'_>,
+    references: References,
+) -> References
+    requires parts { AreParts text.now.parts }
+    requires normal { kind_at text.now.formats.now 0 ≡ 1 }
+    requires styles { HoldsAtItems (items_in text.now.parts) (λ i item. HasParagraphStyle text.now.formats.now item) }
+    requires room { count_by (has_reference text.now.manner) (items_in text.now.parts) ≤ references.room }
+    requires depth { length writer.old.path + 13 ≤ MAX_DEPTH }
+    ensures path { writer.new.path ≡ writer.old.path }
+    ensures puts { (formats : Formats) → AreFormats text.now.formats.now formats
+        → PutsPlaces K.Sink out.old writer.old.html out.new writer.new.html
+        (text_places writer.old.path (paragraphs_of formats text.now.manner (items_in text.now.parts))) }
+    ensures references { (formats : Formats) → AreFormats text.now.formats.now formats → result.list
+        ≡ references.list ++ references_of (paragraphs_of formats text.now.manner (items_in text.now.parts)) }
+{
+    let len = text.parts.units.len();
+    let depth = writer.path.len();
+    let course = Course::new(references);
+    let mut reading = Reading { course, count: 0 };
+    let mut marks = Cursor::new();
+    let mut grid = Grid::new();
+    while reading.course.place < len {
+        let end = paragraph_end(text.parts.besides, &mut marks, reading.course.place, len);
+        let last = seek(text.parts.besides, &mut marks, end - 1);
+        let standing = Standing::of(text.parts.units[end - 1], &last.mark);
+        let bounds = Bounds {
+            end,
+            istd: style_of(&last.mark),
+        };
+        push_block(&mut writer.path, grid, standing.is_in_table());
+        write_paragraph(writer, out, &mut reading, text, bounds);
+        writer.path.truncate(depth);
+        grid = grid.behind(standing);
+    }
+    reading.course.references
+}
+
+/// Writes the items of a paragraph, and goes to its end.
+fn write_paragraph<K: Sink>(
+    writer: &mut Writer,
+    out: &mut K,
+    reading: &mut Reading,
+    text: &Text<'_>,
+    bounds: Bounds,
+)
+    requires parts { AreParts text.now.parts }
+    requires walk { IsWalk text.now.parts reading.old.course.walk reading.old.course.place }
+    requires reading { IsReading text.now.manner (items_in text.now.parts) reading.old }
+    requires ahead { reading.old.course.place ≤ bounds.end }
+    requires within { bounds.end ≤ length text.now.parts.units.now }
+    requires style { kind_at text.now.formats.now bounds.istd ≡ 1 }
+    requires depth { length writer.old.path + 8 ≤ MAX_DEPTH }
+    ensures place { reading.new.course.place ≡ bounds.end }
+    ensures walk { IsWalk text.now.parts reading.new.course.walk bounds.end }
+    ensures reading { IsReading text.now.manner (items_in text.now.parts) reading.new }
+    ensures path { writer.new.path ≡ writer.old.path }
+    ensures writes { (formats : Formats) → AreFormats text.now.formats.now formats → Writes K.Sink
+        (at out.old writer.old reading.old) (at out.new writer.new reading.new) writer.old.path
+        (seen_from formats text.now.manner bounds.istd (take reading.old.course.place (items_in text.now.parts))
+        (slice_range (items_in text.now.parts) reading.old.course.place bounds.end)) }
+{
+    while reading.course.place < bounds.end {
+        let alike = alike_from(&text.parts, &mut reading.course.walk, reading.course.place);
+        let stretch = Stretch {
+            until: alike.end.min(bounds.end),
+            format: text.formats.format(bounds.istd, alike.chp),
+            beside: alike.beside,
+        };
+        write_stretch(writer, out, reading, text, &stretch);
+    }
+}
+
+/// Writes items that are alike, and goes behind them.
+fn write_stretch<K: Sink>(
+    writer: &mut Writer,
+    out: &mut K,
+    reading: &mut Reading,
+    text: &Text<'_>,
+    stretch: &Stretch<'_>,
+)
+    requires parts { AreParts text.now.parts }
+    requires reading { IsReading text.now.manner (items_in text.now.parts) reading.old }
+    requires ahead { reading.old.course.place ≤ stretch.now.until }
+    requires within { stretch.now.until ≤ length text.now.parts.units.now }
+    requires beside { HasBeside (items_in text.now.parts) reading.old.course.place stretch.now.until stretch.now.beside.now }
+    requires depth { length writer.old.path + 8 ≤ MAX_DEPTH }
+    ensures place { reading.new.course.place ≡ stretch.now.until }
+    ensures walk { reading.new.course.walk ≡ reading.old.course.walk }
+    ensures reading { IsReading text.now.manner (items_in text.now.parts) reading.new }
+    ensures path { writer.new.path ≡ writer.old.path }
+    ensures writes { (formats : Formats) (istd : ℕ)
+        → HasFormat formats istd (items_in text.now.parts) reading.old.course.place stretch.now.until stretch.now.format
+        → Writes K.Sink
+        (at out.old writer.old reading.old) (at out.new writer.new reading.new) writer.old.path
+        (seen_from formats text.now.manner istd (take reading.old.course.place (items_in text.now.parts))
+        (slice_range (items_in text.now.parts) reading.old.course.place stretch.now.until)) }
+{
+    while reading.course.place < stretch.until {
+        write_item(writer, out, reading, text, stretch);
+    }
+}
+
+/// Writes the item of the place, and goes behind it.
+fn write_item<K: Sink>(
+    writer: &mut Writer,
+    out: &mut K,
+    reading: &mut Reading,
+    text: &Text<'_>,
+    stretch: &Stretch<'_>,
+)
+    requires parts { AreParts text.now.parts }
+    requires reading { IsReading text.now.manner (items_in text.now.parts) reading.old }
+    requires ahead { reading.old.course.place < stretch.now.until }
+    requires within { stretch.now.until ≤ length text.now.parts.units.now }
+    requires beside { HasBeside (items_in text.now.parts) reading.old.course.place stretch.now.until stretch.now.beside.now }
+    requires depth { length writer.old.path + 8 ≤ MAX_DEPTH }
+    ensures place { reading.new.course.place ≡ reading.old.course.place + 1 }
+    ensures walk { reading.new.course.walk ≡ reading.old.course.walk }
+    ensures reading { IsReading text.now.manner (items_in text.now.parts) reading.new }
+    ensures path { writer.new.path ≡ writer.old.path }
+    ensures writes { (formats : Formats) (istd : ℕ)
+        → HasFormat formats istd (items_in text.now.parts) reading.old.course.place stretch.now.until stretch.now.format
+        → Writes K.Sink
+        (at out.old writer.old reading.old) (at out.new writer.new reading.new) writer.old.path
+        (seen_from formats text.now.manner istd (take reading.old.course.place (items_in text.now.parts))
+        (slice_range (items_in text.now.parts) reading.old.course.place (reading.old.course.place + 1))) }
+{
+    let unit = text.parts.units[reading.course.place];
+    let seen = see(
+        text.manner,
+        &stretch.format,
+        reading.course.front,
+        unit,
+        stretch.beside,
+    );
+    writer.write(out, reading.count, &seen);
+    reading.course.pass(unit, stretch.beside, seen.reference);
+    reading.count = count_behind(reading.count, seen.reference);
+}
+
+/// How many references there are behind one more, or none.
+fn count_behind(count: usize, reference: Option<Reference>) -> usize
+    requires { count + 1 < 2 ^ 64 }
+    ensures { result ≡ count + count_of reference }
+{
+    match reference {
+        None => count,
+        Some(_) => count + 1,
+    }
+}

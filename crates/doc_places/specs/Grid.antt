@@ -1,0 +1,35 @@
+-- Where paragraphs stand, by those before them, the nearest first: their numbers, and those of their tables, rows and cells.
+use Rattle.std.specs.Prelude.{ℕ, ◌+◌, Bool, List, [], ◌∷◌, length, if◌then◌else◌}
+use Rattle.doc_view.specs.declared.standing.Standing.{Standing}
+use Rattle.doc_view.specs.Seen.{Paragraph}
+use Rattle.doc_view.specs.Layout.{is_in_table, keeps_row, ends_cell}
+use Rattle.doc_places.specs.declared.grid.Grid.{Grid}
+
+-- the number of the first paragraph of those that go on up to here
+abbrev pub first_of : (Standing → Bool) → List Paragraph → ℕ
+first_of goes_on [] = 0
+first_of goes_on (paragraph ∷ before) = if goes_on paragraph.standing then first_of goes_on before else length before
+    + 1
+
+-- how many cells of the row ended
+abbrev pub cells_of : List Paragraph → ℕ
+cells_of [] = 0
+cells_of (paragraph ∷ before) =
+    if keeps_row paragraph.standing then cells_of before + (if ends_cell paragraph.standing then 1 else 0) else 0
+
+abbrev pub grid_of : List Paragraph → Grid
+grid_of before = record {
+  number = length before;
+  table = first_of is_in_table before;
+  row = first_of keeps_row before;
+  cell = cells_of before;
+}
+
+-- behind one more paragraph
+abbrev pub grid_after : Grid → Standing → Grid
+grid_after grid standing = record {
+  number = grid.number + 1;
+  table = if is_in_table standing then grid.table else grid.number + 1;
+  row = if keeps_row standing then grid.row else grid.number + 1;
+  cell = if keeps_row standing then grid.cell + (if ends_cell standing then 1 else 0) else 0;
+}

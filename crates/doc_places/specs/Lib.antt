@@ -1,0 +1,3 @@
+pub mod Grid
+pub mod Places
+pub mod Laws

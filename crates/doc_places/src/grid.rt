@@ -1,0 +1,93 @@
+// Where a paragraph stands.
+ghost use Rattle.std.specs.Prelude.{◌≡◌, ◌+◌, ◌^◌, ◌<◌, ◌≤◌, ◌++◌, [], ◌∷◌, length, if◌then◌else◌};
+ghost use Rattle.doc_places.specs.Grid.{grid_after};
+ghost use Rattle.doc_places.specs.Places.{block_of};
+ghost use Rattle.doc_view.specs.Layout.{ends_cell};
+ghost use Rattle.view_places.specs.declared.element.Element.TheVariants.{Table, TableBody, Row, Cell};
+
+use doc_view::Standing;
+use view_paths::{MAX_DEPTH, Path};
+use view_places::{Element, Paragraph};
+
+/// The number of a paragraph in its text, the numbers of the first paragraphs of its table and of its row, and how many
+/// cells of the row are before it.
+#[derive(Clone, Copy)]
+pub struct Grid {
+    pub number: usize,
+    pub table: usize,
+    pub row: usize,
+    pub cell: usize,
+}
+
+impl Grid {
+    /// At the start of a text.
+    pub fn new() -> Grid
+        ensures { result ≡ record { number = 0; table = 0; row = 0; cell = 0 } }
+    {
+        Grid {
+            number: 0,
+            table: 0,
+            row: 0,
+            cell: 0,
+        }
+    }
+
+    /// Behind one more paragraph.
+    pub fn behind(self, standing: Standing) -> Grid
+        requires number { self.number + 1 < 2 ^ 64 }
+        requires cell { self.cell + 1 < 2 ^ 64 }
+        ensures { result ≡ grid_after self standing }
+    {
+        let next = self.number + 1;
+        let keeps = standing.keeps_row();
+        Grid {
+            number: next,
+            table: if standing.is_in_table() {
+                self.table
+            } else {
+                next
+            },
+            row: if keeps { self.row } else { next },
+            cell: if keeps {
+                self.cell + ended(standing)
+            } else {
+                0
+            },
+        }
+    }
+}
+
+/// How many cells end.
+fn ended(standing: Standing) -> usize
+    ensures is { result ≡ (if ends_cell standing then 1 else 0) }
+    ensures few { result ≤ 1 }
+{
+    if standing.ends_cell() { 1 } else { 0 }
+}
+
+/// Puts the elements that a paragraph stands in, in a table or not, and the paragraph, inside of a path.
+pub fn push_block(path: &mut Path<Element>, grid: Grid, in_table: bool)
+    requires { length path.old + 5 ≤ MAX_DEPTH }
+    ensures { path.new ≡ path.old ++ block_of grid in_table }
+{
+    if in_table {
+        push_cell(path, grid);
+    }
+    path.push(Element::Paragraph(Paragraph {
+        number: grid.number,
+        level: 0,
+        right_to_left: false,
+        breaks_page: false,
+    }));
+}
+
+/// Puts a table, its body, a row and a cell.
+fn push_cell(path: &mut Path<Element>, grid: Grid)
+    requires { length path.old + 4 ≤ MAX_DEPTH }
+    ensures { path.new ≡ path.old ++ Table grid.table ∷ TableBody ∷ Row grid.row ∷ Cell grid.cell ∷ [] }
+{
+    path.push(Element::Table(grid.table));
+    path.push(Element::TableBody);
+    path.push(Element::Row(grid.row));
+    path.push(Element::Cell(grid.cell));
+}

@@ -1,0 +1,10 @@
+//! The places of a document: what its text stands in.
+#![tactic(auto)]
+
+mod grid;
+mod inline;
+mod laws;
+
+pub use grid::{Grid, push_block};
+pub use inline::push_inline;
+pub use laws::each_glyph_has_a_place;

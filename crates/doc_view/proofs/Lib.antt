@@ -1,0 +1,11 @@
+pub mod PrintLemmas
+pub mod SayingLemmas
+pub mod RangeLemmas
+pub mod CourseLemmas
+pub mod TextLemmas
+pub mod NoteLemmas
+pub mod PageLemmas
+pub mod LawLemmas
+pub mod CharacterLemmas
+pub mod ControlLemmas
+pub mod OnceLemmas

@@ -1,0 +1,9 @@
+pub mod Glyphs
+pub mod Seen
+pub mod Layout
+pub mod Notes
+pub mod Lines
+pub mod Kept
+pub mod Page
+pub mod Course
+pub mod Laws

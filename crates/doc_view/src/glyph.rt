@@ -1,0 +1,121 @@
+// What is visible of a unit.
+ghost use Rattle.std.specs.Prelude.{◌≡◌, ◌<◌, ◌≤◌};
+ghost use Rattle.doc_view.specs.Glyphs.{control_glyph, drawn_unit, glyph_of, is_stand_in, is_windows, stand_in_glyph};
+ghost use Rattle.doc_view.specs.Glyphs.{unit_glyph, windows_unit};
+
+use char_formats::CharFormat;
+use text_codes::unit_of_byte;
+use view_places::Glyph;
+
+/// The unit of a picture, where it is special.
+const PICTURE: u16 = 0x01;
+
+/// The unit of a drawing, where it is special.
+const DRAWING: u16 = 0x08;
+
+/// The first unit that is no control.
+const SPACE: u16 = 0x20;
+
+/// A hyphen at which no line is broken.
+const NON_BREAKING_HYPHEN: u16 = 0x2011;
+
+/// The replacement character.
+const REPLACEMENT: u16 = 0xFFFD;
+
+/// What is visible of a unit of this format, at which a section ends or not.
+pub(crate) fn glyph_of(format: &CharFormat, ends_section: bool, unit: u16) -> Option<Glyph>
+    ensures { result ≡ glyph_of format.now ends_section unit }
+{
+    if is_stand_in(format, unit) {
+        return stand_in_glyph(format);
+    }
+    unit_glyph(drawn_unit(format.symbol, unit), ends_section)
+}
+
+/// Whether a unit stands for something else than text.
+fn is_stand_in(format: &CharFormat, unit: u16) -> bool
+    ensures { result ≡ is_stand_in format.now unit }
+{
+    format.special && (unit == PICTURE || unit == DRAWING)
+}
+
+/// What such a unit stands for: nothing where it has the data of a field.
+fn stand_in_glyph(format: &CharFormat) -> Option<Glyph>
+    ensures { result ≡ stand_in_glyph format.now }
+{
+    if format.of_field {
+        None
+    } else if format.object {
+        Some(Glyph::Object)
+    } else {
+        Some(Glyph::Picture)
+    }
+}
+
+/// The unit that is drawn: a symbol in place of a unit that is no control.
+fn drawn_unit(symbol: Option<u16>, unit: u16) -> u16
+    ensures { result ≡ drawn_unit symbol unit }
+{
+    match symbol {
+        None => unit,
+        Some(symbol) => { if unit < SPACE { unit } else { symbol } }
+    }
+}
+
+/// What is visible of a unit of text.
+fn unit_glyph(unit: u16, ends_section: bool) -> Option<Glyph>
+    ensures { result ≡ unit_glyph unit ends_section }
+{
+    if unit < SPACE {
+        return control_glyph(unit, ends_section);
+    }
+    Some(Glyph::Unit(if is_windows(unit) {
+        windows_unit(unit)
+    } else {
+        unit
+    }))
+}
+
+/// What is visible of a control.
+fn control_glyph(unit: u16, ends_section: bool) -> Option<Glyph>
+    requires { unit < 0x20 }
+    ensures { result ≡ control_glyph unit ends_section }
+{
+    match unit {
+        0x09 => Some(Glyph::Tab),
+        0x0B => Some(Glyph::LineBreak),
+        0x0E => Some(Glyph::LineBreak),
+        0x0C => {
+            if ends_section {
+                None
+            } else {
+                Some(Glyph::PageBreak)
+            }
+        }
+        0x1E => Some(Glyph::Unit(NON_BREAKING_HYPHEN)),
+        _ => None,
+    }
+}
+
+/// Whether a unit is a byte of Windows-1252 that is not ASCII's.
+fn is_windows(unit: u16) -> bool
+    ensures { result ≡ is_windows unit }
+{
+    unit >= 0x7F && unit <= 0x9F
+}
+
+/// The character of such a byte, or the replacement character.
+fn windows_unit(unit: u16) -> u16
+    requires { unit ≤ 0x9F }
+    ensures { result ≡ windows_unit unit }
+{
+    match unit {
+        0x80 => 0x20AC,
+        0x8E => 0x017D,
+        0x9E => 0x017E,
+        _ => {
+            let drawn = unit_of_byte(unit as u8);
+            if drawn == unit { REPLACEMENT } else { drawn }
+        }
+    }
+}

@@ -1,0 +1,20 @@
+//! Pages of documents: a document's text as people read it.
+#![tactic(auto)]
+
+mod glyph;
+mod laws;
+mod line;
+mod notes;
+mod paragraph;
+mod reading;
+mod references;
+mod standing;
+mod text;
+mod view;
+
+pub use laws::{each_item_is_shown_once, no_controls, pages_are_one};
+pub use reading::{Front, Manner, Seen, see};
+pub use references::{Reference, References};
+pub use standing::{Standing, is_row_mark, style_of};
+pub use text::{Bounds, Course, Stretch, Text};
+pub use view::{Options, ViewFault, write_page};

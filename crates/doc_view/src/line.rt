@@ -1,0 +1,173 @@
+// What stands before a paragraph of a page.
+ghost use Rattle.std.specs.Prelude.{◌≡◌, [], ◌∷◌, ◌++◌, false, if◌then◌else◌};
+ghost use Rattle.std.specs.Fmt.{decimal};
+ghost use Rattle.doc_view.specs.Notes.{note_label};
+ghost use Rattle.doc_view.specs.Layout.{front_at, inner_front, line_front, tab_front};
+ghost use Rattle.doc_view.specs.Lines.{lead_text, line_after};
+ghost use Rattle.page_out.specs.Printed.{Prints};
+
+use crate::Standing;
+use doc_outer::Sink;
+use page_out::Page;
+
+/// What stands before a text: an empty line, and the label of a note with this number.
+#[derive(Clone, Copy)]
+pub(crate) struct Lead {
+    pub(crate) is_apart: bool,
+    pub(crate) number: Option<u32>,
+}
+
+impl Lead {
+    /// Nothing.
+    pub(crate) fn none() -> Lead
+        ensures { result ≡ record { is_apart = false; number = None } }
+    {
+        Lead {
+            is_apart: false,
+            number: None,
+        }
+    }
+
+    /// Puts it.
+    fn push<K: Sink>(self, page: &mut Page, out: &mut K)
+        ensures { Prints K.Sink out.old page.old out.new page.new (lead_text self) }
+    {
+        self.push_apart(page, out);
+        push_label(page, out, self.number);
+    }
+
+    /// Puts the empty line.
+    fn push_apart<K: Sink>(self, page: &mut Page, out: &mut K)
+        ensures { Prints K.Sink out.old page.old out.new page.new (if self.is_apart then 10 ∷ [] else []) }
+    {
+        if self.is_apart {
+            page.push_ascii(out, b"\n");
+        }
+    }
+}
+
+/// Puts the label of a note, where it has a number.
+fn push_label<K: Sink>(page: &mut Page, out: &mut K, number: Option<u32>)
+    ensures { Prints K.Sink out.old page.old out.new page.new (note_label number) }
+{
+    match number {
+        None => {}
+        Some(number) => push_numbered(page, out, number),
+    }
+}
+
+/// Puts the label of a note with a number.
+fn push_numbered<K: Sink>(page: &mut Page, out: &mut K, number: u32)
+    ensures { Prints K.Sink out.old page.old out.new page.new (91 ∷ [] ++ (decimal number ++ 93 ∷ 32 ∷ [])) }
+{
+    page.push_ascii(out, b"[");
+    page.push_number(out, number as u64);
+    page.push_ascii(out, b"] ");
+}
+
+/// What of a text is here before a paragraph: something of it, of the paragraph's row, of its cell; and whether the
+/// cell is not the first one of its row.
+#[derive(Clone, Copy)]
+pub(crate) struct Line {
+    pub(crate) some: bool,
+    pub(crate) in_row: bool,
+    pub(crate) in_cell: bool,
+    pub(crate) later: bool,
+}
+
+impl Line {
+    /// At the start of a text.
+    pub(crate) fn new() -> Line
+        ensures { result ≡ record { some = false; in_row = false; in_cell = false; later = false } }
+    {
+        Line {
+            some: false,
+            in_row: false,
+            in_cell: false,
+            later: false,
+        }
+    }
+
+    /// Behind one more paragraph, which is here or not.
+    pub(crate) fn behind(self, standing: Standing, is_here: bool) -> Line
+        ensures { result ≡ line_after self standing is_here }
+    {
+        let keeps = standing.keeps_row();
+        let ends = standing.ends_cell();
+        Line {
+            some: is_here || self.some,
+            in_row: keeps && (is_here || self.in_row),
+            in_cell: keeps && !ends && (is_here || self.in_cell),
+            later: keeps && (ends || self.later),
+        }
+    }
+
+    /// Puts what stands before a paragraph, in a table or not, of a text with this lead.
+    pub(crate) fn push_front<K: Sink>(
+        self,
+        page: &mut Page,
+        out: &mut K,
+        lead: Lead,
+        in_table: bool,
+    )
+        ensures { Prints K.Sink out.old page.old out.new page.new (front_at (lead_text lead) self in_table) }
+    {
+        if in_table {
+            self.push_inner(page, out, lead);
+        } else {
+            self.push_line(page, out, lead);
+        }
+    }
+
+    /// Puts what stands before a line.
+    fn push_line<K: Sink>(self, page: &mut Page, out: &mut K, lead: Lead)
+        ensures { Prints K.Sink out.old page.old out.new page.new (line_front (lead_text lead) self.some) }
+    {
+        if self.some {
+            page.push_ascii(out, b"\n");
+        } else {
+            lead.push(page, out);
+        }
+    }
+
+    /// Puts what stands before a paragraph of a table.
+    fn push_inner<K: Sink>(self, page: &mut Page, out: &mut K, lead: Lead)
+        ensures { Prints K.Sink out.old page.old out.new page.new
+            (inner_front (lead_text lead) self) }
+    {
+        if self.in_cell {
+            page.push_ascii(out, b" ");
+            return;
+        }
+        self.push_row(page, out, lead);
+        self.push_tab(page, out);
+    }
+
+    /// Puts what stands before a row.
+    fn push_row<K: Sink>(self, page: &mut Page, out: &mut K, lead: Lead)
+        ensures { Prints K.Sink out.old page.old out.new page.new
+            (if self.in_row then [] else line_front (lead_text lead) self.some) }
+    {
+        if !self.in_row {
+            self.push_line(page, out, lead);
+        }
+    }
+
+    /// Puts what stands before a later cell.
+    fn push_tab<K: Sink>(self, page: &mut Page, out: &mut K)
+        ensures { Prints K.Sink out.old page.old out.new page.new (tab_front self.later) }
+    {
+        if self.later {
+            page.push_ascii(out, b"\t");
+        }
+    }
+
+    /// Puts the end of the last line.
+    pub(crate) fn push_end<K: Sink>(self, page: &mut Page, out: &mut K)
+        ensures { Prints K.Sink out.old page.old out.new page.new (if self.some then 10 ∷ [] else []) }
+    {
+        if self.some {
+            page.push_ascii(out, b"\n");
+        }
+    }
+}

@@ -1,0 +1,90 @@
+// The notes of a page.
+ghost use Rattle.std.specs.Prelude.{◌≡◌, ℕ, ◌<◌, length, List, ◌||◌, [], false, true, slice_get, Some, if◌then◌else◌};
+ghost use Rattle.style_sheet.specs.Chain.{kind_at};
+ghost use Rattle.plain_doc.specs.declared.item.Item.{Item};
+ghost use Rattle.plain_doc.specs.RightDocument.{HoldsAtItems};
+ghost use Rattle.plain_doc.specs.RulesOfTexts.{HasParagraphStyle};
+ghost use Rattle.doc_view.specs.Notes.{has_lines, note_text, notes_from};
+ghost use Rattle.doc_view.specs.Page.{AreFormats};
+ghost use Rattle.page_out.specs.Printed.{Prints};
+ghost use Rattle.doc_view.specs.Seen.{Formats};
+
+use crate::Reference;
+use crate::line::Lead;
+use crate::reading::Manner;
+use crate::references::References;
+use crate::text::Text;
+use char_formats::StyleFormats;
+use doc_columns::ColumnTexts;
+use doc_outer::Sink;
+use page_out::Page;
+use std::alloc::Global;
+
+/// The notes of a document, the formats of its styles, and whether hidden text is shown.
+#[derive(Drop)]
+pub(crate) struct Notes<'a> {
+    pub(crate) alloc: Global,
+    pub(crate) texts: &'a ColumnTexts,
+    pub(crate) formats: &'a StyleFormats,
+    pub(crate) hidden: bool,
+}
+
+impl Notes<'_> {
+    /// Puts each note whose reference is shown behind its label, and an empty line before the first one.
+    pub(crate) fn push<K: Sink>(&self, page: &mut Page, out: &mut K, references: &References)
+        requires normal { kind_at self.now.formats.now 0 ≡ 1 }
+        requires styles { (k : ℕ) (note : List Item) → slice_get self.now.texts.now k ≡ Some note
+            → HoldsAtItems note (λ i item. HasParagraphStyle self.now.formats.now item) }
+        ensures { (formats : Formats) → AreFormats self.now.formats.now formats
+            → Prints K.Sink out.old page.old out.new page.new
+            (notes_from formats (record { hidden = self.now.hidden; is_note = true }) false references.now.list
+            self.now.texts.now) }
+    {
+        let mut begun = false;
+        let count = references.len().min(self.texts.len());
+        for k in 0..count {
+            begun = self.push_note(page, out, k, references.get(k), begun);
+        }
+    }
+
+    /// Puts the note of a number where its reference is shown, behind others or as the first one, and answers whether some
+    /// note was put then.
+    fn push_note<K: Sink>(
+        &self,
+        page: &mut Page,
+        out: &mut K,
+        k: usize,
+        reference: Reference,
+        begun: bool,
+    ) -> bool
+        requires normal { kind_at self.now.formats.now 0 ≡ 1 }
+        requires styles { (k : ℕ) (note : List Item) → slice_get self.now.texts.now k ≡ Some note
+            → HoldsAtItems note (λ i item. HasParagraphStyle self.now.formats.now item) }
+        requires there { k < length self.now.texts.now }
+        ensures text { (formats : Formats) (note : List Item) → AreFormats self.now.formats.now formats
+            → slice_get self.now.texts.now k ≡ Some note → Prints K.Sink out.old page.old out.new page.new
+            (if reference.is_shown then note_text formats (record { hidden = self.now.hidden; is_note = true }) begun
+            reference.number note else []) }
+        ensures begun { (formats : Formats) (note : List Item) → AreFormats self.now.formats.now formats
+            → slice_get self.now.texts.now k ≡ Some note → result ≡ (begun || has_lines formats
+            (record { hidden = self.now.hidden; is_note = true }) reference note) }
+    {
+        if !reference.is_shown {
+            return begun;
+        }
+        let text = Text {
+            parts: self.texts.get(k).parts(),
+            formats: self.formats,
+            manner: Manner {
+                hidden: self.hidden,
+                is_note: true,
+            },
+        };
+        let lead = Lead {
+            is_apart: !begun,
+            number: reference.number,
+        };
+        let (_, some) = text.push(page, out, lead, References::none(self.alloc));
+        begun || some
+    }
+}

@@ -1,0 +1,161 @@
+// The page of a document.
+ghost use Rattle.std.specs.Prelude.{◌≡◌, ℕ, List, length, [], IfOk, OnOk, OnErr, IsErrOf};
+ghost use Rattle.doc_outer.specs.Counts.{Rose};
+ghost use Rattle.doc_outer.specs.Written.{Appends, AppendsPrefix};
+ghost use Rattle.style_sheet.specs.Chain.{HasSoundBases};
+ghost use Rattle.plain_doc.specs.Sound.{IsSound};
+ghost use Rattle.doc_view.specs.Page.{AreFormats, IsPage, page_text};
+ghost use Rattle.page_out.specs.Printed.{Prints};
+ghost use Rattle.doc_view.specs.Seen.{Formats};
+
+use crate::line::Lead;
+use crate::notes::Notes;
+use crate::reading::Manner;
+use crate::references::References;
+use crate::text::Text;
+use char_formats::StyleFormats;
+use doc_bits::Memory;
+use doc_columns::ColumnDocument;
+use doc_outer::{OutBlock, Sink, SinkFailed};
+use page_out::Page;
+use std::alloc::Global;
+use thiserror::Error;
+
+/// What of a document is shown.
+#[derive(Clone, Copy, Debug, PartialEq, Eq)]
+pub struct Options {
+    /// Hidden text too.
+    pub hidden: bool,
+}
+
+/// Why a page is not written.
+#[derive(Clone, Copy, Debug, PartialEq, Eq, Error)]
+pub enum ViewFault {
+    #[error("out of memory")]
+    Memory,
+    #[error("the sink failed")]
+    Sink,
+}
+
+/// What the making of a page needs: all its memory.
+#[derive(Drop)]
+struct Needs {
+    formats: StyleFormats,
+    references: References,
+    block: OutBlock,
+}
+
+/// Writes the page of a document, its main text and its notes. All memory is taken before the first byte. It is linear in
+/// the units and the runs.
+pub fn write_page<K: Sink>(
+    alloc: Global,
+    document: &ColumnDocument,
+    options: Options,
+    out: &mut K,
+) -> Result<(), ViewFault>
+    requires { IsSound document.now }
+    ensures ok { OnOk result ((bytes : List ℕ) × (IsPage options document.now bytes
+        × Appends (K.written out.old) (K.written out.new) bytes)) }
+
+    // A sink that fails has taken a prefix of the page.
+    ensures prefix { IsErrOf result ViewFault.Sink → (bytes : List ℕ) × (IsPage options document.now bytes
+        × AppendsPrefix (K.written out.old) (K.written out.new) bytes) }
+    ensures failed { IsErrOf result ViewFault.Sink → Rose (K.faults out.old) (K.faults out.new) }
+
+    // Without memory nothing is written.
+    ensures memory { IsErrOf result ViewFault.Memory → K.written out.new ≡ K.written out.old }
+{
+    let Ok(needs) = needs_of(alloc, document) else {
+        return Err(ViewFault::Memory);
+    };
+    match write_with(alloc, document, options, needs, out) {
+        Ok(()) => Ok(()),
+        Err(_) => Err(ViewFault::Sink),
+    }
+}
+
+/// Takes all the memory of a page.
+fn needs_of(alloc: Global, document: &ColumnDocument) -> Result<Needs, Memory>
+    requires { HasSoundBases document.now.sheet }
+    ensures formats { IfOk result (λ needs. needs.formats ≡ document.now.sheet) }
+    ensures references { IfOk result (λ needs.
+        needs.references ≡ record { list = []; room = length document.now.notes }) }
+    ensures block { IfOk result (λ needs. needs.block ≡ []) }
+{
+    Ok(Needs {
+        formats: StyleFormats::of(alloc, &document.sheet)?,
+        references: References::new(alloc, document.notes.len())?,
+        block: OutBlock::new(alloc)?,
+    })
+}
+
+/// Writes the page with the memory that it needs. It takes no more.
+fn write_with<K: Sink>(
+    alloc: Global,
+    document: &ColumnDocument,
+    options: Options,
+    needs: Needs,
+    out: &mut K,
+) -> Result<(), SinkFailed>
+    requires sound { IsSound document.now }
+    requires formats { needs.formats ≡ document.now.sheet }
+    requires references { needs.references ≡ record { list = []; room = length document.now.notes } }
+    requires block { needs.block ≡ [] }
+    ensures ok { OnOk result ((bytes : List ℕ) × (IsPage options document.now bytes
+        × Appends (K.written out.old) (K.written out.new) bytes)) }
+    ensures prefix { OnErr result ((bytes : List ℕ) × (IsPage options document.now bytes
+        × AppendsPrefix (K.written out.old) (K.written out.new) bytes)) }
+    ensures failed { OnErr result (Rose (K.faults out.old) (K.faults out.new)) }
+{
+    let Needs {
+        formats,
+        references,
+        block,
+    } = needs;
+    let mut page = Page::new(block);
+    let shown = Shown {
+        document,
+        formats: &formats,
+        hidden: options.hidden,
+    };
+    shown.push(alloc, &mut page, out, references);
+    page.finish(out)
+}
+
+/// A document that is shown, the formats of its styles, and whether hidden text is shown.
+#[derive(Drop)]
+struct Shown<'a> {
+    document: &'a ColumnDocument,
+    formats: &'a StyleFormats,
+    hidden: bool,
+}
+
+impl Shown<'_> {
+    /// Puts the main text and the notes.
+    fn push<K: Sink>(&self, alloc: Global, page: &mut Page, out: &mut K, references: References)
+        requires sound { IsSound self.now.document.now }
+        requires formats { self.now.formats.now ≡ self.now.document.now.sheet }
+        requires references { references ≡ record { list = []; room = length self.now.document.now.notes } }
+        ensures { (formats : Formats) → AreFormats self.now.document.now.sheet formats
+            → Prints K.Sink out.old page.old out.new page.new
+            (page_text formats (record { hidden = self.now.hidden }) self.now.document.now) }
+    {
+        let document = self.document;
+        let main = Text {
+            parts: document.main.parts(),
+            formats: self.formats,
+            manner: Manner {
+                hidden: self.hidden,
+                is_note: false,
+            },
+        };
+        let (references, _) = main.push(page, out, Lead::none(), references);
+        let notes = Notes {
+            alloc,
+            texts: &document.notes,
+            formats: self.formats,
+            hidden: self.hidden,
+        };
+        notes.push(page, out, &references);
+    }
+}

@@ -1,0 +1,260 @@
+-- The tags of a page nest.
+use Rattle.std.proofs.Common.{◌≡◌, ℕ, ◌==◌, Bool, true, false, not, ◌&&◌, List, [], ◌∷◌, ◌++◌, map, Option, Some, None}
+use Rattle.std.proofs.Common.{refl, sym, ap, subst, ◌∙◌, append_assoc}
+use Rattle.std.specs.Prelude.{if◌then◌else◌, codes}
+use Rattle.std.specs.Fmt.{decimal}
+use Rattle.std.specs.List.{list_all}
+use Rattle.std.proofs.lemmas.List.{append-nil, map-append}
+use Rattle.html_text.specs.Tokens.{Token, Character, Tag}
+use Rattle.html_text.specs.Reading.{read}
+use Rattle.view_paths.specs.Events.{Event, Turn, Leaf, Open, Close, events_from}
+use Rattle.view_paths.specs.Laws.{AreNested}
+use Rattle.view_paths.proofs.NestLemmas.{nested-events_from}
+use Rattle.view_places.specs.declared.element.Element.{Element}
+use Rattle.view_places.specs.declared.glyph.Glyph.{Glyph}
+use Rattle.view_places.specs.declared.glyph.Glyph.TheVariants.{Unit, Tab, LineBreak, PageBreak, NoteMark, Picture}
+use Rattle.view_places.specs.declared.glyph.Glyph.TheVariants.{Object}
+use Rattle.view_places.specs.Same.{same}
+use Rattle.view_places.specs.SameLaws.{same_exact}
+use Rattle.html_page.specs.Tags.{attribute, attributes_of, attributes_text, ends_line, name_of, start_text}
+use Rattle.html_page.specs.Units.{half_text, unit_text}
+use Rattle.html_page.specs.Pages.{Events, Places, characters, start, end, close_tokens, open_tokens, other_tokens}
+use Rattle.html_page.specs.Pages.{glyph_tokens, image, style_text}
+use Rattle.html_page.specs.Pages.{event_tokens, event_half, tokens_of, half_of, body_tokens, front_tokens, style_tokens}
+use Rattle.html_page.specs.Pages.{back_tokens, page_tokens, page_text}
+use Rattle.html_page.specs.Brackets.{AreBrackets, IsBehind, End, Start, TagKind, Void, kind_of, kind_of_word, word_of}
+use Rattle.html_page.specs.Laws.{PagesNest}
+use Rattle.html_page.proofs.CloseLemmas.{by_name, page_read}
+
+abbrev Names : Type 0
+Names = List (List ℕ)
+
+brackets-append : (a b c : Names) (xs ys : List Token) → AreBrackets a xs b → AreBrackets b ys c → AreBrackets a (xs
+    ++ ys) c
+brackets-append a b c [] ys one other = subst (λ (p : Names). AreBrackets p ys c) (sym one) other
+brackets-append a b c (Character code ∷ xs) ys one other = brackets-append a b c xs ys one other
+brackets-append a b c (Tag inner ∷ xs) ys one other =
+    (one.0, (one.1.0, brackets-append one.0 b c xs ys one.1.1 other))
+
+brackets-characters : (a : Names) (text : List ℕ) → AreBrackets a (characters text) a
+brackets-characters a [] = refl
+brackets-characters a (code ∷ text) = brackets-characters a text
+
+-- ---- the names of tags
+
+both_first : (a b : Bool) → (a && b) ≡ true → a ≡ true
+both_first true b e = refl
+both_first false b e = e
+
+both_second : (a b : Bool) → (a && b) ≡ true → b ≡ true
+both_second true b e = e
+both_second false b e = absurd (cc (e))
+
+not_true : (a : Bool) → not a ≡ true → a ≡ false
+not_true true e = absurd (cc (e))
+not_true false e = refl
+
+abbrev IsWord : List ℕ → Type 0
+IsWord name = list_all (λ code. not (code == 32)) name ≡ true
+
+word-attributes : (name : List ℕ) (attributes : List (List ℕ)) → IsWord name → word_of (name ++ attributes_text
+    attributes) ≡
+    name
+word-attributes [] [] h = refl
+word-attributes [] (attribute ∷ attributes) h = refl
+word-attributes (code ∷ name) attributes h =
+    let here : (code == 32) ≡ false =
+    not_true (code == 32) (both_first (not (code == 32)) (list_all (λ c. not (c == 32)) name) h) in
+    let more : IsWord name = both_second (not (code == 32)) (list_all (λ c. not (c == 32)) name) h in
+    ap (λ (b : Bool). if b then [] else code ∷ word_of (name ++ attributes_text attributes)) here ∙ ap (λ (w : List
+    ℕ). code
+    ∷ w) (word-attributes name attributes more)
+
+kind-start : (name : List ℕ) (attributes : List (List ℕ)) → IsWord name → kind_of_word name ≡ Start name → kind_of
+    (start_text name attributes) ≡ Start name
+kind-start name attributes word kind = ap kind_of_word (word-attributes name attributes word) ∙ kind
+
+kind-end : (name : List ℕ) → IsWord name → kind_of (47 ∷ name) ≡ End name
+kind-end name word =
+    ap (λ (w : List ℕ). End w) (ap word_of (sym (append-nil name)) ∙ word-attributes name [] word)
+
+brackets-start : (a : Names) (name : List ℕ) (attributes : List (List ℕ)) (more : List Token) (b : Names) → IsWord
+    name →
+    kind_of_word name ≡ Start name → AreBrackets (a ++ name ∷ []) more b → AreBrackets a (start name attributes ∷
+    more) b
+brackets-start a name attributes more b word kind rest = (
+  a ++ name ∷ [],
+  (
+    subst (λ (k : TagKind). IsBehind k a (a ++ name ∷ [])) (sym (kind-start name attributes word kind)) refl,
+    rest,
+  ),
+)
+
+brackets-end : (a : Names) (name : List ℕ) (more : List Token) (b : Names) → IsWord name → AreBrackets a more b →
+    AreBrackets (a ++ name ∷ []) (end name ∷ more) b
+brackets-end a name more b word rest =
+    (a, (subst (λ (k : TagKind). IsBehind k (a ++ name ∷ []) a) (sym (kind-end name word)) refl, rest))
+
+is_word : (e : Element) → IsWord (name_of e)
+is_word e =
+    by_name e IsWord refl refl refl refl refl refl refl refl refl refl refl refl refl refl refl refl refl refl refl refl
+    refl refl refl refl refl refl
+
+starts : (e : Element) → kind_of_word (name_of e) ≡ Start (name_of e)
+starts e =
+    by_name e (λ (name : List ℕ). kind_of_word name ≡ Start name) refl refl refl refl refl refl refl refl refl refl refl
+    refl refl refl refl refl refl refl refl refl refl refl refl refl refl refl
+
+-- ---- events
+
+brackets-line : (a : Names) (line : Bool) → AreBrackets a (if line then Character 10 ∷ [] else []) a
+brackets-line a true = refl
+brackets-line a false = refl
+
+brackets-open : (a : Names) (e : Element) → AreBrackets a (open_tokens e) (a ++ name_of e ∷ [])
+brackets-open a e = brackets-start a (name_of e) (attributes_of e) [] (a ++ name_of e ∷ []) (is_word e) (starts e) refl
+
+brackets-close : (a : Names) (e : Element) → AreBrackets (a ++ name_of e ∷ []) (close_tokens e) a
+brackets-close a e =
+    brackets-end a (name_of e) (if ends_line e then Character 10 ∷ [] else []) a (is_word e) (brackets-line a
+    (ends_line e))
+
+brackets-image : (a : Names) (name : List ℕ) → AreBrackets a (image name) a
+brackets-image a name =
+    let inside = a ++ codes "span" ∷ [] in
+    let text = 91 ∷ (name ++ 93 ∷ []) in
+    brackets-start a (codes "span") (attribute (codes "role") (codes "img") ∷ attribute (codes "aria-label") name ∷ [])
+    (characters text ++ end (codes "span") ∷ []) a refl refl (brackets-append inside inside a (characters text) (end
+    (codes
+    "span") ∷ []) (brackets-characters inside text) (brackets-end a (codes "span") [] a refl refl))
+
+brackets-other : (a : Names) (g : Glyph) → AreBrackets a (other_tokens g) a
+brackets-other a (Unit unit) = refl
+brackets-other a Tab = refl
+brackets-other a LineBreak = (a, (refl, refl))
+brackets-other a PageBreak = (a, (refl, refl))
+brackets-other a (NoteMark number) = brackets-characters a (decimal number)
+brackets-other a Picture = brackets-image a (codes "picture")
+brackets-other a Object = brackets-image a (codes "object")
+
+brackets-behind : (a b : Names) (half : Option ℕ) (tokens : List Token) → AreBrackets a tokens b → AreBrackets a
+    (characters
+    (half_text half) ++ tokens) b
+brackets-behind a b half tokens h =
+    brackets-append a a b (characters (half_text half)) tokens (brackets-characters a (half_text half)) h
+
+brackets-glyph : (a : Names) (half : Option ℕ) (g : Glyph) → AreBrackets a (glyph_tokens half g) a
+brackets-glyph a half (Unit unit) = brackets-characters a (unit_text half unit)
+brackets-glyph a half Tab = brackets-behind a a half (other_tokens Tab) (brackets-other a Tab)
+brackets-glyph a half LineBreak = brackets-behind a a half (other_tokens LineBreak) (brackets-other a LineBreak)
+brackets-glyph a half PageBreak = brackets-behind a a half (other_tokens PageBreak) (brackets-other a PageBreak)
+brackets-glyph a half (NoteMark number) =
+    brackets-behind a a half (other_tokens (NoteMark number)) (brackets-other a (NoteMark number))
+brackets-glyph a half Picture = brackets-behind a a half (other_tokens Picture) (brackets-other a Picture)
+brackets-glyph a half Object = brackets-behind a a half (other_tokens Object) (brackets-other a Object)
+
+names-push : (outer : Names) (path : List Element) (e : Element) → outer ++ map name_of (path ++ e ∷ []) ≡ (outer ++ map
+    name_of path) ++ name_of e ∷ []
+names-push outer path e =
+    ap (λ (names : Names). outer ++ names) (map-append name_of path (e ∷ [])) ∙ sym (append_assoc outer (map name_of
+    path)
+    (name_of e ∷ []))
+
+-- the tags of events that nest
+brackets-events : (outer : Names) (half : Option ℕ) (around behind : List Element) (events : Events) → AreNested
+    around events
+    behind → AreBrackets (outer ++ map name_of around) (tokens_of half events) (outer ++ map name_of behind)
+unfolding tokens_of
+brackets-events outer half around behind [] nested = ap (λ (path : List Element). outer ++ map name_of path) nested
+brackets-events outer half around behind (Turn (Open front e) ∷ events) nested =
+    let a = outer ++ map name_of around in
+    let b = outer ++ map name_of (around ++ e ∷ []) in
+    let here : AreBrackets a (open_tokens e) b =
+    subst (λ (names : Names). AreBrackets a (open_tokens e) names) (sym (names-push outer around e)) (brackets-open a
+    e) in
+    brackets-append a b (outer ++ map name_of behind) (characters (half_text half) ++ open_tokens e) (tokens_of None
+    events)
+    (brackets-behind a b half (open_tokens e) here) (brackets-events outer None (around ++ e ∷ []) behind events
+    nested.1)
+brackets-events outer half around behind (Turn (Close front e) ∷ events) nested =
+    let a = outer ++ map name_of around in
+    let b = outer ++ map name_of front in
+    let is : a ≡ b ++ name_of e ∷ [] =
+    ap (λ (path : List Element). outer ++ map name_of path) nested.0 ∙ names-push outer front e in
+    let here : AreBrackets a (close_tokens e) b =
+    subst (λ (names : Names). AreBrackets names (close_tokens e) b) (sym is) (brackets-close b e) in
+    brackets-append a b (outer ++ map name_of behind) (characters (half_text half) ++ close_tokens e) (tokens_of None
+    events)
+    (brackets-behind a b half (close_tokens e) here) (brackets-events outer None front behind events nested.1)
+brackets-events outer half around behind (Leaf path g ∷ events) nested =
+    let a = outer ++ map name_of around in
+    brackets-append a a (outer ++ map name_of behind) (glyph_tokens half g) (tokens_of (event_half half (Leaf path g))
+    events) (brackets-glyph a half g) (brackets-events outer (event_half half (Leaf path g)) around behind events
+    nested.1)
+
+-- ---- the page
+
+abbrev in_page : Names
+in_page = codes "html" ∷ []
+
+abbrev in_head : Names
+in_head = codes "html" ∷ codes "head" ∷ []
+
+abbrev in_title : Names
+in_title = codes "html" ∷ codes "head" ∷ codes "title" ∷ []
+
+abbrev in_style : Names
+in_style = codes "html" ∷ codes "head" ∷ codes "style" ∷ []
+
+abbrev in_body : Names
+in_body = codes "html" ∷ codes "body" ∷ []
+
+brackets-front : AreBrackets [] front_tokens in_title
+brackets-front =
+    ([], (refl, (in_page, (refl, (in_head, (refl, (in_head, (refl, (in_head, (refl, (in_title, (refl, refl))))))))))))
+
+abbrev behind_style : List Token
+behind_style =
+    end (codes "style") ∷ Character 10 ∷ end (codes "head") ∷ Character 10 ∷ start (codes "body") [] ∷ Character 10 ∷ []
+
+brackets-style : AreBrackets in_title style_tokens in_body
+brackets-style = (
+  in_head,
+  (
+    refl,
+    (
+      in_style,
+      (
+        refl,
+        brackets-append in_style in_style in_body (characters style_text) behind_style
+            (brackets-characters in_style style_text) (in_head, (refl, (in_page, (refl, (in_body, (refl, refl)))))),
+      ),
+    ),
+  ),
+)
+
+brackets-body : (places : Places) → AreBrackets in_body (body_tokens places) in_body
+brackets-body places =
+    let events = events_from same [] places in
+    brackets-append in_body in_body in_body (tokens_of None events) (characters (half_text (half_of None events)))
+    (brackets-events in_body None [] [] events (nested-events_from same same_exact [] places)) (brackets-characters
+    in_body
+    (half_text (half_of None events)))
+
+brackets-back : AreBrackets in_body back_tokens []
+brackets-back = (in_page, (refl, ([], (refl, refl))))
+
+brackets-page : (title : List ℕ) (places : Places) → AreBrackets [] (page_tokens title places) []
+brackets-page title places =
+    brackets-append [] in_title [] front_tokens (characters title ++ (style_tokens ++ (body_tokens places ++
+    back_tokens)))
+    brackets-front (brackets-append in_title in_title [] (characters title) (style_tokens ++ (body_tokens places ++
+    back_tokens)) (brackets-characters in_title title) (brackets-append in_title in_body [] style_tokens (body_tokens
+    places
+    ++ back_tokens) brackets-style (brackets-append in_body in_body [] (body_tokens places) back_tokens (brackets-body
+    places) brackets-back)))
+
+pub page_nests : PagesNest
+page_nests title places =
+    subst (λ (tokens : List Token). AreBrackets [] tokens []) (sym (page_read title places)) (brackets-page title
+    places)

@@ -1,0 +1,4 @@
+pub mod CloseLemmas
+pub mod KnownLemmas
+pub mod BracketLemmas
+pub mod PutLemmas

@@ -1,0 +1,463 @@
+-- Pieces of a page put one behind the other, and elements that are closed and opened.
+use Rattle.std.proofs.Common.{◌≡◌, ℕ, zero, suc, ◌+◌, ◌/◌, ◌%◌, ◌==◌, ◌<◌, ◌≤◌, Bool, true, false, not, ◌&&◌, List}
+use Rattle.std.proofs.Common.{[], ◌∷◌, ◌++◌, map, Option, Some, None}
+use Rattle.std.proofs.Common.{refl, sym, ap, subst, ◌∙◌, append_assoc, arith, length, take, drop, take_all}
+use Rattle.std.specs.Prelude.{if◌then◌else◌, codes, nat_le, nat_lt, slice_index}
+use Rattle.std.specs.Str.{IsAscii}
+use Rattle.std.specs.List.{list_all}
+use Rattle.std.proofs.lemmas.Bool.{ltb-true}
+use Rattle.std.proofs.lemmas.Bool.Decides.{nat_tests}
+use Rattle.std.specs.Fmt.{decimal, digits, digits_onto, digit_glyph}
+use Rattle.std.proofs.lemmas.List.{append-nil, map-append, length-take-le, take_more}
+use Rattle.std.proofs.lemmas.List.Concat.{flat_map-append}
+use Rattle.doc_outer.specs.declared.sink.Sink.{Ghosts}
+use Rattle.page_out.specs.declared.page.Page.{Page}
+use Rattle.page_out.specs.Printed.{Prints}
+use Rattle.page_out.proofs.PrintLemmas.{put_then, put_none}
+use Rattle.html_text.specs.Tokens.{Token, Character, Tag, escaped, printed, printed_token}
+use Rattle.view_paths.specs.Paths.{Place, last_path}
+use Rattle.view_paths.specs.Events.{Event, Turn, Leaf, Open, Close, closes, opens, transition, turns, leaf}
+use Rattle.view_paths.specs.Events.{events_up_to}
+use Rattle.view_paths.specs.Turns.{IsShared, IsFront}
+use Rattle.view_paths.proofs.NestLemmas.{events_up_to-append, last_path-append}
+use Rattle.view_paths.proofs.WayLemmas.{transition-shared, closes-next, closes-none, take-closed, opens-next}
+use Rattle.view_paths.proofs.WayLemmas.{opens-none}
+use Rattle.view_places.specs.declared.element.Element.{Element}
+use Rattle.view_places.specs.declared.glyph.Glyph.{Glyph}
+use Rattle.view_places.specs.declared.glyph.Glyph.TheVariants.{Unit, Tab, LineBreak, PageBreak, NoteMark, Picture}
+use Rattle.view_places.specs.declared.glyph.Glyph.TheVariants.{Object}
+use Rattle.view_places.specs.Same.{same}
+use Rattle.html_page.specs.declared.printer.HtmlPage.{HtmlPage}
+use Rattle.html_page.specs.Glyphs.{unit_in}
+use Rattle.view_places.specs.declared.element.Paragraph.{Paragraph}
+use Rattle.html_page.specs.Tags.{attribute, attributes_text, optional, paragraph_attributes}
+use Rattle.html_page.specs.Units.{half_text, unit_text, unit_half}
+use Rattle.html_page.specs.Pages.{Events, Places, characters, close_tokens, open_tokens, event_tokens, event_half}
+use Rattle.html_page.specs.Pages.{glyph_tokens, glyph_half, other_tokens, tokens_of, half_of}
+use Rattle.html_page.specs.Printed.{PutsEvents, PutsPlaces}
+
+-- ---- tokens one after another
+
+pub printed-append : (xs ys : List Token) → printed (xs ++ ys) ≡ printed xs ++ printed ys
+printed-append xs ys = flat_map-append printed_token xs ys
+
+pub tokens_of-append : (half : Option ℕ) (xs ys : Events) → tokens_of half (xs ++ ys) ≡ tokens_of half xs ++ tokens_of
+    (half_of
+    half xs) ys
+unfolding tokens_of half_of
+tokens_of-append half [] ys = refl
+tokens_of-append half (event ∷ xs) ys =
+    ap (λ (more : List Token). event_tokens half event ++ more) (tokens_of-append (event_half half event) xs ys)
+    ∙ sym (append_assoc (event_tokens half event) (tokens_of (event_half half event) xs) (tokens_of (half_of
+    (event_half half
+    event) xs) ys))
+
+pub half_of-append : (half : Option ℕ) (xs ys : Events) → half_of half (xs ++ ys) ≡ half_of (half_of half xs) ys
+unfolding half_of
+half_of-append half [] ys = refl
+half_of-append half (event ∷ xs) ys = half_of-append (event_half half event) xs ys
+
+tokens_of-one : (half : Option ℕ) (event : Event Element Glyph) → tokens_of half (event ∷ []) ≡ event_tokens half event
+unfolding tokens_of
+tokens_of-one half event = append-nil (event_tokens half event)
+
+half_of-one : (half : Option ℕ) (event : Event Element Glyph) → half_of half (event ∷ []) ≡ event_half half event
+unfolding half_of
+half_of-one half event = refl
+
+-- ---- pieces
+
+pub tokens_then : {K : Type 0} (sink : Ghosts K) (a b c : K) (p q r : Page) (xs ys : List Token) → Prints sink a p b q
+    (printed
+    xs) → Prints sink b q c r (printed ys) → Prints sink a p c r (printed (xs ++ ys))
+tokens_then sink a b c p q r xs ys one other =
+    subst (λ (text : List ℕ). Prints sink a p c r text) (sym (printed-append xs ys)) (put_then sink a b c p q r
+    (printed xs)
+    (printed ys) one other)
+
+-- a text that is another one
+pub put_as : {K : Type 0} (sink : Ghosts K) (a b : K) (p q : Page) (xs ys : List ℕ) → xs ≡ ys → Prints sink a p b q xs →
+    Prints sink a p b q ys
+put_as sink a b p q xs ys is put = subst (λ (text : List ℕ). Prints sink a p b q text) is put
+
+pub tokens_none : {K : Type 0} (sink : Ghosts K) (at : K) (page : Page) → Prints sink at page at page (printed [])
+tokens_none sink at page = put_none sink at page
+
+-- ---- events
+
+none_put : {K : Type 0} (sink : Ghosts K) (at : K) (html left : HtmlPage) → left.page ≡ html.page → left.half ≡
+    html.half →
+    PutsEvents sink at html at left [] left.path
+unfolding tokens_of half_of
+none_put sink at html left page half = record {
+  prints =
+      subst (λ (p : Page). Prints sink at html.page at p (printed (tokens_of html.half []))) (sym page) (put_none sink
+      at
+      html.page);
+  half = half;
+  path = refl;
+}
+
+pub events_then : {K : Type 0} (sink : Ghosts K) (a b c : K) (p q r : HtmlPage) (xs ys : Events) (first second : List
+    Element) →
+    PutsEvents sink a p b q xs first → PutsEvents sink b q c r ys second → PutsEvents sink a p c r (xs ++ ys) second
+events_then sink a b c p q r xs ys first second one other = record {
+  prints =
+      subst (λ (tokens : List Token). Prints sink a p.page c r.page (printed tokens)) (sym (tokens_of-append p.half xs
+      ys))
+      (tokens_then sink a b c p.page q.page r.page (tokens_of p.half xs) (tokens_of (half_of p.half xs) ys) one.prints
+      (subst (λ (h : Option ℕ). Prints sink b q.page c r.page (printed (tokens_of h ys))) one.half other.prints));
+  half = other.half ∙ ap (λ (h : Option ℕ). half_of h ys) one.half ∙ sym (half_of-append p.half xs ys);
+  path = other.path;
+}
+
+pub one_event : {K : Type 0} (sink : Ghosts K) (a b : K) (html left : HtmlPage) (event : Event Element Glyph) (path :
+    List
+    Element) → Prints sink a html.page b left.page (printed (event_tokens html.half event)) → left.half ≡ event_half
+    html.half
+    event → left.path ≡ path → PutsEvents sink a html b left (event ∷ []) path
+one_event sink a b html left event path prints half is = record {
+  prints =
+      subst (λ (tokens : List Token). Prints sink a html.page b left.page (printed tokens)) (sym (tokens_of-one
+      html.half
+      event)) prints;
+  half = half ∙ sym (half_of-one html.half event);
+  path = is;
+}
+
+-- the same events and the same path by other words
+pub puts_as : {K : Type 0} (sink : Ghosts K) (a b : K) (html left : HtmlPage) (xs ys : Events) (one other : List
+    Element) → xs ≡
+    ys → one ≡ other → PutsEvents sink a html b left xs one → PutsEvents sink a html b left ys other
+puts_as sink a b html left xs ys one other is path puts =
+    subst (λ (events : Events). PutsEvents sink a html b left events other) is (subst (λ (p : List Element).
+    PutsEvents sink a
+    html b left xs p) path puts)
+
+-- ---- elements that are closed
+
+pub close_done : {K : Type 0} (sink : Ghosts K) (at : K) (html left : HtmlPage) (count : ℕ) → left.page ≡ html.page →
+    left.half
+    ≡ html.half → left.path ≡ html.path → length html.path ≤ count → PutsEvents sink at html at left (map Turn (closes
+    (take
+    count html.path) (drop count html.path))) (take count html.path)
+close_done sink at html left count page half path short =
+    let no : Events = [] in
+    puts_as sink at at html left no (map Turn (closes (take count html.path) (drop count html.path))) left.path (take
+    count
+    html.path) (ap (map Turn) (sym (closes-none html.path count short))) (path ∙ sym (take_all count html.path short))
+    (none_put sink at html left page half)
+
+pub close_step : {K : Type 0} (sink : Ghosts K) (a b c : K) (html next left : HtmlPage) (new : List Element) (e :
+    Element)
+    (count : ℕ) → html.path ≡ new ++ e ∷ [] → count ≤ length new → Prints sink a html.page b next.page (printed
+    (characters
+    (half_text html.half) ++ close_tokens e)) → next.path ≡ new → next.half ≡ None → PutsEvents sink b next c left
+    (map Turn
+    (closes (take count next.path) (drop count next.path))) (take count next.path) → PutsEvents sink a html c left
+    (map Turn
+    (closes (take count html.path) (drop count html.path))) (take count html.path)
+close_step sink a b c html next left new e count is within prints path half rest =
+    let event : Event Element Glyph = Turn (Close new e) in
+    let first : PutsEvents sink a html b next (event ∷ []) new = one_event sink a b html next event new prints half
+    path in
+    let more : Events = map Turn (closes (take count new) (drop count new)) in
+    let second : PutsEvents sink b next c left more (take count new) =
+    subst (λ (p : List Element). PutsEvents sink b next c left (map Turn (closes (take count p) (drop count p))) (take
+    count
+    p)) path rest in
+    let both : PutsEvents sink a html c left (event ∷ more) (take count new) =
+    events_then sink a b c html next left (event ∷ []) more new (take count new) first second in
+    puts_as sink a c html left (event ∷ more) (map Turn (closes (take count html.path) (drop count html.path))) (take
+    count
+    new) (take count html.path) (ap (map Turn) (sym (closes-next html.path new e count is within))) (sym (take-closed
+    html.path new e count is within)) both
+
+-- ---- elements that are opened
+
+pub open_done : {K : Type 0} (sink : Ghosts K) (at : K) (html left : HtmlPage) (to : List Element) → left.page ≡
+    html.page →
+    left.half ≡ html.half → left.path ≡ html.path → html.path ≡ to → PutsEvents sink at html at left (map Turn (opens
+    html.path
+    (drop (length html.path) to))) to
+open_done sink at html left to page half path is =
+    let no : Events = [] in
+    puts_as sink at at html left no (map Turn (opens html.path (drop (length html.path) to))) left.path to (ap (map
+    Turn) (sym
+    (opens-none html.path to is))) (path ∙ is) (none_put sink at html left page half)
+
+pub open_step : {K : Type 0} (sink : Ghosts K) (a b c : K) (html next left : HtmlPage) (new to : List Element) (e :
+    Element) →
+    new ≡ html.path ++ e ∷ [] → IsFront new to → Prints sink a html.page b next.page (printed (characters (half_text
+    html.half)
+    ++ open_tokens e)) → next.path ≡ new → next.half ≡ None → PutsEvents sink b next c left (map Turn (opens next.path
+    (drop
+    (length next.path) to))) to → PutsEvents sink a html c left (map Turn (opens html.path (drop (length html.path)
+    to))) to
+open_step sink a b c html next left new to e is front prints path half rest =
+    let event : Event Element Glyph = Turn (Open html.path e) in
+    let first : PutsEvents sink a html b next (event ∷ []) new = one_event sink a b html next event new prints half
+    path in
+    let more : Events = map Turn (opens new (drop (length new) to)) in
+    let second : PutsEvents sink b next c left more to =
+    subst (λ (p : List Element). PutsEvents sink b next c left (map Turn (opens p (drop (length p) to))) to) path rest
+    in
+    puts_as sink a c html left (event ∷ more) (map Turn (opens html.path (drop (length html.path) to))) to to (ap (map
+    Turn)
+    (sym (opens-next html.path new to e is front))) refl (events_then sink a b c html next left (event ∷ []) more new to
+    first second)
+
+-- ---- from a path to another one
+
+pub shared_is_front : (from to : List Element) (count : ℕ) → IsShared same from to count → IsFront (take count from) to
+shared_is_front from to count is =
+    let long : length (take count from) ≡ count = length-take-le count from is.within in
+    ap (λ (n : ℕ). take n to) long ∙ (sym is.also ∙ is.front)
+
+pub way_put : {K : Type 0} (sink : Ghosts K) (a b c : K) (html next left : HtmlPage) (to : List Element) (count : ℕ) →
+    IsShared
+    same html.path to count → PutsEvents sink a html b next (map Turn (closes (take count html.path) (drop count
+    html.path)))
+    (take count html.path) → PutsEvents sink b next c left (map Turn (opens next.path (drop (length next.path) to)))
+    to →
+    PutsEvents sink a html c left (turns same html.path to) to
+way_put sink a b c html next left to count shared one other =
+    let front = take count html.path in
+    let closed : Events = map Turn (closes front (drop count html.path)) in
+    let opened : Events = map Turn (opens front (drop count to)) in
+    let long : length front ≡ count = length-take-le count html.path shared.within in
+    let second : PutsEvents sink b next c left opened to =
+    subst (λ (n : ℕ). PutsEvents sink b next c left (map Turn (opens front (drop n to))) to) long (subst (λ (p : List
+    Element).
+    PutsEvents sink b next c left (map Turn (opens p (drop (length p) to))) to) one.path other) in
+    let is : closed ++ opened ≡ turns same html.path to =
+    sym (map-append {B = Event Element Glyph} Turn (closes front (drop count html.path)) (opens front (drop count
+    to))) ∙ ap
+    (map {B = Event Element Glyph} Turn) (sym (transition-shared same html.path to count shared)) in
+    puts_as sink a c html left (closed ++ opened) (turns same html.path to) to to is refl (events_then sink a b c html
+    next
+    left closed opened front to one second)
+
+-- ---- a place
+
+abbrev place_of : List Element → Option Glyph → Places
+place_of path glyph = record { path = path; glyph = glyph } ∷ []
+
+pub place_bare : {K : Type 0} (sink : Ghosts K) (a b : K) (html left : HtmlPage) (to : List Element) → PutsEvents sink
+    a html b
+    left (turns same html.path to) to → PutsPlaces sink a html b left (place_of to None)
+place_bare sink a b html left to puts =
+    puts_as sink a b html left (turns same html.path to) (events_up_to same html.path (place_of to None)) to to (sym
+    (append-nil (turns same html.path to))) refl puts
+
+pub place_shown : {K : Type 0} (sink : Ghosts K) (a b c : K) (html next left : HtmlPage) (to : List Element) (g :
+    Glyph) →
+    PutsEvents sink a html b next (turns same html.path to) to → Prints sink b next.page c left.page (printed
+    (glyph_tokens
+    next.half g)) → left.path ≡ next.path → left.half ≡ glyph_half next.half g → PutsPlaces sink a html c left
+    (place_of to
+    (Some g))
+place_shown sink a b c html next left to g puts prints path half =
+    let event : Event Element Glyph = Leaf to g in
+    let shown : PutsEvents sink b next c left (event ∷ []) to =
+    one_event sink b c next left event to prints half (path ∙ puts.path) in
+    events_then sink a b c html next left (turns same html.path to) (event ∷ []) to to puts shown
+
+-- places one after another
+pub places_none : {K : Type 0} (sink : Ghosts K) (at : K) (html : HtmlPage) → PutsPlaces sink at html at html []
+places_none sink at html = none_put sink at html html refl refl
+
+pub places_then : {K : Type 0} (sink : Ghosts K) (a b c : K) (p q r : HtmlPage) (xs ys : Places) → PutsPlaces sink a p
+    b q xs →
+    PutsPlaces sink b q c r ys → PutsPlaces sink a p c r (xs ++ ys)
+places_then sink a b c p q r xs ys one other =
+    let second : PutsEvents sink b q c r (events_up_to same (last_path p.path xs) ys) (last_path (last_path p.path xs)
+    ys) =
+    subst (λ (path : List Element). PutsEvents sink b q c r (events_up_to same path ys) (last_path path ys)) one.path
+    other in
+    puts_as sink a c p r (events_up_to same p.path xs ++ events_up_to same (last_path p.path xs) ys) (events_up_to
+    same p.path
+    (xs ++ ys)) (last_path (last_path p.path xs) ys) (last_path p.path (xs ++ ys)) (sym (events_up_to-append same
+    p.path xs
+    ys)) (sym (last_path-append p.path xs ys)) (events_then sink a b c p q r (events_up_to same p.path xs)
+    (events_up_to same
+    (last_path p.path xs) ys) (last_path p.path xs) (last_path (last_path p.path xs) ys) one second)
+
+-- ---- tags
+
+-- a start tag by its pieces
+pub open_pieces : (name attributes : List ℕ) → (60 ∷ []) ++ (name ++ (attributes ++ 62 ∷ [])) ≡ (60 ∷ ((name ++
+    attributes) ++ 62
+    ∷ [])) ++ []
+open_pieces name attributes =
+    ap (λ (text : List ℕ). 60 ∷ text) (sym (append_assoc name attributes (62 ∷ []))) ∙ sym (append-nil (60 ∷ ((name ++
+    attributes) ++ 62 ∷ [])))
+
+pub end_pieces : (name : List ℕ) → (60 ∷ 47 ∷ []) ++ (name ++ 62 ∷ []) ≡ (60 ∷ ((47 ∷ name) ++ 62 ∷ [])) ++ []
+end_pieces name = sym (append-nil (60 ∷ ((47 ∷ name) ++ 62 ∷ [])))
+
+pub four_put : {K : Type 0} (sink : Ghosts K) (a b c d e : K) (p q r s t : Page) (ws xs ys zs : List ℕ) → Prints sink
+    a p b q ws
+    → Prints sink b q c r xs → Prints sink c r d s ys → Prints sink d s e t zs → Prints sink a p e t (ws ++ (xs ++ (ys
+    ++ zs)))
+four_put sink a b c d e p q r s t ws xs ys zs one two three four =
+    put_then sink a b e p q t ws (xs ++ (ys ++ zs)) one (put_then sink b c e q r t xs (ys ++ zs) two (put_then sink c
+    d e r s
+    t ys zs three four))
+
+-- a value that ends in a number
+pub value_pieces : (front digits rest : List ℕ) → (front ++ digits) ++ (34 ∷ rest) ≡ front ++ ((digits ++ 34 ∷ []) ++
+    rest)
+value_pieces front digits rest =
+    append_assoc front digits (34 ∷ rest) ∙ ap (λ (text : List ℕ). front ++ text) (sym (append_assoc digits (34 ∷ [])
+    rest))
+
+-- an attribute that may be there
+pub optional_text : (there : Bool) (text : List ℕ) → (if there then 32 ∷ text else []) ≡ attributes_text (optional
+    there text)
+optional_text true text = sym (append-nil (32 ∷ text))
+optional_text false text = refl
+
+attributes-append : (xs ys : List (List ℕ)) → attributes_text (xs ++ ys) ≡ attributes_text xs ++ attributes_text ys
+attributes-append xs ys = flat_map-append (λ (attribute : List ℕ). 32 ∷ attribute) xs ys
+
+pub paragraph_pieces : (p : Paragraph) → (if nat_le 7 p.level then 32 ∷ attribute (codes "aria-level") (decimal
+    p.level) else
+    []) ++ ((if p.right_to_left then 32 ∷ attribute (codes "dir") (codes "rtl") else []) ++ (if p.breaks_page then 32 ∷
+    attribute (codes "style") (codes "break-before:page") else [])) ≡ attributes_text (paragraph_attributes p)
+paragraph_pieces p =
+    let level = attribute (codes "aria-level") (decimal p.level) in
+    let rtl = attribute (codes "dir") (codes "rtl") in
+    let break = attribute (codes "style") (codes "break-before:page") in
+    rw (optional_text (nat_le 7 p.level) level, optional_text p.right_to_left rtl, optional_text p.breaks_page break)
+    (sym
+    (attributes-append (optional (nat_le 7 p.level) level) (optional p.right_to_left rtl ++ optional p.breaks_page
+    break) ∙ ap
+    (λ (text : List ℕ). attributes_text (optional (nat_le 7 p.level) level) ++ text) (attributes-append (optional
+    p.right_to_left rtl) (optional p.breaks_page break))))
+
+-- ---- texts of ASCII
+
+both_first : (a b : Bool) → (a && b) ≡ true → a ≡ true
+both_first true b e = refl
+both_first false b e = e
+
+both_second : (a b : Bool) → (a && b) ≡ true → b ≡ true
+both_second true b e = e
+both_second false b e = absurd (cc (e))
+
+abbrev is_ascii : ℕ → Bool
+is_ascii code = nat_lt code 128
+
+pub ascii_all : (text : List ℕ) → list_all is_ascii text ≡ true → IsAscii text
+ascii_all [] is i = omega arith
+ascii_all (code ∷ text) is zero = ltb-true code 128 (both_first (is_ascii code) (list_all is_ascii text) is)
+ascii_all (code ∷ text) is (suc i) = ascii_all text (both_second (is_ascii code) (list_all is_ascii text) is) i
+
+-- ---- digits stand for themselves
+
+abbrev is_plain : ℕ → Bool
+is_plain code = not (code == 38) && (not (code == 60) && (not (code == 62) && not (code == 34)))
+
+not_true : (a : Bool) → not a ≡ true → a ≡ false
+not_true true e = absurd (cc (e))
+not_true false e = refl
+
+escaped-plain : (code : ℕ) → is_plain code ≡ true → escaped code ≡ code ∷ []
+escaped-plain code is =
+    let three = not (code == 60) && (not (code == 62) && not (code == 34)) in
+    let two = not (code == 62) && not (code == 34) in
+    let rest = both_second (not (code == 38)) three is in
+    let last = both_second (not (code == 60)) two rest in
+    rw (
+      not_true (code == 38) (both_first (not (code == 38)) three is),
+      not_true (code == 60) (both_first (not (code == 60)) two
+          rest),
+      not_true (code == 62) (both_first (not (code == 62)) (not (code == 34)) last),
+      not_true (code == 34) (both_second (not
+          (code == 62)) (not (code == 34)) last),
+    ) refl
+
+printed-plain : (text : List ℕ) → list_all is_plain text ≡ true → printed (characters text) ≡ text
+printed-plain [] is = refl
+printed-plain (code ∷ text) is =
+    ap (λ (front : List ℕ). front ++ printed (characters text)) (escaped-plain code (both_first (is_plain code)
+    (list_all is_plain
+    text) is)) ∙ ap (λ (rest : List ℕ). code ∷ rest) (printed-plain text (both_second (is_plain code) (list_all
+    is_plain text) is))
+
+digit_is_plain : (d : ℕ) → is_plain (digit_glyph false d) ≡ true
+digit_is_plain d = grind (arith, nat_tests)
+
+both : (a b : Bool) → a ≡ true → b ≡ true → (a && b) ≡ true
+both true b one other = other
+both false b one other = absurd (cc (one))
+
+plain-digits_onto : (k n : ℕ) (acc : List ℕ) → list_all is_plain acc ≡ true → list_all is_plain (digits_onto k 10
+    false n acc) ≡
+    true
+plain-digits_onto zero n acc h = h
+plain-digits_onto (suc k) n acc h =
+    let next : list_all is_plain (digit_glyph false (n % 10) ∷ acc) ≡ true =
+    both (is_plain (digit_glyph false (n % 10))) (list_all is_plain acc) (digit_is_plain (n % 10)) h in
+    elim (n / 10 == 0) as (λ (b : Bool). list_all is_plain (if b then digit_glyph false (n % 10) ∷ acc else
+    digits_onto k 10 false
+    (n / 10) (digit_glyph false (n % 10) ∷ acc)) ≡ true) [
+      | true ↦ next
+      | false ↦ plain-digits_onto k (n / 10) (digit_glyph false (n % 10) ∷ acc) next
+    ]
+
+pub printed-decimal : (n : ℕ) → printed (characters (decimal n)) ≡ decimal n
+unfolding digits
+printed-decimal n = printed-plain (decimal n) (plain-digits_onto 64 n [] refl)
+
+-- ---- a text character by character
+
+pub characters-next : (text : List ℕ) (i : ℕ) → i < length text → characters (take (i + 1) text) ≡ characters (take i
+    text) ++
+    (Character (slice_index text i) ∷ [])
+characters-next text i within =
+    ap characters (take_more text i 0 within) ∙ map-append {B = Token} Character (take i text) (slice_index text i ∷ [])
+
+-- ---- glyphs
+
+pub other_glyph : (half : Option ℕ) (g : Glyph) → unit_in g ≡ None → glyph_tokens half g ≡ characters (half_text half)
+    ++
+    other_tokens g
+other_glyph half (Unit unit) is = absurd (cc (is))
+other_glyph half Tab is = refl
+other_glyph half LineBreak is = refl
+other_glyph half PageBreak is = refl
+other_glyph half (NoteMark number) is = refl
+other_glyph half Picture is = refl
+other_glyph half Object is = refl
+
+pub other_half : (half : Option ℕ) (g : Glyph) → unit_in g ≡ None → glyph_half half g ≡ None
+other_half half (Unit unit) is = absurd (cc (is))
+other_half half Tab is = refl
+other_half half LineBreak is = refl
+other_half half PageBreak is = refl
+other_half half (NoteMark number) is = refl
+other_half half Picture is = refl
+other_half half Object is = refl
+
+pub unit_glyph : (half : Option ℕ) (g : Glyph) (unit : ℕ) → unit_in g ≡ Some unit → glyph_tokens half g ≡ characters
+    (unit_text
+    half unit)
+unit_glyph half (Unit other) unit is = let e : other ≡ unit = cc (is) in ap (λ (u : ℕ). characters (unit_text half u)) e
+unit_glyph half Tab unit is = absurd (cc (is))
+unit_glyph half LineBreak unit is = absurd (cc (is))
+unit_glyph half PageBreak unit is = absurd (cc (is))
+unit_glyph half (NoteMark number) unit is = absurd (cc (is))
+unit_glyph half Picture unit is = absurd (cc (is))
+unit_glyph half Object unit is = absurd (cc (is))
+
+pub unit_glyph_half : (half : Option ℕ) (g : Glyph) (unit : ℕ) → unit_in g ≡ Some unit → glyph_half half g ≡ unit_half
+    half unit
+unit_glyph_half half (Unit other) unit is = let e : other ≡ unit = cc (is) in ap (unit_half half) e
+unit_glyph_half half Tab unit is = absurd (cc (is))
+unit_glyph_half half LineBreak unit is = absurd (cc (is))
+unit_glyph_half half PageBreak unit is = absurd (cc (is))
+unit_glyph_half half (NoteMark number) unit is = absurd (cc (is))
+unit_glyph_half half Picture unit is = absurd (cc (is))
+unit_glyph_half half Object unit is = absurd (cc (is))

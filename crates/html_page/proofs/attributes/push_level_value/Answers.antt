@@ -1,0 +1,19 @@
+use Rattle.std.proofs.Common.{◌++◌, ◌∷◌, [], List, ℕ, ap, append_assoc}
+use Rattle.std.specs.Prelude.{codes, nat_le, if◌then◌else◌}
+use Rattle.std.specs.Fmt.{decimal}
+use Rattle.page_out.proofs.PrintLemmas.{put_then, three_put}
+use Rattle.html_page.proofs.PutLemmas.{put_as, value_pieces, optional_text, paragraph_pieces}
+use Rattle.html_page.specs.Tags.{attribute, attributes_of, attributes_text, paragraph_attributes}
+use Rattle.view_places.specs.declared.element.Element.TheVariants.{Note, Reference, BackLink}
+use Rattle.view_places.specs.declared.element.Element.TheVariants.{List as ListElement}
+use Rattle.html_page.proofs.attributes.push_level_value.Goals as goal
+
+pub returns : goal.returns
+returns g c =
+    put_as g.K.Sink c.args.out.now c.push_ascii.new.out c.args.page.now c.push_ascii.new.self ((codes " aria-level=\""
+    ++ decimal
+    c.args.level) ++ (34 ∷ [])) (32 ∷ attribute (codes "aria-level") (decimal c.args.level)) (append_assoc (codes
+    " aria-level=\"") (decimal c.args.level) (34 ∷ []))
+    (put_then g.K.Sink c.args.out.now c.push_numbered.new.out c.push_ascii.new.out c.args.page.now
+    c.push_numbered.new.page c.push_ascii.new.self (codes " aria-level=\"" ++ decimal c.args.level) (34 ∷ [])
+    c.push_numbered.ensures c.push_ascii.ensures)

@@ -1,0 +1,20 @@
+use Rattle.std.proofs.Common.{◌++◌, ◌∷◌, [], List, ℕ, sym, ap, ◌∙◌, append-nil}
+use Rattle.std.specs.Prelude.{codes, if◌then◌else◌}
+use Rattle.std.specs.Fmt.{decimal}
+use Rattle.page_out.proofs.PrintLemmas.{put_then, three_put}
+use Rattle.html_text.specs.Tokens.{Character, escaped, printed}
+use Rattle.html_page.specs.Pages.{back_tokens, characters, close_tokens, end, front_tokens, open_tokens, other_tokens}
+use Rattle.html_page.specs.Pages.{style_tokens}
+use Rattle.html_page.specs.Tags.{attributes_of, attributes_text, ends_line, name_of}
+use Rattle.html_page.proofs.PutLemmas.{end_pieces, four_put, open_pieces, put_as, tokens_then}
+use Rattle.html_page.proofs.tokens.push_end.Goals as goal
+
+pub returns : goal.returns
+returns g c =
+    let name = c.args.name.now in
+    put_as g.K.Sink c.args.out.now c.push_ascii-3.new.out c.args.page.now c.push_ascii-3.new.self ((60 ∷ 47 ∷ []) ++
+    (name ++ 62
+    ∷ [])) (printed (end name ∷ [])) (end_pieces name)
+    (three_put g.K.Sink c.args.out.now c.push_ascii.new.out c.push_ascii-2.new.out c.push_ascii-3.new.out
+    c.args.page.now c.push_ascii.new.self c.push_ascii-2.new.self c.push_ascii-3.new.self (60 ∷ 47 ∷ []) (name) (62 ∷
+    []) c.push_ascii.ensures c.push_ascii-2.ensures c.push_ascii-3.ensures)

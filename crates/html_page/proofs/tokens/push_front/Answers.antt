@@ -1,0 +1,25 @@
+use Rattle.std.proofs.Common.{◌++◌, ◌∷◌, [], List, ℕ, sym, ap, ◌∙◌, append-nil, refl}
+use Rattle.std.specs.Prelude.{codes, if◌then◌else◌}
+use Rattle.std.specs.Fmt.{decimal}
+use Rattle.page_out.proofs.PrintLemmas.{put_then, three_put}
+use Rattle.html_text.specs.Tokens.{Character, escaped, printed}
+use Rattle.html_page.specs.Pages.{back_tokens, characters, close_tokens, end, front_tokens, open_tokens, other_tokens}
+use Rattle.html_page.specs.Pages.{style_tokens}
+use Rattle.html_page.specs.Tags.{attributes_of, attributes_text, ends_line, name_of}
+use Rattle.html_page.proofs.PutLemmas.{end_pieces, four_put, open_pieces, put_as, tokens_then}
+use Rattle.html_page.proofs.PutLemmas.{ascii_all}
+use Rattle.html_page.proofs.tokens.push_front.Goals as goal
+
+pub returns : goal.returns
+returns g c =
+    put_then g.K.Sink c.args.out.now c.push_ascii.new.out c.push_ascii-2.new.out c.args.page.now c.push_ascii.new.self
+    c.push_ascii-2.new.self (codes "<!DOCTYPE html>\n<html>\n<head>\n<meta charset=\"utf-8\">\n") (codes
+    "<meta name=\"viewport\" content=\"width=device-width,initial-scale=1\">\n<title>") c.push_ascii.ensures
+    c.push_ascii-2.ensures
+
+pub push_ascii-requires : goal.push_ascii-requires
+push_ascii-requires g c = ascii_all (codes "<!DOCTYPE html>\n<html>\n<head>\n<meta charset=\"utf-8\">\n") refl
+
+pub push_ascii-requires-2 : goal.push_ascii-requires-2
+push_ascii-requires-2 g c = ascii_all (codes
+    "<meta name=\"viewport\" content=\"width=device-width,initial-scale=1\">\n<title>") refl

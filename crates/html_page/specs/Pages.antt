@@ -1,0 +1,152 @@
+-- The tokens of a page: what its events open, close and show.
+use Rattle.std.specs.Prelude.{ℕ, List, [], ◌∷◌, ◌++◌, map, codes, Option, None, Some, if◌then◌else◌}
+use Rattle.std.specs.Fmt.{decimal}
+use Rattle.html_text.specs.Tokens.{Token, Character, Tag, printed}
+use Rattle.view_paths.specs.Paths.{Place}
+use Rattle.view_paths.specs.Events.{Event, Turn, Leaf, Open, Close, events_from}
+use Rattle.view_paths.specs.Events.{Tag as PathTag}
+use Rattle.view_places.specs.declared.element.Element.{Element}
+use Rattle.view_places.specs.declared.glyph.Glyph.{Glyph}
+use Rattle.view_places.specs.declared.glyph.Glyph.TheVariants.{Unit, Tab, LineBreak, PageBreak, NoteMark, Picture}
+use Rattle.view_places.specs.declared.glyph.Glyph.TheVariants.{Object}
+use Rattle.view_places.specs.Same.{same}
+use Rattle.html_page.specs.Tags.{name_of, attributes_of, attribute, start_text, ends_line}
+use Rattle.html_page.specs.Units.{half_text, unit_text, unit_half}
+
+abbrev pub Places : Type 0
+Places = List (Place Element Glyph)
+
+abbrev pub Events : Type 0
+Events = List (Event Element Glyph)
+
+-- a text as characters
+abbrev pub characters : List ℕ → List Token
+characters text = map Character text
+
+abbrev pub start : List ℕ → List (List ℕ) → Token
+start name attributes = Tag (start_text name attributes)
+
+abbrev pub end : List ℕ → Token
+end name = Tag (47 ∷ name)
+
+-- an element is opened or closed
+abbrev pub open_tokens : Element → List Token
+open_tokens element = start (name_of element) (attributes_of element) ∷ []
+
+abbrev pub close_tokens : Element → List Token
+close_tokens element = end (name_of element) ∷ (if ends_line element then Character 10 ∷ [] else [])
+
+abbrev pub tag_tokens : PathTag Element → List Token
+tag_tokens (Open path element) = open_tokens element
+tag_tokens (Close path element) = close_tokens element
+
+-- an image that is not shown, by what it is called
+abbrev pub image : List ℕ → List Token
+image name =
+    start (codes "span") (attribute (codes "role") (codes "img") ∷ attribute (codes "aria-label") name ∷ [])
+    ∷ (characters (91 ∷ (name ++ 93 ∷ [])) ++ end (codes "span") ∷ [])
+
+-- a glyph that is no unit; the number of a note stands in the link to it
+abbrev pub other_tokens : Glyph → List Token
+other_tokens (Unit unit) = []
+other_tokens Tab = Character 9 ∷ []
+other_tokens LineBreak = start (codes "br") [] ∷ []
+other_tokens PageBreak = start (codes "br") (attribute (codes "style") (codes "break-after:page") ∷ []) ∷ []
+other_tokens (NoteMark number) = characters (decimal number)
+other_tokens Picture = image (codes "picture")
+other_tokens Object = image (codes "object")
+
+-- a glyph where a half of a character waits or none
+abbrev pub glyph_tokens : Option ℕ → Glyph → List Token
+glyph_tokens half (Unit unit) = characters (unit_text half unit)
+glyph_tokens half Tab = characters (half_text half) ++ other_tokens Tab
+glyph_tokens half LineBreak = characters (half_text half) ++ other_tokens LineBreak
+glyph_tokens half PageBreak = characters (half_text half) ++ other_tokens PageBreak
+glyph_tokens half (NoteMark number) = characters (half_text half) ++ other_tokens (NoteMark number)
+glyph_tokens half Picture = characters (half_text half) ++ other_tokens Picture
+glyph_tokens half Object = characters (half_text half) ++ other_tokens Object
+
+-- what waits behind it
+abbrev pub glyph_half : Option ℕ → Glyph → Option ℕ
+glyph_half half (Unit unit) = unit_half half unit
+glyph_half half Tab = None
+glyph_half half LineBreak = None
+glyph_half half PageBreak = None
+glyph_half half (NoteMark number) = None
+glyph_half half Picture = None
+glyph_half half Object = None
+
+abbrev pub event_tokens : Option ℕ → Event Element Glyph → List Token
+event_tokens half (Turn tag) = characters (half_text half) ++ tag_tokens tag
+event_tokens half (Leaf path glyph) = glyph_tokens half glyph
+
+abbrev pub event_half : Option ℕ → Event Element Glyph → Option ℕ
+event_half half (Turn tag) = None
+event_half half (Leaf path glyph) = glyph_half half glyph
+
+-- events where a half waits or none: so the halves of a character are one where nothing stands between them
+unfoldable pub tokens_of : Option ℕ → Events → List Token
+tokens_of half [] = []
+tokens_of half (event ∷ events) = event_tokens half event ++ tokens_of (event_half half event) events
+
+-- what waits behind them
+unfoldable pub half_of : Option ℕ → Events → Option ℕ
+half_of half [] = half
+half_of half (event ∷ events) = half_of (event_half half event) events
+
+-- the text of places, from the first to the end of the last
+abbrev pub body_tokens : Places → List Token
+body_tokens places =
+    let events = events_from same [] places in tokens_of None events ++ characters (half_text (half_of None events))
+
+-- how a page looks
+abbrev pub style_text : List ℕ
+style_text =
+    codes "p,h1,h2,h3,h4,h5,h6{white-space:pre-wrap}"
+    ++ (codes "td p,th p{margin:0}table{border-collapse:collapse}"
+    ++ codes "td,th{border:1px solid;padding:.2em;vertical-align:top}")
+
+-- what stands before the title
+abbrev pub front_tokens : List Token
+front_tokens =
+    start (codes "!DOCTYPE") (codes "html" ∷ [])
+    ∷ Character 10
+    ∷ start (codes "html") []
+    ∷ Character 10
+    ∷ start (codes "head") []
+    ∷ Character 10
+    ∷ start (codes "meta") (attribute (codes "charset") (codes "utf-8") ∷ [])
+    ∷ Character 10
+    ∷ start (codes "meta") (attribute (codes "name") (codes "viewport")
+    ∷ attribute (codes "content") (codes "width=device-width,initial-scale=1") ∷ [])
+    ∷ Character 10
+    ∷ start (codes "title") []
+    ∷ []
+
+-- between the title and the text
+abbrev pub style_tokens : List Token
+style_tokens =
+    end (codes "title")
+    ∷ Character 10
+    ∷ start (codes "style") []
+    ∷ (characters style_text
+    ++ (end (codes "style")
+    ∷ Character 10
+    ∷ end (codes "head")
+    ∷ Character 10
+    ∷ start (codes "body") []
+    ∷ Character 10
+    ∷ []))
+
+-- behind the text
+abbrev pub back_tokens : List Token
+back_tokens = end (codes "body") ∷ Character 10 ∷ end (codes "html") ∷ Character 10 ∷ []
+
+-- a page, by its title and the places of its text
+abbrev pub page_tokens : List ℕ → Places → List Token
+page_tokens title places =
+    front_tokens ++ (characters title ++ (style_tokens ++ (body_tokens places ++ back_tokens)))
+
+-- the characters of a page
+abbrev pub page_text : List ℕ → Places → List ℕ
+page_text title places = printed (page_tokens title places)

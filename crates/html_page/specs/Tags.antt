@@ -1,0 +1,121 @@
+-- The tags of elements: a name, and attributes, each after a space. Their values are of this file, with the number of a note.
+use Rattle.std.specs.Prelude.{ℕ, ◌==◌, nat_le, Bool, true, false, List, [], ◌∷◌, ◌++◌, codes, if◌then◌else◌}
+use Rattle.std.specs.Fmt.{decimal}
+use Rattle.std.specs.List.{flat_map}
+use Rattle.view_places.specs.declared.element.Element.{Element}
+use Rattle.view_places.specs.declared.element.Element.TheVariants.{Notes, Note, Table, TableHead, TableBody, Row, Cell}
+use Rattle.view_places.specs.declared.element.Element.TheVariants.{HeadCell, List as AList, Item, Paragraph, Label}
+use Rattle.view_places.specs.declared.element.Element.TheVariants.{Reference, BackLink, Bold, Italic, Underline, Strike}
+use Rattle.view_places.specs.declared.element.Element.TheVariants.{SmallCaps, Caps, Raised, Lowered}
+use Rattle.view_places.specs.declared.element.Paragraph.{Paragraph as ParagraphForm}
+
+-- a heading below the sixth level is one of the sixth, and says its level
+abbrev pub paragraph_name : ℕ → List ℕ
+paragraph_name level =
+    if level == 0 then codes "p" else
+    if level == 1 then codes "h1" else
+    if level == 2 then codes "h2" else
+    if level == 3 then codes "h3" else
+    if level == 4 then codes "h4" else
+    if level == 5 then codes "h5" else codes "h6"
+
+abbrev pub name_of : Element → List ℕ
+name_of Notes = codes "section"
+name_of (Note number) = codes "aside"
+name_of (Table first) = codes "table"
+name_of TableHead = codes "thead"
+name_of TableBody = codes "tbody"
+name_of (Row first) = codes "tr"
+name_of (Cell number) = codes "td"
+name_of (HeadCell number) = codes "th"
+name_of (AList list) = if list.is_ordered then codes "ol" else codes "ul"
+name_of (Item number) = codes "li"
+name_of (Paragraph paragraph) = paragraph_name paragraph.level
+name_of Label = codes "span"
+name_of (Reference number) = codes "a"
+name_of (BackLink number) = codes "a"
+name_of Bold = codes "b"
+name_of Italic = codes "i"
+name_of Underline = codes "u"
+name_of Strike = codes "s"
+name_of SmallCaps = codes "span"
+name_of Caps = codes "span"
+name_of Raised = codes "sup"
+name_of Lowered = codes "sub"
+
+-- a name, and what stands between quotes behind it
+abbrev pub attribute : List ℕ → List ℕ → List ℕ
+attribute name value = name ++ (61 ∷ 34 ∷ (value ++ 34 ∷ []))
+
+-- an attribute, where it is there
+abbrev pub optional : Bool → List ℕ → List (List ℕ)
+optional there text = if there then text ∷ [] else []
+
+abbrev pub paragraph_attributes : ParagraphForm → List (List ℕ)
+paragraph_attributes paragraph =
+    optional (nat_le 7 paragraph.level) (attribute (codes "aria-level") (decimal paragraph.level))
+    ++ (optional paragraph.right_to_left (attribute (codes "dir") (codes "rtl"))
+    ++ optional paragraph.breaks_page (attribute (codes "style") (codes "break-before:page")))
+
+abbrev pub attributes_of : Element → List (List ℕ)
+attributes_of Notes = attribute (codes "aria-label") (codes "notes") ∷ []
+attributes_of (Note number) =
+    attribute (codes "id") (codes "fn-" ++ decimal number) ∷ attribute (codes "role") (codes "doc-footnote") ∷ []
+attributes_of (Table first) = []
+attributes_of TableHead = []
+attributes_of TableBody = []
+attributes_of (Row first) = []
+attributes_of (Cell number) = []
+attributes_of (HeadCell number) = attribute (codes "scope") (codes "col") ∷ []
+attributes_of (AList list) = optional list.is_ordered (attribute (codes "style") (codes "list-style:none"))
+attributes_of (Item number) = []
+attributes_of (Paragraph paragraph) = paragraph_attributes paragraph
+attributes_of Label = attribute (codes "class") (codes "n") ∷ []
+attributes_of (Reference number) =
+    attribute (codes "id") (codes "fnref-" ++ decimal number)
+    ∷ attribute (codes "href") (codes "#fn-" ++ decimal number)
+    ∷ attribute (codes "role") (codes "doc-noteref")
+    ∷ []
+attributes_of (BackLink number) =
+    attribute (codes "href") (codes "#fnref-" ++ decimal number) ∷ attribute (codes "role") (codes "doc-backlink") ∷ []
+attributes_of Bold = []
+attributes_of Italic = []
+attributes_of Underline = []
+attributes_of Strike = []
+attributes_of SmallCaps = attribute (codes "style") (codes "font-variant:small-caps") ∷ []
+attributes_of Caps = attribute (codes "style") (codes "text-transform:uppercase") ∷ []
+attributes_of Raised = []
+attributes_of Lowered = []
+
+-- attributes as they are written
+abbrev pub attributes_text : List (List ℕ) → List ℕ
+attributes_text attributes = flat_map (λ attribute. 32 ∷ attribute) attributes
+
+-- a start tag without its angles
+abbrev pub start_text : List ℕ → List (List ℕ) → List ℕ
+start_text name attributes = name ++ attributes_text attributes
+
+-- a line ends behind these
+abbrev pub ends_line : Element → Bool
+ends_line Notes = true
+ends_line (Note number) = true
+ends_line (Table first) = true
+ends_line TableHead = true
+ends_line TableBody = true
+ends_line (Row first) = true
+ends_line (Cell number) = true
+ends_line (HeadCell number) = true
+ends_line (AList list) = true
+ends_line (Item number) = true
+ends_line (Paragraph paragraph) = true
+ends_line Label = false
+ends_line (Reference number) = false
+ends_line (BackLink number) = true
+ends_line Bold = false
+ends_line Italic = false
+ends_line Underline = false
+ends_line Strike = false
+ends_line SmallCaps = false
+ends_line Caps = false
+ends_line Raised = false
+ends_line Lowered = false

@@ -1,0 +1,40 @@
+-- Units of UTF-16 one by one: a first half waits for the second one, and without it is the replacement character.
+use Rattle.std.specs.Prelude.{ℕ, nat_le, nat_lt, Bool, ◌&&◌, List, [], ◌∷◌, ◌++◌, Option, None, Some, if◌then◌else◌}
+use Rattle.text_codes.specs.Shown.{is_pair, pair_code}
+
+abbrev pub replacement : ℕ
+replacement = 0xFFFD
+
+-- the first half of a character
+abbrev pub is_high : ℕ → Bool
+is_high unit = nat_le 0xD800 unit && nat_lt unit 0xDC00
+
+abbrev pub is_surrogate : ℕ → Bool
+is_surrogate unit = nat_le 0xD800 unit && nat_lt unit 0xE000
+
+-- the character of a unit that is in no pair
+abbrev pub alone : ℕ → ℕ
+alone unit = if is_surrogate unit then replacement else unit
+
+-- a half that no other one follows
+abbrev pub half_text : Option ℕ → List ℕ
+half_text None = []
+half_text (Some unit) = replacement ∷ []
+
+-- a unit that no half waits for
+abbrev pub first_text : ℕ → List ℕ
+first_text unit = if is_high unit then [] else alone unit ∷ []
+
+abbrev pub first_half : ℕ → Option ℕ
+first_half unit = if is_high unit then Some unit else None
+
+-- a unit where a half waits or none
+abbrev pub unit_text : Option ℕ → ℕ → List ℕ
+unit_text None unit = first_text unit
+unit_text (Some first) unit =
+    if is_pair first unit then pair_code first unit ∷ [] else replacement ∷ [] ++ first_text unit
+
+-- what waits behind it
+abbrev pub unit_half : Option ℕ → ℕ → Option ℕ
+unit_half None unit = first_half unit
+unit_half (Some first) unit = if is_pair first unit then None else first_half unit

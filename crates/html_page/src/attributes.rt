@@ -1,0 +1,139 @@
+// The attributes of elements, as they are printed.
+ghost use Rattle.std.specs.Prelude.{◌++◌, [], ◌∷◌, codes, nat_le, if◌then◌else◌};
+ghost use Rattle.std.specs.Fmt.{decimal};
+ghost use Rattle.std.specs.Str.{IsAscii};
+ghost use Rattle.view_places.specs.declared.element.Element.TheVariants.{Note, Reference, BackLink, SmallCaps, Caps};
+ghost use Rattle.view_places.specs.declared.element.Element.TheVariants.{List as ListElement};
+ghost use Rattle.html_page.specs.Tags.{attribute, attributes_of, attributes_text, paragraph_attributes};
+ghost use Rattle.page_out.specs.Printed.{Prints};
+
+use doc_outer::Sink;
+use page_out::Page;
+use view_places::{Element, List, Paragraph};
+
+/// Puts the attributes of an element, each after a space.
+pub(crate) fn push_attributes<K: Sink>(page: &mut Page, out: &mut K, element: Element)
+    ensures { Prints K.Sink out.old page.old out.new page.new (attributes_text (attributes_of element)) }
+{
+    match element {
+        Element::Notes => page.push_ascii(out, b" aria-label=\"notes\""),
+        Element::Note(number) => push_note(page, out, number),
+        Element::HeadCell(_) => page.push_ascii(out, b" scope=\"col\""),
+        Element::List(list) => push_list(page, out, list),
+        Element::Paragraph(paragraph) => push_paragraph(page, out, paragraph),
+        Element::Label => page.push_ascii(out, b" class=\"n\""),
+        Element::Reference(number) => push_reference(page, out, number),
+        Element::BackLink(number) => push_back_link(page, out, number),
+        Element::SmallCaps => push_small_caps(page, out),
+        Element::Caps => push_caps(page, out),
+        Element::Table(_)
+        | Element::TableHead
+        | Element::TableBody
+        | Element::Row(_)
+        | Element::Cell(_)
+        | Element::Item(_)
+        | Element::Bold
+        | Element::Italic
+        | Element::Underline
+        | Element::Strike
+        | Element::Raised
+        | Element::Lowered => {}
+    }
+}
+
+/// Puts those of small capitals.
+fn push_small_caps<K: Sink>(page: &mut Page, out: &mut K)
+    ensures { Prints K.Sink out.old page.old out.new page.new (attributes_text (attributes_of SmallCaps)) }
+{
+    page.push_ascii(out, b" style=\"font-variant:small-caps\"");
+}
+
+/// Puts those of capitals.
+fn push_caps<K: Sink>(page: &mut Page, out: &mut K)
+    ensures { Prints K.Sink out.old page.old out.new page.new (attributes_text (attributes_of Caps)) }
+{
+    page.push_ascii(out, b" style=\"text-transform:uppercase\"");
+}
+
+/// Puts those of a note.
+fn push_note<K: Sink>(page: &mut Page, out: &mut K, number: usize)
+    ensures { Prints K.Sink out.old page.old out.new page.new (attributes_text (attributes_of (Note number))) }
+{
+    push_numbered(page, out, b" id=\"fn-", number);
+    page.push_ascii(out, b"\" role=\"doc-footnote\"");
+}
+
+/// Puts those of a list.
+fn push_list<K: Sink>(page: &mut Page, out: &mut K, list: List)
+    ensures { Prints K.Sink out.old page.old out.new page.new (attributes_text (attributes_of (ListElement list))) }
+{
+    push_where(page, out, list.is_ordered, b" style=\"list-style:none\"");
+}
+
+/// Puts those of a paragraph.
+fn push_paragraph<K: Sink>(page: &mut Page, out: &mut K, paragraph: Paragraph)
+    ensures { Prints K.Sink out.old page.old out.new page.new (attributes_text (paragraph_attributes paragraph)) }
+{
+    push_level(page, out, paragraph.level);
+    push_where(page, out, paragraph.right_to_left, b" dir=\"rtl\"");
+    push_where(
+        page,
+        out,
+        paragraph.breaks_page,
+        b" style=\"break-before:page\"",
+    );
+}
+
+/// Puts the level of a heading below the sixth.
+fn push_level<K: Sink>(page: &mut Page, out: &mut K, level: u8)
+    ensures { Prints K.Sink out.old page.old out.new page.new
+        (if nat_le 7 level then 32 ∷ attribute (codes "aria-level") (decimal level) else []) }
+{
+    if level >= 7 {
+        push_level_value(page, out, level);
+    }
+}
+
+/// Puts the level.
+fn push_level_value<K: Sink>(page: &mut Page, out: &mut K, level: u8)
+    ensures { Prints K.Sink out.old page.old out.new page.new (32 ∷ attribute (codes "aria-level") (decimal level)) }
+{
+    push_numbered(page, out, b" aria-level=\"", level as usize);
+    page.push_ascii(out, b"\"");
+}
+
+/// Puts a text where it is to be there.
+fn push_where<K: Sink>(page: &mut Page, out: &mut K, there: bool, text: &[u8])
+    requires { IsAscii text.now }
+    ensures { Prints K.Sink out.old page.old out.new page.new (if there then text.now else []) }
+{
+    if there {
+        page.push_ascii(out, text);
+    }
+}
+
+/// Puts those of a reference to a note.
+fn push_reference<K: Sink>(page: &mut Page, out: &mut K, number: usize)
+    ensures { Prints K.Sink out.old page.old out.new page.new (attributes_text (attributes_of (Reference number))) }
+{
+    push_numbered(page, out, b" id=\"fnref-", number);
+    push_numbered(page, out, b"\" href=\"#fn-", number);
+    page.push_ascii(out, b"\" role=\"doc-noteref\"");
+}
+
+/// Puts those of the way back from a note.
+fn push_back_link<K: Sink>(page: &mut Page, out: &mut K, number: usize)
+    ensures { Prints K.Sink out.old page.old out.new page.new (attributes_text (attributes_of (BackLink number))) }
+{
+    push_numbered(page, out, b" href=\"#fnref-", number);
+    page.push_ascii(out, b"\" role=\"doc-backlink\"");
+}
+
+/// Puts a number behind a text.
+fn push_numbered<K: Sink>(page: &mut Page, out: &mut K, front: &[u8], number: usize)
+    requires { IsAscii front.now }
+    ensures { Prints K.Sink out.old page.old out.new page.new (front.now ++ decimal number) }
+{
+    page.push_ascii(out, front);
+    page.push_number(out, number as u64);
+}

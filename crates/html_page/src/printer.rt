@@ -1,0 +1,229 @@
+// A page in HTML that is printed place by place.
+ghost use Rattle.std.specs.Prelude.{◌≡◌, ◌≤◌, ◌++◌, [], ◌∷◌, length, take, drop, map, false, true, Some, None, OnOk, OnErr};
+ghost use Rattle.std.specs.Char.{IsScalar};
+ghost use Rattle.std.specs.List.{All};
+ghost use Rattle.doc_outer.specs.Counts.{GoesOn};
+ghost use Rattle.doc_outer.specs.Written.{Appends};
+ghost use Rattle.page_out.specs.Printed.{FailsIn, Prints};
+ghost use Rattle.html_text.specs.Tokens.{printed};
+ghost use Rattle.view_paths.specs.Events.{closes, opens, turns, Turn};
+ghost use Rattle.view_paths.specs.Turns.{IsFront};
+ghost use Rattle.view_places.specs.Same.{same};
+ghost use Rattle.html_page.specs.Pages.{back_tokens, characters, close_tokens, front_tokens, glyph_half, glyph_tokens};
+ghost use Rattle.html_page.specs.Pages.{half_of, open_tokens, style_tokens, tokens_of};
+ghost use Rattle.html_page.specs.Printed.{PutsEvents, PutsPlaces};
+ghost use Rattle.html_page.specs.Units.{first_half, first_text, half_text, unit_half, unit_text};
+
+use crate::tokens::{
+    push_back, push_character, push_close, push_front, push_open, push_other, push_style,
+    push_text, unit_in,
+};
+use crate::units::{REPLACEMENT, alone, is_high, pair};
+use doc_outer::{OutBlock, Sink, SinkFailed};
+use page_out::Page;
+use view_paths::Path;
+use view_places::{Element, Glyph};
+
+/// A page on its way to a sink: the elements that are open, and the first half of a character that waits for the other
+/// one.
+#[derive(Drop)]
+pub struct HtmlPage {
+    pub page: Page,
+    pub path: Path<Element>,
+    pub half: Option<u16>,
+}
+
+impl HtmlPage {
+    /// A page of which nothing was put.
+    pub fn new(block: OutBlock) -> HtmlPage
+        ensures { result ≡ record { page = record { block = block; failed = false }; path = []; half = None } }
+    {
+        HtmlPage {
+            page: Page::new(block),
+            path: Path::new(Element::Notes),
+            half: None,
+        }
+    }
+
+    /// Puts what stands before the text of a page with this title.
+    pub fn begin<K: Sink>(&mut self, out: &mut K, title: &[u32])
+        requires { All IsScalar title.now }
+        ensures prints { Prints K.Sink out.old self.old.page out.new self.new.page
+            (printed (front_tokens ++ (characters title.now ++ style_tokens))) }
+        ensures path { self.new.path ≡ self.old.path }
+        ensures half { self.new.half ≡ self.old.half }
+    {
+        push_front(&mut self.page, out);
+        push_text(&mut self.page, out, title);
+        push_style(&mut self.page, out);
+    }
+
+    /// Puts a place: closes and opens what differs, and shows its glyph.
+    pub fn put<K: Sink>(&mut self, out: &mut K, to: &Path<Element>, glyph: Option<Glyph>)
+        ensures { PutsPlaces K.Sink out.old self.old out.new self.new (record { path = to.now; glyph = glyph } ∷ []) }
+    {
+        self.go(out, to);
+        match glyph {
+            None => {}
+            Some(glyph) => self.show(out, glyph),
+        }
+    }
+
+    /// Closes all that is open, and puts what stands behind the text.
+    pub fn end<K: Sink>(&mut self, out: &mut K)
+        ensures { Prints K.Sink out.old self.old.page out.new self.new.page
+            (printed (tokens_of self.old.half (turns same self.old.path [])
+            ++ (characters (half_text (half_of self.old.half (turns same self.old.path []))) ++ back_tokens))) }
+    {
+        self.go(out, &Path::new(Element::Notes));
+        self.put_half(out);
+        push_back(&mut self.page, out);
+    }
+
+    /// Lets the sink take what waits, and tells whether it failed at any time.
+    pub fn finish<K: Sink>(self, out: &mut K) -> Result<(), SinkFailed>
+        ensures right { OnOk result (self.page.failed ≡ false) }
+        ensures ok { OnOk result (Appends (K.written out.old) (K.written out.new) self.page.block) }
+        ensures fails { OnErr result (self.page.failed ≡ false → FailsIn K.Sink out.old self.page out.new []) }
+        ensures stays { OnErr result (self.page.failed ≡ true → K.written out.new ≡ K.written out.old) }
+        ensures faults { GoesOn (K.faults out.old) (K.faults out.new) }
+    {
+        self.page.finish(out)
+    }
+
+    /// Closes and opens what differs.
+    fn go<K: Sink>(&mut self, out: &mut K, to: &Path<Element>)
+        ensures { PutsEvents K.Sink out.old self.old out.new self.new (turns same self.old.path to.now) to.now }
+    {
+        let shared = self.path.shared(to);
+        self.close_to(out, shared);
+        self.open_to(out, to);
+    }
+
+    /// Closes all but so many elements.
+    fn close_to<K: Sink>(&mut self, out: &mut K, shared: usize)
+        ensures { PutsEvents K.Sink out.old self.old out.new self.new
+            (map Turn (closes (take shared self.old.path) (drop shared self.old.path))) (take shared self.old.path) }
+    {
+        match self.path.close_next(shared) {
+            None => {}
+            Some(element) => {
+                self.put_close(out, element);
+                self.close_to(out, shared);
+            }
+        }
+    }
+
+    /// Opens the elements of a path that are not open.
+    fn open_to<K: Sink>(&mut self, out: &mut K, to: &Path<Element>)
+        requires { IsFront self.old.path to.now }
+        ensures { PutsEvents K.Sink out.old self.old out.new self.new
+            (map Turn (opens self.old.path (drop (length self.old.path) to.now))) to.now }
+    {
+        match self.path.open_next(to) {
+            None => {}
+            Some(element) => {
+                self.put_open(out, element);
+                self.open_to(out, to);
+            }
+        }
+    }
+
+    /// Puts the end of an element.
+    fn put_close<K: Sink>(&mut self, out: &mut K, element: Element)
+        ensures prints { Prints K.Sink out.old self.old.page out.new self.new.page
+            (printed (characters (half_text self.old.half) ++ close_tokens element)) }
+        ensures path { self.new.path ≡ self.old.path }
+        ensures half { self.new.half ≡ None }
+    {
+        self.put_half(out);
+        push_close(&mut self.page, out, element);
+    }
+
+    /// Puts the start of an element.
+    fn put_open<K: Sink>(&mut self, out: &mut K, element: Element)
+        ensures prints { Prints K.Sink out.old self.old.page out.new self.new.page
+            (printed (characters (half_text self.old.half) ++ open_tokens element)) }
+        ensures path { self.new.path ≡ self.old.path }
+        ensures half { self.new.half ≡ None }
+    {
+        self.put_half(out);
+        push_open(&mut self.page, out, element);
+    }
+
+    /// Puts the half that waits, which no other one follows.
+    fn put_half<K: Sink>(&mut self, out: &mut K)
+        ensures prints { Prints K.Sink out.old self.old.page out.new self.new.page
+            (printed (characters (half_text self.old.half))) }
+        ensures path { self.new.path ≡ self.old.path }
+        ensures half { self.new.half ≡ None }
+    {
+        if self.half.is_some() {
+            push_character(&mut self.page, out, REPLACEMENT);
+        }
+        self.half = None;
+    }
+
+    /// Puts a glyph.
+    fn show<K: Sink>(&mut self, out: &mut K, glyph: Glyph)
+        ensures prints { Prints K.Sink out.old self.old.page out.new self.new.page
+            (printed (glyph_tokens self.old.half glyph)) }
+        ensures path { self.new.path ≡ self.old.path }
+        ensures half { self.new.half ≡ glyph_half self.old.half glyph }
+    {
+        match unit_in(glyph) {
+            Some(unit) => self.put_unit(out, unit),
+            None => {
+                self.put_half(out);
+                push_other(&mut self.page, out, glyph);
+            }
+        }
+    }
+
+    /// Puts a unit, or lets it wait.
+    fn put_unit<K: Sink>(&mut self, out: &mut K, unit: u16)
+        ensures prints { Prints K.Sink out.old self.old.page out.new self.new.page
+            (printed (characters (unit_text self.old.half unit))) }
+        ensures path { self.new.path ≡ self.old.path }
+        ensures half { self.new.half ≡ unit_half self.old.half unit }
+    {
+        match self.half {
+            None => self.put_first(out, unit),
+            Some(first) => self.put_second(out, first, unit),
+        }
+    }
+
+    /// Puts a unit for which no half waits, or lets it wait.
+    fn put_first<K: Sink>(&mut self, out: &mut K, unit: u16)
+        ensures prints { Prints K.Sink out.old self.old.page out.new self.new.page
+            (printed (characters (first_text unit))) }
+        ensures path { self.new.path ≡ self.old.path }
+        ensures half { self.new.half ≡ first_half unit }
+    {
+        if is_high(unit) {
+            self.half = Some(unit);
+        } else {
+            self.half = None;
+            push_character(&mut self.page, out, alone(unit));
+        }
+    }
+
+    /// Puts a unit behind a half that waits.
+    fn put_second<K: Sink>(&mut self, out: &mut K, first: u16, unit: u16)
+        ensures prints { Prints K.Sink out.old self.old.page out.new self.new.page
+            (printed (characters (unit_text (Some first) unit))) }
+        ensures path { self.new.path ≡ self.old.path }
+        ensures half { self.new.half ≡ unit_half (Some first) unit }
+    {
+        match pair(first, unit) {
+            Some(code) => {
+                self.half = None;
+                push_character(&mut self.page, out, code);
+            }
+            None => {
+                push_character(&mut self.page, out, REPLACEMENT);
+                self.put_first(out, unit);
+            }
+        }
+    }
+}

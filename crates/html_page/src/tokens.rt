@@ -1,0 +1,177 @@
+// The tokens of a page, as they are printed.
+ghost use Rattle.std.specs.Prelude.{◌≡◌, [], ◌∷◌, if◌then◌else◌};
+ghost use Rattle.std.specs.Char.{IsScalar};
+ghost use Rattle.std.specs.List.{All};
+ghost use Rattle.std.specs.Str.{IsAscii};
+ghost use Rattle.page_out.specs.Printed.{Prints};
+ghost use Rattle.html_text.specs.Tokens.{printed, Character};
+ghost use Rattle.view_places.specs.declared.glyph.Glyph.TheVariants.{NoteMark, Object, PageBreak, Picture};
+ghost use Rattle.html_page.specs.Glyphs.{unit_in};
+ghost use Rattle.html_page.specs.Pages.{back_tokens, characters, close_tokens, end, front_tokens, open_tokens};
+ghost use Rattle.html_page.specs.Pages.{other_tokens, style_tokens};
+
+use crate::attributes::push_attributes;
+use crate::names::{ends_line, name_of};
+use doc_outer::Sink;
+use html_text::reference;
+use page_out::Page;
+use view_places::{Element, Glyph};
+
+/// Puts what stands before the title.
+pub(crate) fn push_front<K: Sink>(page: &mut Page, out: &mut K)
+    ensures { Prints K.Sink out.old page.old out.new page.new (printed front_tokens) }
+{
+    page.push_ascii(
+        out,
+        b"<!DOCTYPE html>\n<html>\n<head>\n<meta charset=\"utf-8\">\n",
+    );
+    page.push_ascii(
+        out,
+        b"<meta name=\"viewport\" content=\"width=device-width,initial-scale=1\">\n<title>",
+    );
+}
+
+/// Puts what stands between the title and the text.
+pub(crate) fn push_style<K: Sink>(page: &mut Page, out: &mut K)
+    ensures { Prints K.Sink out.old page.old out.new page.new (printed style_tokens) }
+{
+    page.push_ascii(
+        out,
+        b"</title>\n<style>p,h1,h2,h3,h4,h5,h6{white-space:pre-wrap}",
+    );
+    page.push_ascii(out, b"td p,th p{margin:0}table{border-collapse:collapse}");
+    page.push_ascii(
+        out,
+        b"td,th{border:1px solid;padding:.2em;vertical-align:top}</style>\n</head>\n<body>\n",
+    );
+}
+
+/// Puts what stands behind the text.
+pub(crate) fn push_back<K: Sink>(page: &mut Page, out: &mut K)
+    ensures { Prints K.Sink out.old page.old out.new page.new (printed back_tokens) }
+{
+    page.push_ascii(out, b"</body>\n</html>\n");
+}
+
+/// Puts a text.
+pub(crate) fn push_text<K: Sink>(page: &mut Page, out: &mut K, text: &[u32])
+    requires { All IsScalar text.now }
+    ensures { Prints K.Sink out.old page.old out.new page.new (printed (characters text.now)) }
+{
+    for code in text {
+        push_character(page, out, *code);
+    }
+}
+
+/// Puts a character.
+pub(crate) fn push_character<K: Sink>(page: &mut Page, out: &mut K, code: u32)
+    requires { IsScalar code }
+    ensures { Prints K.Sink out.old page.old out.new page.new (printed (Character code ∷ [])) }
+{
+    match reference(code) {
+        Some(text) => page.push_ascii(out, text),
+        None => page.push_char(out, code),
+    }
+}
+
+/// Puts the start of an element.
+pub(crate) fn push_open<K: Sink>(page: &mut Page, out: &mut K, element: Element)
+    ensures { Prints K.Sink out.old page.old out.new page.new (printed (open_tokens element)) }
+{
+    page.push_ascii(out, b"<");
+    page.push_ascii(out, name_of(element));
+    push_attributes(page, out, element);
+    page.push_ascii(out, b">");
+}
+
+/// Puts the end of an element.
+pub(crate) fn push_close<K: Sink>(page: &mut Page, out: &mut K, element: Element)
+    ensures { Prints K.Sink out.old page.old out.new page.new (printed (close_tokens element)) }
+{
+    push_end(page, out, name_of(element));
+    push_line(page, out, ends_line(element));
+}
+
+/// Puts the end of a line, where one ends.
+fn push_line<K: Sink>(page: &mut Page, out: &mut K, ends: bool)
+    ensures { Prints K.Sink out.old page.old out.new page.new
+        (printed (if ends then Character 10 ∷ [] else [])) }
+{
+    if ends {
+        page.push_ascii(out, b"\n");
+    }
+}
+
+/// Puts an end tag.
+fn push_end<K: Sink>(page: &mut Page, out: &mut K, name: &[u8])
+    requires { IsAscii name.now }
+    ensures { Prints K.Sink out.old page.old out.new page.new (printed (end name.now ∷ [])) }
+{
+    page.push_ascii(out, b"</");
+    page.push_ascii(out, name);
+    page.push_ascii(out, b">");
+}
+
+/// The unit that a glyph is, where it is one.
+pub(crate) fn unit_in(glyph: Glyph) -> Option<u16>
+    ensures { result ≡ unit_in glyph }
+{
+    match glyph {
+        Glyph::Unit(unit) => Some(unit),
+        Glyph::Tab => None,
+        Glyph::LineBreak => None,
+        Glyph::PageBreak => None,
+        Glyph::NoteMark(_) => None,
+        Glyph::Picture => None,
+        Glyph::Object => None,
+    }
+}
+
+/// Puts a glyph that is no unit.
+pub(crate) fn push_other<K: Sink>(page: &mut Page, out: &mut K, glyph: Glyph)
+    ensures { Prints K.Sink out.old page.old out.new page.new (printed (other_tokens glyph)) }
+{
+    match glyph {
+        Glyph::Unit(_) => {}
+        Glyph::Tab => page.push_ascii(out, b"\t"),
+        Glyph::LineBreak => page.push_ascii(out, b"<br>"),
+        Glyph::PageBreak => push_page_break(page, out),
+        Glyph::NoteMark(number) => push_mark(page, out, number),
+        Glyph::Picture => push_picture(page, out),
+        Glyph::Object => push_object(page, out),
+    }
+}
+
+/// Puts the break of a page.
+fn push_page_break<K: Sink>(page: &mut Page, out: &mut K)
+    ensures { Prints K.Sink out.old page.old out.new page.new (printed (other_tokens PageBreak)) }
+{
+    page.push_ascii(out, b"<br style=\"break-after:page\">");
+}
+
+/// Puts the number of a note.
+fn push_mark<K: Sink>(page: &mut Page, out: &mut K, number: u32)
+    ensures { Prints K.Sink out.old page.old out.new page.new (printed (other_tokens (NoteMark number))) }
+{
+    page.push_number(out, number as u64);
+}
+
+/// Puts what stands for a picture.
+fn push_picture<K: Sink>(page: &mut Page, out: &mut K)
+    ensures { Prints K.Sink out.old page.old out.new page.new (printed (other_tokens Picture)) }
+{
+    page.push_ascii(
+        out,
+        b"<span role=\"img\" aria-label=\"picture\">[picture]</span>",
+    );
+}
+
+/// Puts what stands for an object.
+fn push_object<K: Sink>(page: &mut Page, out: &mut K)
+    ensures { Prints K.Sink out.old page.old out.new page.new (printed (other_tokens Object)) }
+{
+    page.push_ascii(
+        out,
+        b"<span role=\"img\" aria-label=\"object\">[object]</span>",
+    );
+}

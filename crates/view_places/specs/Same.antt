@@ -1,0 +1,55 @@
+-- Elements that are the same.
+use Rattle.std.specs.Prelude.{ℕ, ◌==◌, Bool, false, not, ◌&&◌, if◌then◌else◌}
+use Rattle.view_places.specs.declared.element.Code.{Code}
+use Rattle.view_places.specs.declared.element.Element.{Element}
+use Rattle.view_places.specs.declared.element.Element.TheVariants.{Notes, Note, Table, TableHead, TableBody, Row, Cell}
+use Rattle.view_places.specs.declared.element.Element.TheVariants.{HeadCell, List, Item, Paragraph, Label, Reference}
+use Rattle.view_places.specs.declared.element.Element.TheVariants.{BackLink, Bold, Italic, Underline, Strike, SmallCaps}
+use Rattle.view_places.specs.declared.element.Element.TheVariants.{Caps, Raised, Lowered}
+
+-- an element with a number
+abbrev pub numbered : ℕ → ℕ → Code
+numbered kind number = record { kind = kind; number = number; level = 0; one = false; other = false }
+
+-- an element by numbers
+abbrev pub code_of : Element → Code
+code_of Notes = numbered 0 0
+code_of (Note number) = numbered 1 number
+code_of (Table first) = numbered 2 first
+code_of TableHead = numbered 3 0
+code_of TableBody = numbered 4 0
+code_of (Row first) = numbered 5 first
+code_of (Cell number) = numbered 6 number
+code_of (HeadCell number) = numbered 7 number
+code_of (List list) = record { kind = 8; number = list.first; level = 0; one = list.is_ordered; other = false }
+code_of (Item number) = numbered 9 number
+code_of (Paragraph paragraph) = record {
+  kind = 10;
+  number = paragraph.number;
+  level = paragraph.level;
+  one = paragraph.right_to_left;
+  other = paragraph.breaks_page;
+}
+code_of Label = numbered 11 0
+code_of (Reference number) = numbered 12 number
+code_of (BackLink number) = numbered 13 number
+code_of Bold = numbered 14 0
+code_of Italic = numbered 15 0
+code_of Underline = numbered 16 0
+code_of Strike = numbered 17 0
+code_of SmallCaps = numbered 18 0
+code_of Caps = numbered 19 0
+code_of Raised = numbered 20 0
+code_of Lowered = numbered 21 0
+
+abbrev pub equal : Bool → Bool → Bool
+equal one other = if one then other else not other
+
+abbrev pub same_code : Code → Code → Bool
+same_code one two =
+    one.kind == two.kind && (one.number == two.number && (one.level == two.level
+    && (equal one.one two.one && equal one.other two.other)))
+
+-- elements are the same where their numbers are
+abbrev pub same : Element → Element → Bool
+same one other = same_code (code_of one) (code_of other)

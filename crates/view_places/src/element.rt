@@ -1,0 +1,152 @@
+// The elements that the text of a document stands in.
+ghost use Rattle.std.specs.Prelude.{◌≡◌, false};
+ghost use Rattle.view_places.specs.Same.{code_of};
+
+/// A list, by the number of its first paragraph.
+#[derive(Clone, Copy)]
+pub struct List {
+    pub first: usize,
+    /// Whether its items have numbers, and no bullets.
+    pub is_ordered: bool,
+}
+
+/// A paragraph, by its number in its text.
+#[derive(Clone, Copy)]
+pub struct Paragraph {
+    pub number: usize,
+    /// The level of a heading, from 1 to 9; 0 of all others.
+    pub level: u8,
+    /// It runs from right to left.
+    pub right_to_left: bool,
+    /// It begins on a page of its own.
+    pub breaks_page: bool,
+}
+
+/// What text stands in.
+#[derive(Clone, Copy)]
+pub enum Element {
+    /// All notes.
+    Notes,
+    /// The note with this number, from 1.
+    Note(usize),
+    /// A table, by the number of its first paragraph.
+    Table(usize),
+    TableHead,
+    TableBody,
+    /// A row, by the number of its first paragraph.
+    Row(usize),
+    /// A cell, by its number in its row.
+    Cell(usize),
+    /// A cell of a row that is the head of its table.
+    HeadCell(usize),
+    List(List),
+    /// An item of a list, by the number of its paragraph.
+    Item(usize),
+    Paragraph(Paragraph),
+    /// The number of a paragraph in a list.
+    Label,
+    /// Where the note with this number is referred to.
+    Reference(usize),
+    /// The way back from the note with this number.
+    BackLink(usize),
+    Bold,
+    Italic,
+    Underline,
+    Strike,
+    SmallCaps,
+    Caps,
+    /// A superscript.
+    Raised,
+    /// A subscript.
+    Lowered,
+}
+
+/// An element by numbers.
+#[derive(Clone, Copy)]
+pub(crate) struct Code {
+    pub(crate) kind: u8,
+    pub(crate) number: usize,
+    pub(crate) level: u8,
+    pub(crate) one: bool,
+    pub(crate) other: bool,
+}
+
+impl Code {
+    /// That of an element with a number.
+    fn of(kind: u8, number: usize) -> Code
+        ensures { result ≡ record { kind = kind; number = number; level = 0; one = false; other = false } }
+    {
+        Code {
+            kind,
+            number,
+            level: 0,
+            one: false,
+            other: false,
+        }
+    }
+}
+
+impl Element {
+    /// The element by numbers.
+    fn code(self) -> Code
+        ensures { result ≡ code_of self }
+    {
+        match self {
+            Element::Notes => Code::of(0, 0),
+            Element::Note(number) => Code::of(1, number),
+            Element::Table(first) => Code::of(2, first),
+            Element::TableHead => Code::of(3, 0),
+            Element::TableBody => Code::of(4, 0),
+            Element::Row(first) => Code::of(5, first),
+            Element::Cell(number) => Code::of(6, number),
+            Element::HeadCell(number) => Code::of(7, number),
+            Element::List(list) => Code {
+                kind: 8,
+                number: list.first,
+                level: 0,
+                one: list.is_ordered,
+                other: false,
+            },
+            Element::Item(number) => Code::of(9, number),
+            Element::Paragraph(paragraph) => Code {
+                kind: 10,
+                number: paragraph.number,
+                level: paragraph.level,
+                one: paragraph.right_to_left,
+                other: paragraph.breaks_page,
+            },
+            Element::Label => Code::of(11, 0),
+            Element::Reference(number) => Code::of(12, number),
+            Element::BackLink(number) => Code::of(13, number),
+            Element::Bold => Code::of(14, 0),
+            Element::Italic => Code::of(15, 0),
+            Element::Underline => Code::of(16, 0),
+            Element::Strike => Code::of(17, 0),
+            Element::SmallCaps => Code::of(18, 0),
+            Element::Caps => Code::of(19, 0),
+            Element::Raised => Code::of(20, 0),
+            Element::Lowered => Code::of(21, 0),
+        }
+    }
+}
+
+impl view_paths::Element for Element {
+    ghost use Rattle.view_places.specs.Same.{same as same_element};
+    ghost use Rattle.view_places.specs.SameLaws.{same_exact};
+
+    ghost same = { same_element };
+
+    fn is_same(self, other: Element) -> bool
+        ensures { result ≡ same_element self other }
+    {
+        let one = self.code();
+        let two = other.code();
+        one.kind == two.kind
+            && one.number == two.number
+            && one.level == two.level
+            && one.one == two.one
+            && one.other == two.other
+    }
+
+    ghost exact = { same_exact };
+}

@@ -1,0 +1,8 @@
+//! What the places of a document are made of: the elements that something stands in, and what a reader sees there.
+#![tactic(auto)]
+
+mod element;
+mod glyph;
+
+pub use element::{Element, List, Paragraph};
+pub use glyph::Glyph;
