@@ -148,11 +148,11 @@ fn fill<F: Write + OpenFile + Drop>(
 }
 
 /// Writes into what the name stands for. Once that is opened it is no longer as it was, so that no
-/// failure from there on is want of memory.
+/// failure from there on is want of memory; else it keeps the system's reason.
 fn write_directly<R: Files>(files: &R, name: &str, bytes: &[u8]) -> io::Result<()> {
     let mut file = fs::create(files, name)?;
     match file.write_all(bytes) {
-        Ok(()) => Ok(()),
-        Err(_) => Err(ErrorKind::Other.into()),
+        Err(error) if error.kind() == ErrorKind::OutOfMemory => Err(ErrorKind::Other.into()),
+        answer => answer,
     }
 }

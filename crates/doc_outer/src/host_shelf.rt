@@ -30,6 +30,7 @@ struct LastFile<F> {
 #[derive(Drop)]
 pub struct HostShelf<R: Files + Drop, E: Eprint + Drop> {
     alloc: Global,
+    program: &'static str,
     files: R,
     reasons: E,
     last: Option<LastFile<R::File>>,
@@ -47,13 +48,14 @@ impl<R: Files + Drop, E: Eprint + Drop> Model for HostShelf<R, E> {
 }
 
 impl<R: Files + Drop, E: Eprint + Drop> HostShelf<R, E> {
-    /// The files of a runtime, and whose standard error is told why a call failed. The allocator is for the
-    /// name of the file that was read last.
-    pub fn new(alloc: Global, files: R, reasons: E) -> HostShelf<R, E>
+    /// The files of a runtime, and whose standard error is told why a call failed, in lines that begin with the
+    /// program's name. The allocator is for the name of the file that was read last.
+    pub fn new(alloc: Global, program: &'static str, files: R, reasons: E) -> HostShelf<R, E>
         ensures { result ≡ no_counts }
     {
         HostShelf {
             alloc,
+            program,
             files,
             reasons,
             last: None,
@@ -65,8 +67,8 @@ impl<R: Files + Drop, E: Eprint + Drop> HostShelf<R, E> {
 }
 
 /// Tells why the system failed at a name, as far as the standard error takes it.
-fn tell<E: Eprint>(reasons: &E, name: &str, error: &io::Error) {
-    let _ = reasons.eprintln(format_args!("docbin: {name:?}: {error}"));
+fn tell<E: Eprint>(reasons: &E, program: &str, name: &str, error: &io::Error) {
+    let _ = reasons.eprintln(format_args!("{program}: {name:?}: {error}"));
 }
 
 /// What a refusal of the system is to a caller.
@@ -79,20 +81,20 @@ fn fault_of(error: &io::Error) -> ShelfFault {
 }
 
 /// What a refused read is to a caller. A failed one is told.
-fn read_fault<E: Eprint>(reasons: &E, name: &str, error: io::Error) -> ShelfFault {
+fn read_fault<E: Eprint>(reasons: &E, program: &str, name: &str, error: io::Error) -> ShelfFault {
     let fault = fault_of(&error);
     if let ShelfFault::Failed = fault {
-        tell(reasons, name, &error);
+        tell(reasons, program, name, &error);
     }
     fault
 }
 
 /// What a refused put is to a caller. A failed one is told.
-fn put_fault<E: Eprint>(reasons: &E, name: &str, error: io::Error) -> PutFault {
+fn put_fault<E: Eprint>(reasons: &E, program: &str, name: &str, error: io::Error) -> PutFault {
     if error.kind() == ErrorKind::OutOfMemory {
         return PutFault::Memory;
     }
-    tell(reasons, name, &error);
+    tell(reasons, program, name, &error);
     PutFault::Failed
 }
 
@@ -181,7 +183,7 @@ impl<R: Files + Drop, E: Eprint + Drop> Shelf for HostShelf<R, E> {
         ensures missed_exact { self.new.missed ≡ missed_after result self.old.missed }
     {
         let read = read_on(self.alloc, &self.files, &mut self.last, name, at, buf);
-        let answer = read.map_err(|error| read_fault(&self.reasons, name, error));
+        let answer = read.map_err(|error| read_fault(&self.reasons, self.program, name, error));
         match answer {
             Err(ShelfFault::Failed) => self.faults = self.faults.saturating_add(1),
             Err(ShelfFault::Missing) => self.missed = self.missed.saturating_add(1),
@@ -209,7 +211,7 @@ impl<R: Files + Drop, E: Eprint + Drop> Shelf for HostShelf<R, E> {
         // The file that stays open may be the one that is replaced.
         self.last = None;
         let put = put_file(self.alloc, &self.files, name, bytes);
-        let answer = put.map_err(|error| put_fault(&self.reasons, name, error));
+        let answer = put.map_err(|error| put_fault(&self.reasons, self.program, name, error));
         if let Err(PutFault::Failed) = answer {
             self.faults = self.faults.saturating_add(1);
             self.put_faults = self.put_faults.saturating_add(1);

@@ -11,9 +11,11 @@ use std::marker::Model;
 /// How often a write that a signal cut short is tried.
 const TRIES: usize = 64;
 
-/// Standard output. A closed pipe and a full disk are failed calls. Why a call failed is told on the standard error.
+/// Standard output. A closed pipe and a full disk are failed calls. Why a call failed is told on the standard error,
+/// but for a closed pipe: whoever closed it wanted no more.
 #[derive(Drop)]
 pub struct HostSink<P: Print + Drop, E: Eprint + Drop> {
+    program: &'static str,
     output: P,
     reasons: E,
     faults: u64,
@@ -28,15 +30,24 @@ impl<P: Print + Drop, E: Eprint + Drop> Model for HostSink<P, E> {
 }
 
 impl<P: Print + Drop, E: Eprint + Drop> HostSink<P, E> {
-    /// The standard output of a runtime, and whose standard error is told why a call failed.
-    pub fn new(output: P, reasons: E) -> HostSink<P, E>
+    /// The standard output of a runtime, and whose standard error is told why a call failed, in lines that begin with
+    /// the program's name.
+    pub fn new(program: &'static str, output: P, reasons: E) -> HostSink<P, E>
         ensures { result ≡ 0 }
     {
         HostSink {
+            program,
             output,
             reasons,
             faults: 0,
         }
+    }
+}
+
+/// Tells why standard output takes no more, as far as the standard error takes it.
+fn tell<E: Eprint>(reasons: &E, program: &str, error: &io::Error) {
+    if error.kind() != ErrorKind::BrokenPipe {
+        let _ = reasons.eprintln(format_args!("{program}: standard output: {error}"));
     }
 }
 
@@ -75,9 +86,7 @@ impl<P: Print + Drop, E: Eprint + Drop> Sink for HostSink<P, E> {
             Ok(count) => count,
             Err(error) => {
                 self.faults = self.faults.saturating_add(1);
-                let _ = self
-                    .reasons
-                    .eprintln(format_args!("docbin: standard output: {error}"));
+                tell(&self.reasons, self.program, &error);
                 return Err(SinkFailed);
             }
         };

@@ -1,6 +1,6 @@
 -- Outcomes of one run: they are alike, and are the same but where something leaves the bytes open.
 use Rattle.std.proofs.Common.{◌≡◌, ◌∙◌, sym, ap, ℕ, List}
-use Rattle.doc_tasks.specs.Outcomes.{Outcome, puts, put_name, AreAlike}
+use Rattle.run_stages.specs.Outcomes.{Outcome, puts, put_name, AreAlike}
 
 abbrev pub IsOne : Type 0 → Outcome → Outcome → Type 0
 IsOne free a b = AreAlike a b × (¬ free → a ≡ b)

@@ -10,17 +10,19 @@ use Rattle.doc_read.specs.Holds.{all_rules}
 use Rattle.doc_read.proofs.OneDocument.{all_single}
 use Rattle.edit_guards.specs.Policies.{Policy}
 use Rattle.doc_edit.specs.States.{start_of}
-use Rattle.doc_tasks.specs.Outcomes.{Outcome}
+use Rattle.run_stages.specs.Outcomes.{Outcome}
 use Rattle.doc_tasks.specs.Replies.{EndsBy}
-use Rattle.doc_tasks.specs.Judged.{Judges, stream_rules}
+use Rattle.run_stages.specs.Judged.{Judges}
+use Rattle.doc_tasks.specs.Judged.{stream_rules}
 use Rattle.doc_tasks.specs.Answers.{ListsStreams, AnswersFile, AnswersTwo}
-use Rattle.doc_tasks.proofs.OutcomeLemmas.{status_said, ends_done}
+use Rattle.run_stages.proofs.OutcomeLemmas.{status_said}
+use Rattle.doc_tasks.proofs.OutcomeLemmas.{ends_done}
 use Rattle.doc_tasks.proofs.JudgedLemmas.{streams_single}
 use Rattle.doc_tasks.proofs.AnswerLemmas.{file_done, two_done}
 use Rattle.doc_tasks.specs.Imports.{Imports}
 use Rattle.doc_tasks.proofs.ImportLemmas.{import_done}
 use Rattle.doc_run.specs.Commands.{Request, streams, on_document, on_two, edit, from_json, generate, IsCommand}
-use Rattle.doc_run.specs.Stages.{longest_file, BreaksLengthRule, ReadsFile}
+use Rattle.run_stages.specs.Stages.{longest_file, BreaksLengthRule, ReadsFile}
 use Rattle.doc_run.specs.Edits.{EditsBy, IsOverlongScript, EditsFile}
 use Rattle.doc_run.specs.Imports.{IsOverlongJson}
 use Rattle.doc_run.specs.Endings.{ReadsSecond, Ends, IsEnding}
@@ -28,7 +30,7 @@ use Rattle.doc_run.specs.Completeness.{HoldsRight, CanServe}
 use Rattle.doc_run.proofs.CommandLemmas.{command_one}
 use Rattle.doc_run.proofs.GenerateLemmas.{generated_done}
 use Rattle.doc_run.proofs.EditLemmas.{edited_done}
-use Rattle.doc_run.proofs.OneLemmas.{Says, settled}
+use Rattle.run_stages.proofs.SaidLemmas.{Says, settled}
 
 -- a file that is too long breaks rule 1
 long_breaks : (file : List ℕ) → 7143936 < length file → IsFirst (container_rules file) 1 7143937

@@ -18,7 +18,7 @@ use Rattle.doc_edit.proofs.EndLemmas.{ends_once}
 use Rattle.doc_tasks.specs.declared.reply.Reply.{Reply}
 use Rattle.doc_tasks.specs.declared.reply.Reply.TheVariants.{Made, Refused}
 use Rattle.doc_tasks.specs.declared.reply.Refusal.TheVariants.{Script}
-use Rattle.doc_tasks.specs.Outcomes.{Outcome, puts}
+use Rattle.run_stages.specs.Outcomes.{Outcome, puts}
 use Rattle.doc_tasks.specs.Replies.{outcome_of, EndsBy}
 use Rattle.doc_run.specs.EditLines.{script_line, stop_line, edited_line}
 use Rattle.doc_run.specs.Edits.{refusal_of, counts_line, PutsLastSave, SavesLast, Edits, EditsBy}

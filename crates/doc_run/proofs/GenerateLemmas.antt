@@ -8,7 +8,7 @@ use Rattle.doc_edit.specs.GeneratedRuns.{most_seed, generator_start, IsGenerated
 use Rattle.doc_edit.proofs.GeneratedRunLemmas.{last_mode, ends_with_save}
 use Rattle.doc_tasks.specs.declared.reply.Reply.{Reply}
 use Rattle.doc_tasks.specs.declared.reply.Reply.TheVariants.{Made}
-use Rattle.doc_tasks.specs.Outcomes.{Outcome, puts}
+use Rattle.run_stages.specs.Outcomes.{Outcome, puts}
 use Rattle.doc_tasks.specs.Replies.{outcome_of, EndsBy}
 use Rattle.doc_run.specs.Generates.{generated_line, generated_counts_line, Generates, EndsGenerated}
 use Rattle.doc_run.proofs.AlikeLemmas.{IsOne, puts_alike}

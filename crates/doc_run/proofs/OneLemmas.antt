@@ -1,27 +1,28 @@
 -- A run has one ending, but for the bytes of a last save that is fast.
-use Rattle.std.proofs.Common.{◌≡◌, ◌≢◌, ◌<◌, ◌≤◌, ◌⊎◌, ◌∙◌, inl, inr, refl, sym, ap, subst, ℕ, List, Option, Some, None}
-use Rattle.std.proofs.Common.{length, arith}
+use Rattle.std.proofs.Common.{◌≡◌, ◌≢◌, ◌∙◌, inl, inr, sym, subst, ℕ, List, Some}
 use Rattle.doc_bits.specs.Rules.{Rules, IsSingle}
 use Rattle.doc_bits.specs.Places.{Place, Upto}
 use Rattle.doc_bits.proofs.RuleLemmas.{hold_or_first}
-use Rattle.doc_outer.specs.Held.{Files, IsLonger, file_at}
+use Rattle.doc_outer.specs.Held.{Files, file_at}
 use Rattle.doc_read.specs.Holds.{all_rules}
 use Rattle.doc_read.proofs.OneDocument.{all_single}
 use Rattle.fast_save.proofs.OneSession.{session_one}
 use Rattle.edit_guards.specs.Policies.{Policy}
 use Rattle.doc_edit.specs.States.{start_of}
-use Rattle.doc_tasks.specs.Lines.{missing_line}
-use Rattle.doc_tasks.specs.Outcomes.{Outcome, says}
+use Rattle.run_stages.specs.Outcomes.{Outcome}
 use Rattle.doc_tasks.specs.Replies.{EndsBy}
-use Rattle.doc_tasks.specs.Judged.{Judges, stream_rules}
+use Rattle.run_stages.specs.Judged.{Judges}
+use Rattle.doc_tasks.specs.Judged.{stream_rules}
 use Rattle.doc_tasks.specs.Answers.{ListsStreams, AnswersFile, AnswersTwo}
-use Rattle.doc_tasks.proofs.JudgedLemmas.{refused_one, streams_single}
+use Rattle.run_stages.proofs.JudgedLemmas.{refused_one}
+use Rattle.run_stages.proofs.SaidLemmas.{reads_one as read_to_one}
+use Rattle.doc_tasks.proofs.JudgedLemmas.{streams_single}
 use Rattle.doc_tasks.proofs.AnswerLemmas.{lists_one, file_one, two_one}
 use Rattle.doc_tasks.specs.Imports.{Imports}
 use Rattle.doc_tasks.proofs.OutcomeLemmas.{ends_one as replied_one}
 use Rattle.doc_tasks.proofs.ImportLemmas.{import_one}
 use Rattle.doc_run.specs.Commands.{Request, streams, on_document, on_two, edit, from_json, generate, IsCommand}
-use Rattle.doc_run.specs.Stages.{longest_file, BreaksLengthRule, Reads, ReadsFile}
+use Rattle.run_stages.specs.Stages.{BreaksLengthRule, Reads, ReadsFile}
 use Rattle.doc_run.specs.Edits.{EditsBy, IsOverlongScript, EditsFile, ReadsScript}
 use Rattle.doc_run.specs.Imports.{IsOverlongJson}
 use Rattle.doc_run.specs.Endings.{ReadsSecond, Ends, IsEnding, EndsFast, EndingIsOne}
@@ -30,46 +31,6 @@ use Rattle.doc_run.proofs.AlikeLemmas.{IsOne, one_same, one_when}
 use Rattle.doc_run.proofs.GenerateLemmas.{EndsFastFrom, generated_one}
 use Rattle.doc_run.proofs.EditLemmas.{edited_one}
 
--- what a stage that reads says of what the name holds
-abbrev pub Says :
-    (name : List ℕ) → (Outcome → Type 0) → (List ℕ → Outcome → Type 0) → Option (List ℕ) → Outcome → Type 0
-Says name overlong next None outcome = outcome ≡ says 3 (missing_line name)
-Says name overlong next (Some bytes) outcome =
-    ((longest_file < length bytes) × overlong outcome) ⊎ ((length bytes ≤ longest_file) × next bytes outcome)
-
-longer_says :
-    (name : List ℕ) (overlong : Outcome → Type 0) (next : List ℕ → Outcome → Type 0) (there : Option (List ℕ))
-    (outcome : Outcome) → IsLonger longest_file there → overlong outcome → Says name overlong next there outcome
-longer_says name overlong next None outcome long ends = absurd long
-longer_says name overlong next (Some bytes) outcome long ends = inl (long, ends)
-
--- where what the name holds is told, the stage says that, unless the shelf failed
-pub settled :
-    (name : List ℕ) (files : Files) (overlong : Outcome → Type 0) (next : List ℕ → Outcome → Type 0)
-    (outcome : Outcome) → Reads name (Some files) overlong next outcome → outcome.status ≢ 4 →
-    Says name overlong next (file_at files name) outcome
-settled name files overlong next outcome (inl missing) calm =
-    subst (λ t. Says name overlong next t outcome) (sym missing.absent) missing.ends
-settled name files overlong next outcome (inr (inl fault)) calm =
-    absurd (calm (ap (λ (o : Outcome). o.status) fault))
-settled name files overlong next outcome (inr (inr (inl over))) calm =
-    longer_says name overlong next (file_at files name) outcome over.longer over.ends
-settled name files overlong next outcome (inr (inr (inr read))) calm =
-    subst (λ t. Says name overlong next t outcome) (sym read.told) (inr (read.short, read.goes_on))
-
-says_one :
-    (free : Type 0) (name : List ℕ) (overlong : Outcome → Type 0) (next : List ℕ → Outcome → Type 0)
-    (there : Option (List ℕ)) (a b : Outcome) → (overlong a → overlong b → a ≡ b) →
-    ((bytes : List ℕ) → there ≡ Some bytes → next bytes a → next bytes b → IsOne free a b) →
-    Says name overlong next there a → Says name overlong next there b → IsOne free a b
-says_one free name overlong next None a b long one x y = one_same free a b (x ∙ sym y)
-says_one free name overlong next (Some bytes) a b long one (inl x) (inl y) = one_same free a b (long x.1 y.1)
-says_one free name overlong next (Some bytes) a b long one (inl x) (inr y) =
-    let over = x.0 in let short = y.0 in absurd (omega (arith, over, short))
-says_one free name overlong next (Some bytes) a b long one (inr x) (inl y) =
-    let over = y.0 in let short = x.0 in absurd (omega (arith, over, short))
-says_one free name overlong next (Some bytes) a b long one (inr x) (inr y) = one bytes refl x.1 y.1
-
 -- a name is read to one ending, where the next stage has one
 reads_one :
     (free : Type 0) (name : List ℕ) (files : Files) (overlong : Outcome → Type 0) (next : List ℕ → Outcome → Type 0)
@@ -77,8 +38,7 @@ reads_one :
     ((bytes : List ℕ) → file_at files name ≡ Some bytes → next bytes a → next bytes b → IsOne free a b) →
     Reads name (Some files) overlong next a → Reads name (Some files) overlong next b → IsOne free a b
 reads_one free name files overlong next a b ca cb long one x y =
-    says_one free name overlong next (file_at files name) a b long one
-    (settled name files overlong next a x ca) (settled name files overlong next b y cb)
+    read_to_one (IsOne free a b) name files overlong next a b ca cb (one_same free a b) long one x y
 
 -- one answer of a stage that judges, where the next stage has one
 judges_one :

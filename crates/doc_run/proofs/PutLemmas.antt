@@ -8,17 +8,19 @@ use Rattle.doc_read.specs.Holds.{all_rules}
 use Rattle.edit_guards.specs.Policies.{Policy}
 use Rattle.doc_edit.specs.States.{start_of}
 use Rattle.doc_tasks.specs.declared.reply.Reply.{Reply}
-use Rattle.doc_tasks.specs.Lines.{shelf_fault_line}
-use Rattle.doc_tasks.specs.Outcomes.{Outcome, PutFile, says}
+use Rattle.run_stages.specs.Lines.{shelf_fault_line}
+use Rattle.run_stages.specs.Outcomes.{Outcome, PutFile, says}
 use Rattle.doc_tasks.specs.Tasks.{out_of, out_of_two}
 use Rattle.doc_tasks.specs.Replies.{EndsBy, Replies, RepliesTwo}
-use Rattle.doc_tasks.specs.Judged.{Judges, stream_rules}
+use Rattle.run_stages.specs.Judged.{Judges}
+use Rattle.doc_tasks.specs.Judged.{stream_rules}
 use Rattle.doc_tasks.specs.Answers.{ListsStreams, AnswersFile, AnswersTwo}
-use Rattle.doc_tasks.proofs.OutcomeLemmas.{status_said, ends_put, ends_inside, after_reading_inside}
+use Rattle.run_stages.proofs.OutcomeLemmas.{status_said, after_reading_inside}
+use Rattle.doc_tasks.proofs.OutcomeLemmas.{ends_put, ends_inside}
 use Rattle.doc_tasks.specs.Imports.{Imports}
 use Rattle.doc_run.specs.Commands.{Request, streams, on_document, on_two, edit, from_json, generate, put_under}
 use Rattle.doc_run.specs.Commands.{IsCommand, PutsUnder}
-use Rattle.doc_run.specs.Stages.{BreaksLengthRule, Reads, ReadsFile}
+use Rattle.run_stages.specs.Stages.{BreaksLengthRule, Reads, ReadsFile}
 use Rattle.doc_run.specs.Generates.{Generates}
 use Rattle.doc_run.specs.Edits.{IsOverlongScript, EditsBy, EditsFile}
 use Rattle.doc_run.specs.Imports.{IsOverlongJson}

@@ -4,9 +4,9 @@ use Rattle.doc_read.specs.Holds.{HoldsDocument}
 use Rattle.fast_save.specs.Session.{SessionView}
 use Rattle.fast_save.specs.Started.{IsStarted}
 use Rattle.doc_edit.specs.Ends.{IsUnchanged}
-use Rattle.doc_run.specs.declared.stage.Taken.{Taken}
-use Rattle.doc_run.specs.declared.stage.Taken.TheVariants.{Whole, Overlong, Stopped}
-use Rattle.doc_run.specs.Reading.{IsWholeIn}
+use Rattle.run_stages.specs.declared.stage.Stage.{Stage}
+use Rattle.run_stages.specs.declared.stage.Stage.TheVariants.{Go, Stop}
+use Rattle.run_stages.specs.Reading.{IsWholeIn}
 
 -- nothing was added to it
 pub unchanged_of : (file : List ℕ) (session : SessionView) → IsStarted file session → IsUnchanged session
@@ -20,7 +20,6 @@ unchanged_of file session started =
     }
 
 pub begun_unchanged :
-    (taken : Taken) (session : SessionView) → IsWholeIn taken (λ bytes. IsStarted bytes session) → IsUnchanged session
-begun_unchanged (Whole bytes) session started = unchanged_of bytes session started.1
-begun_unchanged Overlong session started = absurd started
-begun_unchanged (Stopped ending) session started = absurd started
+    (taken : Stage (List ℕ)) (session : SessionView) → IsWholeIn taken (λ bytes. IsStarted bytes session) → IsUnchanged session
+begun_unchanged (Go bytes) session started = unchanged_of bytes session started.1
+begun_unchanged (Stop ending) session started = absurd started

@@ -15,7 +15,7 @@ use Rattle.doc_edit.specs.Ends.{IsAcceptedScript}
 use Rattle.doc_tasks.specs.Tasks.{FileTask, PairTask}
 use Rattle.doc_tasks.specs.Judged.{stream_rules}
 use Rattle.doc_tasks.specs.Replies.{CanReply, CanReplyTwo}
-use Rattle.doc_run.specs.Stages.{longest_file}
+use Rattle.run_stages.specs.Stages.{longest_file}
 use Rattle.doc_tasks.specs.Imports.{CanImport}
 use Rattle.doc_run.specs.Commands.{Request, streams, on_document, on_two, edit, from_json, generate}
 

@@ -2,14 +2,14 @@
 use Rattle.std.specs.Prelude.{ℕ, List, [], ◌∷◌, ◌++◌, codes}
 use Rattle.std.specs.Fmt.{decimal}
 use Rattle.doc_bits.specs.Places.{Place}
-use Rattle.doc_show.specs.Story.{line}
+use Rattle.text_codes.specs.Shown.{line}
 use Rattle.edit_script.specs.declared.faults.ScriptFault.{ScriptFault}
 use Rattle.edit_script.specs.declared.faults.ScriptFault.TheVariants.{Json, Shape, TooLong, Memory}
 use Rattle.edit_ops.specs.declared.faults.EditFault.{EditFault}
 use Rattle.edit_ops.specs.declared.faults.EditFault.TheVariants.{Range, Code, Rule, Limit, Memory as NoMemory}
 use Rattle.doc_edit.specs.declared.faults.Stop.{Stop}
 use Rattle.doc_edit.specs.declared.faults.Stop.TheVariants.{Refused, Guarded, Sixteenth, TooManyPieces, TooLarge}
-use Rattle.doc_tasks.specs.Lines.{place_name}
+use Rattle.run_stages.specs.Lines.{place_name}
 
 -- why bytes are no script; want of memory has no line
 abbrev pub script_line : ScriptFault → List ℕ

@@ -20,10 +20,10 @@ use Rattle.doc_tasks.specs.declared.reply.Reply.{Reply}
 use Rattle.doc_tasks.specs.declared.reply.Reply.TheVariants as reply
 use Rattle.doc_tasks.specs.declared.reply.Refusal.{Refusal}
 use Rattle.doc_tasks.specs.declared.reply.Refusal.TheVariants as refusal
-use Rattle.doc_tasks.specs.Outcomes.{Outcome, says}
+use Rattle.run_stages.specs.Outcomes.{Outcome, says}
 use Rattle.doc_tasks.specs.Replies.{EndsBy}
 use Rattle.doc_run.specs.EditLines.{script_line, stop_line, edited_line}
-use Rattle.doc_run.specs.Stages.{Reads}
+use Rattle.run_stages.specs.Stages.{Reads}
 
 -- why a run is refused that a command of the script stops: an edit that is refused, one that a guard does not allow, or
 -- a save

@@ -9,13 +9,13 @@ use Rattle.doc_edit.specs.Generated.{generated}
 use Rattle.doc_edit.specs.GeneratedRuns.{generator_start}
 use Rattle.doc_edit.specs.Ends.{EndsInMode}
 use Rattle.doc_tasks.specs.Lines.{usage_line}
-use Rattle.doc_tasks.specs.Outcomes.{Outcome, says, AreAlike}
+use Rattle.run_stages.specs.Outcomes.{Outcome, says, AreAlike}
 use Rattle.doc_tasks.specs.Tasks.{PairTask}
 use Rattle.doc_tasks.specs.Judged.{stream_rules}
 use Rattle.doc_tasks.specs.Answers.{ListsStreams, AnswersFile, AnswersTwo}
 use Rattle.doc_run.specs.Commands.{Request, streams, on_document, on_two, edit, from_json, generate}
 use Rattle.doc_run.specs.Commands.{IsCommand, IsNoCommand}
-use Rattle.doc_run.specs.Stages.{ReadsFile}
+use Rattle.run_stages.specs.Stages.{ReadsFile}
 use Rattle.doc_run.specs.Edits.{SavesLast, EditsFile}
 use Rattle.doc_run.specs.Imports.{ReadsJson}
 use Rattle.doc_run.specs.Generates.{EndsGenerated}

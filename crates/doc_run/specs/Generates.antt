@@ -10,10 +10,10 @@ use Rattle.doc_edit.specs.Ends.{IsAcceptedRun, IsLastSave, end_state}
 use Rattle.doc_edit.specs.GeneratedRuns.{generator_start, commands_run, mark_count}
 use Rattle.doc_tasks.specs.declared.reply.Reply.{Reply}
 use Rattle.doc_tasks.specs.declared.reply.Reply.TheVariants.{Made}
-use Rattle.doc_tasks.specs.Outcomes.{Outcome}
+use Rattle.run_stages.specs.Outcomes.{Outcome}
 use Rattle.doc_tasks.specs.Replies.{EndsBy}
-use Rattle.doc_show.specs.Story.{line}
-use Rattle.doc_run.specs.Stages.{IsShelfFault}
+use Rattle.text_codes.specs.Shown.{line}
+use Rattle.run_stages.specs.Stages.{IsShelfFault}
 
 -- what the generator made of a seed: the items of all texts, the marks of the main text, and the saves of each mode
 abbrev pub generated_line : (seed units paragraphs fast full : ℕ) → List ℕ

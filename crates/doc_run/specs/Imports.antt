@@ -2,9 +2,9 @@
 use Rattle.std.specs.Prelude.{◌≡◌, List, ℕ, Option, Some}
 use Rattle.doc_outer.specs.Held.{Files}
 use Rattle.doc_tasks.specs.Imports.{Imports, overlong_json_line}
-use Rattle.doc_tasks.specs.Outcomes.{Outcome, says}
+use Rattle.run_stages.specs.Outcomes.{Outcome, says}
 use Rattle.doc_tasks.specs.Replies.{EndsBy}
-use Rattle.doc_run.specs.Stages.{Reads}
+use Rattle.run_stages.specs.Stages.{Reads}
 
 -- JSON that is overlong
 abbrev pub IsOverlongJson : Outcome → Type 0

@@ -1,7 +1,5 @@
 pub mod Commands
 pub mod EditLines
-pub mod Outcomes
-pub mod Stages
 pub mod Reading
 pub mod Edits
 pub mod Imports

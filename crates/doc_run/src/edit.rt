@@ -15,10 +15,12 @@ use crate::beside::let_go;
 use crate::edit_lines::{edited_line, script_line, stop_line};
 use doc_bits::Memory;
 use doc_edit::{RunFault, Saved, Stop, run_script};
-use doc_tasks::{Ending, Refusal, Reply, STATUS_SCRIPT};
+use doc_tasks::{Refusal, Reply, STATUS_SCRIPT};
 use edit_guards::Guard;
 use edit_ops::{Script, ScriptFault, read_script};
 use fast_save::Session;
+use json_reasons::why_no_script;
+use run_stages::Ending;
 use std::alloc::Global;
 
 /// The ending where a session is run by the bytes of a script, under the eyes of guards, and its last save is put under
@@ -36,7 +38,21 @@ pub(crate) fn edit_under(
     ensures bytes { AreBytes script.now }
 {
     let reply = edit_by(alloc, session, script, guards)?;
-    Ending::under(alloc, Some(out), reply)
+    let ending = reply.into_ending(alloc, Some(out))?;
+    Ok(explained(alloc, ending, script))
+}
+
+/// The same ending; that of a script that is none tells what of it is wrong.
+fn explained(alloc: Global, ending: Ending, script: &[u8]) -> Ending
+    ensures { result ≡ ending }
+{
+    if ending.status() != STATUS_SCRIPT {
+        return ending;
+    }
+    match why_no_script(alloc, script) {
+        Some(reason) => ending.because(reason),
+        None => ending,
+    }
 }
 
 /// What running a session by the bytes of a script comes to.

@@ -9,8 +9,8 @@ ghost use Rattle.doc_run.specs.EditLines.{stop_line as stop_of, edited_line as e
 
 use doc_bits::{Memory, Text, Where};
 use doc_edit::{SaveCounts, Stop};
-use doc_tasks::part_name;
 use edit_ops::{EditFault, ScriptFault};
+use run_stages::part_name;
 use std::alloc::Global;
 
 /// The line that says why bytes are no script.

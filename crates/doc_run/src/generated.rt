@@ -6,7 +6,8 @@ ghost use Rattle.doc_run.specs.Generates.{generated_line as generated_of, Genera
 
 use doc_bits::{Memory, Text};
 use doc_edit::{Generated, SaveCounts, generate};
-use doc_tasks::{Ending, Reply};
+use doc_tasks::Reply;
+use run_stages::Ending;
 use std::alloc::Global;
 
 /// The ending where what the generator makes of a seed is put under a name.
@@ -15,7 +16,7 @@ pub(crate) fn generate_under(alloc: Global, seed: u32, out: &str) -> Result<Endi
     ensures { IfOk result (λ e. EndsBy (Some out.now) (Generates seed) e) }
 {
     let reply = generate_reply(alloc, seed)?;
-    Ending::under(alloc, Some(out), reply)
+    reply.into_ending(alloc, Some(out))
 }
 
 /// What the generator makes of a seed.

@@ -5,29 +5,31 @@ ghost use Rattle.doc_outer.specs.Counts.{Rose};
 ghost use Rattle.doc_outer.specs.Held.{Files, StaysAt};
 ghost use Rattle.doc_outer.specs.Written.{Appends, AppendsPrefix};
 ghost use Rattle.fast_save.specs.Laws.{EqualFilesHaveOneSave};
-ghost use Rattle.doc_tasks.specs.Outcomes.{Outcome};
+ghost use Rattle.run_stages.specs.Outcomes.{Outcome};
 ghost use Rattle.doc_run.specs.Commands.{Request, IsCommand, CommandIsOne, PutsUnder};
-ghost use Rattle.doc_run.specs.Outcomes.{HasCause, IsToldOfPut, LeavesPut};
+ghost use Rattle.run_stages.specs.Leaves.{HasCause, IsToldOfPut, LeavesPut};
 ghost use Rattle.doc_run.specs.Endings.{IsEnding, EndingIsOne};
 ghost use Rattle.doc_run.specs.Completeness.{CanServe};
 ghost use Rattle.doc_run.specs.Quota.{program_policies};
 
-use crate::run::docbin_run;
-use crate::status::STATUS_MEMORY;
+use crate::run::{PROGRAM, run_telling};
 use doc_outer::{Shelf, Sink};
 use edit_guards::{Guard, UnitQuota};
+use run_stages::{STATUS_MEMORY, tell_status};
 use std::alloc::Global;
 
 /// How many items the edits of a run may add.
 const UNITS: u64 = 1_000_000;
 
 /// Runs the words of a command over the files of a shelf under one guard, a quota on the items that edits add, and
-/// answers the status. Where there is no memory for the quota, that is the status for want of it.
-pub fn run_under_quota<S: Shelf, K: Sink>(
+/// answers the status. Where there is no memory for the quota, that is the status for want of it. A second sink is told
+/// why the run ends so, for people: what it does not take changes nothing.
+pub fn run_under_quota<S: Shelf, K: Sink, E: Sink>(
     alloc: Global,
     words: &[String],
     shelf: &mut S,
     out: &mut K,
+    reasons: &mut E,
 ) -> u8
     // Each clause is that of `docbin_run`, with the policy of the quota.
     ensures kept { (name : List ℕ)
@@ -62,10 +64,12 @@ pub fn run_under_quota<S: Shelf, K: Sink>(
 {
     let mut guards: Vec<Box<dyn Guard>> = Vec::new(alloc);
     let Ok(quota) = Box::new(alloc, UnitQuota::new(UNITS)) else {
+        tell_status(reasons, PROGRAM, STATUS_MEMORY);
         return STATUS_MEMORY;
     };
     if guards.push(quota).is_err() {
+        tell_status(reasons, PROGRAM, STATUS_MEMORY);
         return STATUS_MEMORY;
     }
-    docbin_run(alloc, words, shelf, out, guards)
+    run_telling(alloc, words, shelf, out, reasons, guards)
 }

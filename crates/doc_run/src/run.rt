@@ -5,25 +5,32 @@ ghost use Rattle.doc_outer.specs.Counts.{Rose};
 ghost use Rattle.doc_outer.specs.Held.{Files, StaysAt};
 ghost use Rattle.doc_outer.specs.Written.{Appends, AppendsPrefix};
 ghost use Rattle.fast_save.specs.Laws.{EqualFilesHaveOneSave};
-ghost use Rattle.doc_tasks.specs.Outcomes.{Outcome};
+ghost use Rattle.run_stages.specs.Outcomes.{Outcome};
 ghost use Rattle.doc_run.specs.Commands.{Request};
 ghost use Rattle.doc_run.specs.Commands.{IsCommand, CommandIsOne, PutsUnder};
-ghost use Rattle.doc_run.specs.Outcomes.{HasCause, IsCaused, IsOnlyRead, IsToldOfPut, LeavesPut};
+ghost use Rattle.run_stages.specs.Leaves.{HasCause, IsCaused, IsOnlyRead, IsToldOfPut, LeavesPut};
 ghost use Rattle.doc_run.specs.Endings.{IsEnding, EndingIsOne};
 ghost use Rattle.doc_run.specs.Completeness.{CanServe};
 
 use crate::command::{Command, command_of};
 use crate::generated::generate_under;
+use crate::nowhere::Nowhere;
 use crate::serve::{serve_document, serve_edit, serve_import, serve_streams, serve_two};
-use crate::status::{STATUS_MEMORY, STATUS_SHELF_FAULT, STATUS_SINK_FAULT, STATUS_USAGE};
 use doc_bits::Memory;
 use doc_outer::{PutFault, Shelf, Sink, write_all};
-use doc_tasks::{Ending, shelf_fault_line, usage_line};
+use doc_tasks::usage_line;
 use edit_guards::Guard;
+use run_stages::{
+    Ending, STATUS_MEMORY, STATUS_SHELF_FAULT, STATUS_SINK_FAULT, STATUS_USAGE, shelf_fault_line,
+    tell_reason, tell_status,
+};
 use std::alloc::Global;
 
+/// The name that each line of a reason begins with.
+pub(crate) const PROGRAM: &str = "docbin";
+
 /// Runs the words of a command over the files of a shelf, and answers the status. The guards are asked at each edit of
-/// a script, and dropped with the run.
+/// a script, and dropped with the run. Why the run ends so is told to nobody.
 pub fn docbin_run<S: Shelf, K: Sink>(
     alloc: Global,
     words: &[String],
@@ -78,12 +85,66 @@ pub fn docbin_run<S: Shelf, K: Sink>(
     // Without memory nothing is printed.
     ensures nothing { result ≡ 6 → K.written out.new ≡ K.written out.old }
 {
+    run_telling(alloc, words, shelf, out, &mut Nowhere, guards)
+}
+
+/// The same, where a second sink is told why the run ends so, for people. What it does not take changes nothing.
+pub(crate) fn run_telling<S: Shelf, K: Sink, E: Sink>(
+    alloc: Global,
+    words: &[String],
+    shelf: &mut S,
+    out: &mut K,
+    reasons: &mut E,
+    guards: Vec<Box<dyn Guard>>,
+) -> u8
+    // Each clause is that of `docbin_run`.
+    ensures kept { (name : List ℕ)
+        → ((command : Request) → IsCommand (map string_bytes words.now) command → ¬ (PutsUnder command name))
+        → StaysAt name (S.held shelf.old) (S.held shelf.new) }
+
+    ensures unchanged { result ≢ 0 → result ≢ 5
+        → IsToldOfPut result (S.put_faults shelf.old) (S.put_faults shelf.new)
+        → S.held shelf.new ≡ S.held shelf.old }
+
+    ensures ending { result ≢ 5 → result ≢ 6 → (outcome : Outcome)
+        × ((outcome.status ≡ result)
+        × (IsEnding (map (λ b. policy b) guards.items) (map string_bytes words.now) (S.held shelf.old) outcome
+        × (Appends (K.written out.old) (K.written out.new) outcome.text
+        × LeavesPut outcome (S.put_faults shelf.old) (S.put_faults shelf.new) (S.held shelf.old) (S.held shelf.new)))) }
+
+    ensures one_command { CommandIsOne }
+    ensures only { EndingIsOne }
+
+    ensures equal_saves { EqualFilesHaveOneSave }
+
+    ensures complete { (command : Request) (files : Files)
+        → IsCommand (map string_bytes words.now) command
+        → S.held shelf.old ≡ Some files → CanServe (map (λ b. policy b) guards.items) command files
+        → ¬ (Rose (S.faults shelf.old) (S.faults shelf.new))
+        → ¬ (Rose (K.faults out.old) (K.faults out.new)) → result ≢ 6 → result ≡ 0 }
+
+    ensures missing { result ≡ 3 → Rose (S.missed shelf.old) (S.missed shelf.new) }
+    ensures shelf_fault { result ≡ 4 → Rose (S.faults shelf.old) (S.faults shelf.new) }
+    ensures sink_fault { result ≡ 5 → Rose (K.faults out.old) (K.faults out.new) }
+
+    ensures prefix { result ≡ 5 → (outcome : Outcome)
+        × (IsEnding (map (λ b. policy b) guards.items) (map string_bytes words.now) (S.held shelf.old) outcome
+        × (HasCause outcome.status (S.missed shelf.old) (S.missed shelf.new) (S.faults shelf.old) (S.faults shelf.new)
+        × (AppendsPrefix (K.written out.old) (K.written out.new) outcome.text
+        × LeavesPut outcome (S.put_faults shelf.old) (S.put_faults shelf.new) (S.held shelf.old) (S.held shelf.new)))) }
+
+    ensures nothing { result ≡ 6 → K.written out.new ≡ K.written out.old }
+{
     let mut guards = guards;
     let Ok(ending) = ending_after_put(alloc, words, shelf, &mut guards) else {
+        tell_status(reasons, PROGRAM, STATUS_MEMORY);
         return STATUS_MEMORY;
     };
     match write_all(out, ending.text().as_bytes()) {
-        Ok(()) => ending.status(),
+        Ok(()) => {
+            tell_reason(reasons, PROGRAM, &ending);
+            ending.status()
+        }
         Err(_) => STATUS_SINK_FAULT,
     }
 }

@@ -7,31 +7,31 @@ ghost use Rattle.doc_edit.specs.States.{start_of};
 ghost use Rattle.doc_edit.specs.Ends.{IsUnchanged};
 ghost use Rattle.doc_tasks.specs.Tasks.{task_of, pair_of};
 ghost use Rattle.doc_tasks.specs.Replies.{EndsBy};
-ghost use Rattle.doc_tasks.specs.Judged.{stream_rules, Judges};
+ghost use Rattle.doc_tasks.specs.Judged.{stream_rules};
+ghost use Rattle.run_stages.specs.Judged.{Judges};
 ghost use Rattle.doc_tasks.specs.Answers.{ListsStreams, AnswersFile};
 ghost use Rattle.doc_tasks.specs.Imports.{Imports};
-ghost use Rattle.doc_run.specs.Outcomes.{IsCaused, IsOnlyRead};
-ghost use Rattle.doc_run.specs.Stages.{BreaksLengthRule, ReadsFile};
-ghost use Rattle.doc_run.specs.Reading.{Follows, AnswersBeside};
+ghost use Rattle.run_stages.specs.Leaves.{IsCaused, IsOnlyRead};
+ghost use Rattle.run_stages.specs.Stages.{ReadsFile};
+ghost use Rattle.run_stages.specs.Reading.{Follows, IsTaken, stage_status};
+ghost use Rattle.doc_run.specs.Reading.{AnswersBeside};
 ghost use Rattle.doc_run.specs.Edits.{EditsBy, IsOverlongScript, ReadsScript, EditsFile};
-ghost use Rattle.doc_run.specs.Imports.{IsOverlongJson, ReadsJson};
+ghost use Rattle.doc_run.specs.Imports.{ReadsJson};
 ghost use Rattle.doc_run.specs.Endings.{ReadsSecond};
 
-use crate::begin::{Begun, begin_taken};
 use crate::beside::{beside, let_go};
 use crate::edit::{edit_under, overlong_script};
-use crate::stage::{Taken, open_taken, overlong, take_whole};
-use doc_bits::Memory;
+use crate::opening::{begin_taken, open_taken};
+use doc_bits::{Bytes, Memory};
 use doc_columns::ColumnDocument;
 use doc_outer::Shelf;
 use doc_tasks::{
-    Ending, Pair, Reached, Task, answer_file, answer_two, import_file, list_streams, open_file,
-    overlong_json,
+    Pair, Task, answer_file, answer_two, import_file, list_streams, open_file, overlong_json,
 };
 use edit_guards::Guard;
 use fast_save::Session;
+use run_stages::{Ending, Stage, take_file, take_whole};
 use std::alloc::Global;
-use std::mem::forget;
 
 /// The ending where the streams of a file are asked for.
 pub(crate) fn serve_streams<S: Shelf>(
@@ -43,19 +43,18 @@ pub(crate) fn serve_streams<S: Shelf>(
     ensures ends { IfOk result (λ e. ReadsFile file.now (S.held shelf.old) stream_rules ListsStreams e) }
     ensures cause { IfOk result (λ e. IsCaused S.Shelf shelf.old shelf.new e.status) }
 {
-    let taken = take_whole(alloc, shelf, file)?;
+    let taken = take_file(alloc, shelf, file)?;
     list_taken(alloc, file, taken)
 }
 
 /// The ending where the streams of what was read are asked for.
-fn list_taken(alloc: Global, name: &str, taken: Taken) -> Result<Ending, Memory>
-    ensures { IfOk result (λ e. Follows taken (BreaksLengthRule name.now)
+fn list_taken(alloc: Global, name: &str, taken: Stage<Bytes>) -> Result<Ending, Memory>
+    ensures { IfOk result (λ e. Follows taken
         (λ bytes. Judges (stream_rules bytes) name.now (ListsStreams bytes)) e) }
 {
     match taken {
-        Taken::Whole(bytes) => list_streams(alloc, name, bytes.as_slice()),
-        Taken::Overlong => overlong(alloc, name),
-        Taken::Stopped(ending) => Ok(ending),
+        Stage::Go(bytes) => list_streams(alloc, name, bytes.as_slice()),
+        Stage::Stop(ending) => Ok(ending),
     }
 }
 
@@ -71,19 +70,23 @@ pub(crate) fn serve_document<S: Shelf>(
         ReadsFile file.now (S.held shelf.old) all_rules (AnswersFile (task_of task.entry) file.now) e) }
     ensures cause { IfOk result (λ e. IsCaused S.Shelf shelf.old shelf.new e.status) }
 {
-    let taken = take_whole(alloc, shelf, file)?;
+    let taken = take_file(alloc, shelf, file)?;
     answer_taken(alloc, task, file, taken)
 }
 
 /// The ending where something is asked of the document of what was read.
-fn answer_taken(alloc: Global, task: Task<'_>, name: &str, taken: Taken) -> Result<Ending, Memory>
-    ensures { IfOk result (λ e. Follows taken (BreaksLengthRule name.now)
+fn answer_taken(
+    alloc: Global,
+    task: Task<'_>,
+    name: &str,
+    taken: Stage<Bytes>,
+) -> Result<Ending, Memory>
+    ensures { IfOk result (λ e. Follows taken
         (λ bytes. Judges (all_rules bytes) name.now (AnswersFile (task_of task.entry) name.now bytes)) e) }
 {
     match taken {
-        Taken::Whole(bytes) => answer_file(alloc, task, name, bytes.as_slice()),
-        Taken::Overlong => overlong(alloc, name),
-        Taken::Stopped(ending) => Ok(ending),
+        Stage::Go(bytes) => answer_file(alloc, task, name, bytes.as_slice()),
+        Stage::Stop(ending) => Ok(ending),
     }
 }
 
@@ -101,16 +104,15 @@ pub(crate) fn serve_two<S: Shelf>(
         (ReadsSecond (pair_of pair.entry) second.now (S.held shelf.old)) e) }
     ensures cause { IfOk result (λ e. IsCaused S.Shelf shelf.old shelf.new e.status) }
 {
-    let taken = take_whole(alloc, shelf, first)?;
+    let taken = take_file(alloc, shelf, first)?;
     let reached = open_taken(alloc, first, taken)?;
     match reached {
-        Reached::Opened(document) => {
+        Stage::Go(document) => {
             let ending = serve_second(alloc, shelf, pair, &document, second);
-            // The run is about to end, so the document is not taken apart.
-            forget(document);
+            drop(document);
             ending
         }
-        Reached::Stopped(ending) => Ok(ending),
+        Stage::Stop(ending) => Ok(ending),
     }
 }
 
@@ -128,7 +130,7 @@ fn serve_second<S: Shelf>(
         ReadsFile second.now (S.held shelf.old) all_rules (AnswersBeside (pair_of pair.entry) first.now) e) }
     ensures cause { IfOk result (λ e. IsCaused S.Shelf shelf.old shelf.new e.status) }
 {
-    let taken = take_whole(alloc, shelf, second)?;
+    let taken = take_file(alloc, shelf, second)?;
     second_taken(alloc, pair, first, second, taken)
 }
 
@@ -138,16 +140,15 @@ fn second_taken(
     pair: Pair<'_>,
     first: &ColumnDocument,
     name: &str,
-    taken: Taken,
+    taken: Stage<Bytes>,
 ) -> Result<Ending, Memory>
     requires { IsSound first.now }
-    ensures { IfOk result (λ e. Follows taken (BreaksLengthRule name.now)
+    ensures { IfOk result (λ e. Follows taken
         (λ bytes. Judges (all_rules bytes) name.now (AnswersBeside (pair_of pair.entry) first.now bytes)) e) }
 {
     match taken {
-        Taken::Whole(bytes) => answer_second(alloc, pair, first, name, bytes.as_slice()),
-        Taken::Overlong => overlong(alloc, name),
-        Taken::Stopped(ending) => Ok(ending),
+        Stage::Go(bytes) => answer_second(alloc, pair, first, name, bytes.as_slice()),
+        Stage::Stop(ending) => Ok(ending),
     }
 }
 
@@ -166,13 +167,12 @@ fn answer_second(
 {
     let reached = open_file(alloc, name, file)?;
     match reached {
-        Reached::Opened(second) => {
+        Stage::Go(second) => {
             let ending = answer_two(alloc, pair, first, &second);
-            // As above.
-            forget(second);
+            drop(second);
             ending
         }
-        Reached::Stopped(ending) => Ok(ending),
+        Stage::Stop(ending) => Ok(ending),
     }
 }
 
@@ -187,19 +187,19 @@ pub(crate) fn serve_import<S: Shelf>(
     ensures ends { IfOk result (λ e. ReadsJson file.now out.now (S.held shelf.old) e) }
     ensures cause { IfOk result (λ e. IsCaused S.Shelf shelf.old shelf.new e.status) }
 {
-    let taken = take_whole(alloc, shelf, file)?;
+    let overlong = overlong_json(alloc)?;
+    let taken = take_whole(alloc, shelf, file, overlong)?;
     import_taken(alloc, taken, out)
 }
 
 /// The ending where the document that is the JSON of what was read is saved.
-fn import_taken(alloc: Global, taken: Taken, out: &str) -> Result<Ending, Memory>
-    ensures { IfOk result (λ e. Follows taken IsOverlongJson
+fn import_taken(alloc: Global, taken: Stage<Bytes>, out: &str) -> Result<Ending, Memory>
+    ensures { IfOk result (λ e. Follows taken
         (λ bytes. EndsBy (Some out.now) (Imports bytes)) e) }
 {
     match taken {
-        Taken::Whole(bytes) => import_file(alloc, bytes.as_slice(), out),
-        Taken::Overlong => overlong_json(alloc),
-        Taken::Stopped(ending) => Ok(ending),
+        Stage::Go(bytes) => import_file(alloc, bytes.as_slice(), out),
+        Stage::Stop(ending) => Ok(ending),
     }
 }
 
@@ -217,11 +217,11 @@ pub(crate) fn serve_edit<S: Shelf>(
         (EditsFile (map (λ b. policy b) guards.old) script.now out.now (S.held shelf.old)) e) }
     ensures cause { IfOk result (λ e. IsCaused S.Shelf shelf.old shelf.new e.status) }
 {
-    let taken = take_whole(alloc, shelf, file)?;
+    let taken = take_file(alloc, shelf, file)?;
     let begun = begin_taken(alloc, file, taken)?;
     match begun {
-        Begun::On(session) => edit_by_name(alloc, shelf, session, script, out, guards),
-        Begun::Stopped(ending) => Ok(ending),
+        Stage::Go(session) => edit_by_name(alloc, shelf, session, script, out, guards),
+        Stage::Stop(ending) => Ok(ending),
     }
 }
 
@@ -240,26 +240,35 @@ fn edit_by_name<S: Shelf>(
         ReadsScript script.now out.now (S.held shelf.old) (start_of session (map (λ b. policy b) guards.old)) e) }
     ensures cause { IfOk result (λ e. IsCaused S.Shelf shelf.old shelf.new e.status) }
 {
-    let read = take_whole(alloc, shelf, script);
+    let read = take_script(alloc, shelf, script);
     let (session, taken) = beside(session, read)?;
     edit_taken(alloc, session, taken, out, guards)
+}
+
+/// Reads a script whole.
+fn take_script<S: Shelf>(alloc: Global, shelf: &mut S, script: &str) -> Result<Stage<Bytes>, Memory>
+    ensures read { IsOnlyRead S.Shelf shelf.old shelf.new }
+    ensures is { IfOk result (λ t. IsTaken script.now (S.held shelf.old) IsOverlongScript t) }
+    ensures cause { IfOk result (λ t. IsCaused S.Shelf shelf.old shelf.new (stage_status t)) }
+{
+    let overlong = overlong_script(alloc)?;
+    take_whole(alloc, shelf, script, overlong)
 }
 
 /// The ending where a session is run by what was read as a script.
 fn edit_taken(
     alloc: Global,
     session: Session,
-    taken: Taken,
+    taken: Stage<Bytes>,
     out: &str,
     guards: &mut [Box<dyn Guard>],
 ) -> Result<Ending, Memory>
     requires { IsUnchanged session }
-    ensures { IfOk result (λ e. Follows taken IsOverlongScript
+    ensures { IfOk result (λ e. Follows taken
         (λ bytes. EndsBy (Some out.now) (EditsBy (start_of session (map (λ b. policy b) guards.old)) bytes)) e) }
 {
     match taken {
-        Taken::Whole(bytes) => edit_under(alloc, session, bytes.as_slice(), out, guards),
-        Taken::Overlong => let_go(session, overlong_script(alloc)),
-        Taken::Stopped(ending) => Ok(let_go(session, ending)),
+        Stage::Go(bytes) => edit_under(alloc, session, bytes.as_slice(), out, guards),
+        Stage::Stop(ending) => Ok(let_go(session, ending)),
     }
 }

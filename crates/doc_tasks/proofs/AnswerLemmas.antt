@@ -6,24 +6,15 @@ use Rattle.plain_doc.specs.declared.document.Document.{Document}
 use Rattle.doc_read.specs.Holds.{HoldsDocument}
 use Rattle.doc_read.proofs.OneDocument.{document_one}
 use Rattle.doc_tasks.specs.Lines.{stream_lines}
-use Rattle.doc_tasks.specs.Outcomes.{Outcome, says}
+use Rattle.run_stages.specs.Outcomes.{Outcome, says}
 use Rattle.doc_tasks.specs.Tasks.{FileTask, PairTask, out_of, out_of_two}
 use Rattle.doc_tasks.specs.declared.reply.Reply.{Reply}
 use Rattle.doc_tasks.specs.Replies.{outcome_of, EndsBy, Replies, RepliesTwo, CanReply, CanReplyTwo}
 use Rattle.doc_tasks.specs.Answers.{IsListingOf, ListsStreams, AnswersFile, AnswersTwo}
-use Rattle.doc_tasks.proofs.OutcomeLemmas.{IsAfterReading, said_inside, ends_one, ends_done, ends_inside, ends_by}
+use Rattle.run_stages.specs.Outcomes.{IsAfterReading}
+use Rattle.run_stages.proofs.OutcomeLemmas.{said_inside}
+use Rattle.doc_tasks.proofs.OutcomeLemmas.{ends_one, ends_done, ends_inside, ends_by}
 use Rattle.doc_tasks.proofs.ReplyLemmas.{replies_one, replies_done, replies_two_one, replies_two_done}
-
--- the reply on the document that a file holds is the answer
-pub answers_file :
-    (task : FileTask) (name file : List ℕ) (document : Document) (under : Option (List ℕ)) (reply : Reply)
-    (outcome : Outcome) → HoldsDocument file document → Replies task name document reply → under ≡ out_of task →
-    outcome ≡ outcome_of under reply → AnswersFile task name file outcome
-answers_file task name file document under reply outcome holds is same ends = record {
-  document = document;
-  holds = holds;
-  answers = ends_by (out_of task) under (Replies task name document) reply outcome is same ends;
-}
 
 -- one list of streams
 listing_one : (file text said : List ℕ) → IsListingOf file text → IsListingOf file said → text ≡ said

@@ -20,7 +20,7 @@ use Rattle.doc_tasks.specs.declared.reply.Reply.TheVariants.{Refused}
 use Rattle.doc_tasks.specs.declared.reply.Refusal.TheVariants.{Json, Unsound}
 use Rattle.doc_tasks.specs.Imports.{not_json_line, wrong_shape_line, SavesRead, IsNoJson, HasNoShape, BreaksRuleRead}
 use Rattle.doc_tasks.specs.Imports.{Imports, CanImport}
-use Rattle.doc_tasks.specs.Lines.{rule_line}
+use Rattle.run_stages.specs.Lines.{rule_line}
 use Rattle.doc_tasks.specs.Replies.{IsDone}
 use Rattle.doc_tasks.specs.Saves.{Saves}
 use Rattle.doc_tasks.proofs.SaveLemmas.{saved_one, saved_done}

@@ -15,7 +15,7 @@ use Rattle.doc_join.specs.Faults.{IsJoinFault}
 use Rattle.doc_tasks.specs.declared.reply.Reply.{Reply}
 use Rattle.doc_tasks.specs.declared.reply.Reply.TheVariants.{Refused}
 use Rattle.doc_tasks.specs.declared.reply.Refusal.TheVariants.{Unsound}
-use Rattle.doc_tasks.specs.Lines.{rule_line}
+use Rattle.run_stages.specs.Lines.{rule_line}
 use Rattle.doc_tasks.specs.Joins.{SavesJoined, HasTooManyStyles, BreaksRuleJoined, Joins, CanJoin}
 use Rattle.doc_tasks.specs.Replies.{IsDone}
 use Rattle.doc_tasks.proofs.SaveLemmas.{saved_one, saved_done}

@@ -11,10 +11,12 @@ use Rattle.doc_load.specs.declared.fault.ReadFault.{ReadFault}
 use Rattle.doc_load.specs.declared.fault.ReadFault.TheVariants as fault
 use Rattle.doc_load.specs.Faults.{IsReadFault}
 use Rattle.doc_load.proofs.RefusalLemmas.{single_in}
-use Rattle.doc_tasks.specs.Lines.{rule_line}
-use Rattle.doc_tasks.specs.Outcomes.{Outcome, says}
-use Rattle.doc_tasks.specs.Judged.{IsRefused, Judges, NamesRule, stream_rules}
-use Rattle.doc_tasks.proofs.OutcomeLemmas.{IsAfterReading, said_inside}
+use Rattle.run_stages.specs.Lines.{rule_line}
+use Rattle.run_stages.specs.Outcomes.{Outcome, says}
+use Rattle.run_stages.specs.Judged.{IsRefused, Judges}
+use Rattle.doc_tasks.specs.Judged.{NamesRule, stream_rules}
+use Rattle.run_stages.specs.Outcomes.{IsAfterReading}
+use Rattle.run_stages.proofs.OutcomeLemmas.{said_inside}
 
 -- the line of a refusal names the first broken rule
 pub names-refused :
@@ -23,25 +25,6 @@ pub names-refused :
 names-refused rules (fault.Refused number part offset) name outcome first named =
     record { rule = number; place = (part, offset); first = first; ends = named }
 names-refused rules fault.Memory name outcome first named = absurd named
-
--- one refusal
-pub refused_one :
-    (rules : Rules Place) (name : List ℕ) (a b : Outcome) → IsSingle rules → IsRefused rules name a →
-    IsRefused rules name b → a ≡ b
-refused_one rules name a b single x y =
-    let xy = first_agrees Upto rules x.rule y.rule x.place y.place single x.first y.first in
-    let yx = first_agrees Upto rules y.rule x.rule y.place x.place single y.first x.first in
-    let places : x.place ≡ y.place = place_one x.place y.place xy.1 yx.1 in
-    x.ends
-    ∙ (ap (λ r. says 1 (rule_line name r x.place)) xy.0
-    ∙ (ap (λ p. says 1 (rule_line name y.rule p)) places ∙ sym y.ends))
-
--- a run that ends by a refusal, or by what comes behind it, has a status of what comes after reading
-pub judged_inside :
-    (rules : Rules Place) (name : List ℕ) (next : Outcome → Type 0) (outcome : Outcome) →
-    (next outcome → IsAfterReading outcome.status) → Judges rules name next outcome → IsAfterReading outcome.status
-judged_inside rules name next outcome step (inl x) = said_inside 1 _ outcome x.ends (inl (omega arith))
-judged_inside rules name next outcome step (inr x) = step x.1
 
 -- the rules of a container speak of one object each
 pub streams_single : (file : List ℕ) → IsSingle (stream_rules file)

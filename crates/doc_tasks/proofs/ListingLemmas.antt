@@ -6,7 +6,7 @@ use Rattle.std.proofs.lemmas.Option.{none-some, slice_get_within, get_or_from_sl
 use Rattle.std.proofs.lemmas.List.{drop_more}
 use Rattle.text_codes.specs.Shown.{shown}
 use Rattle.cfb_streams.specs.Contents.{Stream}
-use Rattle.doc_show.specs.Story.{line}
+use Rattle.text_codes.specs.Shown.{line}
 use Rattle.doc_tasks.specs.Lines.{stream_lines}
 
 -- the value, where there is one

@@ -7,27 +7,8 @@ use Rattle.doc_tasks.specs.declared.reply.Reply.TheVariants.{Done, Made, Refused
 use Rattle.doc_tasks.specs.declared.reply.Refusal.{Refusal}
 use Rattle.doc_tasks.specs.declared.reply.Refusal.TheVariants.{Script, Json, Position, Edit, Styles, Unsound, Save}
 use Rattle.doc_tasks.specs.declared.reply.Refusal.TheVariants.{Guarded, Different, NoSummary, WrongSummary}
-use Rattle.doc_tasks.specs.Outcomes.{Outcome, PutFile, says}
+use Rattle.run_stages.specs.Outcomes.{Outcome, PutFile, says, IsAfterReading}
 use Rattle.doc_tasks.specs.Replies.{status_of, outcome_of, EndsBy, IsDone}
-
--- a status that a stage after reading may answer: none of those for what happens outside, 3 to 6
-abbrev pub IsAfterReading : ℕ → Type 0
-IsAfterReading status = (status < 3) ⊎ (6 < status)
-
-inside :
-    (status : ℕ) (outcome : Outcome) → outcome.status ≡ status → IsAfterReading status →
-    IsAfterReading outcome.status
-inside status outcome e is = subst (λ n. IsAfterReading n) (sym e) is
-
-pub status_said :
-    (status : ℕ) (text : List ℕ) (outcome : Outcome) → outcome ≡ says status text → outcome.status ≡ status
-status_said status text outcome e = ap (λ (o : Outcome). o.status) e
-
--- what prints alone after reading
-pub said_inside :
-    (status : ℕ) (text : List ℕ) (outcome : Outcome) → outcome ≡ says status text → IsAfterReading status →
-    IsAfterReading outcome.status
-said_inside status text outcome e is = inside status outcome (status_said status text outcome e) is
 
 refusal_inside : (why : Refusal) → IsAfterReading (status_of why)
 refusal_inside Script = inr (omega arith)
@@ -54,11 +35,6 @@ pub ends_inside :
     IsAfterReading outcome.status
 ends_inside out such outcome ends =
     subst (λ (o : Outcome). IsAfterReading o.status) (sym ends.ends) (outcome_inside out ends.reply)
-
--- such a status is none of what happens outside
-pub after_reading_inside : (status : ℕ) → IsAfterReading status → (status ≢ 5) × (status ≢ 6)
-after_reading_inside status (inl e) = (λ s. omega (arith, e, s), λ s. omega (arith, e, s))
-after_reading_inside status (inr e) = (λ s. omega (arith, e, s), λ s. omega (arith, e, s))
 
 -- what prints alone puts nothing
 says_nothing :

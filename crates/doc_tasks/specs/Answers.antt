@@ -5,7 +5,7 @@ use Rattle.cfb_streams.specs.Container.{HasContents}
 use Rattle.plain_doc.specs.declared.document.Document.{Document}
 use Rattle.doc_read.specs.Holds.{HoldsDocument}
 use Rattle.doc_tasks.specs.Lines.{stream_lines}
-use Rattle.doc_tasks.specs.Outcomes.{Outcome, says}
+use Rattle.run_stages.specs.Outcomes.{Outcome, says}
 use Rattle.doc_tasks.specs.Tasks.{FileTask, PairTask, out_of, out_of_two}
 use Rattle.doc_tasks.specs.Replies.{EndsBy, Replies, RepliesTwo}
 

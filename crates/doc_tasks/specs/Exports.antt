@@ -2,7 +2,7 @@
 use Rattle.std.specs.Prelude.{◌≡◌, ◌⊎◌, ℕ, ◌++◌, ◌<◌, ◌≤◌, List, length, codes}
 use Rattle.std.specs.Fmt.{decimal}
 use Rattle.plain_doc.specs.declared.document.Document.{Document}
-use Rattle.doc_show.specs.Story.{line}
+use Rattle.text_codes.specs.Shown.{line}
 use Rattle.json_doc.specs.Documents.{json_text}
 use Rattle.doc_tasks.specs.declared.reply.Reply.{Reply}
 use Rattle.doc_tasks.specs.declared.reply.Reply.TheVariants.{Made, Refused}

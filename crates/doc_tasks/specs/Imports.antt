@@ -6,13 +6,13 @@ use Rattle.doc_bits.specs.Places.{Place, IsFirstPlace}
 use Rattle.plain_doc.specs.declared.document.Document.{Document}
 use Rattle.plain_doc.specs.Sound.{document_rules}
 use Rattle.full_save.specs.Layout.{FitsCompoundFile}
-use Rattle.doc_show.specs.Story.{line}
+use Rattle.text_codes.specs.Shown.{line}
 use Rattle.json_doc.specs.Documents.{json_value}
 use Rattle.json_doc.specs.Reading.{IsWhole, IsReadAs, HasWrongShape}
 use Rattle.doc_tasks.specs.declared.reply.Reply.{Reply}
 use Rattle.doc_tasks.specs.declared.reply.Reply.TheVariants.{Refused}
 use Rattle.doc_tasks.specs.declared.reply.Refusal.TheVariants.{Json, Unsound}
-use Rattle.doc_tasks.specs.Lines.{rule_line}
+use Rattle.run_stages.specs.Lines.{rule_line}
 use Rattle.doc_tasks.specs.Saves.{Saves}
 
 abbrev pub not_json_line : List ℕ

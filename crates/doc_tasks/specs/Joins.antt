@@ -5,12 +5,12 @@ use Rattle.doc_bits.specs.Places.{Place, IsFirstPlace}
 use Rattle.plain_doc.specs.declared.document.Document.{Document}
 use Rattle.plain_doc.specs.Sound.{IsSound, document_rules}
 use Rattle.full_save.specs.Layout.{FitsCompoundFile}
-use Rattle.doc_show.specs.Story.{line}
+use Rattle.text_codes.specs.Shown.{line}
 use Rattle.doc_join.specs.Join.{document_join, slots_together, most_slots}
 use Rattle.doc_tasks.specs.declared.reply.Reply.{Reply}
 use Rattle.doc_tasks.specs.declared.reply.Reply.TheVariants.{Refused}
 use Rattle.doc_tasks.specs.declared.reply.Refusal.TheVariants.{Styles, Unsound}
-use Rattle.doc_tasks.specs.Lines.{rule_line}
+use Rattle.run_stages.specs.Lines.{rule_line}
 use Rattle.doc_tasks.specs.Saves.{Saves}
 
 -- the slots of both sheets, which are more than a sheet has

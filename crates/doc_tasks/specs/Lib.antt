@@ -1,4 +1,3 @@
-pub mod Outcomes
 pub mod Lines
 pub mod Tasks
 pub mod Saves

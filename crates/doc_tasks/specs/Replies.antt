@@ -12,7 +12,7 @@ use Rattle.doc_tasks.specs.declared.reply.Reply.TheVariants.{Done, Made, Refused
 use Rattle.doc_tasks.specs.declared.reply.Refusal.{Refusal}
 use Rattle.doc_tasks.specs.declared.reply.Refusal.TheVariants.{Script, Json, Position, Edit, Styles, Unsound, Save}
 use Rattle.doc_tasks.specs.declared.reply.Refusal.TheVariants.{Guarded, Different, NoSummary, WrongSummary}
-use Rattle.doc_tasks.specs.Outcomes.{Outcome, says, puts}
+use Rattle.run_stages.specs.Outcomes.{Outcome, says, puts}
 use Rattle.doc_tasks.specs.Lines.{position_line, equal_line, different_line}
 use Rattle.doc_tasks.specs.Saves.{Saves}
 use Rattle.doc_tasks.specs.Summaries.{TellsTitle, PutsTitle, HasPropertySet, CanRetitle}

@@ -4,7 +4,7 @@ use Rattle.std.specs.Prelude.{◌++◌, Option, Some, None, codes}
 use Rattle.std.specs.List.{flat_map}
 use Rattle.std.specs.Fmt.{decimal}
 use Rattle.text_codes.specs.Shown.{hex_digit}
-use Rattle.doc_show.specs.Story.{line}
+use Rattle.text_codes.specs.Shown.{line}
 use Rattle.summary_set.specs.Texts.{text_property}
 
 -- a byte that is shown as it is: from 0x20 to 0x7E, but no reverse solidus

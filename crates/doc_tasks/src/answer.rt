@@ -1,32 +1,30 @@
 // What is asked of the bytes of files that were read: they are judged, and what their documents say is the run's end.
-ghost use Rattle.std.specs.Prelude.{IfOk};
+ghost use Rattle.std.specs.Prelude.{◌≡◌, IfOk};
 ghost use Rattle.doc_bits.specs.Number.{AreBytes};
 ghost use Rattle.plain_doc.specs.Sound.{IsSound};
 ghost use Rattle.doc_read.specs.Holds.{all_rules};
 ghost use Rattle.doc_read.specs.CarriedParts.{AreShortStreams};
-ghost use Rattle.doc_tasks.specs.Tasks.{task_of, pair_of, out_of_two};
+ghost use Rattle.doc_tasks.specs.Tasks.{task_of, out_of, pair_of, out_of_two};
 ghost use Rattle.doc_tasks.specs.Replies.{EndsBy, Replies, RepliesTwo};
-ghost use Rattle.doc_tasks.specs.Judged.{Judges, NamesRule, IsJudged, stream_rules};
+ghost use Rattle.run_stages.specs.Judged.{Judges};
+ghost use Rattle.doc_tasks.specs.Judged.{NamesRule, IsJudged, stream_rules};
 ghost use Rattle.doc_tasks.specs.Answers.{AnswersFile, ListsStreams};
 
-use crate::ending::Ending;
 use crate::equality::compare;
 use crate::export::export_reply;
 use crate::joining::join_reply;
-use crate::lines::rule_line;
 use crate::listing::listing;
 use crate::look::{check_reply, outline_reply, props_reply, show_reply, text_reply};
 use crate::reply::Reply;
-use crate::retitle::retitle_reply;
+use crate::retitle::{retitle_reply, title_warning};
 use crate::save::full_reply;
-use crate::status::{STATUS_DONE, STATUS_REFUSED};
 use crate::summary::title_reply;
 use crate::task::{Pair, Task};
-use doc_bits::Memory;
+use doc_bits::{Memory, Text};
 use doc_columns::ColumnDocument;
 use doc_read::{ReadFault, open};
+use run_stages::{Ending, STATUS_DONE, Stage, rule_broken, why_refused};
 use std::alloc::Global;
-use std::mem::forget;
 
 /// The ending where something is asked of the document of a file that was read whole under a name.
 pub fn answer_file(alloc: Global, task: Task<'_>, name: &str, file: &[u8]) -> Result<Ending, Memory>
@@ -36,12 +34,54 @@ pub fn answer_file(alloc: Global, task: Task<'_>, name: &str, file: &[u8]) -> Re
 {
     match open(alloc, file) {
         Ok(found) => {
-            let reply = reply_on(alloc, &task, name, found.document());
-            // The run is about to end, so the document is not taken apart.
-            forget(found);
-            Ending::under(alloc, task.out(), reply?)
+            let ending = answer_document(alloc, &task, name, found.document());
+            drop(found);
+            ending
         }
-        Err(fault) => refused(alloc, name, fault),
+        Err(fault) => refused(alloc, name, file, fault),
+    }
+}
+
+/// The ending where something is asked of the document of a name.
+fn answer_document(
+    alloc: Global,
+    task: &Task<'_>,
+    name: &str,
+    document: &ColumnDocument,
+) -> Result<Ending, Memory>
+    requires sound { IsSound document.now }
+    requires short { AreShortStreams document.now.carried.streams }
+    ensures { IfOk result
+        (EndsBy (out_of (task_of task.now)) (Replies (task_of task.now) name.now document.now)) }
+{
+    let reply = reply_on(alloc, task, name, document)?;
+    let ending = reply.into_ending(alloc, task.out())?;
+    let warning = warning_on(alloc, task, name, document)?;
+    Ok(warned(ending, warning))
+}
+
+/// What is told of a task that is done, for people.
+fn warning_on(
+    alloc: Global,
+    task: &Task<'_>,
+    name: &str,
+    document: &ColumnDocument,
+) -> Result<Option<Text>, Memory>
+    requires { AreShortStreams document.now.carried.streams }
+{
+    match task {
+        Task::Retitle { .. } => title_warning(alloc, name, &document.carried.streams),
+        _ => Ok(None),
+    }
+}
+
+/// The ending of a task that is done, with what is told of it.
+fn warned(ending: Ending, warning: Option<Text>) -> Ending
+    ensures { result ≡ ending }
+{
+    match warning {
+        Some(warning) if ending.status() == STATUS_DONE => ending.because(warning),
+        _ => ending,
     }
 }
 
@@ -82,7 +122,7 @@ pub fn answer_two(
         (EndsBy (out_of_two (pair_of pair.entry)) (RepliesTwo (pair_of pair.entry) first.now second.now)) }
 {
     let reply = reply_on_two(alloc, pair, first, second)?;
-    Ending::under(alloc, pair.out(), reply)
+    reply.into_ending(alloc, pair.out())
 }
 
 /// What is asked of two documents comes to.
@@ -109,38 +149,29 @@ pub fn list_streams(alloc: Global, name: &str, file: &[u8]) -> Result<Ending, Me
 {
     match listing(alloc, file) {
         Ok(text) => Ok(Ending::new(STATUS_DONE, text)),
-        Err(fault) => refused(alloc, name, fault),
+        Err(fault) => refused(alloc, name, file, fault),
     }
 }
 
-/// What opening the document of a file came to.
-#[derive(Drop)]
-pub enum Reached {
-    /// The document that it holds.
-    Opened(ColumnDocument),
-    /// The run ends so.
-    Stopped(Ending),
-}
-
 /// Opens the document of a file that was read whole under a name.
-pub fn open_file(alloc: Global, name: &str, file: &[u8]) -> Result<Reached, Memory>
+pub fn open_file(alloc: Global, name: &str, file: &[u8]) -> Result<Stage<ColumnDocument>, Memory>
     ensures is { IfOk result (λ r. IsJudged name.now file.now r) }
     ensures bytes { AreBytes file.now }
 {
     match open(alloc, file) {
         Ok(opened) => {
             let parts = opened.into_parts();
-            Ok(Reached::Opened(parts.0))
+            Ok(Stage::Go(parts.0))
         }
         Err(fault) => {
-            let ending = refused(alloc, name, fault)?;
-            Ok(Reached::Stopped(ending))
+            let ending = refused(alloc, name, file, fault)?;
+            Ok(Stage::Stop(ending))
         }
     }
 }
 
 /// The ending of a file that is refused.
-pub fn refused(alloc: Global, name: &str, fault: ReadFault) -> Result<Ending, Memory>
+pub fn refused(alloc: Global, name: &str, file: &[u8], fault: ReadFault) -> Result<Ending, Memory>
     ensures { IfOk result (λ e. NamesRule fault name.now e) }
 {
     match fault {
@@ -148,10 +179,7 @@ pub fn refused(alloc: Global, name: &str, fault: ReadFault) -> Result<Ending, Me
             rule,
             place,
             offset,
-        } => {
-            let text = rule_line(alloc, name, rule, place, offset)?;
-            Ok(Ending::new(STATUS_REFUSED, text))
-        }
+        } => rule_broken(alloc, name, rule, (place, offset), why_refused(rule, file)),
         ReadFault::Memory => Err(Memory),
     }
 }

@@ -5,20 +5,19 @@ ghost use Rattle.doc_tasks.specs.declared.reply.Reply.TheVariants.{Refused};
 ghost use Rattle.doc_tasks.specs.declared.reply.Refusal.TheVariants.{Json, Unsound};
 ghost use Rattle.doc_tasks.specs.Imports.{not_json_line as not_json_of, wrong_shape_line as wrong_shape_of, Imports};
 ghost use Rattle.doc_tasks.specs.Imports.{overlong_json_line as overlong_of};
-ghost use Rattle.doc_tasks.specs.Lines.{rule_line as rule_of};
-ghost use Rattle.doc_tasks.specs.Outcomes.{says};
+ghost use Rattle.run_stages.specs.Lines.{rule_line as rule_of};
+ghost use Rattle.run_stages.specs.Outcomes.{says};
 ghost use Rattle.doc_tasks.specs.Replies.{EndsBy};
 ghost use Rattle.json_doc.specs.Reading.{IsJsonFault};
 
-use crate::ending::Ending;
-use crate::lines::rule_line;
 use crate::reply::{Refusal, Reply};
 use crate::save::saved;
 use crate::status::STATUS_JSON;
 use doc_bits::{Memory, Text, Where};
 use json_doc::{JsonFault, columns_from_json};
+use json_reasons::why_no_document;
+use run_stages::{Ending, rule_line};
 use std::alloc::Global;
-use std::mem::forget;
 
 /// The ending where the bytes of a file are to be a document as JSON, which is saved for a name.
 pub fn import_file(alloc: Global, file: &[u8], out: &str) -> Result<Ending, Memory>
@@ -26,7 +25,21 @@ pub fn import_file(alloc: Global, file: &[u8], out: &str) -> Result<Ending, Memo
     ensures bytes { AreBytes file.now }
 {
     let reply = import_reply(alloc, file)?;
-    Ending::under(alloc, Some(out), reply)
+    let ending = reply.into_ending(alloc, Some(out))?;
+    Ok(explained(alloc, ending, file))
+}
+
+/// The same ending; that of bytes that are no document tells what of them is wrong.
+fn explained(alloc: Global, ending: Ending, file: &[u8]) -> Ending
+    ensures { result ≡ ending }
+{
+    if ending.status() != STATUS_JSON {
+        return ending;
+    }
+    match why_no_document(alloc, file) {
+        Some(reason) => ending.because(reason),
+        None => ending,
+    }
 }
 
 /// The full save of the document that the bytes of a file spell.
@@ -36,8 +49,7 @@ fn import_reply(alloc: Global, file: &[u8]) -> Result<Reply, Memory>
     match columns_from_json(alloc, file) {
         Ok(document) => {
             let reply = saved(alloc, "import", &document);
-            // The run is about to end, so the columns are not taken apart.
-            forget(document);
+            drop(document);
             reply
         }
         Err(fault) => not_read(alloc, fault),

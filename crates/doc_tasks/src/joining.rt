@@ -3,17 +3,16 @@ ghost use Rattle.std.specs.Prelude.{◌≡◌, IfOk, codes};
 ghost use Rattle.plain_doc.specs.Sound.{IsSound};
 ghost use Rattle.doc_tasks.specs.declared.reply.Reply.TheVariants.{Refused};
 ghost use Rattle.doc_tasks.specs.declared.reply.Refusal.TheVariants.{Styles, Unsound};
-ghost use Rattle.doc_tasks.specs.Lines.{rule_line as rule_of};
+ghost use Rattle.run_stages.specs.Lines.{rule_line as rule_of};
 ghost use Rattle.doc_tasks.specs.Joins.{styles_line as styles_of, Joins};
 
-use crate::lines::rule_line;
 use crate::reply::{Refusal, Reply};
 use crate::save::saved;
 use doc_bits::{Memory, Text, Where};
 use doc_columns::ColumnDocument;
 use doc_join::{JoinFault, columns_join};
+use run_stages::rule_line;
 use std::alloc::Global;
-use std::mem::forget;
 
 /// The full save of one document with another behind it.
 pub(crate) fn join_reply(
@@ -28,8 +27,7 @@ pub(crate) fn join_reply(
     match columns_join(alloc, first, second) {
         Ok(made) => {
             let reply = saved(alloc, "join", &made);
-            // The run is about to end, so the columns are not taken apart.
-            forget(made);
+            drop(made);
             reply
         }
         Err(JoinFault::Styles { slots }) => too_many_styles(alloc, slots),

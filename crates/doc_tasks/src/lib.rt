@@ -2,7 +2,6 @@
 #![tactic(auto)]
 
 mod answer;
-mod ending;
 mod equality;
 mod export;
 mod import;
@@ -19,17 +18,13 @@ mod summary_lines;
 mod task;
 mod title;
 
-pub use answer::{Reached, answer_file, answer_two, list_streams, open_file, refused};
-pub use ending::{Ending, FilePut};
+pub use answer::{answer_file, answer_two, list_streams, open_file, refused};
 pub use import::{import_file, overlong_json};
-pub use lines::{
-    bytes_line, missing_line, needs_line, part_name, rule_line, shelf_fault_line, usage_line,
-};
+pub use lines::{bytes_line, needs_line, usage_line};
 pub use reply::{Refusal, Reply};
 pub use status::{
-    STATUS_DIFFERENT, STATUS_DONE, STATUS_EDIT, STATUS_GUARD, STATUS_JSON, STATUS_NO_SUMMARY,
-    STATUS_POSITION, STATUS_REFUSED, STATUS_SAVE, STATUS_SCRIPT, STATUS_STYLES, STATUS_UNSOUND,
-    STATUS_WRONG_SUMMARY,
+    STATUS_DIFFERENT, STATUS_EDIT, STATUS_GUARD, STATUS_JSON, STATUS_NO_SUMMARY, STATUS_POSITION,
+    STATUS_SAVE, STATUS_SCRIPT, STATUS_STYLES, STATUS_UNSOUND, STATUS_WRONG_SUMMARY,
 };
 pub use task::{Pair, Task};
 pub use title::Title;

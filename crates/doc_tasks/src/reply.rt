@@ -1,12 +1,15 @@
 // What a task comes to.
-ghost use Rattle.std.specs.Prelude.{◌≡◌};
-ghost use Rattle.doc_tasks.specs.Replies.{status_of};
+ghost use Rattle.std.specs.Prelude.{◌≡◌, IfOk, option_map};
+ghost use Rattle.doc_tasks.specs.Replies.{status_of, outcome_of};
+ghost use Rattle.doc_tasks.specs.declared.reply.Reply.TheVariants.{Made};
 
 use crate::status::{
     STATUS_DIFFERENT, STATUS_EDIT, STATUS_GUARD, STATUS_JSON, STATUS_NO_SUMMARY, STATUS_POSITION,
     STATUS_SAVE, STATUS_SCRIPT, STATUS_STYLES, STATUS_UNSOUND, STATUS_WRONG_SUMMARY,
 };
-use doc_bits::{Bytes, Text};
+use doc_bits::{Bytes, Memory, Text};
+use run_stages::{Ending, FilePut, STATUS_DONE};
+use std::alloc::Global;
 
 /// Why a task is refused.
 #[derive(Clone, Copy)]
@@ -65,4 +68,34 @@ pub enum Reply {
     Made { text: Text, bytes: Bytes },
     /// It is refused: this is printed.
     Refused { why: Refusal, text: Text },
+}
+
+impl Reply {
+    /// The ending of a run by it, where bytes are put under this name.
+    pub fn into_ending(self, alloc: Global, out: Option<&str>) -> Result<Ending, Memory>
+        ensures { IfOk result (λ e. e ≡ outcome_of (option_map (λ name. name.now) out.entry) self) }
+    {
+        match self {
+            Reply::Done(text) => Ok(Ending::new(STATUS_DONE, text)),
+            Reply::Made { text, bytes } => ending_of_bytes(alloc, out, text, bytes),
+            Reply::Refused { why, text } => Ok(Ending::new(why.status(), text)),
+        }
+    }
+}
+
+/// The ending of bytes that were made.
+fn ending_of_bytes(
+    alloc: Global,
+    out: Option<&str>,
+    text: Text,
+    bytes: Bytes,
+) -> Result<Ending, Memory>
+    ensures { IfOk result (λ e. e ≡ outcome_of (option_map (λ name. name.now) out.entry) (Made text bytes)) }
+{
+    let Some(out) = out else {
+        return Ok(Ending::new(STATUS_DONE, text));
+    };
+    let mut name = Text::new(alloc);
+    name.push_all(out)?;
+    Ok(Ending::with_file(text, FilePut { name, bytes }))
 }

@@ -10,11 +10,21 @@ use crate::reply::Reply;
 use crate::save::saved;
 use crate::summary::{no_summary, summary_place, wrong_summary};
 use crate::title::Title;
-use doc_bits::Memory;
+use cfb_streams::Streams;
+use doc_bits::{Memory, Text};
 use doc_columns::ColumnDocument;
+use run_stages::reason_of_name;
 use std::alloc::Global;
-use std::mem::forget;
-use summary_set::{SetFault, with_title};
+use summary_set::{SetFault, code_page, with_title};
+
+/// [MS-OLEPS] the code pages of UTF-16, in either order of bytes.
+const CP_WINUNICODE: u16 = 1200;
+
+const CP_WINUNICODE_BIG: u16 = 1201;
+
+/// What is told where the letters of a title are put as ASCII among texts in UTF-16.
+const UTF16_WARNING: &str =
+    "the summary's texts are UTF-16 (code page 1200 or 1201), and the title was put as ASCII";
 
 /// The full save of the document of a name with this title.
 pub(crate) fn retitle_reply(
@@ -56,6 +66,29 @@ fn retitled(
     }
 }
 
+/// What is told where a title is put into a summary whose texts are UTF-16: the bytes put are ASCII.
+pub(crate) fn title_warning(
+    alloc: Global,
+    name: &str,
+    streams: &Streams,
+) -> Result<Option<Text>, Memory>
+    requires { AreShortStreams streams.now }
+{
+    let place = summary_place(streams);
+    let count = streams.count();
+    if place >= count {
+        return Ok(None);
+    }
+    match code_page(alloc, streams.bytes(place)) {
+        Ok(Some(CP_WINUNICODE | CP_WINUNICODE_BIG)) => {
+            let warning = reason_of_name(alloc, name, UTF16_WARNING)?;
+            Ok(Some(warning))
+        }
+        Err(SetFault::Memory) => Err(Memory),
+        _ => Ok(None),
+    }
+}
+
 /// The full save of a document with these bytes in its summary.
 fn saved_with(alloc: Global, document: &ColumnDocument, bytes: &[u8]) -> Result<Reply, Memory>
     requires sound { IsSound document.now }
@@ -67,8 +100,7 @@ fn saved_with(alloc: Global, document: &ColumnDocument, bytes: &[u8]) -> Result<
     let copy = document.copy(alloc)?;
     let changed = with_summary(alloc, copy, bytes)?;
     let reply = saved(alloc, "retitle", &changed);
-    // The run is about to end, so the columns are not taken apart.
-    forget(changed);
+    drop(changed);
     reply
 }
 

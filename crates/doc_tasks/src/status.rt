@@ -1,10 +1,4 @@
-// The statuses of a run that a file or what is asked of it decides.
-
-/// The defined output was printed.
-pub const STATUS_DONE: u8 = 0;
-
-/// A file breaks a rule.
-pub const STATUS_REFUSED: u8 = 1;
+// The statuses of a run that what is asked of a file decides.
 
 /// Bytes are no script.
 pub const STATUS_SCRIPT: u8 = 7;

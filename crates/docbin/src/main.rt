@@ -9,15 +9,19 @@ use std::io::{Eprint, ErrorKind};
 use std::process::ExitCode;
 use std::rt::Env;
 
+/// The name that the lines on the standard error begin with.
+const PROGRAM: &str = "docbin";
+
 /// Runs the words over real files and the standard output.
 fn main(rt: HostRuntime) -> ExitCode {
     let alloc = rt.alloc();
     let Ok(words) = words(&rt) else {
         return ExitCode::from(STATUS_MEMORY);
     };
-    let mut shelf = HostShelf::new(alloc, &rt, &rt);
-    let mut out = HostSink::new(&rt, &rt);
-    let status = run_under_quota(alloc, &words, &mut shelf, &mut out);
+    let mut shelf = HostShelf::new(alloc, PROGRAM, &rt, &rt);
+    let mut out = HostSink::new(PROGRAM, &rt, &rt);
+    let mut reasons = HostSink::new(PROGRAM, rt.stderr(), &rt);
+    let status = run_under_quota(alloc, &words, &mut shelf, &mut out, &mut reasons);
     ExitCode::from(status)
 }
 
@@ -32,8 +36,11 @@ fn words<R: Env + Eprint + AllocGlobal>(rt: &R) -> Result<Vec<String>, AllocErro
             }
         }
         Err(error) if error.kind() == ErrorKind::OutOfMemory => return Err(AllocError),
+        Err(error) if error.kind() == ErrorKind::InvalidData => {
+            let _ = eprintln!(rt; "{PROGRAM}: a word is no UTF-8 (give its bytes by /dev/stdin)");
+        }
         Err(error) => {
-            let _ = eprintln!(rt; "docbin: the words: {error}");
+            let _ = eprintln!(rt; "{PROGRAM}: the words: {error}");
         }
     }
     Ok(words)

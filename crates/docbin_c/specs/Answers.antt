@@ -2,7 +2,7 @@
 use Rattle.std.specs.Prelude.{◌≡◌, ◌≢◌, ◌⊎◌, ℕ, List, [], Some, length, unwrap_or, option_map}
 use Rattle.doc_outer.specs.Held.{Files}
 use Rattle.edit_guards.specs.Policies.{Policy}
-use Rattle.doc_tasks.specs.Outcomes.{Outcome}
+use Rattle.run_stages.specs.Outcomes.{Outcome}
 use Rattle.doc_run.specs.Endings.{IsEnding}
 use Rattle.docbin_c.specs.Rooms.{handed}
 use Rattle.docbin_c.specs.declared.answer.DocbinAnswer.{DocbinAnswer}

@@ -11,7 +11,7 @@ use crate::answer::DocbinAnswer;
 use crate::given::{FIRST, GivenFiles, SECOND};
 use crate::serve::{ending_over, hand_over};
 use doc_bits::Memory;
-use doc_tasks::Ending;
+use run_stages::Ending;
 use std::alloc::Global;
 use std::str;
 

@@ -12,8 +12,8 @@ use crate::rooms::hand;
 use crate::words::words_of;
 use doc_bits::Memory;
 use doc_run::{STATUS_MEMORY, ending_of};
-use doc_tasks::Ending;
 use edit_guards::{Guard, UnitQuota};
+use run_stages::Ending;
 use std::alloc::Global;
 
 /// How many items the edits of a call may add, where it has the program's guard.

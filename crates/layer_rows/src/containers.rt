@@ -2,7 +2,7 @@
 // independently written model of the layout.
 use crate::lent::given;
 use cfb_layout::{LayoutFault, sectors_needed, whole};
-use cfb_streams::{Container, Streams};
+use cfb_streams::{CfbFault, Container, OuterContainer, Streams};
 use doc_bits::{Bytes, Memory};
 use std::alloc::Global;
 use std::test::Fail;
@@ -175,5 +175,64 @@ fn the_largest_container_fits_and_the_next_does_not(rt: HostRuntime) -> Result<(
     assert!(rt; length_of(alloc, 7_087_105) == refused);
     // A stream that no 32-bit size can tell.
     assert!(rt; sectors_needed(&[1 << 40]) == 2_164_392_970);
+    Ok(())
+}
+
+/// The same bytes with others at these places.
+pub(crate) fn with_bytes(
+    alloc: Global,
+    file: &[u8],
+    changes: &[(usize, u8)],
+) -> Result<Vec<u8>, Memory> {
+    let mut bytes = Vec::from_slice(alloc, file)?;
+    for (at, value) in changes {
+        if let Some(byte) = bytes.get_mut(*at) {
+            *byte = *value;
+        }
+    }
+    Ok(bytes)
+}
+
+/// A container of two streams, the second of which says that it is a storage with a child.
+fn with_storage(alloc: Global) -> Result<Vec<u8>, LayoutFault> {
+    let streams = streams_of(alloc, &[10, 20])?;
+    let file = container_of(alloc, &streams)?;
+    // The directory is the third sector, and its entry 2 has its type at 66 and its child at 76.
+    let changed = with_bytes(alloc, file.as_slice(), &[(1_858, 1), (1_868, 0)])?;
+    Ok(changed)
+}
+
+/// Whether a file is refused for the child of its storage.
+fn is_refused(alloc: Global, file: &[u8]) -> bool {
+    match Container::load(alloc, file) {
+        Ok(_) => false,
+        Err(CfbFault::Rule { rule, offset }) => rule == 10 && offset == 1_868,
+        Err(CfbFault::Memory) => false,
+    }
+}
+
+/// Whether there is the first stream, and a storage of the second one's name.
+fn has_storage(outer: &OuterContainer) -> bool {
+    let container = outer.container();
+    container.count() == 1
+        && container.bytes(0).len() == 10
+        && outer.storage_count() == 1
+        && outer.storage(0) == [0x101].as_slice()
+}
+
+/// Whether a file is read with that storage left out.
+fn is_read_without(alloc: Global, file: &[u8]) -> bool {
+    match Container::load_outer(alloc, file) {
+        Ok(outer) => has_storage(&outer),
+        Err(_) => false,
+    }
+}
+
+#[test]
+fn a_storage_that_has_something_is_named(rt: HostRuntime) -> Result<(), Fail> {
+    let alloc = rt.alloc();
+    let file = with_storage(alloc)?;
+    assert!(rt; is_refused(alloc, &file));
+    assert!(rt; is_read_without(alloc, &file));
     Ok(())
 }

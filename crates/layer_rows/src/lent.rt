@@ -1,5 +1,5 @@
-// Large values that a test makes and looks at. Who owns one at many points is dear to prove, so each is owned here, where
-// nothing is known of its parts.
+// Large values that a test makes and looks at. Who owns one at many points is dear to prove, so each is owned here,
+// where nothing is known of its parts.
 use doc_bits::Memory;
 
 /// Whether a value was made of which a test holds.

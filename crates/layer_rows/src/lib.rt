@@ -14,7 +14,17 @@ mod guards;
 #[cfg(test)]
 mod lent;
 #[cfg(test)]
+mod links;
+#[cfg(test)]
+mod losses;
+#[cfg(test)]
 mod maps;
+#[cfg(test)]
+mod markup;
+#[cfg(test)]
+mod open_fields;
+#[cfg(test)]
+mod out_blocks;
 #[cfg(test)]
 mod outside;
 #[cfg(test)]
@@ -33,3 +43,5 @@ mod saves;
 mod sprms;
 #[cfg(test)]
 mod tally;
+#[cfg(test)]
+mod versions;

@@ -1,5 +1,5 @@
-// The adapters over real files, pipes and standard output. Each shelf is owned where its files are a type parameter: where
-// they are those of the system, each call of it is dear to prove.
+// The adapters over real files, pipes and standard output. Each shelf is owned where its files are a type parameter:
+// where they are those of the system, each call of it is dear to prove.
 use doc_outer::{HostShelf, HostSink, Shelf, ShelfFault, Sink, read_whole, write_all};
 use std::alloc::Global;
 use std::io::{Eprint, Write};
@@ -36,7 +36,7 @@ fn is_read<F: Files + Copy + Drop, E: Eprint + Drop>(
     files: F,
     reasons: E,
 ) -> io::Result<bool> {
-    let mut shelf = HostShelf::new(alloc, files, reasons);
+    let mut shelf = HostShelf::new(alloc, "layer_rows", files, reasons);
     let whole = holds(alloc, &mut shelf, PATH, b"some bytes");
     let read = reads(&mut shelf, PATH, 6, b"ytes") && reads(&mut shelf, PATH, 2, b"me b");
     let removed = fs::remove_file(&files, PATH);
@@ -62,7 +62,7 @@ fn is_through<F: Files + Drop, E: Eprint + Drop>(
     number: i32,
     bytes: &[u8],
 ) -> bool {
-    let mut shelf = HostShelf::new(alloc, files, reasons);
+    let mut shelf = HostShelf::new(alloc, "layer_rows", files, reasons);
     match &format!(in alloc; "/dev/fd/{number}") {
         Ok(name) => holds(alloc, &mut shelf, name.as_str(), bytes),
         Err(_) => false,
@@ -86,7 +86,7 @@ fn takes<K: Sink>(sink: &mut K) -> bool {
 
 #[test]
 fn standard_output_is_a_sink(rt: HostRuntime) -> Result<(), Fail> {
-    let mut sink = HostSink::new(&rt, &rt);
+    let mut sink = HostSink::new("layer_rows", &rt, &rt);
     assert!(rt; takes(&mut sink));
     Ok(())
 }

@@ -24,7 +24,7 @@ pub(crate) fn put_by<F: Files + Drop, E: Eprint + Drop>(
     reasons: E,
     name: &str,
 ) -> Result<(), PutFault> {
-    let mut shelf = HostShelf::new(alloc, files, reasons);
+    let mut shelf = HostShelf::new(alloc, "layer_rows", files, reasons);
     put_new(&mut shelf, name)
 }
 
@@ -116,7 +116,7 @@ fn is_let_go<F: Files + Drop, E: Eprint + Drop>(
     reasons: E,
     name: &str,
 ) -> bool {
-    let mut shelf = HostShelf::new(alloc, files, reasons);
+    let mut shelf = HostShelf::new(alloc, "layer_rows", files, reasons);
     reads_on(&mut shelf, name)
 }
 

@@ -24,7 +24,8 @@ enum Stream {
 #[derive(Clone, Copy)]
 struct Number(usize, u32);
 
-/// The streams of the file before and a number that is put into it, and the bytes of the tail and of the new table stream.
+/// The streams of the file before and a number that is put into it, and the bytes of the tail and of the new table
+/// stream.
 #[derive(Clone, Copy)]
 struct Before(&'static [Stream], Option<Number>, usize, usize);
 

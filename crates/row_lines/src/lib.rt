@@ -1,5 +1,5 @@
-//! Rows: lines that make files, run a program over them, and edit a document, and what they print. What is run and what is
-//! edited is given.
+//! Rows: lines that make files, run a program over them, and edit a document, and what they print. What is run and what
+//! is edited is given.
 #![tactic(auto)]
 
 mod changes;

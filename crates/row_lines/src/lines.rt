@@ -22,7 +22,7 @@ fn play_over<R: Files + Input + Print + Eprint + AllocGlobal, S: Subject + Drop>
     rt: &R,
     rows: &mut Rows<S>,
 ) -> io::Result<bool> {
-    let mut data = HostShelf::new(rt.alloc(), rt, rt);
+    let mut data = HostShelf::new(rt.alloc(), "rows", rt, rt);
     let played = play_lines(rt, rows, &mut data);
     drop(data);
     played

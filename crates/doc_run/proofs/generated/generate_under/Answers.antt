@@ -10,5 +10,5 @@ returns c =
     let out = Some c.args.out.now in
     let reply = c.in_ok-reply.reply in
     let such = Generates c.args.seed in
-    IfOk-weaker c.under.result (λ e. e ≡ outcome_of out reply) (λ e. EndsBy out such e)
-    (λ e h. ends_by out out such reply e c.in_ok-reply.ensures refl h) c.under.ensures
+    IfOk-weaker c.into_ending.result (λ e. e ≡ outcome_of out reply) (λ e. EndsBy out such e)
+    (λ e h. ends_by out out such reply e c.in_ok-reply.ensures refl h) c.into_ending.ensures

@@ -13,7 +13,7 @@ use Rattle.doc_run.proofs.quota.run_under_quota.Goals as goal
 
 -- the one guard is the quota
 quota_policies :
-    (g : Over) (c : goal.After-docbin_run g) →
+    (g : Over) (c : goal.After-run_telling g) →
     map (λ b. ((own-1).entry b.vtable).1.policy b.value) c.push.new.self.items ≡ program_policies
 quota_policies g c =
     let policy : ((own-1).entry c.into_dyn_box.result.vtable).1.policy c.into_dyn_box.result.value
@@ -27,21 +27,21 @@ quota_policies g c =
 
 pub returns-clause-ending : goal.returns-clause-ending
 returns-clause-ending g c five six =
-    let e = c.docbin_run.ensures.ending five six in
+    let e = c.run_telling.ensures.ending five six in
     let words = map string_bytes c.args.words.now in
     let held = g.S.Shelf.held c.args.shelf.now in
     (e.0, (e.1.0, (subst (λ p. IsEnding p words held e.0) (quota_policies g c) e.1.1.0, e.1.1.1)))
 
 pub returns-clause-prefix : goal.returns-clause-prefix
 returns-clause-prefix g c five =
-    let e = c.docbin_run.ensures.prefix five in
+    let e = c.run_telling.ensures.prefix five in
     let words = map string_bytes c.args.words.now in
     let held = g.S.Shelf.held c.args.shelf.now in
     (e.0, (subst (λ p. IsEnding p words held e.0) (quota_policies g c) e.1.0, e.1.1))
 
 pub returns-clause-complete : goal.returns-clause-complete
 returns-clause-complete g c command files asked told can =
-    c.docbin_run.ensures.complete command files asked told
+    c.run_telling.ensures.complete command files asked told
     (subst (λ p. CanServe p command files) (sym (quota_policies g c)) can)
 
 pub returns-in_default-clause-only : goal.returns-in_default-clause-only

@@ -1,13 +1,13 @@
-use Rattle.std.proofs.Common.{Some, map, inr, sym, subst, arith}
+use Rattle.std.proofs.Common.{Some, map, sym, subst}
 use Rattle.std.specs.Prelude.{IfOk}
 use Rattle.fast_save.specs.Session.{SessionView}
 use Rattle.doc_edit.specs.States.{start_of}
 use Rattle.doc_edit.specs.Ends.{IsUnchanged}
 use Rattle.doc_tasks.specs.Replies.{EndsBy}
-use Rattle.doc_tasks.proofs.OutcomeLemmas.{said_inside, ends_inside}
-use Rattle.doc_run.specs.Reading.{Follows}
+use Rattle.doc_tasks.proofs.OutcomeLemmas.{ends_inside}
+use Rattle.run_stages.specs.Reading.{Follows}
 use Rattle.doc_run.specs.Edits.{EditsBy, IsOverlongScript}
-use Rattle.doc_run.proofs.StageLemmas.{follows_reads, follows_caused}
+use Rattle.run_stages.proofs.StageLemmas.{follows_reads, follows_caused}
 use Rattle.doc_run.proofs.serve.edit_by_name.Goals as goal
 
 pub edit_taken-requires : goal.edit_taken-requires
@@ -19,12 +19,12 @@ returns-clause-ends g c =
     let policies = map (λ b. (goal.Guard-dyn g (b.vtable, b.value)).policy b.value) c.args.guards.now in
     let both = c.in_ok-session.ensures in
     let taken = c.in_ok-session.taken in
-    let is = rw both.1 at c.take_whole-read.ensures.is in
+    let is = rw both.1 at c.take_script-read.ensures.is in
     let follows =
     subst
     (λ (s : SessionView).
     IfOk c.edit_taken.result
-    (λ e. Follows taken IsOverlongScript (λ bytes. EndsBy (Some out) (EditsBy (start_of s policies) bytes)) e))
+    (λ e. Follows taken (λ bytes. EndsBy (Some out) (EditsBy (start_of s policies) bytes)) e))
     both.0 c.edit_taken.ensures in
     follows_reads c.args.script.now (g.S.Shelf.held c.args.shelf.now) taken IsOverlongScript
     (λ bytes. EndsBy (Some out) (EditsBy (start_of c.args.session policies) bytes)) c.edit_taken.result is follows
@@ -35,8 +35,7 @@ returns-clause-cause g c =
     let policies = map (λ b. (goal.Guard-dyn g (b.vtable, b.value)).policy b.value) c.args.guards.now in
     let both = c.in_ok-session.ensures in
     let start = start_of c.in_ok-session.session policies in
-    let cause = rw both.1 at c.take_whole-read.ensures.cause in
-    follows_caused g.S.Shelf c.args.shelf.now c.take_whole-read.new.shelf c.in_ok-session.taken IsOverlongScript
+    let cause = rw both.1 at c.take_script-read.ensures.cause in
+    follows_caused g.S.Shelf c.args.shelf.now c.take_script-read.new.shelf c.in_ok-session.taken
     (λ bytes. EndsBy (Some out) (EditsBy start bytes)) c.edit_taken.result
-    (λ o long. said_inside 7 _ o long (inr (omega arith)))
     (λ bytes o x. ends_inside (Some out) (EditsBy start bytes) o x) cause c.edit_taken.ensures

@@ -2,7 +2,7 @@ use Rattle.doc_read.specs.Holds.{all_rules}
 use Rattle.doc_tasks.specs.Tasks.{task_of}
 use Rattle.doc_tasks.specs.Answers.{AnswersFile}
 use Rattle.doc_tasks.proofs.AnswerLemmas.{file_inside}
-use Rattle.doc_run.proofs.StageLemmas.{file_reads, file_caused}
+use Rattle.run_stages.proofs.StageLemmas.{file_reads, file_caused}
 use Rattle.doc_run.proofs.serve.serve_document.Goals as goal
 
 pub returns-clause-ends : goal.returns-clause-ends
@@ -15,6 +15,6 @@ pub returns-clause-cause : goal.returns-clause-cause
 returns-clause-cause g c =
     let name = c.args.file.now in
     let task = task_of c.args.task in
-    file_caused g.S.Shelf c.args.shelf.now c.take_whole.new.shelf name c.in_ok-taken.taken all_rules
+    file_caused g.S.Shelf c.args.shelf.now c.take_file.new.shelf name c.in_ok-taken.taken all_rules
     (AnswersFile task name) c.answer_taken.result (file_inside task name) c.in_ok-taken.ensures.cause
     c.answer_taken.ensures

@@ -1,22 +1,21 @@
-use Rattle.std.proofs.Common.{Some, inr, arith}
+use Rattle.std.proofs.Common.{◌≡◌, ◌∙◌, Some}
 use Rattle.doc_tasks.specs.Imports.{Imports}
 use Rattle.doc_tasks.specs.Replies.{EndsBy}
-use Rattle.doc_tasks.proofs.OutcomeLemmas.{said_inside, ends_inside}
+use Rattle.doc_tasks.proofs.OutcomeLemmas.{ends_inside}
 use Rattle.doc_run.specs.Imports.{IsOverlongJson}
-use Rattle.doc_run.proofs.StageLemmas.{follows_reads, follows_caused}
+use Rattle.run_stages.proofs.StageLemmas.{taken_weaker, follows_reads, follows_caused}
 use Rattle.doc_run.proofs.serve.serve_import.Goals as goal
 
 pub returns-clause-ends : goal.returns-clause-ends
 returns-clause-ends g c =
     let out = c.args.out.now in
     follows_reads c.args.file.now (g.S.Shelf.held c.args.shelf.now) c.in_ok-taken.taken IsOverlongJson
-    (λ bytes. EndsBy (Some out) (Imports bytes)) c.import_taken.result c.in_ok-taken.ensures.is
+    (λ bytes. EndsBy (Some out) (Imports bytes)) c.import_taken.result (taken_weaker c.args.file.now (g.S.Shelf.held c.args.shelf.now) (λ o. o ≡ c.in_ok-overlong.overlong) IsOverlongJson c.in_ok-taken.taken (λ o e. e ∙ c.in_ok-overlong.ensures) c.in_ok-taken.ensures.is)
     c.import_taken.ensures
 
 pub returns-clause-cause : goal.returns-clause-cause
 returns-clause-cause g c =
     let out = c.args.out.now in
-    follows_caused g.S.Shelf c.args.shelf.now c.take_whole.new.shelf c.in_ok-taken.taken IsOverlongJson
+    follows_caused g.S.Shelf c.args.shelf.now c.take_whole.new.shelf c.in_ok-taken.taken
     (λ bytes. EndsBy (Some out) (Imports bytes)) c.import_taken.result
-    (λ o long. said_inside 7 _ o long (inr (omega arith)))
     (λ bytes o x. ends_inside (Some out) (Imports bytes) o x) c.in_ok-taken.ensures.cause c.import_taken.ensures

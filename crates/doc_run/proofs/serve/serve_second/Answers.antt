@@ -1,7 +1,8 @@
 use Rattle.doc_read.specs.Holds.{all_rules}
 use Rattle.doc_tasks.specs.Tasks.{pair_of}
 use Rattle.doc_run.specs.Reading.{AnswersBeside}
-use Rattle.doc_run.proofs.StageLemmas.{file_reads, file_caused, beside_inside}
+use Rattle.run_stages.proofs.StageLemmas.{file_reads, file_caused}
+use Rattle.doc_run.proofs.StageLemmas.{beside_inside}
 use Rattle.doc_run.proofs.serve.serve_second.Goals as goal
 
 pub returns-clause-ends : goal.returns-clause-ends
@@ -14,6 +15,6 @@ pub returns-clause-cause : goal.returns-clause-cause
 returns-clause-cause g c =
     let pair = pair_of c.args.pair in
     let first = c.args.first.now in
-    file_caused g.S.Shelf c.args.shelf.now c.take_whole.new.shelf c.args.second.now c.in_ok-taken.taken all_rules
+    file_caused g.S.Shelf c.args.shelf.now c.take_file.new.shelf c.args.second.now c.in_ok-taken.taken all_rules
     (AnswersBeside pair first) c.second_taken.result (beside_inside pair first) c.in_ok-taken.ensures.cause
     c.second_taken.ensures

@@ -1,7 +1,7 @@
 use Rattle.doc_tasks.specs.Judged.{stream_rules}
 use Rattle.doc_tasks.specs.Answers.{ListsStreams}
 use Rattle.doc_tasks.proofs.AnswerLemmas.{lists_inside}
-use Rattle.doc_run.proofs.StageLemmas.{file_reads, file_caused}
+use Rattle.run_stages.proofs.StageLemmas.{file_reads, file_caused}
 use Rattle.doc_run.proofs.serve.serve_streams.Goals as goal
 
 pub returns-clause-ends : goal.returns-clause-ends
@@ -11,5 +11,5 @@ returns-clause-ends g c =
 
 pub returns-clause-cause : goal.returns-clause-cause
 returns-clause-cause g c =
-    file_caused g.S.Shelf c.args.shelf.now c.take_whole.new.shelf c.args.file.now c.in_ok-taken.taken stream_rules
+    file_caused g.S.Shelf c.args.shelf.now c.take_file.new.shelf c.args.file.now c.in_ok-taken.taken stream_rules
     ListsStreams c.list_taken.result lists_inside c.in_ok-taken.ensures.cause c.list_taken.ensures

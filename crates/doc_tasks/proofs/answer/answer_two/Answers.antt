@@ -9,6 +9,6 @@ pub returns : goal.returns
 returns c =
     let pair = pair_of c.args.pair in
     let such = RepliesTwo pair c.args.first.now c.args.second.now in
-    IfOk-weaker c.under.result (λ e. e ≡ outcome_of (option_map (λ name. name.now) c.out.result) c.in_ok-reply.reply)
+    IfOk-weaker c.into_ending.result (λ e. e ≡ outcome_of (option_map (λ name. name.now) c.out.result) c.in_ok-reply.reply)
     (λ e. EndsBy (out_of_two pair) such e)
-    (λ e h. ends_by (out_of_two pair) _ such _ e c.in_ok-reply.ensures c.out.ensures h) c.under.ensures
+    (λ e h. ends_by (out_of_two pair) _ such _ e c.in_ok-reply.ensures c.out.ensures h) c.into_ending.ensures

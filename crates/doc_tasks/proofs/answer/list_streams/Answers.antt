@@ -1,6 +1,7 @@
 use Rattle.std.proofs.Common.{inl}
 use Rattle.std.proofs.lemmas.Result.{IfOk-weaker}
-use Rattle.doc_tasks.specs.Judged.{Judges, NamesRule, stream_rules}
+use Rattle.run_stages.specs.Judged.{Judges}
+use Rattle.doc_tasks.specs.Judged.{NamesRule, stream_rules}
 use Rattle.doc_tasks.specs.Answers.{ListsStreams}
 use Rattle.doc_tasks.proofs.JudgedLemmas.{names-refused}
 use Rattle.doc_tasks.proofs.answer.list_streams.Goals as goal

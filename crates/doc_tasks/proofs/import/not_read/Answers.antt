@@ -7,7 +7,7 @@ use Rattle.doc_tasks.specs.declared.reply.Reply.{Reply}
 use Rattle.doc_tasks.specs.declared.reply.Reply.TheVariants.{Refused}
 use Rattle.doc_tasks.specs.declared.reply.Refusal.TheVariants.{Unsound}
 use Rattle.doc_tasks.specs.Imports.{Imports}
-use Rattle.doc_tasks.specs.Lines.{rule_line}
+use Rattle.run_stages.specs.Lines.{rule_line}
 use Rattle.doc_tasks.proofs.ImportLemmas.{unsound_said}
 use Rattle.doc_tasks.proofs.import.not_read.Goals as goal
 

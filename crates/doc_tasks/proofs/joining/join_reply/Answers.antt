@@ -4,7 +4,7 @@ use Rattle.std.proofs.lemmas.Result.{IfOk-weaker}
 use Rattle.doc_tasks.specs.declared.reply.Reply.{Reply}
 use Rattle.doc_tasks.specs.declared.reply.Reply.TheVariants.{Refused}
 use Rattle.doc_tasks.specs.declared.reply.Refusal.TheVariants.{Unsound}
-use Rattle.doc_tasks.specs.Lines.{rule_line}
+use Rattle.run_stages.specs.Lines.{rule_line}
 use Rattle.doc_tasks.specs.Joins.{Joins}
 use Rattle.doc_tasks.proofs.JoinLemmas.{unsound_said}
 use Rattle.doc_tasks.proofs.joining.join_reply.Goals as goal

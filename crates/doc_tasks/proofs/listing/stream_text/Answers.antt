@@ -1,7 +1,7 @@
 use Rattle.std.proofs.Common.{◌≡◌, ◌∙◌, ◌+◌, ◌++◌, [], ◌∷◌, ap, drop, length, false, append_assoc}
 use Rattle.std.specs.Fmt.{decimal}
 use Rattle.text_codes.specs.Shown.{shown}
-use Rattle.doc_show.specs.Story.{line}
+use Rattle.text_codes.specs.Shown.{line}
 use Rattle.doc_tasks.specs.Lines.{stream_lines}
 use Rattle.doc_tasks.proofs.ListingLemmas.{lines-from}
 use Rattle.doc_tasks.proofs.listing.stream_text.Goals as goal

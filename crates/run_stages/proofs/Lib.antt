@@ -1,0 +1,4 @@
+pub mod OutcomeLemmas
+pub mod JudgedLemmas
+pub mod StageLemmas
+pub mod SaidLemmas
