@@ -1,0 +1,31 @@
+use Rattle.std.proofs.Common.{◌≡◌, sym, subst, arith}
+use Rattle.plain_doc.specs.declared.document.Document.{Document}
+use Rattle.plain_doc.specs.Sound.{IsSound}
+use Rattle.doc_read.specs.Holds.{HoldsDocument}
+use Rattle.docview_run.proofs.EndLemmas.{opened_ends, refused_ends}
+use Rattle.docview_run.proofs.run.show_file.Goals as goal
+
+pub show_document-status-requires : goal.show_document-status-requires
+show_document-status-requires g c =
+    subst (λ (d : Document). IsSound d) (sym c.document.ensures) c.in-Ok.ensures.sound
+
+pub returns-in-Ok-clause-ends : goal.returns-in-Ok-clause-ends
+returns-in-Ok-clause-ends g c =
+    let file = c.args.file.now in
+    let shown = c.show_document-status in
+    opened_ends g.K.Sink c.args.out.now shown.new.out c.args.name.now file c.args.view c.document.result.now
+    shown.result c.in-Ok.ensures.accepted
+    (subst (λ (d : Document). HoldsDocument file d) (sym c.document.ensures) c.in-Ok.ensures.holds) shown.ensures.ends
+
+pub returns-in-Ok-clause-bytes : goal.returns-in-Ok-clause-bytes
+returns-in-Ok-clause-bytes g c = λ i. let byte = c.type_inv.file i in omega arith
+
+pub returns-in-Ok-clause-after : goal.returns-in-Ok-clause-after
+returns-in-Ok-clause-after g c = c.show_document-status.ensures.after
+
+pub returns-in-Ok-refusal-clause-ends : goal.returns-in-Ok-refusal-clause-ends
+returns-in-Ok-refusal-clause-ends g c =
+    let refused = c.in-Err-Refused in
+    let first = rw refused.field-0-is at refused.ensures in
+    refused_ends g.K.Sink c.args.out.now c.args.name.now c.args.file.now c.args.view refused.rule
+    (refused.place, refused.offset) first

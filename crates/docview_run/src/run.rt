@@ -1,0 +1,215 @@
+// One run: the page of a document goes to the standard output, or why there is none to the standard error.
+ghost use Rattle.std.specs.Prelude.{◌≡◌, ◌≢◌, ◌↔◌, ◌⊎◌, ℕ, List, map, None, OnOk, IsErrOf};
+ghost use Rattle.std.specs.String.{string_bytes};
+ghost use Rattle.doc_bits.specs.Number.{AreBytes};
+ghost use Rattle.plain_doc.specs.Sound.{IsSound};
+ghost use Rattle.doc_read.specs.Holds.{HoldsDocument, all_rules};
+ghost use Rattle.run_stages.specs.Judged.{Judges, IsRefused};
+ghost use Rattle.run_stages.specs.Leaves.{IsCaused, IsOnlyRead};
+ghost use Rattle.run_stages.specs.Outcomes.{Outcome, says};
+ghost use Rattle.run_stages.specs.Stages.{ReadsFile};
+ghost use Rattle.docview_run.specs.Endings.{IsEnding, IsPageIn, RunEnds, ShowsPage};
+ghost use Rattle.docview_run.specs.Requests.{requested};
+ghost use Rattle.doc_outer.specs.Counts.{Rose};
+ghost use Rattle.doc_outer.specs.Written.{Appends, AppendsPrefix};
+
+use crate::words::{Asked, asked_by};
+use crate::{Form, View};
+use doc_bits::{Memory, Text, Where};
+use doc_columns::ColumnDocument;
+use doc_html::write_html;
+use doc_load::ReadFault;
+use doc_outer::{Shelf, Sink, write_all};
+use doc_read::open;
+use doc_view::{Options, ViewFault, write_page};
+use run_stages::{
+    STATUS_DONE, STATUS_MEMORY, STATUS_REFUSED, STATUS_SINK_FAULT, STATUS_USAGE, Stage, part_name,
+    reason_of_name, take_file, tell_reason, why_refused,
+};
+use std::alloc::Global;
+
+/// The name that stands before what is told.
+pub const PROGRAM: &str = "docview";
+
+/// How the program is called.
+pub const HELP: &str =
+    "usage: docview [--hidden] [text | html] FILE\n\nPrints the text of a Word 97 document as people read it, in UTF-8, as text or as a page in HTML. FILE - is the standard input.\n  --hidden   hidden text too\n  --help     this text\n  --version  the version\n";
+
+pub const VERSION: &str = "docview 1.0.0\n";
+
+const USAGE: &str = "usage: docview [--hidden] [text | html] FILE | --help | --version\n";
+
+/// Runs the words over the files of a shelf, and answers the status. The page goes to `out`, and where there is none, the
+/// reason to `reasons`, whose faults change nothing.
+pub fn docview_run<S: Shelf, K: Sink, E: Sink>(
+    alloc: Global,
+    words: &[String],
+    shelf: &mut S,
+    out: &mut K,
+    reasons: &mut E,
+) -> u8
+    // The shelf is read and nothing else.
+    ensures read { IsOnlyRead S.Shelf shelf.old shelf.new }
+
+    // A run ends as its words and the shelf decide, by its status: with the page printed where that is 0; where the sink
+    // failed it has taken a prefix of the page; without memory nothing is printed.
+    ensures ends { RunEnds (IsEnding (map string_bytes words.now) (S.held shelf.old)) K.Sink out.old out.new result }
+
+    // The status of words that ask for nothing is theirs alone.
+    ensures usage { result ≡ 2 ↔ requested (map string_bytes words.now) ≡ None }
+
+    // A status for what failed outside shows in a count of this run.
+    ensures cause { IsCaused S.Shelf shelf.old shelf.new result }
+{
+    match asked_by(words) {
+        None => {
+            let _ = write_all(reasons, USAGE.as_bytes());
+            STATUS_USAGE
+        }
+        Some(Asked::Help) => print(out, HELP),
+        Some(Asked::Version) => print(out, VERSION),
+        Some(Asked::Page { form, hidden, file }) => {
+            let view = View {
+                form,
+                options: Options { hidden },
+            };
+            show_name(alloc, shelf, file, view, out, reasons)
+        }
+    }
+}
+
+/// Prints a text.
+fn print<K: Sink>(out: &mut K, text: &str) -> u8
+    ensures ends { RunEnds (λ outcome. outcome ≡ says 0 text.now) K.Sink out.old out.new result }
+    ensures status { (result ≡ 0) ⊎ (result ≡ 5) }
+{
+    match write_all(out, text.as_bytes()) {
+        Ok(()) => STATUS_DONE,
+        Err(_) => STATUS_SINK_FAULT,
+    }
+}
+
+/// Shows the document of the file of a name.
+fn show_name<S: Shelf, K: Sink, E: Sink>(
+    alloc: Global,
+    shelf: &mut S,
+    name: &str,
+    view: View,
+    out: &mut K,
+    reasons: &mut E,
+) -> u8
+    ensures read { IsOnlyRead S.Shelf shelf.old shelf.new }
+    ensures ends { RunEnds (λ outcome. ReadsFile name.now (S.held shelf.old) all_rules (ShowsPage view) outcome)
+        K.Sink out.old out.new result }
+    ensures cause { IsCaused S.Shelf shelf.old shelf.new result }
+    ensures asked { result ≢ 2 }
+{
+    match take_file(alloc, shelf, name) {
+        Ok(Stage::Go(bytes)) => show_file(alloc, name, bytes.as_slice(), view, out, reasons),
+        Ok(Stage::Stop(ending)) => {
+            tell_reason(reasons, PROGRAM, &ending);
+            ending.status()
+        }
+        Err(_) => STATUS_MEMORY,
+    }
+}
+
+/// Shows the document of a file.
+fn show_file<K: Sink, E: Sink>(
+    alloc: Global,
+    name: &str,
+    file: &[u8],
+    view: View,
+    out: &mut K,
+    reasons: &mut E,
+) -> u8
+    ensures ends { RunEnds (λ outcome. Judges (all_rules file.now) name.now (ShowsPage view file.now) outcome)
+        K.Sink out.old out.new result }
+    ensures bytes { AreBytes file.now }
+    ensures after { ((result ≡ 0) ⊎ (result ≡ 1)) ⊎ ((result ≡ 5) ⊎ (result ≡ 6)) }
+{
+    match open(alloc, file) {
+        Ok(opened) => {
+            let status = show_document(alloc, opened.document(), view, out);
+            drop(opened);
+            status
+        }
+        Err(
+            ReadFault::Refused {
+                rule,
+                place,
+                offset,
+            },
+        ) => {
+            let why = why_refused(rule, file);
+            match refusal(alloc, name, rule, (place, offset), why) {
+                Ok(reason) => {
+                    tell(reasons, reason.as_str());
+                    STATUS_REFUSED
+                }
+                Err(_) => STATUS_MEMORY,
+            }
+        }
+        Err(ReadFault::Memory) => STATUS_MEMORY,
+    }
+}
+
+/// Writes the page of a document.
+fn show_document<K: Sink>(alloc: Global, document: &ColumnDocument, view: View, out: &mut K) -> u8
+    requires { IsSound document.now }
+    ensures ends { RunEnds (λ outcome. (bytes : List ℕ) × (IsPageIn view.form view.options document.now bytes × (outcome ≡ says 0 bytes)))
+        K.Sink out.old out.new result }
+    ensures after { ((result ≡ 0) ⊎ (result ≡ 1)) ⊎ ((result ≡ 5) ⊎ (result ≡ 6)) }
+{
+    match write_view(alloc, document, view, out) {
+        Ok(()) => STATUS_DONE,
+        Err(ViewFault::Sink) => STATUS_SINK_FAULT,
+        Err(ViewFault::Memory) => STATUS_MEMORY,
+    }
+}
+
+/// Writes the page of a document in its form.
+fn write_view<K: Sink>(
+    alloc: Global,
+    document: &ColumnDocument,
+    view: View,
+    out: &mut K,
+) -> Result<(), ViewFault>
+    requires { IsSound document.now }
+    ensures ok { OnOk result ((bytes : List ℕ) × (IsPageIn view.form view.options document.now bytes
+        × Appends (K.written out.old) (K.written out.new) bytes)) }
+    ensures prefix { IsErrOf result ViewFault.Sink → (bytes : List ℕ)
+        × (IsPageIn view.form view.options document.now bytes
+        × AppendsPrefix (K.written out.old) (K.written out.new) bytes) }
+    ensures failed { IsErrOf result ViewFault.Sink → Rose (K.faults out.old) (K.faults out.new) }
+    ensures memory { IsErrOf result ViewFault.Memory → K.written out.new ≡ K.written out.old }
+{
+    match view.form {
+        Form::Text => write_page(alloc, document, view.options, out),
+        Form::Html => write_html(alloc, document, view.options, out),
+    }
+}
+
+/// Why a file is not shown.
+fn refusal(
+    alloc: Global,
+    name: &str,
+    rule: u8,
+    place: (Where, u32),
+    why: &str,
+) -> Result<Text, Memory> {
+    let part = part_name(alloc, place.0)?;
+    let part = part.as_str();
+    let offset = place.1;
+    let reason = format!(in alloc; "not shown: rule {rule} {part} {offset} ({why})")?;
+    reason_of_name(alloc, name, reason.as_str())
+}
+
+/// Tells a reason, as far as the sink takes it.
+fn tell<E: Sink>(reasons: &mut E, reason: &str) {
+    for part in [PROGRAM, ": ", reason, "\n"] {
+        if write_all(reasons, part.as_bytes()).is_err() {
+            return;
+        }
+    }
+}
