@@ -1,0 +1,55 @@
+// Runs of docfit. Nothing is edited.
+use doc_bits::Bytes;
+use doc_outer::{MemShelf, MemSink, write_all};
+use docfit_run::docfit_run;
+use row_lines::{Mode, RowFault, Subject};
+use run_stages::STATUS_MEMORY;
+use std::alloc::Global;
+
+/// How many bytes of reasons are taken.
+const REASONS_LEN: u32 = 1_024;
+
+/// No document.
+#[derive(Clone, Copy)]
+pub(crate) struct Fitted;
+
+impl Subject for Fitted {
+    /// What the standard error would take stands behind what the standard output took.
+    fn run(alloc: Global, words: &[String], shelf: &mut MemShelf, sink: &mut MemSink) -> u8 {
+        let Ok(mut reasons) = MemSink::new(alloc, REASONS_LEN) else {
+            return STATUS_MEMORY;
+        };
+        let status = docfit_run(alloc, words, shelf, sink, &mut reasons);
+        let _ = write_all(sink, reasons.written());
+        drop(reasons);
+        status
+    }
+
+    fn blank(_alloc: Global) -> Result<Bytes, RowFault> {
+        Err(RowFault::NoScript)
+    }
+
+    fn open(_alloc: Global, _file: &[u8]) -> Result<Fitted, RowFault> {
+        Err(RowFault::NoScript)
+    }
+
+    fn make(&mut self, _count: u64, _object: &str) -> Result<String, RowFault> {
+        Err(RowFault::NoScript)
+    }
+
+    fn save(&mut self, _mode: Mode) -> Result<String, RowFault> {
+        Err(RowFault::NoScript)
+    }
+
+    fn file(&self) -> &[u8] {
+        &[]
+    }
+
+    fn ledgers(&self) -> Result<String, RowFault> {
+        Err(RowFault::NoScript)
+    }
+
+    fn listing(&self, _what: &str) -> Result<String, RowFault> {
+        Err(RowFault::NoScript)
+    }
+}

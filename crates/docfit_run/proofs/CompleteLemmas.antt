@@ -1,0 +1,59 @@
+-- A file in whose way nothing stands is fitted.
+use Rattle.std.proofs.Common.{◌≡◌, ◌≢◌, ◌<◌, inl, inr, refl, ap, subst, ℕ, List, Some, length, arith}
+use Rattle.doc_bits.specs.declared.places.Where.TheVariants.{File}
+use Rattle.doc_bits.specs.Number.{AreBytes}
+use Rattle.doc_bits.specs.Rules.{Hold}
+use Rattle.doc_bits.specs.Places.{Upto}
+use Rattle.doc_bits.proofs.RuleLemmas.{hold_or_first}
+use Rattle.doc_outer.specs.Held.{Files}
+use Rattle.full_save.specs.Layout.{FitsCompoundFile}
+use Rattle.plain_doc.specs.declared.document.Document.{Document}
+use Rattle.doc_meaning.specs.Meaning.{MeansDocument}
+use Rattle.run_stages.specs.Outcomes.{Outcome}
+use Rattle.run_stages.specs.Stages.{longest_file, BreaksLengthRule}
+use Rattle.run_stages.proofs.SaidLemmas.{Says, settled}
+use Rattle.docfit_run.specs.Requests.{fit, requested}
+use Rattle.docfit_run.specs.Rules.{fit_rules}
+use Rattle.docfit_run.specs.Fitted.{IsSaved, JudgesFit}
+use Rattle.docfit_run.specs.Endings.{Ends, IsEnding}
+use Rattle.docfit_run.specs.Completeness.{CanFit}
+use Rattle.docfit_run.proofs.MeaningLemmas.{fit_single}
+use Rattle.docfit_run.proofs.OneLemmas.{JudgesBytes, read_bytes}
+
+-- a file that breaks none of the rules is not too long
+not_long : (file : List ℕ) → Hold (fit_rules file) → longest_file < length file → ⊥
+not_long file hold long =
+    hold.0.0.0.0 (File, 7143937) (refl, record { here = omega (arith, long); wrong = inr (inr long) })
+
+saved_done : (out : List ℕ) (document : Document) (lines : List (List ℕ)) (outcome : Outcome) →
+    FitsCompoundFile document → IsSaved out document lines outcome → outcome.status ≡ 0
+saved_done out document lines outcome fits (inl put) = ap (λ (o : Outcome). o.status) put.ends
+saved_done out document lines outcome fits (inr many) = let over = many.over in absurd (omega (arith, fits, over))
+
+judged_done : (name out file : List ℕ) (outcome : Outcome) → AreBytes file → Hold (fit_rules file) →
+    ((document : Document) → MeansDocument file document → FitsCompoundFile document) →
+    JudgesFit name out file outcome → outcome.status ≡ 0
+judged_done name out file outcome bytes hold fits (inl refused) =
+    absurd (hold_or_first Upto (fit_rules file) refused.rule refused.place (fit_single file bytes) hold refused.first)
+judged_done name out file outcome bytes hold fits (inr (holds, fitted)) =
+    saved_done out fitted.document _ outcome (fits fitted.document fitted.means) fitted.saved
+
+said_done : (name out : List ℕ) (files : Files) (outcome : Outcome) → (can : CanFit files name) →
+    Says name (BreaksLengthRule name) (JudgesBytes name out) (Some can.bytes) outcome → outcome.status ≡ 0
+said_done name out files outcome can (inl long) = absurd (not_long can.bytes can.hold long.0)
+said_done name out files outcome can (inr read) =
+    judged_done name out can.bytes outcome read.1.0 can.hold can.fits read.1.1
+
+fit_done : (name out : List ℕ) (files : Files) (outcome : Outcome) → CanFit files name →
+    Ends (Some files) (Some (fit name out)) outcome → outcome.status ≢ 4 → outcome.status ≡ 0
+fit_done name out files outcome can ends calm =
+    said_done name out files outcome can
+    (subst (λ t. Says name (BreaksLengthRule name) (JudgesBytes name out) t outcome) can.there
+    (settled name files (BreaksLengthRule name) (JudgesBytes name out) outcome
+    (read_bytes name out (Some files) outcome ends) calm))
+
+pub complete : (words : List (List ℕ)) (file out : List ℕ) (files : Files) (outcome : Outcome) →
+    requested words ≡ Some (fit file out) → CanFit files file → IsEnding words (Some files) outcome →
+    outcome.status ≢ 4 → outcome.status ≡ 0
+complete words file out files outcome asked can is calm =
+    fit_done file out files outcome can (subst (λ r. Ends (Some files) r outcome) asked is) calm

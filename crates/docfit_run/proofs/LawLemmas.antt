@@ -1,0 +1,57 @@
+-- What is put is accepted and holds the document, and the fit of a file that breaks no rule is its full save.
+use Rattle.std.proofs.Common.{◌≡◌, ◌∙◌, sym, ap, subst, inl, inr, ℕ, List, Some}
+use Rattle.std.proofs.lemmas.Option.{none-some, same_Some}
+use Rattle.plain_doc.specs.declared.document.Document.{Document}
+use Rattle.full_save.specs.Layout.{full_save_image}
+use Rattle.fast_save.specs.Laws.{IsSavable, IsHeldInFull}
+use Rattle.fast_save.proofs.FullFileLemmas.{full_saves_hold}
+use Rattle.doc_bits.specs.Rules.{Hold}
+use Rattle.doc_read.specs.Holds.{HoldsDocument, all_rules}
+use Rattle.doc_meaning.proofs.MeaningLemmas.{meant_is_held}
+use Rattle.run_stages.specs.Outcomes.{Outcome, PutFile}
+use Rattle.docfit_run.specs.Fitted.{IsSaved}
+use Rattle.docfit_run.specs.Laws.{FitsAreHeld, FitsSaveAccepted, FitsAreFixed}
+
+-- the bytes that are put are the full save
+record IsFullPut (document : Document) (put : PutFile) : Type 0 where
+  savable : IsSavable document
+  bytes : put.bytes ≡ full_save_image document
+
+full_put : (out : List ℕ) (document : Document) (lines : List (List ℕ)) (outcome : Outcome) (put : PutFile) →
+    IsSaved out document lines outcome → outcome.put ≡ Some put → IsFullPut document put
+full_put out document lines outcome put (inl is) here = record {
+  savable = is.savable;
+  bytes =
+      ap (λ (f : PutFile). f.bytes)
+      (same_Some put (record { name = out; bytes = full_save_image document })
+      (sym here ∙ ap (λ (o : Outcome). o.put) is.ends));
+}
+full_put out document lines outcome put (inr many) here =
+    absurd (none-some put (sym (ap (λ (o : Outcome). o.put) many.ends) ∙ here))
+
+pub fits_are_held : FitsAreHeld
+fits_are_held out file outcome put fitted here =
+    let document = fitted.document in
+    let full = full_put out document _ outcome put fitted.saved here in
+    let held : IsHeldInFull document = full_saves_hold document full.savable in
+    record {
+      document = document;
+      means = fitted.means;
+      accepted = subst (λ bytes. Hold (all_rules bytes)) (sym full.bytes) held.accepted;
+      holds = subst (λ bytes. HoldsDocument bytes document) (sym full.bytes) held.holds;
+    }
+
+pub fits_save_accepted : FitsSaveAccepted
+fits_save_accepted out file outcome document put holds fitted here =
+    let full = full_put out fitted.document _ outcome put fitted.saved here in
+    let same : document ≡ fitted.document = meant_is_held file document fitted.document holds fitted.means in
+    full.bytes ∙ ap full_save_image (sym same)
+
+pub fits_are_fixed : FitsAreFixed
+fits_are_fixed out file outcome put other again put_again fitted here fitted_again here_again =
+    let document = fitted.document in
+    let full = full_put out document _ outcome put fitted.saved here in
+    let held : IsHeldInFull document = full_saves_hold document full.savable in
+    let holds : HoldsDocument put.bytes document =
+    subst (λ bytes. HoldsDocument bytes document) (sym full.bytes) held.holds in
+    fits_save_accepted other put.bytes again document put_again holds fitted_again here_again ∙ sym full.bytes

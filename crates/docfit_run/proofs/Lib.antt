@@ -1,0 +1,7 @@
+pub mod MeaningLemmas
+pub mod RefusalLemmas
+pub mod FitLemmas
+pub mod PutLemmas
+pub mod LawLemmas
+pub mod OneLemmas
+pub mod CompleteLemmas

@@ -1,0 +1,40 @@
+-- What the definitions of a fit imply.
+use Rattle.std.specs.Prelude.{◌≡◌, ◌≢◌, ℕ, List, Some}
+use Rattle.doc_bits.specs.Rules.{Hold}
+use Rattle.doc_outer.specs.Held.{Files}
+use Rattle.plain_doc.specs.declared.document.Document.{Document}
+use Rattle.full_save.specs.Layout.{full_save_image}
+use Rattle.doc_read.specs.Holds.{HoldsDocument, all_rules}
+use Rattle.doc_meaning.specs.Meaning.{MeansDocument}
+use Rattle.run_stages.specs.Outcomes.{Outcome, PutFile}
+use Rattle.docfit_run.specs.Fitted.{IsFitted}
+use Rattle.docfit_run.specs.Endings.{IsEnding}
+
+-- the bytes are accepted, and hold the document that the file means
+pub record IsHeldFit (file bytes : List ℕ) : Type 0 where
+  pub document : Document
+  pub means : MeansDocument file document
+  pub accepted : Hold (all_rules bytes)
+  pub holds : HoldsDocument bytes document
+
+-- what is put under the name is so
+abbrev pub FitsAreHeld : Type 0
+FitsAreHeld = (out file : List ℕ) (outcome : Outcome) (put : PutFile) → IsFitted out file outcome →
+    outcome.put ≡ Some put → IsHeldFit file put.bytes
+
+-- where what names hold is told, a run has one outcome, unless the shelf fails
+abbrev pub FitIsOne : Type 0
+FitIsOne = (words : List (List ℕ)) (files : Files) (one other : Outcome) → IsEnding words (Some files) one →
+    IsEnding words (Some files) other → one.status ≢ 4 → other.status ≢ 4 → one ≡ other
+
+-- where a file holds a document, its fit is the full save of this document
+abbrev pub FitsSaveAccepted : Type 0
+FitsSaveAccepted = (out file : List ℕ) (outcome : Outcome) (document : Document) (put : PutFile) →
+    HoldsDocument file document → IsFitted out file outcome → outcome.put ≡ Some put →
+    put.bytes ≡ full_save_image document
+
+-- the fit of a fit is the same bytes
+abbrev pub FitsAreFixed : Type 0
+FitsAreFixed = (out file : List ℕ) (outcome : Outcome) (put : PutFile) (other : List ℕ) (again : Outcome)
+    (put_again : PutFile) → IsFitted out file outcome → outcome.put ≡ Some put →
+    IsFitted other put.bytes again → again.put ≡ Some put_again → put_again.bytes ≡ put.bytes

@@ -1,0 +1,14 @@
+//! One run of `docfit`: the document that a file of Word 97 to 2007 means, as a file that docbin accepts.
+#![tactic(auto)]
+
+mod fitting;
+mod lines;
+mod refusing;
+mod run;
+mod status;
+mod streams;
+mod words;
+
+pub use run::{PROGRAM, docfit_run, ending_of};
+pub use status::{STATUS_ENCRYPTED, STATUS_NOT_WORD, STATUS_TOO_LARGE};
+pub use words::Asked;

@@ -1,0 +1,32 @@
+// The stream that begins with the FIB, which each file has that comes so far.
+ghost use Rattle.std.specs.Prelude.{◌≡◌};
+ghost use Rattle.doc_bits.specs.Rules.{Hold};
+ghost use Rattle.cfb_streams.specs.Contents.{HasNamed};
+ghost use Rattle.cfb_streams.specs.Names.{wd_name};
+ghost use Rattle.fib_versions.specs.VersionRules.{version_rules};
+ghost use Rattle.docfit_run.specs.Refusals.{HasMain};
+
+use cfb_streams::{OuterContainer, WORD_DOCUMENT};
+use fib_versions::AnyFib;
+
+/// The stream `WordDocument`.
+pub(crate) fn main_stream(outer: &OuterContainer) -> &[u8]
+    requires { HasMain outer.now.container }
+    ensures { HasNamed outer.now.container.streams wd_name result.now }
+{
+    match outer.container().stream(&WORD_DOCUMENT) {
+        Some(wd) => wd,
+        None => unreachable!(),
+    }
+}
+
+/// Its FIB.
+pub(crate) fn fib_of(wd: &[u8]) -> AnyFib<'_>
+    requires { Hold (version_rules wd.now) }
+    ensures { result ≡ wd.now }
+{
+    match AnyFib::read(wd) {
+        Ok(fib) => fib,
+        Err(_) => unreachable!(),
+    }
+}
