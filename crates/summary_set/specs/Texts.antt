@@ -20,6 +20,15 @@ abbrev pub text_property : List ℕ → ℕ → Option (List ℕ)
 text_property b id =
     option_and_then (λ pair. text_of_value (value_of b pair)) (find (λ pair. pair.id == id) (pairs_of b))
 
+-- [MS-OLEPS] TypedPropertyValue with a number of 16 bits: the type 2 (VT_I2), and the number at 4. Profile: the upper
+-- half of the type is not read. Other values are no code page
+abbrev pub page_of_value : List ℕ → Option ℕ
+page_of_value value = if nat_le 6 (length value) && (u16_at value 0 == 2) then Some (u16_at value 4) else None
+
+-- the code page of the texts: the property 1
+abbrev pub page_property : List ℕ → Option ℕ
+page_property b = option_and_then (λ pair. page_of_value (value_of b pair)) (find (λ pair. pair.id == 1) (pairs_of b))
+
 -- [MS-OLEPS] PIDSI_TITLE, PIDSI_SUBJECT, PIDSI_AUTHOR
 pub record AreFieldsOf (b : List ℕ) (fields : Fields) : Type 0 where
   pub title : fields.title ≡ text_property b 2

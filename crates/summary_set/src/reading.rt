@@ -1,14 +1,17 @@
 ghost use Rattle.std.specs.Prelude.{◌≡◌, ◌≤◌, length, IfOk, MatchResult};
 ghost use Rattle.summary_set.specs.Form.{IsPropertySet, IsSetFault};
 ghost use Rattle.summary_set.specs.Values.{IsSetOf};
-ghost use Rattle.summary_set.specs.Texts.{AreFieldsOf, text_property};
+ghost use Rattle.summary_set.specs.Texts.{AreFieldsOf, text_property, page_property};
 
 use crate::form::judge;
 use crate::set::PropertySet;
-use crate::texts::text;
+use crate::texts::{page, text};
 use crate::{Fields, SetFault};
 use doc_bits::{Bytes, Memory};
 use std::alloc::Global;
+
+/// [MS-OLEPS] the id of the code page of a set.
+const CODEPAGE: u32 = 1;
 
 /// [MS-OLEPS] the ids of a title, a subject and an author.
 pub(crate) const PIDSI_TITLE: u32 = 2;
@@ -26,6 +29,29 @@ pub fn fields(alloc: Global, stream: &[u8]) -> Result<Fields, SetFault>
 {
     let set = judge(alloc, stream)?;
     Ok(fields_of(alloc, stream, &set)?)
+}
+
+/// The code page of the texts of a summary stream, where it has one.
+pub fn code_page(alloc: Global, stream: &[u8]) -> Result<Option<u16>, SetFault>
+    requires short { length stream.now ≤ 7143936 }
+    ensures { MatchResult result
+        (λ found. IsPropertySet stream.now × (found ≡ page_property stream.now))
+        (IsSetFault stream.now) }
+{
+    let set = judge(alloc, stream)?;
+    Ok(page_of(stream, &set))
+}
+
+/// The code page of a set.
+fn page_of(stream: &[u8], set: &PropertySet) -> Option<u16>
+    requires set { IsSetOf stream.now set.now }
+    requires formed { IsPropertySet stream.now }
+    ensures { result ≡ page_property stream.now }
+{
+    let Some(pair) = set.pair_with(CODEPAGE) else {
+        return None;
+    };
+    page(set.value(stream, pair))
 }
 
 fn fields_of(alloc: Global, stream: &[u8], set: &PropertySet) -> Result<Fields, Memory>

@@ -1,7 +1,7 @@
 // [MS-OLEPS] TypedPropertyValue with a CodePageString.
 ghost use Rattle.std.specs.Prelude.{◌≡◌, ◌==◌, option_map};
 ghost use Rattle.std.specs.List.{position_or_len};
-ghost use Rattle.summary_set.specs.Texts.{text_of_value};
+ghost use Rattle.summary_set.specs.Texts.{text_of_value, page_of_value};
 
 use doc_bits::{get16, get32};
 
@@ -31,6 +31,22 @@ pub(crate) fn text(value: &[u8]) -> Option<&[u8]>
     let bytes = &value[TEXT..TEXT + count];
     let end = zero_place(bytes);
     Some(&bytes[..end])
+}
+
+/// The type of a number of 16 bits.
+const VT_I2: u16 = 2;
+
+/// The code page of a value. A value of another form is none.
+pub(crate) fn page(value: &[u8]) -> Option<u16>
+    ensures { result ≡ page_of_value value.now }
+{
+    if value.len() < COUNT + 2 {
+        return None;
+    }
+    if get16(value, TYPE) != VT_I2 {
+        return None;
+    }
+    Some(get16(value, COUNT))
 }
 
 /// The place of the first zero, or how many bytes there are.
