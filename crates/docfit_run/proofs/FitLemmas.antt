@@ -1,23 +1,24 @@
 -- What is lifted and saved is the fit of a file.
-use Rattle.std.proofs.Common.{◌≡◌, ◌∙◌, refl, ap, subst, inl, inr, ℕ, List, length, map}
+use Rattle.std.proofs.Common.{◌≡◌, ◌∙◌, refl, ap, subst, inl, inr, ℕ, List, [], length, arith}
 use Rattle.plain_doc.specs.Sound.{IsSound, document_rules}
 use Rattle.full_save.specs.Layout.{full_save_image}
 use Rattle.fast_save.specs.Laws.{IsSavable}
 use Rattle.doc_load.specs.declared.fault.ReadFault.{ReadFault}
 use Rattle.doc_load.specs.Faults.{IsReadFault}
+use Rattle.cfb_streams.specs.Contents.{HasNamed}
 use Rattle.cfb_streams.specs.Names.{wd_name}
+use Rattle.doc_load.specs.FileRules.{table_stream_name}
 use Rattle.doc_load.proofs.NameLemmas.{named_one}
 use Rattle.doc_load.proofs.RefusalLemmas.{refused-first, refused-next, refused-given}
 use Rattle.doc_bits.specs.Rules.{given}
 use Rattle.doc_lift.specs.declared.lifting.Lifted.{Lifted}
 use Rattle.doc_lift.specs.LiftedFiles.{IsLifted, lifted_rules}
 use Rattle.loss_report.specs.Features.{Inventory}
-use Rattle.loss_report.specs.Losses.{losses}
-use Rattle.loss_report.specs.Lines.{feature_line}
 use Rattle.run_stages.specs.Outcomes.{Outcome, puts}
 use Rattle.docfit_run.specs.Rules.{LiftsTo, fit_rules}
-use Rattle.docfit_run.specs.Fitted.{HasInventory, IsFitted, IsSaved, JudgesFit, HasLiftedStreams, AreLossLines}
-use Rattle.docfit_run.specs.Fitted.{Saves, SavesOrNot, fit_report}
+use Rattle.docfit_run.specs.Fitted.{HasInventory, IsFitted, JudgesFit, HasLiftedStreams, AreLossLines}
+use Rattle.docfit_run.specs.Fitted.{AreTextLosses, AreFitLines, NeedsTooMany, Saves, SavesOrNot, fit_lines}
+use Rattle.docfit_run.specs.Fitted.{fit_report}
 
 -- the streams that the report is made of
 pub lifted_streams : (file : List ℕ) (lifted : Lifted) → IsLifted file lifted → HasLiftedStreams lifted
@@ -27,6 +28,8 @@ lifted_streams file lifted is = record {
   wd = is.text.wd;
   named = is.has_text.has_wd;
   fib = is.fib;
+  table = is.text.table;
+  named_table = is.has_text.has_table;
 }
 
 pub lifts_to : (file : List ℕ) (lifted : Lifted) → IsLifted file lifted → LiftsTo file lifted.document
@@ -60,27 +63,52 @@ lifted_inventory file lifted is = record {
   units = is.units;
 }
 
-fitted_by : (out file : List ℕ) (lifted : Lifted) (outcome : Outcome) → (is : IsLifted file lifted) →
-    IsSaved out lifted.document (map feature_line (losses (inventory_of lifted is.text.wd))) outcome →
-    IsFitted out file outcome
-fitted_by out file lifted outcome is saved = record {
+-- the lines that are printed are those of the text that the streams name
+lines_fit : (file : List ℕ) (lifted : Lifted) (lines : List (List ℕ)) → (is : IsLifted file lifted) →
+    AreLossLines lifted lines → AreFitLines is.text (inventory_of lifted is.text.wd) lines
+lines_fit file lifted lines is are =
+    let wd : are.wd ≡ is.text.wd =
+    named_one file lifted.outer.container wd_name are.wd is.text.wd is.has_contents are.named is.has_text.has_wd in
+    let there : HasNamed lifted.outer.container.streams (table_stream_name is.text.wd) are.table =
+    subst (λ (w : List ℕ). HasNamed lifted.outer.container.streams (table_stream_name w) are.table) wd
+    are.named_table in
+    let table : are.table ≡ is.text.table =
+    named_one file lifted.outer.container (table_stream_name is.text.wd) are.table is.text.table is.has_contents there
+    is.has_text.has_table in
+    record {
+      texts = are.texts;
+      texts_are = subst (λ (t : List ℕ). AreTextLosses is.text.wd t are.texts) table
+          (subst (λ (w : List ℕ). AreTextLosses w are.table are.texts) wd are.texts_are);
+      are = are.are ∙ ap (λ (w : List ℕ). fit_lines (inventory_of lifted w) are.texts) wd;
+    }
+
+-- a file that needs too many sectors is not put
+not_put : (lifted : Lifted) (outcome : Outcome) → NeedsTooMany lifted.document outcome → outcome.status ≡ 0 → ⊥
+not_put lifted outcome many done =
+    let same : outcome.status ≡ 9 = ap (λ (o : Outcome). o.status) many.ends in
+    omega (arith, same, done)
+
+saves_fit : (out file : List ℕ) (lifted : Lifted) (outcome : Outcome) → IsLifted file lifted →
+    SavesOrNot lifted out outcome → IsFitted out file outcome
+unfolding lifted_inventory
+saves_fit out file lifted outcome is (inl (lines, (are, put))) = record {
   document = lifted.document;
   means = is.means;
   inventory = inventory_of lifted is.text.wd;
   has = lifted_inventory file lifted is;
-  saved = saved;
+  lines = lines;
+  lines_are = λ done. lines_fit file lifted lines is are;
+  saved = inl put;
 }
-
-saves_fit : (out file : List ℕ) (lifted : Lifted) (outcome : Outcome) → IsLifted file lifted →
-    SavesOrNot lifted out outcome → IsFitted out file outcome
-saves_fit out file lifted outcome is (inl (lines, (are, put))) =
-    let wd : are.wd ≡ is.text.wd =
-    named_one file lifted.outer.container wd_name are.wd is.text.wd is.has_contents are.named is.has_text.has_wd in
-    let same : lines ≡ map feature_line (losses (inventory_of lifted is.text.wd)) =
-    are.are ∙ ap (λ w. map feature_line (losses (inventory_of lifted w))) wd in
-    fitted_by out file lifted outcome is
-    (subst (λ ls. IsSaved out lifted.document ls outcome) same (inl put))
-saves_fit out file lifted outcome is (inr many) = fitted_by out file lifted outcome is (inr many)
+saves_fit out file lifted outcome is (inr many) = record {
+  document = lifted.document;
+  means = is.means;
+  inventory = inventory_of lifted is.text.wd;
+  has = lifted_inventory file lifted is;
+  lines = [];
+  lines_are = λ done. absurd (not_put lifted outcome many done);
+  saved = inr many;
+}
 
 -- what is lifted and sound is fitted as it is saved
 pub lifted_fits : (name out file : List ℕ) (lifted : Lifted) (outcome : Outcome) → IsLifted file lifted →

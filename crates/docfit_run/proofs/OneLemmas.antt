@@ -1,6 +1,6 @@
 -- Words and told files have one outcome.
 use Rattle.std.proofs.Common.{◌≡◌, ◌≢◌, ◌⊎◌, ◌∙◌, inl, inr, sym, ap, subst, ℕ, List, Option, Some, None, arith}
-use Rattle.std.proofs.Common.{map}
+use Rattle.std.proofs.Common.{length}
 use Rattle.doc_bits.specs.Number.{AreBytes, u16_at}
 use Rattle.doc_bits.specs.Rules.{Hold}
 use Rattle.doc_bits.specs.Places.{Place, Upto}
@@ -16,16 +16,18 @@ use Rattle.doc_load.specs.FileRules.{FileText, HasText}
 use Rattle.doc_load.proofs.NameLemmas.{named_one}
 use Rattle.doc_load.proofs.TextLemmas.{text_one}
 use Rattle.loss_report.specs.Features.{Inventory}
-use Rattle.loss_report.specs.Losses.{losses}
-use Rattle.loss_report.specs.Lines.{feature_line}
-use Rattle.run_stages.specs.Outcomes.{Outcome, says}
+use Rattle.text_losses.specs.declared.features.TextFeature.{TextFeature}
+use Rattle.code_losses.proofs.LawLemmas.{losses_one}
+use Rattle.full_save.specs.Layout.{full_save_image}
+use Rattle.run_stages.specs.Outcomes.{Outcome, says, puts}
 use Rattle.run_stages.specs.Stages.{BreaksLengthRule, Reads}
 use Rattle.run_stages.proofs.SaidLemmas.{reads_one}
 use Rattle.docfit_run.specs.Requests.{Request, help, version, fit, requested}
 use Rattle.docfit_run.specs.Lines.{not_word_line}
 use Rattle.docfit_run.specs.Rules.{fit_rules}
 use Rattle.docfit_run.specs.Refusals.{HasMainStream, EndsAt, IsAnotherRule, IsFitRefused}
-use Rattle.docfit_run.specs.Fitted.{HasInventory, IsSaved, IsFitted, JudgesFit, FitsFile}
+use Rattle.docfit_run.specs.Fitted.{HasInventory, AreFitLines, IsPut, IsSaved, IsFitted, JudgesFit, FitsFile}
+use Rattle.docfit_run.specs.Fitted.{list_parts, fit_lines, fit_report}
 use Rattle.docfit_run.specs.Endings.{Ends}
 use Rattle.docfit_run.specs.Laws.{FitIsOne}
 use Rattle.docfit_run.proofs.MeaningLemmas.{lifts_one, fit_single}
@@ -112,14 +114,39 @@ inventory_one file a b x y =
     x.units ∙ (ap (λ (t : FileText). text_units t.wd t.pieces) text ∙ sym y.units) in
     same_inventory a b contents storages wd units
 
-saved_one : (out : List ℕ) (document : Document) (lines : List (List ℕ)) (a b : Outcome) →
-    IsSaved out document lines a → IsSaved out document lines b → a ≡ b
-saved_one out document lines a b (inl x) (inl y) = x.ends ∙ sym y.ends
-saved_one out document lines a b (inl x) (inr y) =
+-- the text that the streams of a file name
+text_same : (file : List ℕ) (a b : Inventory) → (x : HasInventory file a) → (y : HasInventory file b) → x.text ≡ y.text
+text_same file a b x y =
+    let contents : a.outer.container ≡ b.outer.container =
+    contents_unique file a.outer.container b.outer.container x.has_contents y.has_contents in
+    let there : HasText b.outer.container x.text = subst (λ c. HasText c x.text) contents x.has_text in
+    text_one file b.outer.container x.text y.text y.has_contents there y.has_text
+
+lines_one : (text : FileText) (inventory : Inventory) (a b : List (List ℕ)) → AreFitLines text inventory a →
+    AreFitLines text inventory b → a ≡ b
+lines_one text inventory a b x y =
+    let texts : x.texts ≡ y.texts =
+    losses_one (list_parts text.wd text.table) x.texts y.texts x.texts_are y.texts_are in
+    x.are ∙ (ap (λ (t : List TextFeature). fit_lines inventory t) texts ∙ sym y.are)
+
+put_status : (out : List ℕ) (document : Document) (lines : List (List ℕ)) (outcome : Outcome) →
+    IsPut out document lines outcome → outcome.status ≡ 0
+put_status out document lines outcome put = ap (λ (o : Outcome). o.status) put.ends
+
+saved_one : (out : List ℕ) (document : Document) (lines others : List (List ℕ)) (a b : Outcome) →
+    (a.status ≡ 0 → b.status ≡ 0 → lines ≡ others) → IsSaved out document lines a →
+    IsSaved out document others b → a ≡ b
+saved_one out document lines others a b same (inl x) (inl y) =
+    let lines_same : lines ≡ others =
+    same (put_status out document lines a x) (put_status out document others b y) in
+    x.ends
+    ∙ (ap (λ (l : List (List ℕ)). puts (fit_report (length (full_save_image document)) l) out
+    (full_save_image document)) lines_same ∙ sym y.ends)
+saved_one out document lines others a b same (inl x) (inr y) =
     let fits = x.savable.fits in let over = y.over in absurd (omega (arith, fits, over))
-saved_one out document lines a b (inr x) (inl y) =
+saved_one out document lines others a b same (inr x) (inl y) =
     let fits = y.savable.fits in let over = x.over in absurd (omega (arith, fits, over))
-saved_one out document lines a b (inr x) (inr y) = x.ends ∙ sym y.ends
+saved_one out document lines others a b same (inr x) (inr y) = x.ends ∙ sym y.ends
 
 fitted_one : (out file : List ℕ) (a b : Outcome) → AreBytes file → Hold (fit_rules file) → IsFitted out file a →
     IsFitted out file b → a ≡ b
@@ -128,9 +155,12 @@ fitted_one out file a b bytes hold x y =
     lifts_one file x.document y.document bytes (record { rules = hold.0; means = x.means })
     (record { rules = hold.0; means = y.means }) in
     let inventory : x.inventory ≡ y.inventory = inventory_one file x.inventory y.inventory x.has y.has in
-    saved_one out y.document (map feature_line (losses y.inventory)) a b
-    (subst (λ (i : Inventory). IsSaved out y.document (map feature_line (losses i)) a) inventory
-    (subst (λ (d : Document). IsSaved out d (map feature_line (losses x.inventory)) a) document x.saved)) y.saved
+    let text : x.has.text ≡ y.has.text = text_same file x.inventory y.inventory x.has y.has in
+    saved_one out y.document x.lines y.lines a b
+    (λ first other. lines_one y.has.text y.inventory x.lines y.lines
+    (subst (λ (t : FileText). AreFitLines t y.inventory x.lines) text
+    (subst (λ (i : Inventory). AreFitLines x.has.text i x.lines) inventory (x.lines_are first))) (y.lines_are other))
+    (subst (λ (d : Document). IsSaved out d x.lines a) document x.saved) y.saved
 
 judged_one : (name out file : List ℕ) (a b : Outcome) → AreBytes file → JudgesFit name out file a →
     JudgesFit name out file b → a ≡ b

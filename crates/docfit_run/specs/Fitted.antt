@@ -9,14 +9,20 @@ use Rattle.cfb_layout.specs.Counts.{most_sectors}
 use Rattle.plain_doc.specs.declared.document.Document.{Document}
 use Rattle.full_save.specs.Layout.{full_save_image, sectors_of}
 use Rattle.fast_save.specs.Laws.{IsSavable}
+use Rattle.fib_form.specs.Fib.{table_part}
+use Rattle.fib_form.specs.TableParts.{pair_of}
+use Rattle.fib_form.specs.declared.table_parts.TablePart.TheVariants.{PlcfBteChpx, PlcfBtePapx, Clx}
 use Rattle.fib_versions.specs.VersionRules.{version_rules}
 use Rattle.doc_load.specs.Units.{text_units}
-use Rattle.doc_load.specs.FileRules.{FileText, HasText}
+use Rattle.doc_load.specs.FileRules.{FileText, HasText, table_stream_name}
 use Rattle.doc_meaning.specs.Meaning.{MeansDocument}
 use Rattle.doc_lift.specs.declared.lifting.Lifted.{Lifted}
 use Rattle.loss_report.specs.Features.{Inventory}
 use Rattle.loss_report.specs.Losses.{losses}
 use Rattle.loss_report.specs.Lines.{feature_line}
+use Rattle.text_losses.specs.declared.features.TextFeature.{TextFeature}
+use Rattle.text_losses.specs.Lines.{feature_line as line_of_feature}
+use Rattle.code_losses.specs.Losses.{ListParts, AreCodeLosses}
 use Rattle.doc_outer.specs.Held.{Files}
 use Rattle.run_stages.specs.Outcomes.{Outcome, says, puts}
 use Rattle.run_stages.specs.Stages.{Reads, BreaksLengthRule}
@@ -32,6 +38,29 @@ pub record HasInventory (file : List ℕ) (inventory : Inventory) : Type 0 where
   pub has_text : HasText inventory.outer.container text
   pub wd : inventory.wd ≡ text.wd
   pub units : inventory.units ≡ text_units text.wd text.pieces
+
+-- where the lists of a file stand
+abbrev pub list_parts : (wd table : List ℕ) → ListParts
+list_parts wd table = record {
+  wd = wd;
+  characters = table_part wd table (pair_of PlcfBteChpx);
+  paragraphs = table_part wd table (pair_of PlcfBtePapx);
+  clx = table_part wd table (pair_of Clx);
+}
+
+-- what of its lists is left out
+abbrev pub AreTextLosses : (wd table : List ℕ) → List TextFeature → Type 0
+AreTextLosses wd table texts = AreCodeLosses (list_parts wd table) texts
+
+-- the line of each feature that is left out
+abbrev pub fit_lines : Inventory → List TextFeature → List (List ℕ)
+fit_lines inventory texts = map feature_line (losses inventory) ++ map line_of_feature texts
+
+-- these are the lines of a text
+pub record AreFitLines (text : FileText) (inventory : Inventory) (lines : List (List ℕ)) : Type 0 where
+  pub texts : List TextFeature
+  pub texts_are : AreTextLosses text.wd text.table texts
+  pub are : lines ≡ fit_lines inventory texts
 
 -- what is printed of a file that was made: how many bytes it has, how much is left out, and the line of each
 abbrev pub fit_report : ℕ → List (List ℕ) → List ℕ
@@ -56,7 +85,9 @@ pub record IsFitted (out file : List ℕ) (outcome : Outcome) : Type 0 where
   pub means : MeansDocument file document
   pub inventory : Inventory
   pub has : HasInventory file inventory
-  pub saved : IsSaved out document (map feature_line (losses inventory)) outcome
+  pub lines : List (List ℕ)
+  pub lines_are : outcome.status ≡ 0 → AreFitLines has.text inventory lines
+  pub saved : IsSaved out document lines outcome
 
 -- the first of the rules that are left is broken, or the file is fitted
 abbrev pub JudgesFit : (name out file : List ℕ) → Outcome → Type 0
@@ -73,13 +104,18 @@ pub record HasLiftedStreams (lifted : Lifted) : Type 0 where
   pub wd : List ℕ
   pub named : HasNamed lifted.outer.container.streams wd_name wd
   pub fib : Hold (version_rules wd)
+  pub table : List ℕ
+  pub named_table : HasNamed lifted.outer.container.streams (table_stream_name wd) table
 
 -- the lines of what is left out of it
 pub record AreLossLines (lifted : Lifted) (lines : List (List ℕ)) : Type 0 where
   pub wd : List ℕ
   pub named : HasNamed lifted.outer.container.streams wd_name wd
-  pub are : lines ≡ map feature_line
-      (losses (record { outer = lifted.outer; wd = wd; units = lifted.units.items }))
+  pub table : List ℕ
+  pub named_table : HasNamed lifted.outer.container.streams (table_stream_name wd) table
+  pub texts : List TextFeature
+  pub texts_are : AreTextLosses wd table texts
+  pub are : lines ≡ fit_lines (record { outer = lifted.outer; wd = wd; units = lifted.units.items }) texts
 
 -- what is lifted is saved
 abbrev pub Saves : Lifted → List ℕ → Outcome → Type 0

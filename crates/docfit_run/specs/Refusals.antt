@@ -5,6 +5,7 @@ use Rattle.doc_bits.specs.Places.{Place, IsFirstPlace}
 use Rattle.cfb_streams.specs.Contents.{Contents, HasNamed}
 use Rattle.cfb_streams.specs.Container.{HasContents}
 use Rattle.cfb_streams.specs.Names.{wd_name}
+use Rattle.doc_load.specs.FileRules.{table_stream_name}
 use Rattle.run_stages.specs.Lines.{rule_line}
 use Rattle.run_stages.specs.Outcomes.{Outcome, says}
 use Rattle.docfit_run.specs.declared.refusing.FibVersion.{FibVersion}
@@ -23,6 +24,11 @@ pub record HasMainStream (file : List ℕ) : Type 0 where
 pub record HasMain (contents : Contents) : Type 0 where
   pub wd : List ℕ
   pub named : HasNamed contents.streams wd_name wd
+
+-- and the table stream that its FIB uses
+pub record HasTable (contents : Contents) (wd : List ℕ) : Type 0 where
+  pub table : List ℕ
+  pub named : HasNamed contents.streams (table_stream_name wd) table
 
 -- the same of the streams that a file has, with wIdent and nFib
 pub record HasOneMain (contents : Contents) : Type 0 where

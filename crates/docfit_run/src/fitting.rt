@@ -14,9 +14,10 @@ ghost use Rattle.docfit_run.specs.Fitted.{FitsFile, JudgesFit, HasLiftedStreams,
 ghost use Rattle.docfit_run.specs.Fitted.{SavesOrNot, fit_report};
 
 use crate::lines::{fit_line, needs_line};
+use crate::list_losses::{add_features, text_losses_of};
 use crate::refusing::refusal;
 use crate::status::STATUS_TOO_LARGE;
-use crate::streams::{fib_of, main_stream};
+use crate::streams::{fib_of, main_stream, table_stream};
 use doc_bits::{Bytes, Memory, Text};
 use doc_columns::columns_are_formed;
 use doc_lift::{Lifted, lift};
@@ -140,6 +141,11 @@ fn losses_of(alloc: Global, lifted: &Lifted) -> Result<LossLines, Memory>
     requires { HasLiftedStreams lifted.now }
     ensures { IfOk result (λ lines. AreLossLines lifted.now lines) }
 {
-    let fib = fib_of(main_stream(&lifted.outer));
-    report(alloc, &lifted.outer, &fib, &lifted.units)
+    let wd = main_stream(&lifted.outer);
+    let fib = fib_of(wd);
+    let table = table_stream(&lifted.outer, &fib);
+    let mut lines = report(alloc, &lifted.outer, &fib, &lifted.units)?;
+    let texts = text_losses_of(alloc, wd, &fib, table)?;
+    add_features(alloc, &mut lines, &texts)?;
+    Ok(lines)
 }

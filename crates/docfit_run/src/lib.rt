@@ -3,6 +3,7 @@
 
 mod fitting;
 mod lines;
+mod list_losses;
 mod refusing;
 mod run;
 mod status;

@@ -4,9 +4,10 @@ ghost use Rattle.doc_bits.specs.Rules.{Hold};
 ghost use Rattle.cfb_streams.specs.Contents.{HasNamed};
 ghost use Rattle.cfb_streams.specs.Names.{wd_name};
 ghost use Rattle.fib_versions.specs.VersionRules.{version_rules};
-ghost use Rattle.docfit_run.specs.Refusals.{HasMain};
+ghost use Rattle.doc_load.specs.FileRules.{table_stream_name};
+ghost use Rattle.docfit_run.specs.Refusals.{HasMain, HasTable};
 
-use cfb_streams::{OuterContainer, WORD_DOCUMENT};
+use cfb_streams::{OuterContainer, WORD_DOCUMENT, table_name};
 use fib_versions::AnyFib;
 
 /// The stream `WordDocument`.
@@ -16,6 +17,17 @@ pub(crate) fn main_stream(outer: &OuterContainer) -> &[u8]
 {
     match outer.container().stream(&WORD_DOCUMENT) {
         Some(wd) => wd,
+        None => unreachable!(),
+    }
+}
+
+/// The table stream that its FIB uses.
+pub(crate) fn table_stream<'a>(outer: &'a OuterContainer, fib: &AnyFib<'_>) -> &'a [u8]
+    requires { HasTable outer.now.container fib.now }
+    ensures { HasNamed outer.now.container.streams (table_stream_name fib.now) result.now }
+{
+    match outer.container().stream(table_name(fib.which_table())) {
+        Some(table) => table,
         None => unreachable!(),
     }
 }

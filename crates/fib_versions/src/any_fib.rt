@@ -1,6 +1,6 @@
 // The FIB of a stream, of whatever program.
-ghost use Rattle.std.specs.Prelude.{◌≡◌, ◌<◌, ◌≤◌, ◌+◌, length};
-ghost use Rattle.fib_form.specs.Fib.{fib_pair, fib_which_table};
+ghost use Rattle.std.specs.Prelude.{◌≡◌, ◌<◌, ◌≤◌, ◌+◌, length, slice_range};
+ghost use Rattle.fib_form.specs.Fib.{fib_pair, fib_which_table, table_part};
 ghost use Rattle.fib_form.specs.FibFields.{fib_fields};
 ghost use Rattle.fib_versions.specs.Versions.{pair_count, further_ccps, further_count, further_start};
 ghost use Rattle.fib_versions.specs.Versions.{further_number, early_ccp, all_text_length, next_page};
@@ -47,6 +47,17 @@ impl<'a> AnyFib<'a> {
     {
         let place = RG_FC_LCB + 8 * n as usize;
         (get32(self.wd, place), get32(self.wd, place + 4))
+    }
+
+    /// What pair `n` names in a table stream, as far as it is there.
+    pub fn part<'t>(&self, table: &'t [u8], n: u16) -> &'t [u8]
+        requires { n < 93 }
+        ensures { result.now ≡ table_part self.now table.now n }
+    {
+        let place = RG_FC_LCB + 8 * n as usize;
+        let from = get32(self.wd, place) as usize;
+        let len = get32(self.wd, place + 4) as usize;
+        range_in(table, from, from + len)
     }
 
     /// 0 where the table stream is `0Table`, 1 where it is `1Table`.
@@ -122,4 +133,13 @@ impl<'a> AnyFib<'a> {
         let heads = get32(self.wd, CCP_HDD);
         main + notes + heads
     }
+}
+
+/// The bytes from one place to before another, as far as there are so many.
+fn range_in(bytes: &[u8], from: usize, to: usize) -> &[u8]
+    requires { from ≤ to }
+    ensures { result.now ≡ slice_range bytes.now from to }
+{
+    let end = to.min(bytes.len());
+    &bytes[from.min(end)..end]
 }

@@ -36,7 +36,8 @@ impl LossLines {
         self.items.len()
     }
 
-    pub(crate) fn add(&mut self, line: Text) -> Result<(), Memory>
+    /// Puts a line behind them. It ends with a line feed.
+    pub fn add(&mut self, line: Text) -> Result<(), Memory>
         ensures ok { OnOk result (self.new ≡ self.old ++ line ∷ []) }
         ensures err { OnErr result (self.new ≡ self.old) }
     {

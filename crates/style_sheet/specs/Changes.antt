@@ -1,5 +1,5 @@
 -- Settings that are put into a style.
-use Rattle.std.specs.Prelude.{◌≡◌, ℕ, false, Some, slice_set}
+use Rattle.std.specs.Prelude.{◌≡◌, ℕ, false, Option, Some, None, slice_set}
 use Rattle.std.specs.FinMap.{empty}
 use Rattle.prop_map.specs.Settings.{Settings}
 use Rattle.prop_map.specs.Modifiers.{IsOver}
@@ -64,3 +64,15 @@ SetsCharacters istd set old new = ChangesStyle (λ kind made. HasCharactersOver 
 
 abbrev pub SetsParagraphs : ℕ → Settings → Sheet → Sheet → Type 0
 SetsParagraphs istd set old new = ChangesStyle (λ kind made. HasParagraphsOver kind set made) istd old new
+
+-- the style without its base
+abbrev pub as_root : Style → Style
+as_root style = record style { base = None }
+
+abbrev pub put_as_root : Sheet → ℕ → Option Style → Sheet
+put_as_root sheet istd None = sheet
+put_as_root sheet istd (Some style) = with_style sheet istd (as_root style)
+
+-- the sheet with the base of a style gone, where the style is there
+abbrev pub base_dropped : Sheet → ℕ → Sheet
+base_dropped sheet istd = put_as_root sheet istd (style_at sheet istd)

@@ -9,7 +9,7 @@ use std::alloc::Global;
 
 impl StyleSheet {
     /// 1 where a style of paragraphs is there, 2 where one of characters is, else 0.
-    fn kind_number(&self, istd: u16) -> u8
+    pub fn kind_number(&self, istd: u16) -> u8
         ensures { result ≡ kind_at self.now istd }
     {
         match self.get(istd) {
@@ -37,7 +37,7 @@ impl StyleSheet {
     }
 
     /// The base of the style there, where there is a style that has one.
-    fn base(&self, istd: u16) -> Option<u16>
+    pub fn base(&self, istd: u16) -> Option<u16>
         ensures { result ≡ base_at self.now istd }
     {
         match self.get(istd) {

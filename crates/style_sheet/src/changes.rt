@@ -5,7 +5,7 @@ ghost use Rattle.prop_map.specs.Modifiers.{IsOver};
 ghost use Rattle.style_sheet.specs.declared.styles.Kind.TheVariants.{Para, Other};
 ghost use Rattle.style_sheet.specs.Chain.{kind_at};
 ghost use Rattle.style_sheet.specs.Changes.{with_kind, HasCharactersOver, HasParagraphsOver, SetsCharacters};
-ghost use Rattle.style_sheet.specs.Changes.{SetsParagraphs};
+ghost use Rattle.style_sheet.specs.Changes.{SetsParagraphs, as_root, base_dropped};
 
 use crate::{Kind, Style, StyleSheet, UpxList};
 use doc_bits::{Memory, Units};
@@ -43,6 +43,20 @@ impl StyleSheet {
         let style = style.with_kind(name, kind);
         self.put(istd, style)
     }
+
+    /// Takes the base of a style of paragraphs or of characters away.
+    pub fn drop_base(&mut self, istd: u16) -> Result<(), Memory>
+        requires { 0 < kind_at self.old istd }
+        ensures ok { OnOk result (self.new ≡ base_dropped self.old istd) }
+        ensures err { OnErr result (self.new ≡ self.old) }
+    {
+        let alloc = self.alloc;
+        let style = self.get(istd).unwrap();
+        let name = Units::from_slice(alloc, style.name.as_slice())?;
+        let kind = style.kind.copy(alloc)?;
+        let style = style.as_root(name, kind);
+        self.put(istd, style)
+    }
 }
 
 impl Style {
@@ -61,9 +75,47 @@ impl Style {
             kind,
         }
     }
+
+    /// The style, whose name and kind are these, without its base.
+    fn as_root(&self, name: Units, kind: Kind) -> Style
+        requires name { name ≡ self.now.name }
+        requires kind { kind ≡ self.now.kind }
+        ensures { result ≡ as_root self.now }
+    {
+        Style {
+            sti: self.sti,
+            flags: self.flags,
+            base: None,
+            next: self.next,
+            grfstd: self.grfstd,
+            name,
+            kind,
+        }
+    }
 }
 
 impl Kind {
+    /// The same kind. Its maps are shared.
+    fn copy(&self, alloc: Global) -> Result<Kind, Memory>
+        ensures { IfOk result (λ copy. copy ≡ self.now) }
+    {
+        match self {
+            Kind::Para { pap, chp } => {
+                let pap = pap.copy(alloc)?;
+                let chp = chp.copy(alloc)?;
+                Ok(Kind::Para { pap, chp })
+            }
+            Kind::Char { chp } => {
+                let chp = chp.copy(alloc)?;
+                Ok(Kind::Char { chp })
+            }
+            Kind::Other { stk, upxes } => {
+                let other = same_other(alloc, *stk, upxes)?;
+                Ok(other)
+            }
+        }
+    }
+
     /// The kind with character settings put over its own.
     fn with_characters(&self, alloc: Global, set: &PropMap) -> Result<Kind, Memory>
         ensures { IfOk result (HasCharactersOver self.now set.now) }

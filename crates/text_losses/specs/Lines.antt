@@ -8,6 +8,7 @@ use Rattle.text_codes.specs.Digits.{word_text}
 use Rattle.loss_report.specs.Lines.{story_word}
 use Rattle.text_losses.specs.declared.features.ListKind.{ListKind}
 use Rattle.text_losses.specs.declared.features.ListKind.TheVariants as lists
+use Rattle.text_losses.specs.declared.features.Reference.{Reference}
 use Rattle.text_losses.specs.declared.features.TextFeature.{TextFeature}
 use Rattle.text_losses.specs.declared.features.TextFeature.TheVariants as has
 
@@ -33,9 +34,14 @@ spaced number = 32 ∷ [] ++ decimal number
 abbrev pub code_text : ListKind → ℕ → ℕ → List ℕ
 code_text kind code count = list_word kind ++ (32 ∷ [] ++ (word_text code ++ spaced count))
 
+-- the story that is left out, and where its mark is
+abbrev pub reference_text : Reference → List ℕ
+reference_text reference =
+    codes "reference "
+    ++ (story_word reference.to ++ (32 ∷ [] ++ (place_text reference.story ++ spaced reference.at)))
+
 abbrev pub feature_text : TextFeature → List ℕ
-feature_text (has.Reference to story at) =
-    codes "reference " ++ (story_word to ++ (32 ∷ [] ++ (place_text story ++ spaced at)))
+feature_text (has.Reference reference) = reference_text reference
 feature_text (has.Skipped kind code count) = codes "code " ++ code_text kind code count
 feature_text (has.Repeated kind code count) = codes "repeat " ++ code_text kind code count
 feature_text (has.Deleted story from to) = codes "deleted " ++ (place_text story ++ (spaced from ++ spaced to))

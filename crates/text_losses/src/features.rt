@@ -18,26 +18,30 @@ pub enum ListKind {
     Sepx,
 }
 
+/// The mark of a story that is left out, in a text that stays: how many items are before it.
+#[derive(Clone, Copy)]
+pub struct Reference {
+    pub to: Further,
+    pub story: Story,
+    pub at: usize,
+}
+
 /// What a file has beside what this profile has a meaning for. CPs are those of the text that they are of.
 #[derive(Drop)]
 pub enum TextFeature {
-    /// The mark of a text that is left out.
-    Reference {
-        to: Further,
-        story: Story,
-        at: u32,
-    },
+    /// The mark of a story that is left out.
+    Reference(Reference),
     /// A code that does nothing, and how many lists have it.
     Skipped {
         kind: ListKind,
         code: u16,
-        count: u32,
+        count: u64,
     },
     /// A code of which the last one of a list counts, and how many lists have it again.
     Repeated {
         kind: ListKind,
         code: u16,
-        count: u32,
+        count: u64,
     },
     /// Text that a reviser deleted.
     Deleted {
@@ -51,9 +55,9 @@ pub enum TextFeature {
         from: u32,
         to: u32,
     },
-    /// Bytes of the style sheet behind what is read of it.
+    /// Bytes of the style sheet that are not read.
     SheetBeyond {
-        len: u32,
+        len: u64,
     },
 }
 

@@ -5,5 +5,5 @@
 mod features;
 mod lines;
 
-pub use features::{ListKind, TextFeature};
-pub use lines::push_feature;
+pub use features::{ListKind, Reference, TextFeature};
+pub use lines::{push_feature, push_features, reference_text, story_place};

@@ -1,13 +1,25 @@
 // The line of a feature.
 ghost use Rattle.std.specs.Prelude.{◌≡◌, ◌++◌, IfOk, OnOk};
 ghost use Rattle.loss_report.specs.Lines.{story_word as word_of_story};
+ghost use Rattle.std.specs.List.{flat_map};
 ghost use Rattle.text_losses.specs.Lines.{list_word as word_of_list, place_text, code_text, feature_line};
+ghost use Rattle.text_losses.specs.Lines.{reference_text as text_of_reference};
 
-use crate::features::{ListKind, TextFeature};
+use crate::features::{ListKind, Reference, TextFeature};
 use doc_bits::{Memory, Story, Text};
 use fib_versions::Further;
 use std::alloc::Global;
 use text_codes::{push_word, show_units};
+
+/// Appends the lines of features. After want of memory some of them may be there.
+pub fn push_features(alloc: Global, text: &mut Text, features: &[TextFeature]) -> Result<(), Memory>
+    ensures { OnOk result (text.new ≡ text.old ++ flat_map feature_line features.now) }
+{
+    for k in 0..features.len() {
+        push_feature(alloc, text, &features[k])?;
+    }
+    Ok(())
+}
 
 /// Appends the line of a feature. After want of memory a part of it may be there.
 pub fn push_feature(alloc: Global, text: &mut Text, feature: &TextFeature) -> Result<(), Memory>
@@ -22,11 +34,10 @@ fn feature_line(alloc: Global, feature: &TextFeature) -> Result<Text, Memory>
     ensures { IfOk result (λ line. line ≡ feature_line feature.now) }
 {
     let line = match feature {
-        TextFeature::Reference { to, story, at } => {
-            let word = story_word(*to);
-            let place = place(alloc, *story)?;
-            let place = place.as_str();
-            format!(in alloc; "reference {word} {place} {at}\n")?
+        TextFeature::Reference(reference) => {
+            let named = reference_text(alloc, *reference)?;
+            let named = named.as_str();
+            format!(in alloc; "{named}\n")?
         }
         TextFeature::Skipped { kind, code, count } => {
             let codes = codes(alloc, *kind, *code, *count)?;
@@ -39,7 +50,7 @@ fn feature_line(alloc: Global, feature: &TextFeature) -> Result<Text, Memory>
             format!(in alloc; "repeat {codes}\n")?
         }
         TextFeature::Deleted { story, from, to } => {
-            let place = place(alloc, *story)?;
+            let place = story_place(alloc, *story)?;
             let place = place.as_str();
             format!(in alloc; "deleted {place} {from} {to}\n")?
         }
@@ -54,7 +65,7 @@ fn feature_line(alloc: Global, feature: &TextFeature) -> Result<Text, Memory>
 }
 
 /// A list, a code and a count.
-fn codes(alloc: Global, kind: ListKind, code: u16, count: u32) -> Result<Text, Memory>
+fn codes(alloc: Global, kind: ListKind, code: u16, count: u64) -> Result<Text, Memory>
     ensures { IfOk result (λ text. text ≡ code_text kind code count) }
 {
     let word = list_word(kind);
@@ -65,8 +76,20 @@ fn codes(alloc: Global, kind: ListKind, code: u16, count: u32) -> Result<Text, M
     Ok(Text::from_string(text))
 }
 
-/// A text by its name.
-fn place(alloc: Global, story: Story) -> Result<Text, Memory>
+/// A reference, as a feature and as a mend name it.
+pub fn reference_text(alloc: Global, reference: Reference) -> Result<Text, Memory>
+    ensures { IfOk result (λ text. text ≡ text_of_reference reference) }
+{
+    let word = story_word(reference.to);
+    let place = story_place(alloc, reference.story)?;
+    let place = place.as_str();
+    let at = reference.at;
+    let text = format!(in alloc; "reference {word} {place} {at}")?;
+    Ok(Text::from_string(text))
+}
+
+/// A text by its name: `main`, `note 3` or `head 6`.
+pub fn story_place(alloc: Global, story: Story) -> Result<Text, Memory>
     ensures { IfOk result (λ text. text ≡ place_text story) }
 {
     let text = match story {

@@ -1,0 +1,10 @@
+pub mod ResultLemmas
+pub mod TallyLemmas
+pub mod ListingLemmas
+pub mod JoinLemmas
+pub mod RunLemmas
+pub mod NameLemmas
+pub mod NamedLemmas
+pub mod OneLemmas
+pub mod PrcLemmas
+pub mod LawLemmas

@@ -1,0 +1,11 @@
+use Rattle.std.specs.Prelude.{slice_index}
+use Rattle.std.proofs.Common.{◌≡◌, ◌++◌}
+use Rattle.code_losses.specs.Losses.{repeated_of}
+use Rattle.code_losses.proofs.NamedLemmas.{named_below}
+use Rattle.code_losses.proofs.features.push_all_repeated.Given as goal
+
+-- those of the first codes are named
+abbrev pub invariant-loop-code : goal.invariant-loop-code
+invariant-loop-code l =
+    l.features.items
+    ≡ l.fn.features.items ++ named_below (λ code. repeated_of l.kind code (slice_index l.tally.counts.items code)) l.code

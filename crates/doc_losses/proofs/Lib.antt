@@ -1,0 +1,6 @@
+pub mod CpLemmas
+pub mod NumberLemmas
+pub mod ListingLemmas
+pub mod ReferenceLemmas
+pub mod BookmarkLemmas
+pub mod LossLemmas

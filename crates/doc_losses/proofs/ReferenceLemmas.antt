@@ -1,0 +1,60 @@
+-- The marks of texts, one item and one text after the other.
+use Rattle.std.proofs.Common.{◌≡◌, ◌∙◌, ap, sym, refl, subst, ℕ, zero, suc, ◌+◌, ◌<◌, ◌≤◌, ◌==◌, Bool, true, false}
+use Rattle.std.proofs.Common.{List, [], ◌∷◌, ◌++◌, length, map, arith, Option, Some, None, slice_get, append_assoc}
+use Rattle.std.specs.Prelude.{option_map, if◌then◌else◌}
+use Rattle.std.specs.Option.{option_and_then, unwrap_or}
+use Rattle.std.specs.List.{filter_map, flat_map, list_any}
+use Rattle.std.specs.List.Sorted.{IsPermutation}
+use Rattle.std.proofs.lemmas.List.Sorted.{list_any-IsPermutation}
+use Rattle.std.proofs.lemmas.List.Elements.{filter_map-append}
+use Rattle.std.proofs.lemmas.List.{append-nil}
+use Rattle.std.proofs.lemmas.Grind.{flat_map-append}
+use Rattle.std.proofs.lemmas.Option.{same_Some}
+use Rattle.doc_bits.proofs.ListLemmas.{from_map, get-map}
+use Rattle.doc_bits.specs.declared.places.Story.{Story}
+use Rattle.fib_versions.specs.declared.further.Further.{Further}
+use Rattle.fib_versions.specs.declared.further.Further.TheVariants.{Comments, Endnotes, TextBoxes, HeaderTextBoxes}
+use Rattle.doc_parts.specs.Tabulated.{tabulate}
+use Rattle.doc_parts.proofs.BookmarkPartLemmas.{tabulate-next}
+use Rattle.plain_doc.specs.declared.item.Item.{Item}
+use Rattle.plain_doc.specs.declared.document.Document.{Document}
+use Rattle.doc_columns.specs.declared.beside.Beside.{Beside}
+use Rattle.doc_columns.specs.Beside.{beside_of, has_something}
+use Rattle.text_losses.specs.declared.features.Reference.{Reference}
+use Rattle.doc_losses.specs.References.{Names, mark_of, mark_at, mark_of_unit, where_named, text_marks, reference_at}
+use Rattle.doc_losses.specs.References.{names_of, mark_cps}
+use Rattle.doc_losses.specs.declared.cps.Marks.{Marks}
+use Rattle.doc_losses.specs.Marks.{named_by, AreMarksOf}
+
+-- ---- the mark at a place
+
+pub mark_is : (names : Names) (story : Story) (begin at unit : ℕ) (text : List Item) (beside : Beside) →
+    slice_get (map (λ item. item.unit) text) at ≡ Some unit → slice_get (map beside_of text) at ≡ Some beside →
+    mark_at names story begin text at ≡ (if has_something beside then None else where_named names (begin + at)
+    (mark_of_unit story unit))
+mark_is names story begin at unit text beside unit_is beside_is =
+    let item = from_map (λ (item : Item). item.unit) text at unit unit_is in
+    let same : beside_of item.0 ≡ beside =
+    same_Some (beside_of item.0) beside (sym (get-map beside_of text at item.0 item.1.0) ∙ beside_is) in
+    ap (option_and_then (mark_of names story (begin + at))) item.1.0
+    ∙ (ap (λ (b : Beside). if has_something b then None else where_named names (begin + at) (mark_of_unit story
+    (item.0).unit)) same
+    ∙ ap (λ (u : ℕ). if has_something beside then None else where_named names (begin + at) (mark_of_unit story u))
+    item.1.1)
+
+-- ---- the CPs of a file
+
+pub marks_of_file : (wd table : List ℕ) (marks : Marks) → IsPermutation (mark_cps wd table Comments) marks.comments →
+    IsPermutation (mark_cps wd table Endnotes) marks.endnotes → IsPermutation (mark_cps wd table TextBoxes) marks.boxes →
+    IsPermutation (mark_cps wd table HeaderTextBoxes) marks.head_boxes → AreMarksOf wd table marks
+marks_of_file wd table marks a b c d Comments cp =
+    sym (list_any-IsPermutation (λ (named : ℕ). named == cp) (mark_cps wd table Comments) marks.comments a)
+marks_of_file wd table marks a b c d Endnotes cp =
+    sym (list_any-IsPermutation (λ (named : ℕ). named == cp) (mark_cps wd table Endnotes) marks.endnotes b)
+marks_of_file wd table marks a b c d TextBoxes cp =
+    sym (list_any-IsPermutation (λ (named : ℕ). named == cp) (mark_cps wd table TextBoxes) marks.boxes c)
+marks_of_file wd table marks a b c d HeaderTextBoxes cp =
+    sym (list_any-IsPermutation (λ (named : ℕ). named == cp) (mark_cps wd table HeaderTextBoxes) marks.head_boxes d)
+
+pub same_names : (wd table : List ℕ) (marks : Marks) → AreMarksOf wd table marks → named_by marks ≡ names_of wd table
+same_names wd table marks are = λ i. λ story cp. are story cp i

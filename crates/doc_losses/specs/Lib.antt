@@ -1,0 +1,5 @@
+pub mod References
+pub mod Marks
+pub mod Bookmarks
+pub mod Sheets
+pub mod Losses

@@ -1,0 +1,21 @@
+-- The CPs of marks, as they are kept to be found.
+use Rattle.std.specs.Prelude.{◌≡◌, ℕ, ◌==◌, List}
+use Rattle.std.specs.List.{list_any}
+use Rattle.fib_versions.specs.declared.further.Further.{Further}
+use Rattle.fib_versions.specs.declared.further.Further.TheVariants.{Comments, Endnotes, TextBoxes, HeaderTextBoxes}
+use Rattle.doc_losses.specs.declared.cps.Marks.{Marks}
+use Rattle.doc_losses.specs.References.{Names, names_of}
+
+-- those of a story
+abbrev pub cps_in : Marks → Further → List ℕ
+cps_in marks Comments = marks.comments
+cps_in marks Endnotes = marks.endnotes
+cps_in marks TextBoxes = marks.boxes
+cps_in marks HeaderTextBoxes = marks.head_boxes
+
+abbrev pub named_by : Marks → Names
+named_by marks story cp = list_any (λ named. named == cp) (cps_in marks story)
+
+-- they are those of a file
+abbrev pub AreMarksOf : List ℕ → List ℕ → Marks → Type 0
+AreMarksOf wd table marks = (story : Further) (cp : ℕ) → named_by marks story cp ≡ names_of wd table story cp

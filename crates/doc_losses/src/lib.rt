@@ -1,0 +1,13 @@
+//! What of a file is left out by its texts, its bookmarks and its style sheet, feature by feature.
+#![tactic(auto)]
+
+mod bookmarks;
+mod bytes;
+mod cps;
+mod finding;
+mod losses;
+mod sheet;
+
+pub use cps::Marks;
+pub use finding::{references, text_marks};
+pub use losses::doc_losses;
