@@ -14,27 +14,36 @@ use Rattle.effective_props.specs.Layers.{AreNamedLayers}
 use Rattle.char_formats.specs.declared.change.Change.{Change}
 use Rattle.char_formats.specs.declared.format.CharFormat.{CharFormat}
 use Rattle.char_formats.specs.Formats.{format_in, IsCharFormat}
-use Rattle.char_formats.specs.Changes.{Act, no_act, with_layer, over_all, IsChangeOf}
-use Rattle.char_formats.specs.Styles.{IsStyleChange, IsNamedChange}
+use Rattle.char_formats.specs.Changes.{Act, with_layer, over_all, IsChangeOf}
+use Rattle.char_formats.specs.Styles.{IsStyleChange, IsNamedChange, IsUnderChange}
 use Rattle.char_formats.specs.Laws.{CharFormatIsOne, CharFormatIsThere}
 use Rattle.char_formats.proofs.ChangeLemmas.{format_in-same}
 use Rattle.char_formats.proofs.EffectLemmas.{over_all-append, over_all-effective}
-
--- no style of characters is named
-pub named-none : (sheet : Sheet) (change : Change) → IsChangeOf no_act change → IsNamedChange sheet None change
-named-none sheet change said = record { layers = []; are = refl; said = said }
-
--- what is named is no style of characters
-pub named-other : (sheet : Sheet) (istd : ℕ) (change : Change) → kind_at sheet istd ≢ 2 → IsChangeOf no_act change →
-    IsNamedChange sheet (Some istd) change
-named-other sheet istd change other said =
-    record { layers = []; are = ((λ is. absurd (other is)), (λ _. refl)); said = said }
 
 -- it is one
 pub named-style : (sheet : Sheet) (istd : ℕ) (change : Change) → kind_at sheet istd ≡ 2 →
     IsStyleChange sheet istd change → IsNamedChange sheet (Some istd) change
 named-style sheet istd change is own =
     record { layers = own.layers; are = ((λ _. own.are), (λ other. absurd (other is))); said = own.said }
+
+-- nothing is laid over the style
+pub under-style : (sheet : Sheet) (istd : ℕ) (named : Option ℕ) (style : Change) → IsStyleChange sheet istd style →
+    AreNamedLayers sheet named [] → IsUnderChange sheet istd named style
+under-style sheet istd named style h none =
+    record { of_style = h.layers; are_style = h.are; of_named = []; are_named = none; said = h.said }
+
+-- the named style is
+pub under-both : (sheet : Sheet) (istd : ℕ) (named : Option ℕ) (style other then : Change) →
+    IsStyleChange sheet istd style → IsNamedChange sheet named other →
+    ((one two : Act) → IsChangeOf one style → IsChangeOf two other → IsChangeOf
+    (λ code before. two code (one code before)) then) → IsUnderChange sheet istd named then
+under-both sheet istd named style other then h k both = record {
+  of_style = h.layers;
+  are_style = h.are;
+  of_named = k.layers;
+  are_named = k.are;
+  said = both (over_all h.layers) (over_all k.layers) h.said k.said;
+}
 
 -- the layers of a character
 abbrev layers_of : List Settings → List Settings → Settings → List Settings
@@ -47,20 +56,25 @@ value_through style named direct code =
     ∙ (sym (over_all-append style (named ++ direct ∷ []) code None)
     ∙ over_all-effective (layers_of style named direct) code)
 
--- the format is that of the changes of the style, of the named style and of the direct settings, one after the other
-pub format_said : (sheet : Sheet) (istd : ℕ) (direct : Settings) (style named then change : Change) (format :
-    CharFormat) → IsStyleChange sheet istd style → IsNamedChange sheet (named_style direct) named → ((one other : Act) →
-    IsChangeOf one style → IsChangeOf other named → IsChangeOf (λ code before. other code (one code before)) then) →
-    ((act : Act) → IsChangeOf act then → IsChangeOf (with_layer direct act) change) → ((act : Act) → IsChangeOf act
-    change → format ≡ format_in (λ code. act code None)) → IsCharFormat sheet istd direct format
-format_said sheet istd direct style named then change format h k both laid said =
-    let act : Act = λ code before. over_all k.layers code (over_all h.layers code before) in
+-- the format is that of the change under the direct settings, and then of these
+pub format_said : (sheet : Sheet) (istd : ℕ) (direct : Settings) (under change : Change) (format : CharFormat) →
+    IsUnderChange sheet istd (named_style direct) under → ((act : Act) → IsChangeOf act under → IsChangeOf
+    (with_layer direct act) change) → ((act : Act) → IsChangeOf act change → format ≡ format_in
+    (λ code. act code None)) → IsCharFormat sheet istd direct format
+format_said sheet istd direct under change format h laid said =
+    let act : Act = λ code before. over_all h.of_named code (over_all h.of_style code before) in
     record {
-      layers = layers_of h.layers k.layers direct;
-      are = record { of_style = h.layers; style = h.are; of_named = k.layers; named = k.are; are = refl };
-      said = said (with_layer direct act) (laid act (both (over_all h.layers) (over_all k.layers) h.said k.said))
-          ∙ format_in-same (λ code. with_layer direct act code None) (effective_value (layers_of h.layers k.layers
-          direct)) (value_through h.layers k.layers direct);
+      layers = layers_of h.of_style h.of_named direct;
+      are = record {
+        of_style = h.of_style;
+        style = h.are_style;
+        of_named = h.of_named;
+        named = h.are_named;
+        are = refl;
+      };
+      said = said (with_layer direct act) (laid act h.said)
+          ∙ format_in-same (λ code. with_layer direct act code None) (effective_value (layers_of h.of_style h.of_named
+          direct)) (value_through h.of_style h.of_named direct);
     }
 
 -- ---- a character has one format

@@ -19,6 +19,14 @@ pub record IsNamedChange (sheet : Sheet) (named : Option ℕ) (change : Change) 
   pub are : AreNamedLayers sheet named layers
   pub said : IsChangeOf (over_all layers) change
 
+-- the change is that of the layers of the style, and then of those of a style that direct settings may name
+pub record IsUnderChange (sheet : Sheet) (istd : ℕ) (named : Option ℕ) (change : Change) : Type 0 where
+  pub of_style : List Settings
+  pub are_style : AreChainLayers character_settings sheet istd of_style
+  pub of_named : List Settings
+  pub are_named : AreNamedLayers sheet named of_named
+  pub said : IsChangeOf (λ code before. over_all of_named code (over_all of_style code before)) change
+
 -- the change is that of the layers below the style's own one
 pub record IsBelowStyle (sheet : Sheet) (istd : ℕ) (change : Change) : Type 0 where
   pub layers : List Settings

@@ -1,10 +1,10 @@
 // The formats of characters, over the styles of a sheet.
-ghost use Rattle.std.specs.Prelude.{◌≡◌, ◌↔◌, ◌<◌, IfOk, IsTrue, slice_index};
+ghost use Rattle.std.specs.Prelude.{◌≡◌, ◌↔◌, ◌<◌, [], IfOk, IsTrue, MatchOption, slice_index};
 ghost use Rattle.doc_bits.specs.Number.{u16_at};
 ghost use Rattle.style_sheet.specs.Chain.{kind_at, HasSoundBases};
-ghost use Rattle.effective_props.specs.Layers.{named_style};
+ghost use Rattle.effective_props.specs.Layers.{AreNamedLayers, named_style};
 ghost use Rattle.char_formats.specs.Formats.{IsCharFormat};
-ghost use Rattle.char_formats.specs.Styles.{IsStyleChange, IsNamedChange};
+ghost use Rattle.char_formats.specs.Styles.{IsStyleChange, IsNamedChange, IsUnderChange};
 
 use crate::CharFormat;
 use crate::change::Change;
@@ -55,25 +55,36 @@ impl StyleFormats {
         requires { kind_at self.now istd ≡ 1 }
         ensures { IsCharFormat self.now istd direct.now result }
     {
-        let style = self.style_change(istd);
-        let named = self.named_change(direct);
-        let mut change = style.then(&named);
+        let mut change = self.under_direct(istd, direct);
         change.lay_all(direct);
         change.format()
     }
 
+    /// The change of the style, and behind it that of the style that the direct settings name.
+    fn under_direct(&self, istd: u16, direct: &PropMap) -> Change
+        requires { kind_at self.now istd ≡ 1 }
+        ensures { IsUnderChange self.now istd (named_style direct.now) result }
+    {
+        let style = self.style_change(istd);
+        match self.named_change(direct) {
+            None => style,
+            Some(named) => style.then(&named),
+        }
+    }
+
     /// The change of the style that the direct settings name, where it is one of characters.
-    fn named_change(&self, direct: &PropMap) -> Change
-        ensures { IsNamedChange self.now (named_style direct.now) result }
+    fn named_change(&self, direct: &PropMap) -> Option<Change>
+        ensures { MatchOption result (AreNamedLayers self.now (named_style direct.now) [])
+            (IsNamedChange self.now (named_style direct.now)) }
     {
         let Some(value) = direct.get(SPRM_C_ISTD) else {
-            return Change::none();
+            return None;
         };
         let istd = first_word(value);
         if !self.is_of_characters(istd) {
-            return Change::none();
+            return None;
         }
-        self.style_change(istd)
+        Some(self.style_change(istd))
     }
 
     /// Whether the style is one of characters.

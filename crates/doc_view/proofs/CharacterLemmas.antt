@@ -1,5 +1,5 @@
 -- Characters and glyphs of a page are no controls.
-use Rattle.std.proofs.Common.{◌≡◌, ◌∙◌, ℕ, ◌+◌, ◌-◌, ◌/◌, ◌%◌, ◌<◌, ◌≤◌, Bool, true, false, not, ◌||◌, ◌&&◌, ◌⊎◌, List, [], ◌∷◌}
+use Rattle.std.proofs.Common.{◌≡◌, ◌∙◌, ℕ, ◌+◌, ◌/◌, ◌%◌, ◌<◌, ◌≤◌, Bool, true, false, not, ◌||◌, ◌&&◌, ◌⊎◌, List, [], ◌∷◌}
 use Rattle.std.proofs.Common.{◌++◌, zero, suc, refl, arith, Option, Some, None, inl, inr}
 use Rattle.std.specs.Prelude.{if◌then◌else◌, nat_le, nat_lt, ◌==◌, codes}
 use Rattle.std.specs.Fmt.{decimal, digit_glyph, digits, digits_onto}
@@ -76,7 +76,7 @@ decimal_plain n = digits_plain 64 n [] none_plain
 
 -- ---- texts that are known
 
-are_plain : List ℕ → Bool
+unfoldable pub are_plain : List ℕ → Bool
 are_plain [] = true
 are_plain (code ∷ more) = not (is_control code) && are_plain more
 
@@ -84,7 +84,7 @@ tested : (one more : Bool) → (not one && more) ≡ true → (one ≡ false) ×
 tested true more is = absurd (false≢true is)
 tested false more is = (refl, is)
 
-known_plain : (text : List ℕ) → are_plain text ≡ true → ArePlain text
+pub known_plain : (text : List ℕ) → are_plain text ≡ true → ArePlain text
 unfolding are_plain
 known_plain [] is = none_plain
 known_plain (code ∷ more) is =

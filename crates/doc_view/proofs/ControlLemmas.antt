@@ -1,33 +1,39 @@
 -- No character of a page is a control.
-use Rattle.std.proofs.Common.{ℕ, ◌+◌, ◌-◌, Bool, false, ◌||◌, List, [], ◌∷◌}
+use Rattle.std.proofs.Common.{ℕ, ◌+◌, ◌-◌, ◌/◌, ◌%◌, Bool, true, false, not, ◌||◌, ◌&&◌, List, [], ◌∷◌}
 use Rattle.std.proofs.Common.{◌++◌, refl, Option, Some, None}
-use Rattle.std.specs.Prelude.{if◌then◌else◌, is_some, slice_get, length}
+use Rattle.std.specs.Prelude.{if◌then◌else◌, is_some, slice_get, length, drop, codes, nat_le, nat_lt, ◌==◌}
 use Rattle.std.specs.Fmt.{decimal}
-use Rattle.std.specs.List.{All, cons_option}
-use Rattle.std.proofs.lemmas.List.Elements.{All-nil, All-cons, All-head, All-tail}
+use Rattle.std.specs.List.{All, cons_option, filter_map}
+use Rattle.std.proofs.lemmas.List.Elements.{All-nil, All-cons, All-append, All-head, All-tail}
 use Rattle.plain_doc.specs.declared.item.Item.{Item}
 use Rattle.plain_doc.specs.declared.item.NoteKind.{NoteKind}
 use Rattle.plain_doc.specs.declared.item.NoteKind.TheVariants.{Auto, Custom}
 use Rattle.plain_doc.specs.Settings.{is_inside}
 use Rattle.plain_doc.specs.Stretches.{stretches}
 use Rattle.char_formats.specs.declared.format.CharFormat.{CharFormat}
+use Rattle.list_numbers.specs.declared.paragraph_values.ListLabel.{ListLabel}
+use Rattle.list_numbers.specs.declared.paragraph_values.ParagraphValues.{ParagraphValues}
 use Rattle.view_places.specs.declared.glyph.Glyph.{Glyph}
+use Rattle.view_places.specs.declared.glyph.Glyph.TheVariants.{Unit}
 use Rattle.doc_view.specs.declared.line.Line.{Line}
 use Rattle.doc_view.specs.declared.reading.Front.{Front}
 use Rattle.doc_view.specs.declared.reading.Manner.{Manner}
 use Rattle.doc_view.specs.declared.reading.Seen.{Seen}
 use Rattle.doc_view.specs.declared.references.Reference.{Reference}
-use Rattle.doc_view.specs.Glyphs.{glyph_of, glyphs_text}
+use Rattle.doc_view.specs.Glyphs.{glyph_of, glyphs_text, is_windows, unit_glyph}
+use Rattle.doc_view.specs.Labels.{break_text, label_glyph, label_glyphs, label_text, opening_text}
+use Rattle.doc_view.specs.Headers.{header_kind, header_lead, header_text, header_title, headers_from}
 use Rattle.doc_view.specs.Laws.{NoControls}
 use Rattle.doc_view.specs.Layout.{front_at, inner_front, is_in_table, layout_of, line_front, line_of, paragraph_text}
 use Rattle.doc_view.specs.Layout.{some_here, tab_front, text_from}
 use Rattle.doc_view.specs.Notes.{has_lines, note_label, note_lead, note_text, notes_from}
-use Rattle.doc_view.specs.Page.{main_manner, note_manner, page_text}
+use Rattle.doc_view.specs.Page.{header_manner, headers_text, main_manner, note_manner, page_text}
 use Rattle.doc_view.specs.Seen.{Formats, Paragraph, front_of, glyphs_in, is_here, paragraph_ending, paragraphs_from}
 use Rattle.doc_view.specs.Seen.{paragraph_of, paragraphs_of, reference_kind, references_of, seen_as, seen_from}
-use Rattle.doc_view.specs.Seen.{style_of, visible}
-use Rattle.doc_view.proofs.CharacterLemmas.{ArePlain, none_plain, more_plain, both_plain, one_plain, either_plain, decimal_plain, glyph_code}
-use Rattle.doc_view.proofs.CharacterLemmas.{IsPlainGlyph, code_in, IsPlainIn, either_glyph, glyph_plain, glyphs_plain}
+use Rattle.doc_view.specs.Seen.{style_of, visible, with_values}
+use Rattle.doc_view.proofs.CharacterLemmas.{ArePlain, none_plain, more_plain, both_plain, one_plain, either_plain, decimal_plain}
+use Rattle.doc_view.proofs.CharacterLemmas.{IsPlainGlyph, IsPlainIn, either_glyph, glyph_plain, glyphs_plain}
+use Rattle.doc_view.proofs.CharacterLemmas.{are_plain, known_plain, unit_by_tests}
 
 -- ---- what is seen
 
@@ -104,15 +110,44 @@ front_plain lead line in_table plain =
     (either_plain line.later (9 ∷ []) [] (one_plain 9 refl) none_plain)))
     (line_plain lead line.some plain)
 
+-- what stands in front of a paragraph's own text
+
+unit_plain : (unit : ℕ) → IsPlainIn (label_glyph unit)
+unit_plain unit =
+    either_glyph (nat_le 0xF000 unit && nat_le unit 0xF0FF) (Some (Unit 0x2022)) (unit_glyph unit true) refl
+    (unit_by_tests unit true (nat_lt unit 0x20) (is_windows unit) refl refl)
+
+units_plain : (units : List ℕ) → All IsPlainGlyph (filter_map label_glyph units)
+units_plain [] = All-nil IsPlainGlyph
+units_plain (unit ∷ units) =
+    one_glyph (label_glyph unit) (filter_map label_glyph units) (unit_plain unit) (units_plain units)
+
+own_label_plain : (in_table : Bool) (label : Option ListLabel) → ArePlain (label_text in_table label)
+own_label_plain in_table None = none_plain
+own_label_plain in_table (Some label) =
+    glyphs_plain in_table (label_glyphs label.units)
+    (All-append IsPlainGlyph (filter_map label_glyph label.units) (Unit 0x20 ∷ []) (units_plain label.units)
+    (All-cons IsPlainGlyph (Unit 0x20) [] refl (All-nil IsPlainGlyph)))
+
+opening_plain : (in_table : Bool) (values : Option ParagraphValues) → ArePlain (opening_text in_table values)
+opening_plain in_table None = none_plain
+opening_plain in_table (Some values) =
+    both_plain (break_text in_table values.breaks_page) (label_text in_table values.label)
+    (either_plain (values.breaks_page && not in_table) (12 ∷ []) [] (one_plain 12 refl) none_plain)
+    (own_label_plain in_table values.label)
+
 paragraph_plain : (lead : List ℕ) (before : List Paragraph) (paragraph : Paragraph) → ArePlain lead →
     IsPlainParagraph paragraph → ArePlain (paragraph_text lead before paragraph)
 unfolding IsPlainParagraph
 paragraph_plain lead before paragraph plain is =
     let in_table = is_in_table paragraph.standing in
     either_plain (is_here paragraph)
-    (front_at lead (line_of before) in_table ++ glyphs_text in_table (glyphs_in paragraph.items)) []
-    (both_plain (front_at lead (line_of before) in_table) (glyphs_text in_table (glyphs_in paragraph.items))
-    (front_plain lead (line_of before) in_table plain)
+    ((front_at lead (line_of before) in_table ++ opening_text in_table paragraph.values)
+    ++ glyphs_text in_table (glyphs_in paragraph.items)) []
+    (both_plain (front_at lead (line_of before) in_table ++ opening_text in_table paragraph.values)
+    (glyphs_text in_table (glyphs_in paragraph.items))
+    (both_plain (front_at lead (line_of before) in_table) (opening_text in_table paragraph.values)
+    (front_plain lead (line_of before) in_table plain) (opening_plain in_table paragraph.values))
     (glyphs_plain in_table (glyphs_in paragraph.items) (glyphs_seen paragraph.items is)))
     none_plain
 
@@ -131,6 +166,25 @@ layout_plain : (lead : List ℕ) (formats : Formats) (manner : Manner) (items : 
 layout_plain lead formats manner items plain =
     text_plain lead [] (paragraphs_of formats manner items) plain
     (paragraphs_plain formats manner [] (stretches is_inside items))
+
+-- paragraphs with values
+values_plain : (values : List ParagraphValues) (paragraphs : List Paragraph) → All IsPlainParagraph paragraphs →
+    All IsPlainParagraph (with_values values paragraphs)
+unfolding with_values IsPlainParagraph
+values_plain [] paragraphs are = are
+values_plain (one ∷ more) [] are = are
+values_plain (one ∷ more) (paragraph ∷ rest) are =
+    All-cons IsPlainParagraph (record paragraph { values = Some one }) (with_values more rest)
+    (All-head IsPlainParagraph paragraph rest are)
+    (values_plain more rest (All-tail IsPlainParagraph paragraph rest are))
+
+-- the main text
+main_plain : (values : List ParagraphValues) (formats : Formats) (manner : Manner) (items : List Item) →
+    ArePlain (layout_of [] (with_values values (paragraphs_of formats manner items)))
+main_plain values formats manner items =
+    text_plain [] [] (with_values values (paragraphs_of formats manner items)) none_plain
+    (values_plain values (paragraphs_of formats manner items)
+    (paragraphs_plain formats manner [] (stretches is_inside items)))
 
 -- ---- notes
 
@@ -158,15 +212,59 @@ notes_plain formats manner begun (reference ∷ references) (note ∷ notes) =
     (layout_plain (note_lead begun reference.number) formats manner note (lead_plain begun reference.number)) none_plain)
     (notes_plain formats manner (begun || has_lines formats manner reference note) references notes)
 
+-- ---- header texts
+
+kind_plain : (kind : ℕ) → ArePlain (header_kind kind)
+unfolding are_plain
+kind_plain kind =
+    let first = either_plain (kind == 4) (codes "first header") (codes "first footer")
+    (known_plain (codes "first header") refl) (known_plain (codes "first footer") refl) in
+    let third = either_plain (kind == 3) (codes "odd footer") (if kind == 4 then codes "first header" else codes
+    "first footer") (known_plain (codes "odd footer") refl) first in
+    let second = either_plain (kind == 2) (codes "even footer") (if kind == 3 then codes "odd footer" else
+    if kind == 4 then codes "first header" else codes "first footer") (known_plain (codes "even footer") refl) third in
+    let odd = either_plain (kind == 1) (codes "odd header") (if kind == 2 then codes "even footer" else
+    if kind == 3 then codes "odd footer" else if kind == 4 then codes "first header" else codes "first footer")
+    (known_plain (codes "odd header") refl) second in
+    either_plain (kind == 0) (codes "even header") (if kind == 1 then codes "odd header" else
+    if kind == 2 then codes "even footer" else if kind == 3 then codes "odd footer" else
+    if kind == 4 then codes "first header" else codes "first footer") (known_plain (codes "even header") refl) odd
+
+title_plain : (number : ℕ) → ArePlain (header_title number)
+unfolding are_plain
+title_plain number =
+    both_plain (codes "[") (header_kind (number % 6) ++ (codes " of section " ++ (decimal (number / 6) ++ codes "]\n")))
+    (known_plain (codes "[") refl)
+    (both_plain (header_kind (number % 6)) (codes " of section " ++ (decimal (number / 6) ++ codes "]\n"))
+    (kind_plain (number % 6))
+    (both_plain (codes " of section ") (decimal (number / 6) ++ codes "]\n") (known_plain (codes " of section ") refl)
+    (both_plain (decimal (number / 6)) (codes "]\n") (decimal_plain (number / 6)) (known_plain (codes "]\n") refl))))
+
+headers_plain : (formats : Formats) (manner : Manner) (begun : Bool) (number : ℕ) (texts : List (List Item)) →
+    ArePlain (headers_from formats manner begun number texts)
+unfolding headers_from
+headers_plain formats manner begun number [] = none_plain
+headers_plain formats manner begun number (text ∷ texts) =
+    both_plain (header_text formats manner begun number text)
+    (headers_from formats manner (begun || some_here (paragraphs_of formats manner text)) (number + 1) texts)
+    (layout_plain (header_lead begun number) formats manner text
+    (both_plain (if begun then [] else 10 ∷ []) (header_title number)
+    (either_plain begun [] (10 ∷ []) none_plain (one_plain 10 refl)) (title_plain number)))
+    (headers_plain formats manner (begun || some_here (paragraphs_of formats manner text)) (number + 1) texts)
+
 pub page_plain : NoControls
 page_plain options document bytes is =
-    let paragraphs = paragraphs_of is.formats (main_manner options) document.main in (
-      page_text is.formats options document,
+    let paragraphs = with_values is.values (paragraphs_of is.formats (main_manner options) document.main) in
+    let notes = notes_from is.formats (note_manner options) false (references_of paragraphs) document.notes in
+    let headers = headers_from is.formats (header_manner options) false 6 (drop 6 document.heads) in (
+      page_text is.formats is.values options document,
       (
         is.text,
-        both_plain (layout_of [] paragraphs)
-            (notes_from is.formats (note_manner options) false (references_of paragraphs) document.notes)
-            (layout_plain [] is.formats (main_manner options) document.main none_plain)
-            (notes_plain is.formats (note_manner options) false (references_of paragraphs) document.notes),
+        both_plain (layout_of [] paragraphs) (notes ++ headers_text is.formats options document)
+            (main_plain is.values is.formats (main_manner options) document.main)
+            (both_plain notes (headers_text is.formats options document)
+            (notes_plain is.formats (note_manner options) false (references_of paragraphs) document.notes)
+            (either_plain options.headers headers []
+            (headers_plain is.formats (header_manner options) false 6 (drop 6 document.heads)) none_plain)),
       ),
     )

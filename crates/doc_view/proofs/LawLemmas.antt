@@ -1,10 +1,12 @@
 -- A document has one page.
-use Rattle.std.proofs.Common.{◌≡◌, ◌≢◌, ◌∙◌, ℕ, Bool, true, false, sym, ap, refl}
+use Rattle.std.proofs.Common.{◌≡◌, ◌∙◌, ℕ, Bool, true, false, List, sym, ap, refl}
 use Rattle.std.specs.Prelude.{encode_utf8_all, ◌==◌}
 use Rattle.prop_map.specs.Settings.{Settings}
 use Rattle.style_sheet.specs.Sheet.{Sheet}
 use Rattle.style_sheet.specs.Chain.{kind_at}
 use Rattle.char_formats.proofs.FormatLemmas.{format_one}
+use Rattle.list_numbers.specs.declared.paragraph_values.ParagraphValues.{ParagraphValues}
+use Rattle.list_numbers.proofs.OneLemmas.{paragraph_values_of_one}
 use Rattle.doc_view.specs.Laws.{PagesAreOne}
 use Rattle.doc_view.specs.Page.{AreFormats, page_text}
 use Rattle.doc_view.specs.Seen.{Formats}
@@ -27,6 +29,8 @@ same_formats sheet one other a b = λ i istd direct. same_by sheet one other a b
 pub pages_one : PagesAreOne
 pages_one options document one other a b =
     a.text
-    ∙ ap (λ (formats : Formats). encode_utf8_all (page_text formats options document))
+    ∙ ap (λ (formats : Formats). encode_utf8_all (page_text formats a.values options document))
     (same_formats document.sheet a.formats b.formats a.are b.are)
+    ∙ ap (λ (values : List ParagraphValues). encode_utf8_all (page_text b.formats values options document))
+    (paragraph_values_of_one document a.values b.values a.are_values b.are_values)
     ∙ sym b.text

@@ -2,6 +2,7 @@ pub mod PrintLemmas
 pub mod SayingLemmas
 pub mod RangeLemmas
 pub mod CourseLemmas
+pub mod UnitLemmas
 pub mod TextLemmas
 pub mod NoteLemmas
 pub mod PageLemmas
@@ -9,3 +10,5 @@ pub mod LawLemmas
 pub mod CharacterLemmas
 pub mod ControlLemmas
 pub mod OnceLemmas
+pub mod LabelLemmas
+pub mod HeaderLemmas

@@ -1,5 +1,5 @@
 -- What is seen of the items of a text, paragraph by paragraph, is what is seen of them one by one.
-use Rattle.std.proofs.Common.{◌≡◌, ◌∙◌, ℕ, suc, ◌+◌, ◌-◌, Bool, true, false, not, ◌||◌, List, [], ◌∷◌, ◌++◌, length, refl, sym, ap}
+use Rattle.std.proofs.Common.{◌≡◌, ◌∙◌, ℕ, suc, ◌-◌, Bool, true, false, not, ◌||◌, List, [], ◌∷◌, ◌++◌, length, refl, sym, ap}
 use Rattle.std.proofs.Common.{append_assoc, append-nil, arith, Option, Some, None}
 use Rattle.std.specs.Prelude.{if◌then◌else◌, is_some, slice_get}
 use Rattle.std.specs.List.{cons_option, flat_map}
@@ -12,7 +12,7 @@ use Rattle.plain_doc.specs.Stretches.{stretch_from, stretches}
 use Rattle.doc_view.specs.declared.reading.Manner.{Manner}
 use Rattle.doc_view.specs.declared.reading.Seen.{Seen}
 use Rattle.doc_view.specs.Laws.{EachItemIsShownOnce, each_seen, style_behind, style_from}
-use Rattle.doc_view.specs.Seen.{Formats, Paragraph, front_of, glyphs_in, is_here, paragraph_ending, paragraph_of}
+use Rattle.doc_view.specs.Seen.{Formats, Paragraph, front_of, glyphs_in, paragraph_ending}
 use Rattle.doc_view.specs.Seen.{paragraphs_from, paragraphs_of, seen_as, seen_from, shown_glyph, some_shown, style_of}
 
 -- ---- styles

@@ -1,20 +1,21 @@
 -- A page that is put whole.
-use Rattle.std.proofs.Common.{◌≡◌, ◌≢◌, ◌∙◌, ℕ, Bool, true, false, List, [], ◌∷◌, ◌++◌, refl, sym, ap, subst, inl, inr, ◌⊎◌}
-use Rattle.std.proofs.Common.{append_assoc, append-nil, arith, Option, Some, None, length, Result, Ok, Err}
+use Rattle.std.proofs.Common.{◌≡◌, ◌≢◌, ℕ, Bool, true, false, List, [], ◌++◌, refl, sym, subst, inl, inr}
+use Rattle.std.proofs.Common.{append-nil, arith, Some, None, length, Result, Ok, Err}
 use Rattle.std.specs.Prelude.{encode_utf8_all, ◌==◌, OnOk, OnErr}
 use Rattle.std.proofs.lemmas.Bool.Decides.{nat_tests}
 use Rattle.prop_map.specs.Settings.{Settings}
 use Rattle.style_sheet.specs.Sheet.{Sheet}
 use Rattle.style_sheet.specs.Chain.{kind_at, HasSoundBases}
 use Rattle.doc_outer.specs.Counts.{Rose, GoesOn}
-use Rattle.doc_outer.specs.Written.{Appends, AppendsPrefix, Sends}
+use Rattle.doc_outer.specs.Written.{Appends, AppendsPrefix}
 use Rattle.doc_outer.specs.declared.sink.Sink.{Ghosts}
-use Rattle.doc_outer.proofs.BlockLemmas.{Sends-ends, Sends-fails}
-use Rattle.doc_outer.proofs.CountLemmas.{Rose-after}
+use Rattle.doc_outer.proofs.BlockLemmas.{Sends-ends}
 use Rattle.char_formats.specs.declared.format.CharFormat.{CharFormat}
 use Rattle.char_formats.specs.Formats.{IsCharFormat, format_in}
 use Rattle.char_formats.proofs.FormatLemmas.{format_there}
 use Rattle.page_out.specs.declared.page.Page.{Page}
+use Rattle.list_numbers.specs.declared.paragraph_values.ParagraphValues.{ParagraphValues}
+use Rattle.list_numbers.specs.ParagraphValues.{AreParagraphValuesOf}
 use Rattle.doc_view.specs.Page.{AreFormats, IsPage, page_text}
 use Rattle.page_out.specs.Printed.{FailsIn, Prints, PrintsBytes}
 use Rattle.doc_view.specs.declared.view.Options.{Options}
@@ -113,48 +114,48 @@ sound_room document sound = (sound_is_right document sound).notes
 
 -- ---- the page
 
-pub page_ok : {K E : Type 0} (sink : Ghosts K) (a b c : K) (p q : Page) (document : Document) (options : Options)
-    (taken : Result (Unit {0}) E) → IsSound document → p.block ≡ [] → p.failed ≡ false →
-    ((formats : Formats) → AreFormats document.sheet formats → Prints sink a p b q (page_text formats options document)) →
+pub page_ok : {K E : Type 0} (sink : Ghosts K) (a b c : K) (p q : Page) (document : Document) (values : List ParagraphValues)
+    (options : Options) (taken : Result (Unit {0}) E) → AreParagraphValuesOf document values → IsSound document → p.block ≡ [] → p.failed ≡ false →
+    ((formats : Formats) → AreFormats document.sheet formats → Prints sink a p b q (page_text formats values options document)) →
     OnOk taken (q.failed ≡ false) → OnOk taken (Appends (sink.written b) (sink.written c) q.block) →
     OnOk taken ((bytes : List ℕ) × (IsPage options document bytes × Appends (sink.written a) (sink.written c) bytes))
-page_ok sink a b c p q document options (Err e) sound empty right put fine ends = tt
-page_ok sink a b c p q document options (Ok u) sound empty right put fine ends =
+page_ok sink a b c p q document values options (Err e) are sound empty right put fine ends = tt
+page_ok sink a b c p q document values options (Ok u) are sound empty right put fine ends =
     let there = formats_there document.sheet (sound_is_right document sound).bases in
-    let bytes = encode_utf8_all (page_text there.0 options document) in (
+    let bytes = encode_utf8_all (page_text there.0 values options document) in (
       bytes,
       (
-        record { formats = there.0; are = there.1; text = refl },
+        record { formats = there.0; are = there.1; values = values; are_values = are; text = refl },
         whole_page sink a b c p q bytes empty (put there.0 there.1) fine ends,
       ),
     )
 
-pub page_prefix : {K E : Type 0} (sink : Ghosts K) (a b c : K) (p q : Page) (document : Document) (options : Options)
-    (taken : Result (Unit {0}) E) → IsSound document → p.block ≡ [] → p.failed ≡ false →
-    ((formats : Formats) → AreFormats document.sheet formats → Prints sink a p b q (page_text formats options document)) →
+pub page_prefix : {K E : Type 0} (sink : Ghosts K) (a b c : K) (p q : Page) (document : Document) (values : List ParagraphValues)
+    (options : Options) (taken : Result (Unit {0}) E) → AreParagraphValuesOf document values → IsSound document → p.block ≡ [] → p.failed ≡ false →
+    ((formats : Formats) → AreFormats document.sheet formats → Prints sink a p b q (page_text formats values options document)) →
     OnErr taken (q.failed ≡ false → FailsIn sink b q c []) →
     OnErr taken (q.failed ≡ true → sink.written c ≡ sink.written b) → GoesOn (sink.faults b) (sink.faults c) →
     OnErr taken ((bytes : List ℕ) × (IsPage options document bytes
     × AppendsPrefix (sink.written a) (sink.written c) bytes))
-page_prefix sink a b c p q document options (Ok u) sound empty right put fails stays on = tt
-page_prefix sink a b c p q document options (Err e) sound empty right put fails stays on =
+page_prefix sink a b c p q document values options (Ok u) are sound empty right put fails stays on = tt
+page_prefix sink a b c p q document values options (Err e) are sound empty right put fails stays on =
     let there = formats_there document.sheet (sound_is_right document sound).bases in
-    let bytes = encode_utf8_all (page_text there.0 options document) in (
+    let bytes = encode_utf8_all (page_text there.0 values options document) in (
       bytes,
       (
-        record { formats = there.0; are = there.1; text = refl },
+        record { formats = there.0; are = there.1; values = values; are_values = are; text = refl },
         prefix_page sink a c p bytes empty (failed_page sink a b c p q bytes right (put there.0 there.1) fails stays on),
       ),
     )
 
-pub page_rose : {K E : Type 0} (sink : Ghosts K) (a b c : K) (p q : Page) (document : Document) (options : Options)
-    (taken : Result (Unit {0}) E) → IsSound document → p.failed ≡ false →
-    ((formats : Formats) → AreFormats document.sheet formats → Prints sink a p b q (page_text formats options document)) →
+pub page_rose : {K E : Type 0} (sink : Ghosts K) (a b c : K) (p q : Page) (document : Document) (values : List ParagraphValues)
+    (options : Options) (taken : Result (Unit {0}) E) → AreParagraphValuesOf document values → IsSound document → p.failed ≡ false →
+    ((formats : Formats) → AreFormats document.sheet formats → Prints sink a p b q (page_text formats values options document)) →
     OnErr taken (q.failed ≡ false → FailsIn sink b q c []) →
     OnErr taken (q.failed ≡ true → sink.written c ≡ sink.written b) → GoesOn (sink.faults b) (sink.faults c) →
     OnErr taken (Rose (sink.faults a) (sink.faults c))
-page_rose sink a b c p q document options (Ok u) sound right put fails stays on = tt
-page_rose sink a b c p q document options (Err e) sound right put fails stays on =
+page_rose sink a b c p q document values options (Ok u) are sound right put fails stays on = tt
+page_rose sink a b c p q document values options (Err e) are sound right put fails stays on =
     let there = formats_there document.sheet (sound_is_right document sound).bases in
-    let bytes = encode_utf8_all (page_text there.0 options document) in
+    let bytes = encode_utf8_all (page_text there.0 values options document) in
     (failed_page sink a b c p q bytes right (put there.0 there.1) fails stays on).rose

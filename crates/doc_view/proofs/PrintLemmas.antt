@@ -1,5 +1,5 @@
 -- Pieces of a paragraph put one behind the other.
-use Rattle.std.proofs.Common.{◌≡◌, Option, Some, ℕ, Bool, true, false, List, [], ◌∷◌, ◌++◌, sym, subst}
+use Rattle.std.proofs.Common.{◌≡◌, Option, Some, ℕ, Bool, true, false, [], ◌∷◌, ◌++◌, sym, subst}
 use Rattle.std.specs.Prelude.{if◌then◌else◌}
 use Rattle.doc_outer.specs.declared.sink.Sink.{Ghosts}
 use Rattle.text_codes.specs.Shown.{is_pair, pair_code}

@@ -10,9 +10,9 @@ use Rattle.view_places.specs.declared.glyph.Glyph.TheVariants.{Unit, Tab, LineBr
 use Rattle.doc_view.specs.declared.paragraph.Saying.{Saying}
 use Rattle.doc_view.specs.declared.reading.Seen.{Seen}
 use Rattle.doc_view.specs.Glyphs.{glyph_text, glyphs_text, are_halves, is_surrogate, replacement, whole_text}
-use Rattle.doc_view.specs.Seen.{some_shown, shown_glyph, glyphs_in}
+use Rattle.doc_view.specs.Seen.{some_shown, glyphs_in}
 use Rattle.doc_view.specs.Lines.{is_high, waiting, half_text, first_text, first_half, unit_in, unit_said, unit_waits, other_said}
-use Rattle.doc_view.specs.Lines.{glyph_said, waits_after, saying_front, begun_front, shown_said, shown_after, left}
+use Rattle.doc_view.specs.Lines.{glyph_said, waits_after, saying_front, shown_said, shown_after, left}
 use Rattle.doc_view.specs.Lines.{IsSaying, Says}
 
 -- ---- glyphs one by one
@@ -81,10 +81,10 @@ other_on in_table first g rest high apart lone =
     glyphs_text in_table (g ∷ rest))
     ∙ (λ i. high_alone first high i ++ alone in_table g rest lone i)
 
-abbrev IsHalf : Option ℕ → Type 0
+abbrev pub IsHalf : Option ℕ → Type 0
 IsHalf half = (unit : ℕ) → half ≡ Some unit → is_high unit ≡ true
 
-glyph_on : (in_table : Bool) (half : Option ℕ) (g : Glyph) (rest : List Glyph) → IsHalf half →
+pub glyph_on : (in_table : Bool) (half : Option ℕ) (g : Glyph) (rest : List Glyph) → IsHalf half →
     glyphs_text in_table (waiting half ++ (g ∷ rest))
     ≡ glyph_said in_table half g ++ glyphs_text in_table (waiting (waits_after half g) ++ rest)
 glyph_on in_table None (Unit unit) rest is = first_on in_table unit rest (is_high unit) refl
@@ -121,7 +121,7 @@ unit_still : (half : Option ℕ) (unit : ℕ) → IsHalf (unit_waits half unit)
 unit_still None unit = first_waits unit (is_high unit) refl
 unit_still (Some first) unit = pair_waits unit (is_pair first unit)
 
-glyph_still : (half : Option ℕ) (g : Glyph) → IsHalf (waits_after half g)
+pub glyph_still : (half : Option ℕ) (g : Glyph) → IsHalf (waits_after half g)
 glyph_still half (Unit unit) = unit_still half unit
 glyph_still half Tab = λ unit same. absurd (cc (same))
 glyph_still half LineBreak = λ unit same. absurd (cc (same))

@@ -1,15 +1,17 @@
 -- A text is put paragraph by paragraph.
 use Rattle.std.proofs.Common.{◌≡◌, ◌∙◌, ℕ, ◌+◌, ◌-◌, ◌<◌, ◌≤◌, List, [], ◌∷◌, ◌++◌, length, take, drop, refl, sym, ap, subst}
-use Rattle.std.proofs.Common.{append_assoc, append-nil, arith, Option, Some, None, Bool, true, false, not, ◌||◌, ◌&&◌}
-use Rattle.std.specs.Prelude.{slice_get, slice_range, is_some, IsSome, if◌then◌else◌}
+use Rattle.std.proofs.Common.{append_assoc, append-nil, arith, Option, Some, None, Bool, Bor, true, false, not, ◌||◌, inl, inr}
+use Rattle.std.specs.Prelude.{slice_get, slice_range, is_some, IsSome, if◌then◌else◌, option_map}
 use Rattle.std.specs.Option.{ForSome}
-use Rattle.std.specs.List.{flat_map, list_any, take_while}
+use Rattle.std.specs.List.{list_any, take_while}
 use Rattle.std.proofs.lemmas.List.{drop-drop}
 use Rattle.std.proofs.lemmas.List.Concat.{flat_map-cons}
 use Rattle.std.proofs.lemmas.List.Sums.{take_while-cons}
-use Rattle.std.proofs.lemmas.Option.{same_Some}
+use Rattle.std.proofs.lemmas.Bool.{cases_lt}
+use Rattle.std.proofs.lemmas.Option.{same_Some, slice_get_past}
 use Rattle.doc_bits.proofs.ListLemmas.{there_is}
 use Rattle.run_lists.specs.Spread.{spread}
+use Rattle.run_lists.proofs.CutLemmas.{run_and_rest}
 use Rattle.style_sheet.specs.Chain.{kind_at}
 use Rattle.style_sheet.specs.Sheet.{Sheet}
 use Rattle.plain_doc.specs.declared.item.Item.{Item}
@@ -24,6 +26,7 @@ use Rattle.doc_columns.specs.declared.beside.Beside.{Beside}
 use Rattle.doc_columns.specs.declared.walk.Parts.{Parts}
 use Rattle.doc_columns.specs.Walks.{items_in, AreParts}
 use Rattle.doc_columns.proofs.WalkLemmas.{begins_range, beside_there, items_long, part_at, range_got, range_long, units_are}
+use Rattle.list_numbers.specs.declared.paragraph_values.ParagraphValues.{ParagraphValues}
 use Rattle.doc_outer.specs.declared.sink.Sink.{Ghosts}
 use Rattle.doc_view.specs.declared.line.Lead.{Lead}
 use Rattle.doc_view.specs.declared.line.Line.{Line}
@@ -33,15 +36,17 @@ use Rattle.doc_view.specs.declared.reading.Manner.{Manner}
 use Rattle.doc_view.specs.declared.reading.Seen.{Seen}
 use Rattle.doc_view.specs.declared.references.Reference.{Reference}
 use Rattle.doc_view.specs.declared.standing.Standing.{Standing}
-use Rattle.doc_view.specs.declared.standing.Standing.TheVariants.{Outside, Inside, Cell, Row}
+use Rattle.doc_view.specs.declared.standing.Standing.TheVariants.{Outside, Inside, Cell, Row, HeadRow}
 use Rattle.doc_view.specs.Course.{At, Passes}
 use Rattle.doc_view.specs.Glyphs.{glyphs_text}
+use Rattle.doc_view.specs.Labels.{opening_text}
 use Rattle.doc_view.specs.Layout.{front_at, is_in_table, keeps_row, ends_cell, layout_of, line_of, paragraph_text}
 use Rattle.doc_view.specs.Layout.{row_before, cell_before, some_here, text_from}
-use Rattle.doc_view.specs.Lines.{half_text, lead_text, left, line_after, IsSaying, Says}
+use Rattle.doc_view.specs.Lines.{half_text, lead_text, left, line_after}
 use Rattle.page_out.specs.Printed.{Prints}
 use Rattle.doc_view.specs.Seen.{Formats, Paragraph, glyphs_in, is_here, paragraph_of, paragraph_ending, paragraphs_from}
 use Rattle.doc_view.specs.Seen.{paragraphs_of, references_in, references_of, seen_from, some_shown, standing_of, style_of}
+use Rattle.doc_view.specs.Seen.{with_values}
 use Rattle.std.proofs.Math.ListN.{drop_of_length-le}
 use Rattle.page_out.proofs.PrintLemmas.{nothing_put, put_then}
 use Rattle.doc_view.proofs.RangeLemmas.{front_then, seen_range}
@@ -101,6 +106,7 @@ line_by before paragraph Inside is =
 line_by before paragraph Cell is =
     ap (line_with before paragraph) (row_by before paragraph Cell is) ∙ line_in before paragraph Cell is
 line_by before paragraph Row is = ap (line_with before paragraph) (row_by before paragraph Row is)
+line_by before paragraph HeadRow is = ap (line_with before paragraph) (row_by before paragraph HeadRow is)
 
 pub line_on : (before : List Paragraph) (paragraph : Paragraph) (line : Line) → line ≡ line_of before →
     line_after line paragraph.standing (is_here paragraph) ≡ line_of (paragraph ∷ before)
@@ -125,7 +131,8 @@ pub record TextAt {K : Type 0} (sink : Ghosts K) (start : K) (page : Page) (out 
 abbrev pub paragraph_said : List ℕ → Line → Paragraph → List ℕ
 paragraph_said lead line paragraph =
     let in_table = is_in_table paragraph.standing in
-    if is_here paragraph then front_at lead line in_table ++ glyphs_text in_table (glyphs_in paragraph.items) else []
+    if is_here paragraph then (front_at lead line in_table ++ opening_text in_table paragraph.values)
+    ++ glyphs_text in_table (glyphs_in paragraph.items) else []
 
 or_shift : (a b c : Bool) → (a || (b || c)) ≡ ((b || a) || c)
 or_shift true true c = refl
@@ -241,6 +248,7 @@ pub paragraph_is : (formats : Formats) (manner : Manner) (parts : Parts) → Are
     paragraph_of formats manner (take from (items_in parts)) (slice_range (items_in parts) from to)
     ≡ record {
       standing = standing_of unit beside.mark;
+      values = None;
       items =
           seen_from formats manner (style_of beside.mark) (take from (items_in parts))
           (slice_range (items_in parts) from to);
@@ -260,6 +268,7 @@ paragraph_is formats manner parts are from to unit beside some within unit_is la
     ap (λ (o : Option Item). paragraph_ending formats manner (take from items) part o) one.1
     ∙ (λ i. record {
       standing = standing_of (unit_same i) (same i).mark;
+      values = None;
       items = seen_from formats manner (style_of (same i).mark) (take from items) part;
     })
 
@@ -324,6 +333,7 @@ pub next_left : (formats : Formats) (manner : Manner) (parts : Parts) → ArePar
     paragraphs_from formats manner (take from (items_in parts)) (stretches is_inside (drop from (items_in parts)))
     ≡ record {
       standing = standing_of unit beside.mark;
+      values = None;
       items = seen_range formats manner (style_of beside.mark) (items_in parts) from to;
     } ∷ paragraphs_from formats manner (take to (items_in parts)) (stretches is_inside (drop to (items_in parts)))
 unfolding paragraphs_from
@@ -334,20 +344,75 @@ next_left formats manner parts are from to unit beside some within inside ends u
     ∷ paragraphs_from formats manner (front_then items from to (omega (arith, some)) i)
     (stretches is_inside (drop to items)))
 
+-- where no values are left
+values_past : (values : List ParagraphValues) (k : ℕ) (standing : Standing) (items : List Seen)
+    (rest : List Paragraph) → length values ≤ k →
+    with_values (drop k values) (record { standing = standing; values = None; items = items } ∷ rest)
+    ≡ record { standing = standing; values = slice_get values k; items = items } ∷ with_values (drop (k + 1) values) rest
+unfolding with_values
+values_past values k standing items rest past =
+    let here : drop k values ≡ [] = drop_of_length-le values past in
+    let next : drop (k + 1) values ≡ [] = drop_of_length-le values (omega (arith, past)) in
+    let none : slice_get values k ≡ None = slice_get_past values k past in
+    (λ i. with_values (here i) (record { standing = standing; values = None; items = items } ∷ rest))
+    ∙ sym (λ i. record { standing = standing; values = none i; items = items } ∷ with_values (next i) rest)
+
+values_here : (values : List ParagraphValues) (k : ℕ) (standing : Standing) (items : List Seen)
+    (rest : List Paragraph) → k < length values →
+    with_values (drop k values) (record { standing = standing; values = None; items = items } ∷ rest)
+    ≡ record { standing = standing; values = slice_get values k; items = items } ∷ with_values (drop (k + 1) values) rest
+unfolding with_values
+values_here values k standing items rest low =
+    let one = there_is values k low in
+    (λ i. with_values (run_and_rest values k one.0 one.1 i)
+    (record { standing = standing; values = None; items = items } ∷ rest))
+    ∙ sym (λ i. record { standing = standing; values = one.1 i; items = items }
+    ∷ with_values (drop (k + 1) values) rest)
+
+-- the first of paragraphs has its values
+pub values_next : (values : List ParagraphValues) (k : ℕ) (standing : Standing) (items : List Seen)
+    (rest : List Paragraph) →
+    with_values (drop k values) (record { standing = standing; values = None; items = items } ∷ rest)
+    ≡ record { standing = standing; values = slice_get values k; items = items } ∷ with_values (drop (k + 1) values) rest
+values_next values k standing items rest = elim (cases_lt k (length values)) [
+  | inl less ↦ values_here values k standing items rest less
+  | inr past ↦ values_past values k standing items rest past
+]
+
+-- no paragraph has none of its values
+pub values_none : (values : List ParagraphValues) → with_values values [] ≡ []
+unfolding with_values
+values_none [] = refl
+values_none (one ∷ more) = refl
+
+-- without values paragraphs stay
+pub no_values : (paragraphs : List Paragraph) → with_values [] paragraphs ≡ paragraphs
+unfolding with_values
+no_values paragraphs = refl
+
 -- one paragraph more
 pub paragraph_step : {K : Type 0} (sink : Ghosts K) (start : K) (page : Page) (out : K) (now : Page) (mid : K)
     (said : Page) (next : K) (after : Page) (lead : Lead) (line : Line) (all there rest : List Paragraph)
-    (standing : Standing) (seen : List Seen) (saying done : Saying) (first references met : List Reference) →
-    there ≡ record { standing = standing; items = seen } ∷ rest →
-    saying ≡ record { lead = lead; line = line; in_table = is_in_table standing; begun = false; half = None } →
+    (standing : Standing) (values : Option (Bor ParagraphValues)) (seen : List Seen) (saying done : Saying)
+    (first references met : List Reference) →
+    there ≡ record { standing = standing; values = option_map (λ v. v.now) values; items = seen } ∷ rest →
+    saying
+    ≡ record {
+      lead = lead;
+      line = line;
+      in_table = is_in_table standing;
+      values = values;
+      begun = false;
+      half = None;
+    } →
     TextAt sink start page out now (lead_text lead) all there line first references →
     Passes sink (record { out = out; page = now; saying = saying; references = references })
     (record { out = mid; page = said; saying = done; references = met }) seen →
     Prints sink mid said next after (half_text done.half) →
     TextAt sink start page next after (lead_text lead) all rest (line_after line standing done.begun) first met
-paragraph_step {K = K} sink start page out now mid said next after lead line all there rest standing seen saying done first
-    references met there_same saying_is at passes put =
-    let paragraph : Paragraph = record { standing = standing; items = seen } in
+paragraph_step {K = K} sink start page out now mid said next after lead line all there rest standing values seen saying
+    done first references met there_same saying_is at passes put =
+    let paragraph : Paragraph = record { standing = standing; values = option_map (λ v. v.now) values; items = seen } in
     let from : At K = record { out = out; page = now; saying = saying; references = references } in
     let to : At K = record { out = mid; page = said; saying = done; references = met } in
     let here : TextAt sink start page out now (lead_text lead) all (paragraph ∷ rest) line first references =

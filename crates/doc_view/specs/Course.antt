@@ -1,5 +1,5 @@
 -- A text while it is read and put: where the reading is, and what was put of a paragraph.
-use Rattle.std.specs.Prelude.{◌≡◌, ℕ, ◌+◌, ◌<◌, ◌≤◌, Bool, is_some, not, List, [], ◌∷◌, ◌++◌, length, take, drop}
+use Rattle.std.specs.Prelude.{◌≡◌, ℕ, ◌+◌, ◌<◌, ◌≤◌, Bool, is_some, List, [], ◌∷◌, ◌++◌, length, take, drop}
 use Rattle.std.specs.Prelude.{Option, Some, None, slice_get, if◌then◌else◌, false, ◌==◌, ◌-◌, ⊤}
 use Rattle.std.specs.List.{count_by}
 use Rattle.plain_doc.specs.declared.item.Item.{Item}
@@ -10,7 +10,6 @@ use Rattle.field_links.specs.OpenFields.{open_fields, after_unit, is_in_results}
 use Rattle.doc_outer.specs.declared.sink.Sink.{Ghosts}
 use Rattle.page_out.specs.declared.page.Page.{Page}
 use Rattle.doc_view.specs.declared.paragraph.Saying.{Saying}
-use Rattle.doc_view.specs.declared.reading.Front.{Front}
 use Rattle.doc_view.specs.declared.reading.Manner.{Manner}
 use Rattle.doc_view.specs.declared.reading.Seen.{Seen}
 use Rattle.doc_view.specs.declared.references.Reference.{Reference}

@@ -1,11 +1,13 @@
 -- How paragraphs stand in a page of text: one that is outside of tables is a line, and so is a row of a table, whose cells stand
--- behind tabs, and the paragraphs of a cell behind spaces. Paragraphs that are not here leave nothing.
+-- behind tabs, and the paragraphs of a cell behind spaces. Paragraphs that are not here leave nothing. In front of its own text
+-- a paragraph has the break of a page and its label.
 use Rattle.std.specs.Prelude.{ℕ, Bool, true, false, List, [], ◌∷◌, ◌++◌, if◌then◌else◌, not}
 use Rattle.std.specs.List.{take_while, list_any}
 use Rattle.doc_view.specs.declared.line.Line.{Line}
 use Rattle.doc_view.specs.declared.standing.Standing.{Standing}
-use Rattle.doc_view.specs.declared.standing.Standing.TheVariants.{Outside, Inside, Cell, Row}
+use Rattle.doc_view.specs.declared.standing.Standing.TheVariants.{Outside, Inside, Cell, Row, HeadRow}
 use Rattle.doc_view.specs.Glyphs.{glyphs_text}
+use Rattle.doc_view.specs.Labels.{opening_text}
 use Rattle.doc_view.specs.Seen.{Paragraph, is_here, glyphs_in}
 
 abbrev pub is_in_table : Standing → Bool
@@ -13,6 +15,7 @@ is_in_table Outside = false
 is_in_table Inside = true
 is_in_table Cell = true
 is_in_table Row = true
+is_in_table HeadRow = true
 
 -- a row goes on behind it
 abbrev pub keeps_row : Standing → Bool
@@ -20,12 +23,22 @@ keeps_row Outside = false
 keeps_row Inside = true
 keeps_row Cell = true
 keeps_row Row = false
+keeps_row HeadRow = false
 
 abbrev pub ends_cell : Standing → Bool
 ends_cell Outside = false
 ends_cell Inside = false
 ends_cell Cell = true
 ends_cell Row = false
+ends_cell HeadRow = false
+
+-- a row ends that is a head of its table
+abbrev pub ends_head : Standing → Bool
+ends_head Outside = false
+ends_head Inside = false
+ends_head Cell = false
+ends_head Row = false
+ends_head HeadRow = true
 
 -- of the paragraphs before one, the nearest first: those of its row, and those of its cell
 abbrev pub row_before : List Paragraph → List Paragraph
@@ -69,8 +82,8 @@ line_of before = record {
 abbrev pub paragraph_text : List ℕ → List Paragraph → Paragraph → List ℕ
 paragraph_text lead before paragraph =
     let in_table = is_in_table paragraph.standing in
-    if is_here paragraph then front_at lead (line_of before) in_table ++ glyphs_text in_table (glyphs_in paragraph.items)
-    else []
+    if is_here paragraph then (front_at lead (line_of before) in_table ++ opening_text in_table paragraph.values)
+    ++ glyphs_text in_table (glyphs_in paragraph.items) else []
 
 -- paragraphs behind those before them; the last line ends too
 unfoldable pub text_from : List ℕ → List Paragraph → List Paragraph → List ℕ

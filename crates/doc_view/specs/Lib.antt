@@ -1,9 +1,12 @@
 pub mod Glyphs
 pub mod Seen
+pub mod Labels
 pub mod Layout
 pub mod Notes
+pub mod Headers
 pub mod Lines
 pub mod Kept
 pub mod Page
 pub mod Course
 pub mod Laws
+pub mod Blocks

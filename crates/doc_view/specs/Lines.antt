@@ -1,22 +1,31 @@
 -- A page while it is put: what stands before a text and before its paragraphs, and what the glyphs of a paragraph come to one by
 -- one, where the first half of a character waits for the other one.
 use Rattle.std.specs.Prelude.{◌≡◌, ℕ, Bool, true, false, ◌&&◌, ◌||◌, not, nat_le, nat_lt, if◌then◌else◌}
-use Rattle.std.specs.Prelude.{List, [], ◌∷◌, ◌++◌, Option, Some, None}
+use Rattle.std.specs.Prelude.{List, [], ◌∷◌, ◌++◌, Option, Some, None, option_map}
 use Rattle.text_codes.specs.Shown.{is_pair, pair_code}
 use Rattle.view_places.specs.declared.glyph.Glyph.{Glyph}
 use Rattle.view_places.specs.declared.glyph.Glyph.TheVariants.{Unit, Tab, LineBreak, PageBreak, NoteMark, Picture, Object}
 use Rattle.doc_view.specs.declared.line.Lead.{Lead}
+use Rattle.doc_view.specs.declared.line.Title.{Title}
+use Rattle.doc_view.specs.declared.line.Title.TheVariants as title
 use Rattle.doc_view.specs.declared.line.Line.{Line}
 use Rattle.doc_view.specs.declared.paragraph.Saying.{Saying}
 use Rattle.doc_view.specs.declared.standing.Standing.{Standing}
 use Rattle.doc_view.specs.Glyphs.{glyph_text, glyphs_text, replacement}
+use Rattle.doc_view.specs.Labels.{opening_text}
 use Rattle.doc_view.specs.Layout.{front_at, keeps_row, ends_cell}
 use Rattle.doc_view.specs.Notes.{note_label}
+use Rattle.doc_view.specs.Headers.{header_title}
 use Rattle.doc_view.specs.declared.reading.Seen.{Seen}
 use Rattle.doc_view.specs.Seen.{some_shown, glyphs_in}
 
+abbrev pub title_text : Title → List ℕ
+title_text title.Bare = []
+title_text (title.Note number) = note_label (Some number)
+title_text (title.Header number) = header_title number
+
 abbrev pub lead_text : Lead → List ℕ
-lead_text lead = (if lead.is_apart then 10 ∷ [] else []) ++ note_label lead.number
+lead_text lead = (if lead.is_apart then 10 ∷ [] else []) ++ title_text lead.title
 
 -- behind one more paragraph
 abbrev pub line_after : Line → Standing → Bool → Line
@@ -92,9 +101,20 @@ waits_after half (NoteMark number) = None
 waits_after half Picture = None
 waits_after half Object = None
 
+-- the same of what may be a glyph
+abbrev pub maybe_said : Bool → Option ℕ → Option Glyph → List ℕ
+maybe_said in_table half None = []
+maybe_said in_table half (Some glyph) = glyph_said in_table half glyph
+
+abbrev pub maybe_waits : Option ℕ → Option Glyph → Option ℕ
+maybe_waits half None = half
+maybe_waits half (Some glyph) = waits_after half glyph
+
 -- what stands before the paragraph, as long as nothing of it was put
 abbrev pub saying_front : Saying → List ℕ
-saying_front saying = front_at (lead_text saying.lead) saying.line saying.in_table
+saying_front saying =
+    front_at (lead_text saying.lead) saying.line saying.in_table
+    ++ opening_text saying.in_table (option_map (λ values. values.now) saying.values)
 
 abbrev pub begun_front : Saying → List ℕ
 begun_front saying = if saying.begun then [] else saying_front saying

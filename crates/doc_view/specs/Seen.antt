@@ -1,10 +1,8 @@
 -- What is seen of the items of a text, and its paragraphs.
-use Rattle.std.specs.Prelude.{◌≡◌, ◌≢◌, ℕ, ◌+◌, ◌-◌, Bool, true, false, not, ◌&&◌, ◌||◌, ◌==◌, is_some, if◌then◌else◌}
-use Rattle.std.specs.Prelude.{List, [], ◌∷◌, ◌++◌, length, map, filter, Option, Some, None, slice_get}
+use Rattle.std.specs.Prelude.{ℕ, ◌+◌, ◌-◌, Bool, true, false, not, ◌&&◌, ◌||◌, ◌==◌, is_some, if◌then◌else◌}
+use Rattle.std.specs.Prelude.{List, [], ◌∷◌, ◌++◌, length, Option, Some, None, slice_get}
 use Rattle.std.specs.List.{count_by, filter_map, flat_map, list_any}
 use Rattle.prop_map.specs.Settings.{Settings}
-use Rattle.style_sheet.specs.Sheet.{Sheet}
-use Rattle.style_sheet.specs.Chain.{kind_at}
 use Rattle.text_codes.specs.Paragraph.{cell_mark}
 use Rattle.plain_doc.specs.declared.item.Item.{Item}
 use Rattle.plain_doc.specs.declared.item.Mark.{Mark}
@@ -14,6 +12,7 @@ use Rattle.plain_doc.specs.RulesOfTexts.{last_unit}
 use Rattle.plain_doc.specs.Rows.{value_in, is_on, is_row_mark}
 use Rattle.plain_doc.specs.Stretches.{stretches}
 use Rattle.plain_doc.specs.Settings.{is_inside}
+use Rattle.list_numbers.specs.declared.paragraph_values.ParagraphValues.{ParagraphValues}
 use Rattle.char_formats.specs.declared.format.CharFormat.{CharFormat}
 use Rattle.field_links.specs.OpenFields.{is_in_results, open_fields}
 use Rattle.view_places.specs.declared.glyph.Glyph.{Glyph}
@@ -21,14 +20,31 @@ use Rattle.view_places.specs.declared.glyph.Glyph.TheVariants.{NoteMark}
 use Rattle.doc_view.specs.declared.reading.Front.{Front}
 use Rattle.doc_view.specs.declared.reading.Manner.{Manner}
 use Rattle.doc_view.specs.declared.reading.Seen.{Seen}
+use Rattle.doc_view.specs.declared.reading.TextKind.{TextKind}
+use Rattle.doc_view.specs.declared.reading.TextKind.TheVariants.{Main, Note, Header}
 use Rattle.doc_view.specs.declared.standing.Standing.{Standing}
-use Rattle.doc_view.specs.declared.standing.Standing.TheVariants.{Outside, Inside, Cell, Row}
+use Rattle.doc_view.specs.declared.standing.Standing.TheVariants.{Outside, Inside, Cell, Row, HeadRow}
 use Rattle.doc_view.specs.declared.references.Reference.{Reference}
 use Rattle.doc_view.specs.Glyphs.{glyph_of}
 
--- an item that refers to a note; in a note none does
+abbrev pub is_main : TextKind → Bool
+is_main Main = true
+is_main Note = false
+is_main Header = false
+
+abbrev pub is_note : TextKind → Bool
+is_note Main = false
+is_note Note = true
+is_note Header = false
+
+abbrev pub is_header : TextKind → Bool
+is_header Main = false
+is_header Note = false
+is_header Header = true
+
+-- an item that refers to a note; outside of the main text none does
 abbrev pub reference_kind : Manner → Option NoteKind → Option NoteKind
-reference_kind manner note = if manner.is_note then None else note
+reference_kind manner note = if is_main manner.kind then note else None
 
 abbrev pub is_auto : Option NoteKind → Bool
 is_auto None = false
@@ -58,7 +74,7 @@ front_of manner front = record {
 abbrev pub is_shown : Manner → CharFormat → Front → Item → Bool
 is_shown manner format front item =
     not (is_some item.fld) && (front.in_results && ((manner.hidden || not format.hidden)
-    && not (manner.is_note && is_label front.behind_label item.unit)))
+    && not (is_note manner.kind && is_label front.behind_label item.unit)))
 
 -- what is visible of a reference of this kind and number, and of all else
 abbrev pub visible : Option NoteKind → ℕ → Option Glyph → Option Glyph
@@ -71,14 +87,19 @@ reference_of None number shown = None
 reference_of (Some Auto) number shown = Some (record { number = Some number; is_shown = shown })
 reference_of (Some Custom) number shown = Some (record { number = None; is_shown = shown })
 
+-- in a header text what has no glyph is nothing
+abbrev pub counts : TextKind → Option Glyph → Bool
+counts kind glyph = is_some glyph || not (is_header kind)
+
 -- what is seen of an item of this format behind such a front; the mark of a row is no text
 abbrev pub seen_as : Manner → CharFormat → Front → Item → Seen
 seen_as manner format front item =
     let shown = is_shown manner format front item in
     let kind = reference_kind manner item.note in
+    let glyph = visible kind (front.numbered + 1) (glyph_of format (is_some item.sect) item.unit) in
     record {
-      is_shown = shown && not (is_row_mark item);
-      glyph = visible kind (front.numbered + 1) (glyph_of format (is_some item.sect) item.unit);
+      is_shown = counts manner.kind glyph && (shown && not (is_row_mark item));
+      glyph = glyph;
       reference = reference_of kind (front.numbered + 1) shown;
       format = format;
     }
@@ -101,22 +122,27 @@ abbrev pub style_of : Option Mark → ℕ
 style_of None = 0
 style_of (Some mark) = mark.istd
 
--- where a paragraph with this mark on this unit stands: outside of tables, inside of a cell, at the end of a cell or of a row
+-- where a paragraph with this mark on this unit stands: outside of tables, inside of a cell, at the end of a cell or of a row;
+-- [MS-DOC] sprmTTableHeader, 3404: a row that is a head of its table
 abbrev pub standing_of : ℕ → Option Mark → Standing
 standing_of unit mark =
-    if unit == cell_mark then (if is_on (value_in mark 0x2417) then Row else Cell) else
+    if unit == cell_mark then
+    (if is_on (value_in mark 0x2417) then (if is_on (value_in mark 0x3404) then HeadRow else Row) else Cell) else
     if is_on (value_in mark 0x2416) then Inside else Outside
 
--- a paragraph: where it stands, and its items
+-- a paragraph: where it stands, its values where it is one of the main text, and its items
 pub record Paragraph : Type 0 where
   pub standing : Standing
+  pub values : Option ParagraphValues
   pub items : List Seen
 
 -- the paragraph that ends with an item
 abbrev pub paragraph_ending : Formats → Manner → List Item → List Item → Option Item → Paragraph
-paragraph_ending formats manner front items None = record { standing = Outside; items = seen_from formats manner 0 front items }
+paragraph_ending formats manner front items None =
+    record { standing = Outside; values = None; items = seen_from formats manner 0 front items }
 paragraph_ending formats manner front items (Some last) = record {
   standing = standing_of last.unit last.mark;
+  values = None;
   items = seen_from formats manner (style_of last.mark) front items;
 }
 
@@ -132,6 +158,12 @@ paragraphs_from formats manner front (items ∷ more) =
 -- the paragraphs of a text
 abbrev pub paragraphs_of : Formats → Manner → List Item → List Paragraph
 paragraphs_of formats manner text = paragraphs_from formats manner [] (stretches is_inside text)
+
+-- paragraphs with these values, as far as there are some
+unfoldable pub with_values : List ParagraphValues → List Paragraph → List Paragraph
+with_values [] paragraphs = paragraphs
+with_values (values ∷ more) [] = []
+with_values (values ∷ more) (paragraph ∷ rest) = record paragraph { values = Some values } ∷ with_values more rest
 
 -- a paragraph is here where some of it is shown
 abbrev pub some_shown : List Seen → Bool

@@ -1,7 +1,8 @@
 // What is visible of a unit.
-ghost use Rattle.std.specs.Prelude.{◌≡◌, ◌<◌, ◌≤◌};
-ghost use Rattle.doc_view.specs.Glyphs.{control_glyph, drawn_unit, glyph_of, is_stand_in, is_windows, stand_in_glyph};
-ghost use Rattle.doc_view.specs.Glyphs.{unit_glyph, windows_unit};
+ghost use Rattle.std.specs.Prelude.{◌≡◌, ℕ, ◌+◌, ◌<◌, ◌≤◌, length, slice_index, IsTrue};
+ghost use Rattle.doc_view.specs.Blocks.{IsItself, is_itself};
+ghost use Rattle.doc_view.specs.Glyphs.{control_glyph, drawn_unit, glyph_of, is_stand_in, is_surrogate};
+ghost use Rattle.doc_view.specs.Glyphs.{is_windows, stand_in_glyph, unit_glyph, windows_unit};
 
 use char_formats::CharFormat;
 use text_codes::unit_of_byte;
@@ -21,6 +22,9 @@ const NON_BREAKING_HYPHEN: u16 = 0x2011;
 
 /// The replacement character.
 const REPLACEMENT: u16 = 0xFFFD;
+
+/// How many units are looked at together.
+const PART_LEN: usize = 8;
 
 /// What is visible of a unit of this format, at which a section ends or not.
 pub(crate) fn glyph_of(format: &CharFormat, ends_section: bool, unit: u16) -> Option<Glyph>
@@ -63,7 +67,7 @@ fn drawn_unit(symbol: Option<u16>, unit: u16) -> u16
 }
 
 /// What is visible of a unit of text.
-fn unit_glyph(unit: u16, ends_section: bool) -> Option<Glyph>
+pub(crate) fn unit_glyph(unit: u16, ends_section: bool) -> Option<Glyph>
     ensures { result ≡ unit_glyph unit ends_section }
 {
     if unit < SPACE {
@@ -98,10 +102,19 @@ fn control_glyph(unit: u16, ends_section: bool) -> Option<Glyph>
 }
 
 /// Whether a unit is a byte of Windows-1252 that is not ASCII's.
+#[inline(always)]
 fn is_windows(unit: u16) -> bool
     ensures { result ≡ is_windows unit }
 {
     unit >= 0x7F && unit <= 0x9F
+}
+
+/// Whether a unit may be half of a character.
+#[inline(always)]
+fn is_surrogate(unit: u16) -> bool
+    ensures { result ≡ is_surrogate unit }
+{
+    unit >= 0xD800 && unit < 0xE000
 }
 
 /// The character of such a byte, or the replacement character.
@@ -118,4 +131,69 @@ fn windows_unit(unit: u16) -> u16
             if drawn == unit { REPLACEMENT } else { drawn }
         }
     }
+}
+
+/// Where the units end that are visible as themselves, from a place on and before another.
+pub(crate) fn itself_end(units: &[u16], from: usize, until: usize) -> usize
+    requires ahead { from ≤ until }
+    requires within { until ≤ length units.now }
+    ensures ahead { from ≤ result }
+    ensures within { result ≤ until }
+    ensures units { (k : ℕ) → from ≤ k → k < result → IsItself (slice_index units.now k) }
+{
+    let begin = parts_end(units, from, until);
+    for k in begin..until {
+        if !is_character(units[k]) {
+            return k;
+        }
+    }
+    until
+}
+
+/// Where the whole parts of such units end.
+fn parts_end(units: &[u16], from: usize, until: usize) -> usize
+    requires ahead { from ≤ until }
+    requires within { until ≤ length units.now }
+    ensures ahead { from ≤ result }
+    ensures within { result ≤ until }
+    ensures units { (k : ℕ) → from ≤ k → k < result → IsItself (slice_index units.now k) }
+{
+    let mut end = from;
+    while until - end >= PART_LEN {
+        if !are_characters(units, end) {
+            return end;
+        }
+        end += PART_LEN;
+    }
+    end
+}
+
+/// Whether each unit of the part from a place on is visible as itself.
+#[inline(always)]
+fn are_characters(units: &[u16], at: usize) -> bool
+    requires { at + PART_LEN ≤ length units.now }
+    ensures { IsTrue result → (k : ℕ) → k < PART_LEN → IsItself (slice_index units.now (at + k)) }
+{
+    let mut all = true;
+    for k in 0..PART_LEN {
+        all &= is_character(units[at + k]);
+    }
+    all
+}
+
+/// Whether a unit is visible as itself: it is a character then.
+#[inline(always)]
+fn is_character(unit: u16) -> bool
+    ensures { IsTrue result → IsItself unit }
+{
+    is_itself(unit)
+}
+
+/// Whether it is no control, no byte of Windows-1252 and no half of a character.
+#[inline(always)]
+fn is_itself(unit: u16) -> bool
+    ensures { result ≡ is_itself unit }
+{
+    // Without jumps, so that eight units are tested at once.
+    (unit >= SPACE) & (!is_windows(unit) & !is_surrogate(unit))
 }

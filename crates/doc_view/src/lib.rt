@@ -2,6 +2,8 @@
 #![tactic(auto)]
 
 mod glyph;
+mod headers;
+mod labels;
 mod laws;
 mod line;
 mod notes;
@@ -12,8 +14,9 @@ mod standing;
 mod text;
 mod view;
 
+pub use labels::label_glyph;
 pub use laws::{each_item_is_shown_once, no_controls, pages_are_one};
-pub use reading::{Front, Manner, Seen, see};
+pub use reading::{Front, Manner, Seen, TextKind, see};
 pub use references::{Reference, References};
 pub use standing::{Standing, is_row_mark, style_of};
 pub use text::{Bounds, Course, Stretch, Text};

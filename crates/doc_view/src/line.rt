@@ -1,30 +1,56 @@
 // What stands before a paragraph of a page.
-ghost use Rattle.std.specs.Prelude.{◌≡◌, [], ◌∷◌, ◌++◌, false, if◌then◌else◌};
+ghost use Rattle.std.specs.Prelude.{◌≡◌, [], ◌∷◌, ◌++◌, codes, false, if◌then◌else◌};
 ghost use Rattle.std.specs.Fmt.{decimal};
 ghost use Rattle.doc_view.specs.Notes.{note_label};
+ghost use Rattle.doc_view.specs.Headers.{header_kind, header_title};
+ghost use Rattle.doc_view.specs.declared.line.Title.TheVariants as title;
 ghost use Rattle.doc_view.specs.Layout.{front_at, inner_front, line_front, tab_front};
-ghost use Rattle.doc_view.specs.Lines.{lead_text, line_after};
+ghost use Rattle.doc_view.specs.Lines.{lead_text, line_after, title_text};
 ghost use Rattle.page_out.specs.Printed.{Prints};
 
 use crate::Standing;
 use doc_outer::Sink;
 use page_out::Page;
 
-/// What stands before a text: an empty line, and the label of a note with this number.
+/// [MS-DOC] PlcfHdd: the header texts of a section.
+const SECTION_TEXTS: usize = 6;
+
+/// What a text is called: nothing, the label of a note with this number, or the name of the header text with this
+/// number.
+#[derive(Clone, Copy)]
+pub(crate) enum Title {
+    Bare,
+    Note(u32),
+    Header(usize),
+}
+
+impl Title {
+    /// That of a note with this number, or without one.
+    pub(crate) fn of_note(number: Option<u32>) -> Title
+        ensures { title_text result ≡ note_label number }
+    {
+        match number {
+            None => Title::Bare,
+            Some(number) => Title::Note(number),
+        }
+    }
+}
+
+/// What stands before a text: an empty line, and its title.
 #[derive(Clone, Copy)]
 pub(crate) struct Lead {
     pub(crate) is_apart: bool,
-    pub(crate) number: Option<u32>,
+    pub(crate) title: Title,
 }
 
 impl Lead {
     /// Nothing.
     pub(crate) fn none() -> Lead
-        ensures { result ≡ record { is_apart = false; number = None } }
+        ensures { result ≡ record { is_apart = false; title = title.Bare } }
     {
         Lead {
             is_apart: false,
-            number: None,
+            title: Title::Bare,
         }
     }
 
@@ -33,7 +59,7 @@ impl Lead {
         ensures { Prints K.Sink out.old page.old out.new page.new (lead_text self) }
     {
         self.push_apart(page, out);
-        push_label(page, out, self.number);
+        push_title(page, out, self.title);
     }
 
     /// Puts the empty line.
@@ -46,14 +72,48 @@ impl Lead {
     }
 }
 
-/// Puts the label of a note, where it has a number.
-fn push_label<K: Sink>(page: &mut Page, out: &mut K, number: Option<u32>)
-    ensures { Prints K.Sink out.old page.old out.new page.new (note_label number) }
+/// Puts a title.
+fn push_title<K: Sink>(page: &mut Page, out: &mut K, title: Title)
+    ensures { Prints K.Sink out.old page.old out.new page.new (title_text title) }
 {
-    match number {
-        None => {}
-        Some(number) => push_numbered(page, out, number),
+    match title {
+        Title::Bare => {}
+        Title::Note(number) => push_numbered(page, out, number),
+        Title::Header(number) => push_header(page, out, number),
     }
+}
+
+/// Puts the name of the header text with this number.
+fn push_header<K: Sink>(page: &mut Page, out: &mut K, number: usize)
+    ensures { Prints K.Sink out.old page.old out.new page.new (header_title number) }
+{
+    page.push_ascii(out, b"[");
+    push_kind(page, out, number % SECTION_TEXTS);
+    push_section(page, out, number / SECTION_TEXTS);
+}
+
+/// Puts which header text of its section it is.
+fn push_kind<K: Sink>(page: &mut Page, out: &mut K, kind: usize)
+    ensures { Prints K.Sink out.old page.old out.new page.new (header_kind kind) }
+{
+    match kind {
+        0 => page.push_ascii(out, b"even header"),
+        1 => page.push_ascii(out, b"odd header"),
+        2 => page.push_ascii(out, b"even footer"),
+        3 => page.push_ascii(out, b"odd footer"),
+        4 => page.push_ascii(out, b"first header"),
+        _ => page.push_ascii(out, b"first footer"),
+    }
+}
+
+/// Puts the number of the section, and the end of the name.
+fn push_section<K: Sink>(page: &mut Page, out: &mut K, section: usize)
+    ensures { Prints K.Sink out.old page.old out.new page.new
+        (codes " of section " ++ (decimal section ++ codes "]\n")) }
+{
+    page.push_ascii(out, b" of section ");
+    page.push_number(out, section as u64);
+    page.push_ascii(out, b"]\n");
 }
 
 /// Puts the label of a note with a number.

@@ -8,15 +8,17 @@ ghost use Rattle.doc_view.specs.Notes.{has_lines, note_text, notes_from};
 ghost use Rattle.doc_view.specs.Page.{AreFormats};
 ghost use Rattle.page_out.specs.Printed.{Prints};
 ghost use Rattle.doc_view.specs.Seen.{Formats};
+ghost use Rattle.doc_view.specs.declared.reading.TextKind.TheVariants as text_kind;
 
 use crate::Reference;
-use crate::line::Lead;
-use crate::reading::Manner;
+use crate::line::{Lead, Title};
+use crate::reading::{Manner, TextKind};
 use crate::references::References;
 use crate::text::Text;
 use char_formats::StyleFormats;
 use doc_columns::ColumnTexts;
 use doc_outer::Sink;
+use list_numbers::ParagraphValuesList;
 use page_out::Page;
 use std::alloc::Global;
 
@@ -37,7 +39,7 @@ impl Notes<'_> {
             → HoldsAtItems note (λ i item. HasParagraphStyle self.now.formats.now item) }
         ensures { (formats : Formats) → AreFormats self.now.formats.now formats
             → Prints K.Sink out.old page.old out.new page.new
-            (notes_from formats (record { hidden = self.now.hidden; is_note = true }) false references.now.list
+            (notes_from formats (record { hidden = self.now.hidden; kind = text_kind.Note }) false references.now.list
             self.now.texts.now) }
     {
         let mut begun = false;
@@ -63,11 +65,11 @@ impl Notes<'_> {
         requires there { k < length self.now.texts.now }
         ensures text { (formats : Formats) (note : List Item) → AreFormats self.now.formats.now formats
             → slice_get self.now.texts.now k ≡ Some note → Prints K.Sink out.old page.old out.new page.new
-            (if reference.is_shown then note_text formats (record { hidden = self.now.hidden; is_note = true }) begun
+            (if reference.is_shown then note_text formats (record { hidden = self.now.hidden; kind = text_kind.Note }) begun
             reference.number note else []) }
         ensures begun { (formats : Formats) (note : List Item) → AreFormats self.now.formats.now formats
             → slice_get self.now.texts.now k ≡ Some note → result ≡ (begun || has_lines formats
-            (record { hidden = self.now.hidden; is_note = true }) reference note) }
+            (record { hidden = self.now.hidden; kind = text_kind.Note }) reference note) }
     {
         if !reference.is_shown {
             return begun;
@@ -77,14 +79,15 @@ impl Notes<'_> {
             formats: self.formats,
             manner: Manner {
                 hidden: self.hidden,
-                is_note: true,
+                kind: TextKind::Note,
             },
         };
         let lead = Lead {
             is_apart: !begun,
-            number: reference.number,
+            title: Title::of_note(reference.number),
         };
-        let (_, some) = text.push(page, out, lead, References::none(self.alloc));
+        let values = ParagraphValuesList::new(self.alloc);
+        let (_, some) = text.push(page, out, lead, References::none(self.alloc), &values);
         begun || some
     }
 }

@@ -2,42 +2,63 @@
 ghost use Rattle.std.specs.Prelude.{◌≡◌, ℕ, List, ◌<◌, ◌++◌, [], ◌∷◌, true, false, if◌then◌else◌, MatchOption, Some, None};
 ghost use Rattle.std.specs.Char.{IsScalar};
 ghost use Rattle.std.specs.Fmt.{decimal};
+ghost use Rattle.std.specs.List.{All};
 ghost use Rattle.text_codes.specs.Shown.{is_pair, pair_code};
-ghost use Rattle.doc_view.specs.Glyphs.{is_surrogate};
+ghost use Rattle.std.specs.Prelude.{◌&&◌, not, option_map};
+ghost use Rattle.doc_view.specs.Glyphs.{glyphs_text, is_surrogate};
+ghost use Rattle.doc_view.specs.Labels.{break_text, label_glyph, label_glyphs, label_text, opening_text};
 ghost use Rattle.doc_view.specs.Lines.{IsSaying, Says, glyph_said, half_text, is_high, other_said, shown_after};
-ghost use Rattle.doc_view.specs.Lines.{begun_front, first_half, first_text, unit_in};
-ghost use Rattle.doc_view.specs.Lines.{shown_said, unit_said, unit_waits, waits_after};
+ghost use Rattle.doc_view.specs.Lines.{begun_front, first_half, first_text, saying_front, unit_in};
+ghost use Rattle.doc_view.specs.Lines.{maybe_said, maybe_waits, shown_said, unit_said, unit_waits, waits_after};
 ghost use Rattle.page_out.specs.Printed.{Prints};
 
+use crate::labels::label_glyph;
 use crate::line::{Lead, Line};
 use crate::reading::Seen;
 use doc_outer::Sink;
+use list_numbers::{ListLabel, ParagraphValues};
 use page_out::Page;
 use view_places::Glyph;
 
 /// The replacement character.
 const REPLACEMENT: u32 = 0xFFFD;
 
-/// A paragraph that is put: what stands before it, whether something of it was put, and the first half of a character
-/// that waits for the other one.
+const SPACE: u16 = 0x20;
+
+/// A paragraph that is put: what stands before it, its values, whether something of it was put, and the first half of a
+/// character that waits for the other one.
 #[derive(Clone, Copy)]
-pub(crate) struct Saying {
+pub(crate) struct Saying<'a> {
     pub(crate) lead: Lead,
     pub(crate) line: Line,
     pub(crate) in_table: bool,
+    pub(crate) values: Option<&'a ParagraphValues>,
     pub(crate) begun: bool,
     pub(crate) half: Option<u16>,
 }
 
-impl Saying {
+impl<'a> Saying<'a> {
     /// One of which nothing was put.
-    pub(crate) fn new(lead: Lead, line: Line, in_table: bool) -> Saying
-        ensures { result ≡ record { lead = lead; line = line; in_table = in_table; begun = false; half = None } }
+    pub(crate) fn new(
+        lead: Lead,
+        line: Line,
+        in_table: bool,
+        values: Option<&'a ParagraphValues>,
+    ) -> Saying<'a>
+        ensures { result ≡ record {
+          lead = lead;
+          line = line;
+          in_table = in_table;
+          values = values.entry;
+          begun = false;
+          half = None;
+        } }
     {
         Saying {
             lead,
             line,
             in_table,
+            values,
             begun: false,
             half: None,
         }
@@ -67,15 +88,45 @@ impl Saying {
         }
     }
 
+    /// Puts units that are shown next, each as itself.
+    pub(crate) fn show_units<K: Sink>(&mut self, page: &mut Page, out: &mut K, units: &[u16])
+        requires { All IsScalar units.now }
+        ensures said { Prints K.Sink out.old page.old out.new page.new (begun_front self.old ++ units.now) }
+        ensures after { self.new ≡ record self.old { begun = true } }
+    {
+        self.begin(page, out);
+        page.push_units(out, units);
+    }
+
     /// Puts what stands before the paragraph, as long as nothing of it was put.
     fn begin<K: Sink>(&mut self, page: &mut Page, out: &mut K)
         ensures said { Prints K.Sink out.old page.old out.new page.new (begun_front self.old) }
         ensures after { self.new ≡ record self.old { begun = true } }
     {
         if !self.begun {
-            self.line.push_front(page, out, self.lead, self.in_table);
+            self.push_front(page, out);
         }
         self.begun = true;
+    }
+
+    /// Puts what stands before the paragraph, and what stands in front of its text.
+    fn push_front<K: Sink>(self, page: &mut Page, out: &mut K)
+        ensures { Prints K.Sink out.old page.old out.new page.new (saying_front self.entry) }
+    {
+        self.line.push_front(page, out, self.lead, self.in_table);
+        push_opening(page, out, self.in_table, self.values);
+    }
+
+    /// Puts what is visible of a unit of a label.
+    fn push_labelled<K: Sink>(&mut self, page: &mut Page, out: &mut K, unit: u16)
+        ensures said { Prints K.Sink out.old page.old out.new page.new
+            (maybe_said self.old.in_table self.old.half (label_glyph unit)) }
+        ensures after { self.new ≡ record self.old { half = maybe_waits self.old.half (label_glyph unit) } }
+    {
+        match label_glyph(unit) {
+            None => {}
+            Some(glyph) => self.push_glyph(page, out, glyph),
+        }
     }
 
     /// Puts a glyph.
@@ -146,12 +197,72 @@ impl Saying {
 
     /// Puts what waits at the end of the paragraph.
     pub(crate) fn finish<K: Sink>(self, page: &mut Page, out: &mut K)
-        ensures { Prints K.Sink out.old page.old out.new page.new (half_text self.half) }
+        ensures { Prints K.Sink out.old page.old out.new page.new (half_text self.entry.half) }
     {
         if self.half.is_some() {
             page.push_char(out, REPLACEMENT);
         }
     }
+}
+
+/// Puts what stands in front of the text of a paragraph of these values.
+fn push_opening<K: Sink>(
+    page: &mut Page,
+    out: &mut K,
+    in_table: bool,
+    values: Option<&ParagraphValues>,
+)
+    ensures { Prints K.Sink out.old page.old out.new page.new
+        (opening_text in_table (option_map (λ v. v.now) values.entry)) }
+{
+    match values {
+        None => {}
+        Some(values) => push_values(page, out, in_table, values),
+    }
+}
+
+/// Puts the break of a page and the label.
+fn push_values<K: Sink>(page: &mut Page, out: &mut K, in_table: bool, values: &ParagraphValues)
+    ensures { Prints K.Sink out.old page.old out.new page.new (opening_text in_table (Some values.now)) }
+{
+    push_page_break(page, out, in_table, values.breaks_page);
+    push_label(page, out, in_table, &values.label);
+}
+
+/// Puts the break of a page, where there is one and the paragraph is in no table.
+fn push_page_break<K: Sink>(page: &mut Page, out: &mut K, in_table: bool, breaks_page: bool)
+    ensures { Prints K.Sink out.old page.old out.new page.new (break_text in_table breaks_page) }
+{
+    if has_break(in_table, breaks_page) {
+        page.push_ascii(out, b"\x0C");
+    }
+}
+
+fn has_break(in_table: bool, breaks_page: bool) -> bool
+    ensures { result ≡ (breaks_page && not in_table) }
+{
+    breaks_page && !in_table
+}
+
+/// Puts a label, where there is one, and a space behind it.
+fn push_label<K: Sink>(page: &mut Page, out: &mut K, in_table: bool, label: &Option<ListLabel>)
+    ensures { Prints K.Sink out.old page.old out.new page.new (label_text in_table label.now) }
+{
+    match label {
+        None => {}
+        Some(label) => push_units(page, out, in_table, label.units.as_slice()),
+    }
+}
+
+/// Puts what is visible of the units of a label, and a space behind them.
+fn push_units<K: Sink>(page: &mut Page, out: &mut K, in_table: bool, units: &[u16])
+    ensures { Prints K.Sink out.old page.old out.new page.new (glyphs_text in_table (label_glyphs units.now)) }
+{
+    let mut saying = Saying::new(Lead::none(), Line::new(), in_table, None);
+    for unit in units {
+        saying.push_labelled(page, out, *unit);
+    }
+    saying.push_glyph(page, out, Glyph::Unit(SPACE));
 }
 
 /// The unit that a glyph is, where it is one.

@@ -4,7 +4,9 @@ ghost use Rattle.text_codes.specs.Paragraph.{cell_mark};
 ghost use Rattle.plain_doc.specs.Rows.{is_on, value_in};
 ghost use Rattle.prop_map.specs.Settings.{Settings};
 ghost use Rattle.doc_columns.specs.Columns.{item_of};
-ghost use Rattle.doc_view.specs.Seen.{is_label, is_shown, reference_kind, reference_of, seen_as, visible};
+ghost use Rattle.doc_view.specs.Blocks.{shows_units};
+ghost use Rattle.doc_view.specs.Seen.{counts, is_header, is_label, is_main, is_note, is_shown, reference_kind};
+ghost use Rattle.doc_view.specs.Seen.{reference_of, seen_as, visible};
 
 use crate::Reference;
 use crate::glyph::glyph_of;
@@ -17,11 +19,49 @@ use view_places::Glyph;
 /// [MS-DOC] The unit of a note's own number, at which its text begins.
 pub const NOTE_LABEL: u16 = 0x02;
 
-/// How a text is read: whether hidden text is shown, and whether the text is a note.
+/// Which text of a document is read.
+#[derive(Clone, Copy)]
+pub enum TextKind {
+    Main,
+    Note,
+    /// A header or a footer.
+    Header,
+}
+
+impl TextKind {
+    fn is_main(self) -> bool
+        ensures { result ≡ is_main self }
+    {
+        match self {
+            TextKind::Main => true,
+            TextKind::Note | TextKind::Header => false,
+        }
+    }
+
+    fn is_note(self) -> bool
+        ensures { result ≡ is_note self }
+    {
+        match self {
+            TextKind::Note => true,
+            TextKind::Main | TextKind::Header => false,
+        }
+    }
+
+    fn is_header(self) -> bool
+        ensures { result ≡ is_header self }
+    {
+        match self {
+            TextKind::Header => true,
+            TextKind::Main | TextKind::Note => false,
+        }
+    }
+}
+
+/// How a text is read: whether hidden text is shown, and which text it is.
 #[derive(Clone, Copy)]
 pub struct Manner {
     pub hidden: bool,
-    pub is_note: bool,
+    pub kind: TextKind,
 }
 
 /// What the items in front of one come to: whether no field is open whose result has not begun, whether the last one is
@@ -50,12 +90,39 @@ pub fn see(manner: Manner, format: &CharFormat, front: Front, unit: u16, beside:
     let number = front.numbered + 1;
     let kind = reference_kind(manner, beside.note);
     let shown = is_shown(manner, format, front, unit, beside);
+    let glyph = visible(kind, number, glyph_of(format, beside.sect.is_some(), unit));
+    let text = is_text(shown, unit, &beside.mark);
     Seen {
-        is_shown: is_text(shown, unit, &beside.mark),
-        glyph: visible(kind, number, glyph_of(format, beside.sect.is_some(), unit)),
+        is_shown: is_seen(manner.kind, glyph, text),
+        glyph,
         reference: reference_of(kind, number, shown),
         format: *format,
     }
+}
+
+/// Whether text is seen: in a header text it is where something of it is visible.
+fn is_seen(kind: TextKind, glyph: Option<Glyph>, is_text: bool) -> bool
+    ensures { result ≡ (counts kind glyph && is_text) }
+{
+    (glyph.is_some() || !kind.is_header()) && is_text
+}
+
+/// Whether items of this format, with this beside them, are seen as their units behind such a front, where these are
+/// visible as themselves.
+pub(crate) fn shows_units(
+    manner: Manner,
+    format: &CharFormat,
+    front: Front,
+    beside: &Beside,
+) -> bool
+    ensures { result ≡ shows_units manner format.now front beside.now }
+{
+    beside.fld.is_none()
+        && reference_kind(manner, beside.note).is_none()
+        && front.in_results
+        && (manner.hidden || !format.hidden)
+        && format.symbol.is_none()
+        && !(manner.kind.is_note() && front.behind_label)
 }
 
 /// Whether a unit is shown and no mark of a row.
@@ -72,7 +139,7 @@ fn is_shown(manner: Manner, format: &CharFormat, front: Front, unit: u16, beside
     beside.fld.is_none()
         && front.in_results
         && (manner.hidden || !format.hidden)
-        && !(manner.is_note && is_label(front, unit))
+        && !(manner.kind.is_note() && is_label(front, unit))
 }
 
 /// Whether a unit is the label of a note, or a space or tab behind it.
@@ -82,11 +149,11 @@ fn is_label(front: Front, unit: u16) -> bool
     unit == NOTE_LABEL || ((unit == 0x20 || unit == 0x09) && front.behind_label)
 }
 
-/// The kind of the note that is referred to; a note refers to none.
+/// The kind of the note that is referred to; a note and a header text refer to none.
 fn reference_kind(manner: Manner, note: Option<NoteKind>) -> Option<NoteKind>
     ensures { result ≡ reference_kind manner note }
 {
-    if manner.is_note { None } else { note }
+    if manner.kind.is_main() { note } else { None }
 }
 
 /// What is visible of a reference of this kind and number, or of another unit.

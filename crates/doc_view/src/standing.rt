@@ -1,26 +1,31 @@
 // Where a paragraph stands.
-ghost use Rattle.std.specs.Prelude.{◌≡◌, ◌==◌, ◌&&◌, option_map};
+ghost use Rattle.std.specs.Prelude.{◌≡◌, ◌==◌, ◌&&◌, option_map, if◌then◌else◌};
 ghost use Rattle.plain_doc.specs.Rows.{is_on, value_in};
 ghost use Rattle.text_codes.specs.Paragraph.{cell_mark};
-ghost use Rattle.doc_view.specs.Layout.{ends_cell, is_in_table, keeps_row};
+ghost use Rattle.doc_view.specs.Layout.{ends_cell, ends_head, is_in_table, keeps_row};
 ghost use Rattle.doc_view.specs.Seen.{standing_of, style_of};
+ghost use Rattle.doc_view.specs.declared.standing.Standing.TheVariants.{HeadRow, Row};
 
 use plain_doc::Mark;
 use sprm_table::Code;
 use text_codes::CELL_MARK;
 
-/// [MS-DOC] sprmPFInTable and sprmPFTtp.
+/// [MS-DOC] sprmPFInTable, sprmPFTtp and sprmTTableHeader.
 const IN_TABLE: Code = Code(0x2416);
 
 const ENDS_ROW: Code = Code(0x2417);
 
-/// Where a paragraph stands: outside of tables, inside of a cell, at the end of one, or at the end of a row.
+const IS_HEAD: Code = Code(0x3404);
+
+/// Where a paragraph stands: outside of tables, inside of a cell, at the end of one, at the end of a row, or at that of
+/// one of the rows that head a table.
 #[derive(Clone, Copy, PartialEq, Eq)]
 pub enum Standing {
     Outside,
     Inside,
     Cell,
     Row,
+    HeadRow,
 }
 
 impl Standing {
@@ -30,7 +35,7 @@ impl Standing {
     {
         if unit == CELL_MARK {
             if is_set(mark, ENDS_ROW) {
-                Standing::Row
+                row_of(is_set(mark, IS_HEAD))
             } else {
                 Standing::Cell
             }
@@ -46,7 +51,7 @@ impl Standing {
     {
         match self {
             Standing::Outside => false,
-            Standing::Inside | Standing::Cell | Standing::Row => true,
+            Standing::Inside | Standing::Cell | Standing::Row | Standing::HeadRow => true,
         }
     }
 
@@ -55,8 +60,18 @@ impl Standing {
         ensures { result ≡ keeps_row self }
     {
         match self {
-            Standing::Outside | Standing::Row => false,
+            Standing::Outside | Standing::Row | Standing::HeadRow => false,
             Standing::Inside | Standing::Cell => true,
+        }
+    }
+
+    /// Whether a row ends with it that is a head.
+    pub fn ends_head(self) -> bool
+        ensures { result ≡ ends_head self }
+    {
+        match self {
+            Standing::HeadRow => true,
+            Standing::Outside | Standing::Inside | Standing::Cell | Standing::Row => false,
         }
     }
 
@@ -66,8 +81,19 @@ impl Standing {
     {
         match self {
             Standing::Cell => true,
-            Standing::Outside | Standing::Inside | Standing::Row => false,
+            Standing::Outside | Standing::Inside | Standing::Row | Standing::HeadRow => false,
         }
+    }
+}
+
+/// The end of a row that is a head or not.
+fn row_of(is_head: bool) -> Standing
+    ensures { result ≡ (if is_head then HeadRow else Row) }
+{
+    if is_head {
+        Standing::HeadRow
+    } else {
+        Standing::Row
     }
 }
 

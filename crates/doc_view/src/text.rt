@@ -1,6 +1,8 @@
 // A text of a page: its paragraphs, one behind the other.
 ghost use Rattle.std.specs.Prelude.{List, if◌then◌else◌};
 ghost use Rattle.std.specs.Prelude.{◌≡◌, ℕ, ◌+◌, ◌^◌, ◌<◌, ◌≤◌, ◌++◌, [], ◌∷◌, length, take, Some, slice_get, slice_range};
+ghost use Rattle.std.specs.Prelude.{slice_index, None, true};
+ghost use Rattle.doc_view.specs.Blocks.{IsItself, shows_units};
 ghost use Rattle.std.specs.List.{count_by};
 ghost use Rattle.style_sheet.specs.Chain.{kind_at};
 ghost use Rattle.plain_doc.specs.declared.item.Item.{Item};
@@ -14,18 +16,20 @@ ghost use Rattle.doc_view.specs.Lines.{IsSaying, lead_text};
 ghost use Rattle.doc_view.specs.Page.{AreFormats};
 ghost use Rattle.page_out.specs.Printed.{Prints};
 ghost use Rattle.doc_view.specs.declared.reading.Manner.{Manner};
-ghost use Rattle.doc_view.specs.Seen.{Formats, paragraphs_of, references_of, seen_from};
+ghost use Rattle.doc_view.specs.Seen.{Formats, paragraphs_of, references_of, seen_from, with_values};
 
 use crate::Reference;
+use crate::glyph::itself_end;
 use crate::line::{Lead, Line};
 use crate::paragraph::Saying;
-use crate::reading::{Front, Manner, NOTE_LABEL, see};
+use crate::reading::{Front, Manner, NOTE_LABEL, see, shows_units};
 use crate::references::References;
 use crate::standing::{Standing, style_of};
 use char_formats::{CharFormat, StyleFormats};
 use doc_columns::{Beside, Parts, Walk, alike_from, paragraph_end};
 use doc_outer::Sink;
 use field_links::OpenFieldPlaces;
+use list_numbers::ParagraphValuesList;
 use page_out::Page;
 use run_lists::{Cursor, seek};
 
@@ -64,14 +68,15 @@ pub struct Stretch<'a> {
 }
 
 impl Text<'_> {
-    /// Puts the text behind its lead. It answers the notes that the text refers to, and whether something of it is here.
-    /// It is linear in the units and the runs.
+    /// Puts the text behind its lead, its paragraphs with these values. It answers the notes that the text refers to, and
+    /// whether something of it is here. It is linear in the units and the runs.
     pub(crate) fn push<K: Sink>(
         &self,
         page: &mut Page,
         out: &mut K,
         lead: Lead,
         references: References,
+        values: &ParagraphValuesList,
     ) -> (References, bool)
         requires parts { AreParts self.now.parts }
         requires normal { kind_at self.now.formats.now 0 ≡ 1 }
@@ -80,21 +85,25 @@ impl Text<'_> {
         requires room { count_by (has_reference self.now.manner) (items_in self.now.parts) ≤ references.room }
         ensures text { (formats : Formats) → AreFormats self.now.formats.now formats
             → Prints K.Sink out.old page.old out.new page.new
-            (layout_of (lead_text lead) (paragraphs_of formats self.now.manner (items_in self.now.parts))) }
+            (layout_of (lead_text lead) (with_values values.now
+            (paragraphs_of formats self.now.manner (items_in self.now.parts)))) }
         ensures references { (formats : Formats) → AreFormats self.now.formats.now formats → result.0.list
-            ≡ references.list ++ references_of (paragraphs_of formats self.now.manner (items_in self.now.parts)) }
+            ≡ references.list ++ references_of (with_values values.now
+            (paragraphs_of formats self.now.manner (items_in self.now.parts))) }
         ensures some { (formats : Formats) → AreFormats self.now.formats.now formats
-            → result.1 ≡ some_here (paragraphs_of formats self.now.manner (items_in self.now.parts)) }
+            → result.1 ≡ some_here (with_values values.now
+            (paragraphs_of formats self.now.manner (items_in self.now.parts))) }
     {
         let len = self.parts.units.len();
         let mut course = Course::new(references);
         let mut marks = Cursor::new();
         let mut line = Line::new();
+        let mut number = 0;
         while course.place < len {
             let end = paragraph_end(self.parts.besides, &mut marks, course.place, len);
             let last = seek(self.parts.besides, &mut marks, end - 1);
             let standing = Standing::of(self.parts.units[end - 1], &last.mark);
-            let mut saying = Saying::new(lead, line, standing.is_in_table());
+            let mut saying = Saying::new(lead, line, standing.is_in_table(), values.get(number));
             let bounds = Bounds {
                 end,
                 istd: style_of(&last.mark),
@@ -102,6 +111,7 @@ impl Text<'_> {
             course.push_paragraph(page, out, &mut saying, self, bounds);
             saying.finish(page, out);
             line = line.behind(standing, saying.begun);
+            number += 1;
         }
         line.push_end(page, out);
         (course.references, line.some)
@@ -135,7 +145,7 @@ impl Course {
         &mut self,
         page: &mut Page,
         out: &mut K,
-        saying: &mut Saying,
+        saying: &mut Saying<'_>,
         text: &Text<'_>,
         bounds: Bounds,
     )
@@ -172,7 +182,7 @@ impl Course {
         &mut self,
         page: &mut Page,
         out: &mut K,
-        saying: &mut Saying,
+        saying: &mut Saying<'_>,
         text: &Text<'_>,
         stretch: &Stretch<'_>,
     )
@@ -195,8 +205,67 @@ impl Course {
             (slice_range (items_in text.now.parts) self.old.place stretch.now.until)) }
     {
         while self.place < stretch.until {
-            self.push_item(page, out, saying, text, stretch);
+            self.push_some(page, out, saying, text, stretch);
         }
+    }
+
+    /// Puts items of a stretch that are seen as their units together, or else one item, and goes behind them.
+    fn push_some<K: Sink>(
+        &mut self,
+        page: &mut Page,
+        out: &mut K,
+        saying: &mut Saying<'_>,
+        text: &Text<'_>,
+        stretch: &Stretch<'_>,
+    )
+        requires parts { AreParts text.now.parts }
+        requires course { IsCourse text.now.manner (items_in text.now.parts) self.old }
+        requires saying { IsSaying saying.old }
+        requires ahead { self.old.place < stretch.now.until }
+        requires within { stretch.now.until ≤ length text.now.parts.units.now }
+        requires beside { HasBeside (items_in text.now.parts) self.old.place stretch.now.until stretch.now.beside.now }
+        ensures ahead { self.old.place < self.new.place }
+        ensures within { self.new.place ≤ stretch.now.until }
+        ensures walk { self.new.walk ≡ self.old.walk }
+        ensures course { IsCourse text.now.manner (items_in text.now.parts) self.new }
+        ensures saying { IsSaying saying.new }
+        ensures passes { (formats : Formats) (istd : ℕ)
+            → HasFormat formats istd (items_in text.now.parts) self.old.place stretch.now.until stretch.now.format
+            → Passes K.Sink
+            (record { out = out.old; page = page.old; saying = saying.old; references = self.old.references.list })
+            (record { out = out.new; page = page.new; saying = saying.new; references = self.new.references.list })
+            (seen_from formats text.now.manner istd (take self.old.place (items_in text.now.parts))
+            (slice_range (items_in text.now.parts) self.old.place self.new.place)) }
+    {
+        let count = self.units_len(saying, text, stretch);
+        if count == 0 {
+            self.push_item(page, out, saying, text, stretch);
+            return;
+        }
+        let end = self.place + count;
+        saying.show_units(page, out, &text.parts.units[self.place..end]);
+        self.place = end;
+        self.front.behind_label = false;
+    }
+
+    /// How many items of a stretch are seen as their units from here on.
+    fn units_len(&self, saying: &Saying<'_>, text: &Text<'_>, stretch: &Stretch<'_>) -> usize
+        requires ahead { self.now.place ≤ stretch.now.until }
+        requires within { stretch.now.until ≤ length text.now.parts.units.now }
+        ensures within { self.now.place + result ≤ stretch.now.until }
+        ensures whole { 0 < result → saying.now.half ≡ None }
+        ensures shows { 0 < result
+            → shows_units text.now.manner stretch.now.format self.now.front stretch.now.beside.now ≡ true }
+        ensures units { (k : ℕ) → self.now.place ≤ k → k < self.now.place + result
+            → IsItself (slice_index text.now.parts.units.now k) }
+    {
+        if saying.half.is_some() {
+            return 0;
+        }
+        if !shows_units(text.manner, &stretch.format, self.front, stretch.beside) {
+            return 0;
+        }
+        itself_end(text.parts.units, self.place, stretch.until) - self.place
     }
 
     /// Puts the item of the place, and goes behind it.
@@ -204,7 +273,7 @@ impl Course {
         &mut self,
         page: &mut Page,
         out: &mut K,
-        saying: &mut Saying,
+        saying: &mut Saying<'_>,
         text: &Text<'_>,
         stretch: &Stretch<'_>,
     )

@@ -4,19 +4,22 @@ ghost use Rattle.doc_outer.specs.Counts.{Rose};
 ghost use Rattle.doc_outer.specs.Written.{Appends, AppendsPrefix};
 ghost use Rattle.style_sheet.specs.Chain.{HasSoundBases};
 ghost use Rattle.plain_doc.specs.Sound.{IsSound};
-ghost use Rattle.doc_view.specs.Page.{AreFormats, IsPage, page_text};
+ghost use Rattle.list_numbers.specs.ParagraphValues.{AreParagraphValuesOf};
+ghost use Rattle.doc_view.specs.Page.{AreFormats, IsPage, headers_text, page_text};
 ghost use Rattle.page_out.specs.Printed.{Prints};
 ghost use Rattle.doc_view.specs.Seen.{Formats};
 
+use crate::headers::Headers;
 use crate::line::Lead;
 use crate::notes::Notes;
-use crate::reading::Manner;
+use crate::reading::{Manner, TextKind};
 use crate::references::References;
 use crate::text::Text;
 use char_formats::StyleFormats;
 use doc_bits::Memory;
 use doc_columns::ColumnDocument;
 use doc_outer::{OutBlock, Sink, SinkFailed};
+use list_numbers::{ParagraphValuesList, columns_paragraph_values};
 use page_out::Page;
 use std::alloc::Global;
 use thiserror::Error;
@@ -26,6 +29,8 @@ use thiserror::Error;
 pub struct Options {
     /// Hidden text too.
     pub hidden: bool,
+    /// The texts of headers and footers too.
+    pub headers: bool,
 }
 
 /// Why a page is not written.
@@ -41,11 +46,12 @@ pub enum ViewFault {
 #[derive(Drop)]
 struct Needs {
     formats: StyleFormats,
+    values: ParagraphValuesList,
     references: References,
     block: OutBlock,
 }
 
-/// Writes the page of a document, its main text and its notes. All memory is taken before the first byte. It is linear in
+/// Writes the page of a document, its main text, its notes and its header texts. All memory is taken before the first byte. It is linear in
 /// the units and the runs.
 pub fn write_page<K: Sink>(
     alloc: Global,
@@ -76,14 +82,17 @@ pub fn write_page<K: Sink>(
 
 /// Takes all the memory of a page.
 fn needs_of(alloc: Global, document: &ColumnDocument) -> Result<Needs, Memory>
-    requires { HasSoundBases document.now.sheet }
+    requires sound { IsSound document.now }
+    requires bases { HasSoundBases document.now.sheet }
     ensures formats { IfOk result (λ needs. needs.formats ≡ document.now.sheet) }
+    ensures values { IfOk result (λ needs. AreParagraphValuesOf document.now needs.values) }
     ensures references { IfOk result (λ needs.
         needs.references ≡ record { list = []; room = length document.now.notes }) }
     ensures block { IfOk result (λ needs. needs.block ≡ []) }
 {
     Ok(Needs {
         formats: StyleFormats::of(alloc, &document.sheet)?,
+        values: columns_paragraph_values(alloc, document)?,
         references: References::new(alloc, document.notes.len())?,
         block: OutBlock::new(alloc)?,
     })
@@ -99,6 +108,7 @@ fn write_with<K: Sink>(
 ) -> Result<(), SinkFailed>
     requires sound { IsSound document.now }
     requires formats { needs.formats ≡ document.now.sheet }
+    requires values { AreParagraphValuesOf document.now needs.values }
     requires references { needs.references ≡ record { list = []; room = length document.now.notes } }
     requires block { needs.block ≡ [] }
     ensures ok { OnOk result ((bytes : List ℕ) × (IsPage options document.now bytes
@@ -109,6 +119,7 @@ fn write_with<K: Sink>(
 {
     let Needs {
         formats,
+        values,
         references,
         block,
     } = needs;
@@ -116,46 +127,70 @@ fn write_with<K: Sink>(
     let shown = Shown {
         document,
         formats: &formats,
-        hidden: options.hidden,
+        values: &values,
+        options,
     };
     shown.push(alloc, &mut page, out, references);
     page.finish(out)
 }
 
-/// A document that is shown, the formats of its styles, and whether hidden text is shown.
+/// A document that is shown, the formats of its styles, the values of its paragraphs, and what of it is shown.
 #[derive(Drop)]
 struct Shown<'a> {
     document: &'a ColumnDocument,
     formats: &'a StyleFormats,
-    hidden: bool,
+    values: &'a ParagraphValuesList,
+    options: Options,
 }
 
 impl Shown<'_> {
-    /// Puts the main text and the notes.
+    /// Puts the main text, the notes and the header texts.
     fn push<K: Sink>(&self, alloc: Global, page: &mut Page, out: &mut K, references: References)
         requires sound { IsSound self.now.document.now }
         requires formats { self.now.formats.now ≡ self.now.document.now.sheet }
         requires references { references ≡ record { list = []; room = length self.now.document.now.notes } }
         ensures { (formats : Formats) → AreFormats self.now.document.now.sheet formats
             → Prints K.Sink out.old page.old out.new page.new
-            (page_text formats (record { hidden = self.now.hidden }) self.now.document.now) }
+            (page_text formats self.now.values.now self.now.options self.now.document.now) }
     {
         let document = self.document;
         let main = Text {
             parts: document.main.parts(),
             formats: self.formats,
             manner: Manner {
-                hidden: self.hidden,
-                is_note: false,
+                hidden: self.options.hidden,
+                kind: TextKind::Main,
             },
         };
-        let (references, _) = main.push(page, out, Lead::none(), references);
+        let (references, _) = main.push(page, out, Lead::none(), references, self.values);
         let notes = Notes {
             alloc,
             texts: &document.notes,
             formats: self.formats,
-            hidden: self.hidden,
+            hidden: self.options.hidden,
         };
         notes.push(page, out, &references);
+        self.push_headers(alloc, page, out);
+    }
+
+    /// Puts the header texts, where the options want them.
+    fn push_headers<K: Sink>(&self, alloc: Global, page: &mut Page, out: &mut K)
+        requires sound { IsSound self.now.document.now }
+        requires formats { self.now.formats.now ≡ self.now.document.now.sheet }
+        ensures { (formats : Formats) → AreFormats self.now.document.now.sheet formats
+            → Prints K.Sink out.old page.old out.new page.new
+            (headers_text formats self.now.options self.now.document.now) }
+    {
+        if !self.options.headers {
+            return;
+        }
+        let document = self.document;
+        let headers = Headers {
+            alloc,
+            texts: &document.heads,
+            formats: self.formats,
+            hidden: self.options.hidden,
+        };
+        headers.push(page, out);
     }
 }

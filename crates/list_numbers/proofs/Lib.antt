@@ -14,3 +14,4 @@ pub mod ParagraphLemmas
 pub mod DocumentValueLemmas
 pub mod FitLemmas
 pub mod OutlineLemmas
+pub mod LabelLemmas

@@ -32,6 +32,16 @@ outline_over : (above below : Option (List ℕ)) → byte_in (layer_over 0x2640 
 outline_over None below = refl
 outline_over (Some value) below = refl
 
+breaks_over : (above below : Option (List ℕ)) → byte_in (layer_over 0x2407 below above) ≡ option_or (byte_in above)
+    (byte_in below)
+breaks_over None below = refl
+breaks_over (Some value) below = refl
+
+direction_over : (above below : Option (List ℕ)) → byte_in (layer_over 0x2441 below above) ≡ option_or (byte_in above)
+    (byte_in below)
+direction_over None below = refl
+direction_over (Some value) below = refl
+
 -- one more layer
 pub values_more : (layers : List Settings) (layer : Settings) → values_in (layers ++ layer ∷ []) ≡ over (own_values
     layer) (values_in layers)
@@ -42,14 +52,24 @@ values_more layers layer =
     0x260A) in
     let c = ap byte_in (effective_more layers layer 0x2640) ∙ outline_over (get layer 0x2640) (effective_value layers
     0x2640) in
-    rw (a, b, c) refl
+    let d = ap byte_in (effective_more layers layer 0x2407) ∙ breaks_over (get layer 0x2407) (effective_value layers
+    0x2407) in
+    let e = ap byte_in (effective_more layers layer 0x2441) ∙ direction_over (get layer 0x2441) (effective_value layers
+    0x2441) in
+    rw (a, b, c, d, e) refl
 
 pub values_of_none : values_in [] ≡ no_values
 values_of_none = refl
 
 -- an empty map says nothing
 pub own_of_empty : own_values empty ≡ no_values
-own_of_empty = rw (none_put empty 0x460B refl, none_put empty 0x260A refl, none_put empty 0x2640 refl) refl
+own_of_empty = rw (
+  none_put empty 0x460B refl,
+  none_put empty 0x260A refl,
+  none_put empty 0x2640 refl,
+  none_put empty 0x2407 refl,
+  none_put empty 0x2441 refl,
+) refl
 
 -- what a slot says by itself
 pub slot_said : (sheet : Sheet) (number : ℕ) (style : Option (Bor Style)) (own : MarkValues) →

@@ -1,4 +1,4 @@
--- A document has one list of numbers, and one text of lines.
+-- A document has one list of numbers, one text of lines, and one list of values of its paragraphs.
 use Rattle.std.proofs.Common.{◌≡◌, ◌<◌, List, ◌∷◌, [], ◌++◌, length, sym, ap, ◌∙◌, subst}
 use Rattle.std.specs.Prelude.{get_or}
 use Rattle.std.proofs.lemmas.List.{same_lists}
@@ -15,7 +15,8 @@ use Rattle.list_numbers.specs.Places.{AreParagraphValues}
 use Rattle.list_numbers.specs.Numbers.{AreDocumentValues, numbers_of}
 use Rattle.list_numbers.specs.Outline.{outline_of}
 use Rattle.list_numbers.specs.Places.{paragraphs}
-use Rattle.list_numbers.specs.Laws.{NumbersAreOne, OutlineLinesAreOne}
+use Rattle.list_numbers.specs.ParagraphValues.{paragraph_values_of}
+use Rattle.list_numbers.specs.Laws.{NumbersAreOne, OutlineLinesAreOne, ParagraphValuesAreOne}
 
 -- a mark has one set of values
 mark_values_one : (sheet : Sheet) (mark : Mark) (one other : MarkValues) → AreMarkValues sheet mark one →
@@ -58,3 +59,7 @@ pub lines_one : OutlineLinesAreOne
 lines_one document one other a b =
     a.lines ∙ (ap (λ vs. outline_of (paragraphs document.main) vs (numbers_of document vs)) (values_are_one document
     a.values b.values a.are b.are) ∙ sym b.lines)
+
+pub paragraph_values_of_one : ParagraphValuesAreOne
+paragraph_values_of_one document one other a b =
+    a.made ∙ (ap (paragraph_values_of document) (values_are_one document a.values b.values a.are b.are) ∙ sym b.made)

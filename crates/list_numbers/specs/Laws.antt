@@ -5,6 +5,8 @@ use Rattle.plain_doc.specs.declared.document.Document.{Document}
 use Rattle.list_numbers.specs.NumberText.{roman}
 use Rattle.list_numbers.specs.Numbers.{AreNumbers}
 use Rattle.list_numbers.specs.Outline.{AreOutlineLines}
+use Rattle.list_numbers.specs.declared.paragraph_values.ParagraphValues.{ParagraphValues}
+use Rattle.list_numbers.specs.ParagraphValues.{AreParagraphValuesOf}
 
 -- the value of a letter, capital or small
 unfoldable pub letter_value : ℕ → ℕ
@@ -41,3 +43,9 @@ abbrev pub OutlineLinesAreOne : Type 0
 OutlineLinesAreOne =
     (document : Document) (one other : List ℕ) → AreOutlineLines document one → AreOutlineLines document other →
     one ≡ other
+
+-- a document has one list of values of its paragraphs
+abbrev pub ParagraphValuesAreOne : Type 0
+ParagraphValuesAreOne =
+    (document : Document) (one other : List ParagraphValues) → AreParagraphValuesOf document one →
+    AreParagraphValuesOf document other → one ≡ other

@@ -8,4 +8,6 @@ pub mod Counts
 pub mod Counters
 pub mod Numbers
 pub mod Outline
+pub mod ParagraphValues
+pub mod Fronts
 pub mod Laws

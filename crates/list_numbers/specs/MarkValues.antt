@@ -1,5 +1,6 @@
--- The values in effect of a paragraph mark that numbers and outlines go by: its list, its level in the list, its level
--- in the outline. Each is that of the last layer that has it: the styles from the root, and the mark's own settings.
+-- The values in effect of a paragraph mark that numbers, outlines and pages go by: its list, its level in the list, its
+-- level in the outline, whether a page begins with it, whether it is written from right to left. Each is that of the last
+-- layer that has it: the styles from the root, and the mark's own settings.
 use Rattle.std.specs.Prelude.{◌≡◌, ℕ, List, Option, Some, None, slice_get, slice_index, option_map}
 use Rattle.std.specs.Option.{option_or}
 use Rattle.std.specs.FinMap.{get}
@@ -18,12 +19,14 @@ word_in value = option_map (λ bytes. u16_at bytes 0) value
 abbrev pub byte_in : Option (List ℕ) → Option ℕ
 byte_in value = option_map (λ bytes. slice_index bytes 0) value
 
--- [MS-DOC] sprmPIlfo, sprmPIlvl and sprmPOutLvl, as layers have them together
+-- [MS-DOC] sprmPIlfo, sprmPIlvl, sprmPOutLvl, sprmPFPageBreakBefore and sprmPFBiDi, as layers have them together
 abbrev pub values_in : List Settings → MarkValues
 values_in layers = record {
   ilfo = word_in (effective_value layers 0x460B);
   ilvl = byte_in (effective_value layers 0x260A);
   outline = byte_in (effective_value layers 0x2640);
+  breaks_page = byte_in (effective_value layers 0x2407);
+  right_to_left = byte_in (effective_value layers 0x2441);
 }
 
 -- the values are those of the layers of a style: its bases from the root, and the style
@@ -40,7 +43,7 @@ pub record AreMarkValues (sheet : Sheet) (mark : Mark) (values : MarkValues) : T
 
 -- nothing is said
 abbrev pub no_values : MarkValues
-no_values = record { ilfo = None; ilvl = None; outline = None }
+no_values = record { ilfo = None; ilvl = None; outline = None; breaks_page = None; right_to_left = None }
 
 -- what one map says
 abbrev pub own_values : Settings → MarkValues
@@ -48,6 +51,8 @@ own_values map = record {
   ilfo = word_in (get map 0x460B);
   ilvl = byte_in (get map 0x260A);
   outline = byte_in (get map 0x2640);
+  breaks_page = byte_in (get map 0x2407);
+  right_to_left = byte_in (get map 0x2441);
 }
 
 -- some values over others
@@ -56,6 +61,8 @@ over above below = record {
   ilfo = option_or above.ilfo below.ilfo;
   ilvl = option_or above.ilvl below.ilvl;
   outline = option_or above.outline below.outline;
+  breaks_page = option_or above.breaks_page below.breaks_page;
+  right_to_left = option_or above.right_to_left below.right_to_left;
 }
 
 -- where the list has values for a style, they are the style's

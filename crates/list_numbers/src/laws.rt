@@ -1,5 +1,6 @@
 // Laws over the definitions alone.
 ghost use Rattle.list_numbers.specs.Laws.{RomanNumeralsAreReadBack, NumbersAreOne, OutlineLinesAreOne};
+ghost use Rattle.list_numbers.specs.Laws.{ParagraphValuesAreOne};
 
 /// A Roman number is what its letters say: the sum of their values, a letter before a greater one taken off.
 pub fn roman_numerals_are_read_back()
@@ -14,4 +15,9 @@ pub fn numbers_are_one()
 /// A document has one text of outline lines.
 pub fn outline_lines_are_one()
     ensures { OutlineLinesAreOne }
+{}
+
+/// A document has one list of values of its paragraphs.
+pub fn paragraph_values_are_one()
+    ensures { ParagraphValuesAreOne }
 {}

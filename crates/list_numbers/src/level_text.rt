@@ -73,7 +73,7 @@ fn push_text(
 }
 
 /// Appends what a unit of a text stands for.
-fn push_placed(
+pub(crate) fn push_placed(
     alloc: Global,
     units: &mut Units,
     levels: &Levels,

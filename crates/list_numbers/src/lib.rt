@@ -1,11 +1,13 @@
 //! The numbers of list paragraphs: which list and level each belongs to, how far its list has counted, and the text
-//! that its level makes of that; and the lines of an outline.
+//! that its level makes of that; the lines of an outline; and what a page needs to know of each main paragraph.
 #![tactic(auto)]
 
 mod counters;
 mod document_lists;
 mod document_numbers;
 mod first_lists;
+mod label_text;
+mod labels;
 mod laws;
 mod level;
 mod level_text;
@@ -21,13 +23,19 @@ mod numbers_of_places;
 mod numeral;
 mod outline;
 mod outline_line;
+mod paragraph_values;
 mod paragraphs;
 mod reading;
 mod roman;
 mod style_values;
 
 pub use document_numbers::{columns_numbers, numbers};
-pub use laws::{numbers_are_one, outline_lines_are_one, roman_numerals_are_read_back};
+pub use laws::{
+    numbers_are_one, outline_lines_are_one, paragraph_values_are_one, roman_numerals_are_read_back,
+};
 pub use numbers_list::Numbers;
 pub use numeral::number_text;
 pub use outline::{columns_outline_lines, outline_lines};
+pub use paragraph_values::{
+    ListLabel, ParagraphValues, ParagraphValuesList, columns_paragraph_values,
+};

@@ -1,4 +1,4 @@
-// The three values of a paragraph mark that numbers and outlines go by.
+// The values of a paragraph mark that numbers, outlines and pages go by.
 ghost use Rattle.std.specs.Prelude.{◌≡◌, slice_index, option_map};
 ghost use Rattle.std.specs.FinMap.{get};
 ghost use Rattle.doc_bits.specs.Number.{u16_at};
@@ -19,6 +19,12 @@ const SPRM_P_ILVL: Code = Code(0x260A);
 /// The level in the outline.
 const SPRM_P_OUT_LVL: Code = Code(0x2640);
 
+/// A page begins with the paragraph.
+const SPRM_P_F_PAGE_BREAK_BEFORE: Code = Code(0x2407);
+
+/// The paragraph is written from right to left.
+const SPRM_P_F_BI_DI: Code = Code(0x2441);
+
 /// The values of a paragraph mark, or what some layers say of them.
 #[derive(Clone, Copy)]
 pub(crate) struct MarkValues {
@@ -28,6 +34,10 @@ pub(crate) struct MarkValues {
     pub(crate) ilvl: Option<u8>,
     /// [MS-DOC] sprmPOutLvl.
     pub(crate) outline: Option<u8>,
+    /// [MS-DOC] sprmPFPageBreakBefore.
+    pub(crate) breaks_page: Option<u8>,
+    /// [MS-DOC] sprmPFBiDi.
+    pub(crate) right_to_left: Option<u8>,
 }
 
 impl MarkValues {
@@ -39,6 +49,8 @@ impl MarkValues {
             ilfo: None,
             ilvl: None,
             outline: None,
+            breaks_page: None,
+            right_to_left: None,
         }
     }
 
@@ -50,6 +62,8 @@ impl MarkValues {
             ilfo: word_at(map, SPRM_P_ILFO),
             ilvl: byte_at(map, SPRM_P_ILVL),
             outline: byte_at(map, SPRM_P_OUT_LVL),
+            breaks_page: byte_at(map, SPRM_P_F_PAGE_BREAK_BEFORE),
+            right_to_left: byte_at(map, SPRM_P_F_BI_DI),
         }
     }
 
@@ -61,6 +75,8 @@ impl MarkValues {
             ilfo: self.ilfo.or(below.ilfo),
             ilvl: self.ilvl.or(below.ilvl),
             outline: self.outline.or(below.outline),
+            breaks_page: self.breaks_page.or(below.breaks_page),
+            right_to_left: self.right_to_left.or(below.right_to_left),
         }
     }
 }

@@ -60,7 +60,7 @@ fn is_listed(level: Option<u8>, number: &Option<Units>) -> bool
 }
 
 /// The level in the outline, where the value names one.
-fn outline_level(outline: Option<u8>) -> Option<u8>
+pub(crate) fn outline_level(outline: Option<u8>) -> Option<u8>
     ensures { result ≡ outline_level outline }
 {
     let level = outline?;

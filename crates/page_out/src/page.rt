@@ -1,13 +1,18 @@
 // A page on its way to a sink.
-ghost use Rattle.std.specs.Prelude.{◌≡◌, ◌+◌, ◌<◌, ◌++◌, [], ◌∷◌, false, true, OnOk, OnErr};
+ghost use Rattle.std.specs.Prelude.{◌≡◌, ◌+◌, ◌<◌, ◌≤◌, ◌++◌, [], ◌∷◌, length, take, false, true, OnOk, OnErr};
 ghost use Rattle.std.specs.Char.{IsScalar};
 ghost use Rattle.std.specs.Fmt.{decimal};
+ghost use Rattle.std.specs.List.{All};
 ghost use Rattle.std.specs.Str.{IsAscii};
 ghost use Rattle.doc_outer.specs.Counts.{GoesOn};
 ghost use Rattle.doc_outer.specs.Written.{Appends};
 ghost use Rattle.page_out.specs.Printed.{FailsIn, Prints, PrintsBytes};
 
+use crate::encoding::encode_front;
 use doc_outer::{OutBlock, Sink, SinkFailed};
+
+/// How many bytes are put together.
+const BLOCK_LEN: usize = 256;
 
 /// What of a page waits for the sink, and whether the sink failed. Then nothing more is put: who made the page tells of it
 /// at its end.
@@ -71,6 +76,31 @@ impl Page {
         let character = char::from_u32(code).unwrap();
         let text = character.encode_utf8(&mut bytes);
         self.push(out, text.as_bytes());
+    }
+
+    /// Puts units of which each is a character.
+    pub fn push_units<K: Sink>(&mut self, out: &mut K, units: &[u16])
+        requires { All IsScalar units.now }
+        ensures { Prints K.Sink out.old self.old out.new self.new units.now }
+    {
+        let mut done = 0;
+        while done < units.len() {
+            done += self.push_front(out, &units[done..]);
+        }
+    }
+
+    /// Puts one such unit or more, from the front of a list, and counts them.
+    fn push_front<K: Sink>(&mut self, out: &mut K, units: &[u16]) -> usize
+        requires some { 0 < length units.now }
+        requires characters { All IsScalar units.now }
+        ensures some { 0 < result }
+        ensures inside { result ≤ length units.now }
+        ensures text { Prints K.Sink out.old self.old out.new self.new (take result units.now) }
+    {
+        let mut block = [0u8; BLOCK_LEN];
+        let (count, len) = encode_front(units, &mut block);
+        self.push(out, &block[..len]);
+        count
     }
 
     /// Puts a number in decimal digits.

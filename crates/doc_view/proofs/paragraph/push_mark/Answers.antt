@@ -1,4 +1,4 @@
-use Rattle.std.proofs.Common.{List, ◌∷◌, [], ℕ}
+use Rattle.std.proofs.Common.{◌∷◌, []}
 use Rattle.std.specs.Fmt.{decimal}
 use Rattle.page_out.proofs.PrintLemmas.{three_put}
 use Rattle.doc_view.proofs.paragraph.push_mark.Goals as goal

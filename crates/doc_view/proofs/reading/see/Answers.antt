@@ -1,4 +1,4 @@
-use Rattle.std.proofs.Common.{◌≡◌, ◌∙◌, ◌+◌}
+use Rattle.std.proofs.Common.{◌+◌}
 use Rattle.doc_view.proofs.reading.see.Goals as goal
 
 pub returns : goal.returns
@@ -7,9 +7,10 @@ returns c = λ chp.
     let number = c.args.front.numbered + 1 in
     let kind = c.reference_kind-kind.ensures in
     let shown = c.is_shown-shown.ensures chp in
-    let text = c.is_text.ensures in
+    let text = c.is_text-text.ensures in
     let glyph = c.glyph_of.ensures in
     let section = c.is_some.ensures in
-    let seen = c.visible.ensures in
+    let seen = c.visible-glyph.ensures in
+    let counts = c.is_seen.ensures in
     let reference = c.reference_of.ensures in
-    cc (kind, shown, text, glyph, section, seen, reference)
+    cc (kind, shown, text, glyph, section, seen, counts, reference)

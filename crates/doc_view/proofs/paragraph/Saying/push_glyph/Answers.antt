@@ -1,4 +1,4 @@
-use Rattle.std.proofs.Common.{◌≡◌, ◌∙◌, sym, ap, subst, List, ℕ, Option}
+use Rattle.std.proofs.Common.{◌∙◌, sym, ap, subst, List, ℕ, Option}
 use Rattle.doc_view.specs.declared.paragraph.Saying.{Saying}
 use Rattle.doc_view.specs.Lines.{half_text, other_said}
 use Rattle.page_out.specs.Printed.{Prints}

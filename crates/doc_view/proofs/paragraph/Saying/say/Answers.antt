@@ -1,7 +1,6 @@
-use Rattle.std.proofs.Common.{◌≡◌, [], subst, sym}
+use Rattle.std.proofs.Common.{[], subst, sym}
 use Rattle.doc_view.specs.declared.paragraph.Saying.{Saying}
-use Rattle.doc_view.specs.Lines.{Says, shown_after, shown_said}
-use Rattle.doc_view.specs.declared.reading.Seen.{Seen}
+use Rattle.doc_view.specs.Lines.{Says, shown_said}
 use Rattle.std.proofs.Common.{◌∷◌}
 use Rattle.page_out.proofs.PrintLemmas.{put_none}
 use Rattle.doc_view.proofs.SayingLemmas.{says_hidden, says_shown}

@@ -1,9 +1,9 @@
 -- The item of the place.
-use Rattle.std.proofs.Common.{◌≡◌, ◌+◌, ℕ, sym, subst, arith}
+use Rattle.std.proofs.Common.{◌+◌, sym, subst, arith}
 use Rattle.std.specs.Prelude.{slice_index}
 use Rattle.doc_columns.specs.Walks.{items_in}
 use Rattle.doc_view.specs.declared.text.Course.{Course}
-use Rattle.doc_view.specs.Course.{At, IsCourse, Passes}
+use Rattle.doc_view.specs.Course.{IsCourse, Passes}
 use Rattle.doc_view.proofs.CourseLemmas.{item_course, item_room, item_said, item_there, seen_is}
 use Rattle.doc_view.proofs.RangeLemmas.{seen_range}
 use Rattle.doc_view.proofs.text.Course.push_item.Goals as goal

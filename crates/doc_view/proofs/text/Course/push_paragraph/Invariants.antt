@@ -1,6 +1,6 @@
-use Rattle.std.proofs.Common.{◌≡◌, ℕ, ◌-◌, ◌≤◌}
+use Rattle.std.proofs.Common.{◌-◌, ◌≤◌}
 use Rattle.doc_columns.specs.Walks.{items_in, IsWalk}
-use Rattle.doc_view.specs.Course.{At, IsCourse, Passes}
+use Rattle.doc_view.specs.Course.{IsCourse, Passes}
 use Rattle.doc_view.specs.Lines.{IsSaying}
 use Rattle.doc_view.specs.Page.{AreFormats}
 use Rattle.doc_view.specs.Seen.{Formats}

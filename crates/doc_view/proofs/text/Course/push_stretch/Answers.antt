@@ -1,7 +1,6 @@
 -- The items of the stretch, one by one.
-use Rattle.std.proofs.Common.{◌≡◌, ◌∙◌, ◌+◌, ℕ, refl, sym, arith}
+use Rattle.std.proofs.Common.{◌≡◌, ◌∙◌, refl, arith}
 use Rattle.doc_columns.specs.Walks.{items_in}
-use Rattle.doc_view.specs.Course.{At}
 use Rattle.doc_view.proofs.CourseLemmas.{passes_further, passes_start, passes_to}
 use Rattle.doc_view.proofs.text.Course.push_stretch.Goals as goal
 
@@ -24,52 +23,36 @@ loop-self-init g c = record {
       c.args.self.now.place c.requires.saying;
 }
 
-pub push_item-requires-clause-course : goal.push_item-requires-clause-course
-push_item-requires-clause-course g c = c.loop-self.invariant.course
+pub push_some-requires-clause-course : goal.push_some-requires-clause-course
+push_some-requires-clause-course g c = c.loop-self.invariant.course
 
-pub push_item-requires-clause-saying : goal.push_item-requires-clause-saying
-push_item-requires-clause-saying g c = c.loop-self.invariant.saying
+pub push_some-requires-clause-saying : goal.push_some-requires-clause-saying
+push_some-requires-clause-saying g c = c.loop-self.invariant.saying
 
-pub push_item-requires-clause-beside : goal.push_item-requires-clause-beside
-push_item-requires-clause-beside g c = λ k item low until here.
+pub push_some-requires-clause-beside : goal.push_some-requires-clause-beside
+push_some-requires-clause-beside g c = λ k item low until here.
     let start = c.loop-self.invariant.low in
     c.requires.beside k item (omega (arith, start, low)) until here
 
 pub loop-self-preserved : goal.loop-self-preserved
 loop-self-preserved g c =
     let old = c.loop-self in
-    let item = c.push_item in
+    let some = c.push_some in
     let first = c.args.self.now.place in
     let at = old.self.place in
+    let to = some.new.self.place in
     let low = old.invariant.low in
-    let place = item.ensures.place in
-    let more = c.loop-self-test.true in
+    let ahead = some.ensures.ahead in
     let items = items_in c.args.text.now.parts in
     let manner = c.args.text.now.manner in
     record {
-      low = omega (arith, low, place);
-      within = omega (arith, more, place);
-      walk = item.ensures.walk ∙ old.invariant.walk;
-      course = item.ensures.course;
-      saying = item.ensures.saying;
+      low = omega (arith, low, ahead);
+      within = some.ensures.within;
+      walk = some.ensures.walk ∙ old.invariant.walk;
+      course = some.ensures.course;
+      saying = some.ensures.saying;
       passes = λ formats istd has.
-          passes_to g.K.Sink
-          (record {
-            out = c.args.out.now;
-            page = c.args.page.now;
-            saying = c.args.saying.now;
-            references =
-                c.args.self.now.references.list;
-          })
-          (record {
-            out = item.new.out;
-            page = item.new.page;
-            saying = item.new.saying;
-            references =
-                item.new.self.references.list;
-          })
-          formats manner istd items first (at + 1) item.new.self.place (sym place)
-          (passes_further g.K.Sink
+          passes_further g.K.Sink
           (record {
             out = c.args.out.now;
             page = c.args.page.now;
@@ -85,16 +68,16 @@ loop-self-preserved g c =
                 old.self.references.list;
           })
           (record {
-            out = item.new.out;
-            page = item.new.page;
-            saying = item.new.saying;
+            out = some.new.out;
+            page = some.new.page;
+            saying = some.new.saying;
             references =
-                item.new.self.references.list;
+                some.new.self.references.list;
           })
-          formats manner istd items first at (at + 1) low (omega arith)
+          formats manner istd items first at to low (omega (arith, ahead))
           (old.invariant.passes formats istd has)
-          (item.ensures.passes formats istd
-          (λ k x le until here. has k x (omega (arith, low, le)) until here)));
+          (some.ensures.passes formats istd
+          (λ k x le until here. has k x (omega (arith, low, le)) until here));
     }
 
 pub returns-clause-course : goal.returns-clause-course

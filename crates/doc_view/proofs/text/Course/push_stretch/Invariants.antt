@@ -1,6 +1,6 @@
 use Rattle.std.proofs.Common.{◌≡◌, ℕ, ◌-◌, ◌≤◌}
 use Rattle.doc_columns.specs.Walks.{items_in}
-use Rattle.doc_view.specs.Course.{At, HasFormat, IsCourse, Passes}
+use Rattle.doc_view.specs.Course.{HasFormat, IsCourse, Passes}
 use Rattle.doc_view.specs.Lines.{IsSaying}
 use Rattle.doc_view.specs.Seen.{Formats}
 use Rattle.doc_view.proofs.RangeLemmas.{seen_range}

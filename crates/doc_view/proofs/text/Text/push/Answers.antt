@@ -1,27 +1,26 @@
 -- The paragraphs of the text, one by one.
-use Rattle.std.proofs.Common.{◌≡◌, ◌∙◌, ◌+◌, ◌-◌, ◌<◌, ◌≤◌, ◌∷◌, [], ℕ, List, refl, sym, ap, subst, arith, length, drop}
+use Rattle.std.proofs.Common.{◌≡◌, ◌∙◌, ◌+◌, ◌-◌, ◌≤◌, ◌∷◌, ℕ, List, sym, ap, subst, arith, drop}
 use Rattle.std.proofs.Common.{take, Some, None, false}
-use Rattle.std.specs.Prelude.{slice_index, slice_get}
+use Rattle.std.specs.Prelude.{slice_index, slice_get, option_map}
 use Rattle.std.proofs.lemmas.Option.{slice_get-get_or}
 use Rattle.style_sheet.specs.Chain.{kind_at}
 use Rattle.plain_doc.specs.Settings.{is_inside}
 use Rattle.plain_doc.specs.Stretches.{stretches}
 use Rattle.doc_columns.specs.Walks.{items_in, IsWalk}
-use Rattle.doc_columns.specs.declared.walk.Walk.{Walk}
 use Rattle.doc_columns.proofs.WalkLemmas.{first_walk, items_long}
 use Rattle.doc_columns.proofs.CollectLemmas.{start_at}
 use Rattle.doc_columns.proofs.EqualityLemmas.{begins_at_start}
 use Rattle.doc_view.specs.declared.line.Line.{Line}
 use Rattle.doc_view.specs.declared.references.Reference.{Reference}
 use Rattle.doc_view.specs.declared.standing.Standing.{Standing}
-use Rattle.doc_view.specs.Course.{At, Passes}
+use Rattle.doc_view.specs.Course.{Passes}
 use Rattle.doc_view.specs.Layout.{is_in_table}
 use Rattle.doc_view.specs.Kept.{KeptReferences}
 use Rattle.doc_view.specs.Lines.{lead_text, line_after}
-use Rattle.doc_view.specs.Seen.{Paragraph, paragraphs_from, paragraphs_of, standing_of, style_of}
+use Rattle.doc_view.specs.Seen.{Paragraph, paragraphs_from, paragraphs_of, standing_of, style_of, with_values}
 use Rattle.doc_view.proofs.RangeLemmas.{seen_range}
 use Rattle.doc_view.proofs.TextLemmas.{TextAt, all_met, next_left, none_left, paragraph_step, right_style, some_put}
-use Rattle.doc_view.proofs.TextLemmas.{text_put, text_start}
+use Rattle.doc_view.proofs.TextLemmas.{text_put, text_start, values_next, values_none}
 use Rattle.doc_view.proofs.text.Text.push.Goals as goal
 
 pub loop-course-init : goal.loop-course-init
@@ -33,6 +32,7 @@ loop-course-init g c =
     let place = course.ensures.place in
     record {
       within = omega (arith, place);
+      number = omega (arith, place);
       walk =
           subst (λ (n : ℕ). IsWalk parts course.result.walk n) (sym place)
           (first_walk parts course.result.walk course.ensures.walk);
@@ -42,9 +42,10 @@ loop-course-init g c =
           (begins_at_start c.new-marks.result c.new-marks.ensures);
       course = course.ensures.course manner items c.requires.room;
       text = λ formats are.
-          let all = paragraphs_of formats manner items in
+          let values = c.args.values.now in
+          let all = with_values values (paragraphs_of formats manner items) in
           let there : ℕ → List Paragraph = λ n.
-          paragraphs_from formats manner (take n items) (stretches is_inside (drop n items)) in
+          with_values values (paragraphs_from formats manner (take n items) (stretches is_inside (drop n items))) in
           subst (λ (n : ℕ). TextAt g.K.Sink c.args.out.now c.args.page.now c.args.out.now c.args.page.now
           (lead_text c.args.lead) all (there n) c.new-line.result c.args.references.list
           course.result.references.list) (sym place)
@@ -86,20 +87,39 @@ loop-course-preserved g c =
     let unit = slice_index parts.units.now (end - 1) in
     let unit_is : slice_get parts.units.now (end - 1) ≡ Some unit =
     slice_get-get_or parts.units.now (end - 1) 0 (omega (arith, some, inside)) in
+    let number = old.invariant.number in
+    let values = c.args.values.now in
     record {
       within = omega (arith, place, inside);
+      number = omega (arith, place, number, some);
       walk = subst (λ (n : ℕ). IsWalk parts put.new.self.walk n) (sym place) put.ensures.walk;
       marks = c.seek-last.ensures.at;
       ahead = omega (arith, behind, place);
       course = put.ensures.course;
       text = λ formats are.
-          let all = paragraphs_of formats manner items in
-          let there : ℕ → List Paragraph = λ n.
+          let all = with_values values (paragraphs_of formats manner items) in
+          let later : ℕ → List Paragraph = λ n.
           paragraphs_from formats manner (take n items) (stretches is_inside (drop n items)) in
+          let there : ℕ → List Paragraph = λ n. with_values (drop (old.number + 1) values) (later n) in
           let seen = seen_range formats manner (style_of last.mark) items at end in
           let left =
           next_left formats manner parts c.requires.parts at end unit last some inside found.inside found.ends unit_is
           c.seek-last.ensures.value in
+          let own = c.get.result in
+          let next :
+          with_values (drop old.number values) (later at)
+          ≡ record {
+            standing = standing_of unit last.mark;
+            values = option_map (λ v. v.now) own;
+            items = seen;
+          } ∷ there end =
+          ap (with_values (drop old.number values)) left
+          ∙ values_next values old.number (standing_of unit last.mark) seen (later end)
+          ∙ (λ i. record {
+            standing = standing_of unit last.mark;
+            values = sym c.get.ensures i;
+            items = seen;
+          } ∷ there end) in
           let saying = c.new-saying.ensures in
           let standing = standing_of unit last.mark in
           let passes =
@@ -121,14 +141,15 @@ loop-course-preserved g c =
           (seen_range formats manner istd items at end)) c.style_of.ensures (put.ensures.passes formats are) in
           let step =
           paragraph_step g.K.Sink c.args.out.now c.args.page.now old.out old.page put.new.out put.new.page
-          c.finish.new.out c.finish.new.page c.args.lead old.line all (there at) (there end) standing seen
-          c.new-saying.result put.new.saying c.args.references.list old.course.references.list
-          put.new.self.references.list left
+          c.finish.new.out c.finish.new.page c.args.lead old.line all (with_values (drop old.number values) (later at)) (there end)
+          standing own seen c.new-saying.result put.new.saying c.args.references.list old.course.references.list
+          put.new.self.references.list next
           (saying ∙ (λ i. record {
             lead = c.args.lead;
             line = old.line;
             in_table = (c.is_in_table.ensures
                 ∙ ap is_in_table c.of-standing.ensures) i;
+            values = own;
             begun = false;
             half = None;
           }))
@@ -150,8 +171,12 @@ returns-clause-text g c = λ formats are.
     let items = items_in parts in
     let old = c.loop-course in
     let done = c.loop-course-test.false in
-    let all = paragraphs_of formats manner items in
-    let none = none_left formats manner items old.course.place (omega (arith, items_long parts c.requires.parts, done)) in
+    let values = c.args.values.now in
+    let all = with_values values (paragraphs_of formats manner items) in
+    let none =
+    ap (with_values (drop old.number values))
+    (none_left formats manner items old.course.place (omega (arith, items_long parts c.requires.parts, done)))
+    ∙ values_none (drop old.number values) in
     text_put g.K.Sink c.args.out.now c.args.page.now old.out old.page c.push_end.new.out c.push_end.new.page
     (lead_text c.args.lead) all old.line c.args.references.list old.course.references.list
     (subst (λ (rest : List Paragraph). TextAt g.K.Sink c.args.out.now c.args.page.now old.out old.page
@@ -166,8 +191,12 @@ returns-clause-references g c = λ formats are.
     let items = items_in parts in
     let old = c.loop-course in
     let done = c.loop-course-test.false in
-    let all = paragraphs_of formats manner items in
-    let none = none_left formats manner items old.course.place (omega (arith, items_long parts c.requires.parts, done)) in
+    let values = c.args.values.now in
+    let all = with_values values (paragraphs_of formats manner items) in
+    let none =
+    ap (with_values (drop old.number values))
+    (none_left formats manner items old.course.place (omega (arith, items_long parts c.requires.parts, done)))
+    ∙ values_none (drop old.number values) in
     all_met g.K.Sink c.args.out.now c.args.page.now old.out old.page (lead_text c.args.lead) all old.line
     c.args.references.list old.course.references.list
     (subst (λ (rest : List Paragraph). TextAt g.K.Sink c.args.out.now c.args.page.now old.out old.page
@@ -181,8 +210,12 @@ returns-clause-some g c = λ formats are.
     let items = items_in parts in
     let old = c.loop-course in
     let done = c.loop-course-test.false in
-    let all = paragraphs_of formats manner items in
-    let none = none_left formats manner items old.course.place (omega (arith, items_long parts c.requires.parts, done)) in
+    let values = c.args.values.now in
+    let all = with_values values (paragraphs_of formats manner items) in
+    let none =
+    ap (with_values (drop old.number values))
+    (none_left formats manner items old.course.place (omega (arith, items_long parts c.requires.parts, done)))
+    ∙ values_none (drop old.number values) in
     some_put g.K.Sink c.args.out.now c.args.page.now old.out old.page (lead_text c.args.lead) all old.line
     c.args.references.list old.course.references.list
     (subst (λ (rest : List Paragraph). TextAt g.K.Sink c.args.out.now c.args.page.now old.out old.page

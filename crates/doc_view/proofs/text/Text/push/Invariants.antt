@@ -1,4 +1,4 @@
-use Rattle.std.proofs.Common.{◌≡◌, ◌≤◌, ◌-◌, length, take, drop}
+use Rattle.std.proofs.Common.{◌≤◌, ◌-◌, length, take, drop}
 use Rattle.run_lists.specs.Places.{IsAt}
 use Rattle.plain_doc.specs.Settings.{is_inside}
 use Rattle.plain_doc.specs.Stretches.{stretches}
@@ -6,7 +6,7 @@ use Rattle.doc_columns.specs.Walks.{items_in, IsWalk}
 use Rattle.doc_view.specs.Course.{IsCourse}
 use Rattle.doc_view.specs.Lines.{lead_text}
 use Rattle.doc_view.specs.Page.{AreFormats}
-use Rattle.doc_view.specs.Seen.{Formats, paragraphs_from, paragraphs_of}
+use Rattle.doc_view.specs.Seen.{Formats, paragraphs_from, paragraphs_of, with_values}
 use Rattle.doc_view.proofs.TextLemmas.{TextAt}
 use Rattle.doc_view.proofs.text.Text.push.Given as goal
 
@@ -14,14 +14,16 @@ use Rattle.doc_view.proofs.text.Text.push.Given as goal
 abbrev pub invariant-loop-course : goal.invariant-loop-course
 invariant-loop-course g l = record {
   within : l.course.place ≤ length l.self.parts.units.now;
+  number : l.number ≤ l.course.place;
   walk : IsWalk l.self.parts l.course.walk l.course.place;
   marks : IsAt l.self.parts.besides.now l.marks;
   ahead : l.marks.begin ≤ l.course.place;
   course : IsCourse l.self.manner (items_in l.self.parts) l.course;
   text : (formats : Formats) → AreFormats l.self.formats.now formats → TextAt g.K.Sink l.fn.out l.fn.page l.out l.page
-      (lead_text l.lead) (paragraphs_of formats l.self.manner (items_in l.self.parts))
+      (lead_text l.lead) (with_values l.values (paragraphs_of formats l.self.manner (items_in l.self.parts)))
+      (with_values (drop l.number l.values)
       (paragraphs_from formats l.self.manner (take l.course.place (items_in l.self.parts))
-      (stretches is_inside (drop l.course.place (items_in l.self.parts))))
+      (stretches is_inside (drop l.course.place (items_in l.self.parts)))))
       l.line l.fn.references.list l.course.references.list;
 }
 

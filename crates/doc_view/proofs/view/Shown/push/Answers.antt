@@ -1,5 +1,5 @@
--- The main text, and then the notes.
-use Rattle.std.proofs.Common.{◌≡◌, ◌∙◌, ◌++◌, [], ℕ, List, Some, sym, ap, subst, false, true, refl}
+-- The main text, the notes, and then the header texts.
+use Rattle.std.proofs.Common.{◌≡◌, ◌∙◌, ◌++◌, [], ℕ, List, Some, sym, ap, subst, false, refl}
 use Rattle.std.specs.Prelude.{slice_get}
 use Rattle.style_sheet.specs.Sheet.{Sheet}
 use Rattle.doc_bits.specs.declared.places.Where.TheVariants.{Main, Note}
@@ -8,17 +8,17 @@ use Rattle.plain_doc.specs.declared.item.Item.{Item}
 use Rattle.plain_doc.specs.RightDocument.{HoldsAtItems}
 use Rattle.plain_doc.specs.RulesOfTexts.{HasParagraphStyle}
 use Rattle.doc_columns.specs.Walks.{items_in}
-use Rattle.doc_view.specs.declared.references.Reference.{Reference}
 use Rattle.doc_view.specs.declared.reading.Manner.{Manner}
 use Rattle.doc_view.specs.Kept.{KeptReferences}
 use Rattle.doc_view.specs.Layout.{layout_of}
 use Rattle.doc_view.specs.Lines.{lead_text}
 use Rattle.doc_view.specs.Notes.{notes_from}
-use Rattle.doc_view.specs.Page.{AreFormats}
+use Rattle.doc_view.specs.Page.{AreFormats, headers_text}
 use Rattle.page_out.specs.Printed.{Prints}
-use Rattle.doc_view.specs.Seen.{paragraphs_of, references_of}
+use Rattle.doc_view.specs.Seen.{Paragraph, paragraphs_of, references_of, with_values}
 use Rattle.doc_view.proofs.PageLemmas.{sound_normal, sound_styles}
-use Rattle.page_out.proofs.PrintLemmas.{put_then}
+use Rattle.page_out.proofs.PrintLemmas.{three_put}
+use Rattle.doc_view.specs.declared.reading.TextKind.TheVariants as text_kind
 use Rattle.doc_view.proofs.view.Shown.push.Goals as goal
 
 pub push-references-requires-clause-normal : goal.push-references-requires-clause-normal
@@ -51,25 +51,28 @@ returns g c = λ formats are.
     let document = c.args.self.now.document.now in
     let right : AreFormats c.args.self.now.formats.now formats =
     subst (λ (s : Sheet). AreFormats s formats) (sym c.requires.formats) are in
-    let main_manner : Manner = record { hidden = c.args.self.now.hidden; is_note = false } in
-    let note_manner : Manner = record { hidden = c.args.self.now.hidden; is_note = true } in
+    let main_manner : Manner = record { hidden = c.args.self.now.options.hidden; kind = text_kind.Main } in
+    let note_manner : Manner = record { hidden = c.args.self.now.options.hidden; kind = text_kind.Note } in
     let same : items_in c.parts.result ≡ document.main =
     c.parts.ensures.items ∙ ap (λ (d : Document). d.main) c.document.view_is in
     let same_notes : c.document.inside.notes ≡ document.notes = ap (λ (d : Document). d.notes) c.document.view_is in
-    let met : c.push-references.result.0.list ≡ references_of (paragraphs_of formats main_manner document.main) =
+    let values = c.args.self.now.values.now in
+    let paragraphs : List Item → List Paragraph = λ items. with_values values (paragraphs_of formats main_manner items) in
+    let met : c.push-references.result.0.list ≡ references_of (paragraphs document.main) =
     c.push-references.ensures.references formats right
-    ∙ ap (λ (r : KeptReferences). r.list ++ references_of (paragraphs_of formats main_manner (items_in c.parts.result)))
+    ∙ ap (λ (r : KeptReferences). r.list ++ references_of (paragraphs (items_in c.parts.result)))
     c.requires.references
-    ∙ ap (λ (items : List Item). references_of (paragraphs_of formats main_manner items)) same in
-    put_then g.K.Sink c.args.out.now c.push-references.new.out c.push.new.out c.args.page.now
-    c.push-references.new.page c.push.new.page
-    (layout_of [] (paragraphs_of formats main_manner document.main))
-    (notes_from formats note_manner false (references_of (paragraphs_of formats main_manner document.main))
-    document.notes)
+    ∙ ap (λ (items : List Item). references_of (paragraphs items)) same in
+    let text = layout_of [] (paragraphs document.main) in
+    let notes = notes_from formats note_manner false (references_of (paragraphs document.main)) document.notes in
+    let headers = headers_text formats c.args.self.now.options document in
+    three_put g.K.Sink c.args.out.now c.push-references.new.out c.push.new.out c.push_headers.new.out c.args.page.now
+    c.push-references.new.page c.push.new.page c.push_headers.new.page text notes headers
     (subst (λ (text : List ℕ). Prints g.K.Sink c.args.out.now c.args.page.now c.push-references.new.out
     c.push-references.new.page text)
-    (λ i. layout_of (lead_text (c.none.ensures i)) (paragraphs_of formats main_manner (same i)))
+    (λ i. layout_of (lead_text (c.none.ensures i)) (paragraphs (same i)))
     (c.push-references.ensures.text formats right))
     (subst (λ (text : List ℕ). Prints g.K.Sink c.push-references.new.out c.push-references.new.page c.push.new.out
     c.push.new.page text)
     (λ i. notes_from formats note_manner false (met i) (same_notes i)) (c.push.ensures formats right))
+    (c.push_headers.ensures formats are)
