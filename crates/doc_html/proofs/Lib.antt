@@ -1,4 +1,5 @@
 pub mod WriteLemmas
+pub mod HeadLemmas
 pub mod TextLemmas
 pub mod NoteLemmas
 pub mod PageLemmas

@@ -9,25 +9,25 @@ use Rattle.plain_doc.specs.declared.item.Item.{Item}
 use Rattle.doc_outer.specs.declared.sink.Sink.{Ghosts}
 use Rattle.view_places.specs.declared.element.Element.{Element}
 use Rattle.view_places.specs.declared.element.Element.TheVariants.{BackLink}
-use Rattle.html_page.specs.declared.printer.HtmlPage.{HtmlPage}
-use Rattle.html_page.specs.Pages.{Places}
-use Rattle.html_page.specs.Printed.{PutsPlaces}
-use Rattle.html_page.proofs.PutLemmas.{places_none, places_then}
+use Rattle.form_page.specs.declared.page.FormPage.{FormPage}
+use Rattle.form_page.specs.Forms.{Places}
+use Rattle.form_page.specs.Forms.{PutsPlaces}
+use Rattle.form_page.proofs.FormLemmas.{places_none, places_then}
 use Rattle.doc_view.specs.declared.reading.Manner.{Manner}
 use Rattle.doc_view.specs.declared.references.Reference.{Reference}
 use Rattle.doc_view.specs.Seen.{Formats, paragraphs_of}
-use Rattle.doc_places.specs.Places.{label_of, note_path, note_places, notes_places, shown, text_places}
+use Rattle.doc_places.specs.Places.{hypertext_of, label_of, note_path, note_places, notes_places, shown, text_places}
 use Rattle.doc_html.proofs.WriteLemmas.{puts_same}
 
 -- what was written of the notes, where those from a place on are left
-pub record NotesAt {K : Type 0} (sink : Ghosts K) (start : K) (html : HtmlPage) (out : K) (now : HtmlPage) (formats :
+pub record NotesAt {K : Type 0} (sink : Ghosts K) (start : K) (html : FormPage) (out : K) (now : FormPage) (formats :
     Formats)
     (manner : Manner) (number : ℕ) (references rest : List Reference) (notes others : List (List Item)) : Type 0 where
   pub places : Places
   pub puts : PutsPlaces sink start html out now places
   pub whole : places ++ notes_places formats manner number rest others ≡ notes_places formats manner 1 references notes
 
-pub notes_start : {K : Type 0} (sink : Ghosts K) (start : K) (html : HtmlPage) (formats : Formats) (manner : Manner)
+pub notes_start : {K : Type 0} (sink : Ghosts K) (start : K) (html : FormPage) (formats : Formats) (manner : Manner)
     (references :
     List Reference) (notes : List (List Item)) → NotesAt sink start html start html formats manner 1 references (drop
     0 references)
@@ -35,8 +35,8 @@ pub notes_start : {K : Type 0} (sink : Ghosts K) (start : K) (html : HtmlPage) (
 notes_start sink start html formats manner references notes =
     record { places = []; puts = places_none sink start html; whole = refl }
 
-pub note_on : {K : Type 0} (sink : Ghosts K) (start : K) (html : HtmlPage) (out : K) (now : HtmlPage) (next : K)
-    (after : HtmlPage)
+pub note_on : {K : Type 0} (sink : Ghosts K) (start : K) (html : FormPage) (out : K) (now : FormPage) (next : K)
+    (after : FormPage)
     (formats : Formats) (manner : Manner) (references : List Reference) (notes : List (List Item)) (k : ℕ) (reference
     : Reference)
     (note : List Item) → NotesAt sink start html out now formats manner (k + 1) references (drop k references) notes
@@ -77,7 +77,7 @@ none_left formats manner number references notes k (inr h) =
     ap (λ (n : List (List Item)). notes_places formats manner number (drop k references) n) (drop_of_length-le notes h)
     ∙ no_notes formats manner number (drop k references)
 
-pub notes_written : {K : Type 0} (sink : Ghosts K) (start : K) (html : HtmlPage) (out : K) (now : HtmlPage)
+pub notes_written : {K : Type 0} (sink : Ghosts K) (start : K) (html : FormPage) (out : K) (now : FormPage)
     (formats : Formats) (manner : Manner) (number : ℕ) (references : List Reference) (notes : List (List Item))
     (k : ℕ) → (length references ≤ k) ⊎ (length notes ≤ k) →
     NotesAt sink start html out now formats manner number references (drop k references) notes (drop k notes) →
@@ -100,7 +100,7 @@ is_not_hidden true is = refl
 is_not_hidden false is = absurd (cc (is))
 
 -- one that is not shown
-pub note_hidden : {K : Type 0} (sink : Ghosts K) (a : K) (html : HtmlPage) (formats : Formats) (manner : Manner)
+pub note_hidden : {K : Type 0} (sink : Ghosts K) (a : K) (html : FormPage) (formats : Formats) (manner : Manner)
     (number : ℕ)
     (reference : Reference) (note : List Item) → reference.is_shown ≡ false → PutsPlaces sink a html a html
     (note_places formats
@@ -109,21 +109,21 @@ note_hidden sink a html formats manner number reference note hidden =
     let none : Places = [] in
     puts_same sink a a html html none (note_places formats manner number reference note) (sym (ap (λ (b : Bool). if b
     then shown
-    (note_path number ++ BackLink number ∷ []) (label_of reference.number) ∷ text_places (note_path number)
+    (note_path number ++ BackLink number ∷ []) (label_of reference.number) ∷ text_places (hypertext_of [] number note) (note_path number)
     (paragraphs_of formats
     manner note) else none) hidden)) (places_none sink a html)
 
 -- one that is shown: its label, and its text
-pub note_shown : {K : Type 0} (sink : Ghosts K) (a b c : K) (p q r : HtmlPage) (formats : Formats) (manner : Manner)
+pub note_shown : {K : Type 0} (sink : Ghosts K) (a b c : K) (p q r : FormPage) (formats : Formats) (manner : Manner)
     (number : ℕ)
     (reference : Reference) (note : List Item) → reference.is_shown ≡ true → PutsPlaces sink a p b q (shown (note_path
     number ++
-    BackLink number ∷ []) (label_of reference.number) ∷ []) → PutsPlaces sink b q c r (text_places (note_path number)
+    BackLink number ∷ []) (label_of reference.number) ∷ []) → PutsPlaces sink b q c r (text_places (hypertext_of [] number note) (note_path number)
     (paragraphs_of
     formats manner note)) → PutsPlaces sink a p c r (note_places formats manner number reference note)
 note_shown sink a b c p q r formats manner number reference note is label text =
     let label_place = shown (note_path number ++ BackLink number ∷ []) (label_of reference.number) in
-    let rest = text_places (note_path number) (paragraphs_of formats manner note) in
+    let rest = text_places (hypertext_of [] number note) (note_path number) (paragraphs_of formats manner note) in
     let none : Places = [] in
     puts_same sink a c p r (label_place ∷ rest) (note_places formats manner number reference note) (sym (ap (λ (b :
     Bool). if b

@@ -1,3 +1,4 @@
+pub mod Head
 pub mod Page
 pub mod Writes
 pub mod Laws

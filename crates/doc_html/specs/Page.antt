@@ -1,18 +1,30 @@
--- The page of a document in HTML.
-use Rattle.std.specs.Prelude.{◌≡◌, ℕ, List, codes, encode_utf8_all}
+-- The page of a document in a form: in HTML or in Markdown.
+use Rattle.std.specs.Prelude.{◌≡◌, ℕ, List, [], encode_utf8_all}
+use Rattle.std.specs.List.{All}
 use Rattle.plain_doc.specs.declared.document.Document.{Document}
 use Rattle.doc_view.specs.declared.view.Options.{Options}
 use Rattle.doc_view.specs.Page.{AreFormats}
 use Rattle.doc_view.specs.Seen.{Formats}
-use Rattle.html_page.specs.Pages.{page_text}
+use Rattle.html_text.specs.Reading.{read}
+use Rattle.html_page.specs.Known.{IsKnown}
+use Rattle.html_page.specs.Brackets.{AreBrackets}
+use Rattle.form_page.specs.declared.page.PageForm.{PageForm}
+use Rattle.form_page.specs.declared.page.PageForm.TheVariants as form
+use Rattle.form_page.specs.Forms.{form_text}
 use Rattle.doc_places.specs.Places.{places_of}
-
--- Profile: a page has this title
-abbrev pub title : List ℕ
-title = codes "Untitled"
+use Rattle.doc_html.specs.Head.{head_of}
 
 -- the bytes are the page
-pub record IsHtmlPage (options : Options) (document : Document) (bytes : List ℕ) : Type 0 where
+pub record IsFormPage (form : PageForm) (options : Options) (document : Document) (bytes : List ℕ) : Type 0 where
   pub formats : Formats
   pub are : AreFormats document.sheet formats
-  pub text : bytes ≡ encode_utf8_all (page_text title (places_of formats options document))
+  pub text : bytes ≡ encode_utf8_all (form_text form document (head_of document) (places_of formats options document))
+
+-- the bytes are the page in HTML
+abbrev pub IsHtmlPage : Options → Document → List ℕ → Type 0
+IsHtmlPage options document bytes = IsFormPage form.Html options document bytes
+
+-- what is read of the page is characters, and tags of a closed list, in which links lead to allowed URLs alone; they nest
+pub record IsSafe (page : List ℕ) : Type 0 where
+  pub known : All IsKnown (read page)
+  pub nests : AreBrackets [] (read page) []

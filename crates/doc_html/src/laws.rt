@@ -1,7 +1,12 @@
 // Laws over the definitions alone.
-ghost use Rattle.doc_html.specs.Laws.{HtmlPagesAreOne};
+ghost use Rattle.doc_html.specs.Laws.{FormPagesAreOne, HtmlPagesAreSafe};
 
-/// A document has one page in HTML of these options.
-pub fn html_pages_are_one()
-    ensures { HtmlPagesAreOne }
+/// A document has one page of a form and of these options.
+pub fn form_pages_are_one()
+    ensures { FormPagesAreOne }
+{}
+
+/// Of each page in HTML characters are read, and tags of a closed list, which nest, with links to allowed URLs alone.
+pub fn html_pages_are_safe()
+    ensures { HtmlPagesAreSafe }
 {}

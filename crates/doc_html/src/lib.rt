@@ -1,11 +1,14 @@
-//! Documents as pages in HTML.
+//! Documents as pages in HTML, and what pages of other forms are written by.
 #![tactic(auto)]
 
+mod anchors;
+mod head;
+mod heads;
 mod laws;
 mod notes;
 mod reading;
 mod view;
 mod writer;
 
-pub use laws::html_pages_are_one;
-pub use view::write_html;
+pub use laws::{form_pages_are_one, html_pages_are_safe};
+pub use view::{write_form, write_html};

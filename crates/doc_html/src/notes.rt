@@ -7,15 +7,17 @@ ghost use Rattle.plain_doc.specs.RulesOfTexts.{HasParagraphStyle};
 ghost use Rattle.doc_view.specs.Page.{AreFormats};
 ghost use Rattle.doc_view.specs.Seen.{Formats};
 ghost use Rattle.doc_places.specs.Places.{label_of, note_path, note_places, notes_places, shown};
-ghost use Rattle.html_page.specs.Printed.{PutsPlaces};
+ghost use Rattle.form_page.specs.Forms.{PutsPlaces};
 ghost use Rattle.view_places.specs.declared.element.Element.TheVariants.{BackLink};
+ghost use Rattle.doc_view.specs.declared.reading.TextKind.TheVariants as text_kind;
 
 use crate::reading::write_text;
 use crate::writer::Writer;
 use char_formats::StyleFormats;
 use doc_columns::ColumnTexts;
 use doc_outer::Sink;
-use doc_view::{Manner, Reference, References, Text};
+use doc_parts::Bookmarks;
+use doc_view::{Manner, Reference, References, Text, TextKind};
 use std::alloc::Global;
 use view_places::{Element, Glyph};
 
@@ -33,7 +35,12 @@ pub(crate) struct Notes<'a> {
 
 impl Notes<'_> {
     /// Writes each note whose reference is shown behind its label.
-    pub(crate) fn write<K: Sink>(&self, writer: &mut Writer, out: &mut K, references: &References)
+    pub(crate) fn write<K: Sink>(
+        &self,
+        writer: &mut Writer<'_>,
+        out: &mut K,
+        references: &References,
+    )
         requires normal { kind_at self.now.formats.now 0 ≡ 1 }
         requires styles { (k : ℕ) (note : List Item) → slice_get self.now.texts.now k ≡ Some note
             → HoldsAtItems note (λ i item. HasParagraphStyle self.now.formats.now item) }
@@ -41,7 +48,7 @@ impl Notes<'_> {
         ensures path { writer.new.path ≡ [] }
         ensures puts { (formats : Formats) → AreFormats self.now.formats.now formats
             → PutsPlaces K.Sink out.old writer.old.html out.new writer.new.html
-            (notes_places formats (record { hidden = self.now.hidden; is_note = true }) 1 references.now.list
+            (notes_places formats (record { hidden = self.now.hidden; kind = text_kind.Note }) 1 references.now.list
             self.now.texts.now) }
     {
         let count = references.len().min(self.texts.len());
@@ -51,7 +58,13 @@ impl Notes<'_> {
     }
 
     /// Writes the note of a place where its reference is shown.
-    fn write_note<K: Sink>(&self, writer: &mut Writer, out: &mut K, k: usize, reference: Reference)
+    fn write_note<K: Sink>(
+        &self,
+        writer: &mut Writer<'_>,
+        out: &mut K,
+        k: usize,
+        reference: Reference,
+    )
         requires normal { kind_at self.now.formats.now 0 ≡ 1 }
         requires styles { (k : ℕ) (note : List Item) → slice_get self.now.texts.now k ≡ Some note
             → HoldsAtItems note (λ i item. HasParagraphStyle self.now.formats.now item) }
@@ -62,7 +75,7 @@ impl Notes<'_> {
         ensures puts { (formats : Formats) (note : List Item) → AreFormats self.now.formats.now formats
             → slice_get self.now.texts.now k ≡ Some note
             → PutsPlaces K.Sink out.old writer.old.html out.new writer.new.html
-            (note_places formats (record { hidden = self.now.hidden; is_note = true }) (k + 1) reference note) }
+            (note_places formats (record { hidden = self.now.hidden; kind = text_kind.Note }) (k + 1) reference note) }
     {
         if !reference.is_shown {
             return;
@@ -73,16 +86,18 @@ impl Notes<'_> {
             formats: self.formats,
             manner: Manner {
                 hidden: self.hidden,
-                is_note: true,
+                kind: TextKind::Note,
             },
         };
-        let _ = write_text(writer, out, &text, References::none(self.alloc));
+        let bookmarks = Bookmarks::new(self.alloc);
+        let references = References::none(self.alloc);
+        let _ = write_text(writer, out, k + 1, &text, &bookmarks, references);
         writer.path.truncate(0);
     }
 }
 
 /// Opens the note with this number, and writes its label.
-fn open_note<K: Sink>(writer: &mut Writer, out: &mut K, number: usize, label: Option<u32>)
+fn open_note<K: Sink>(writer: &mut Writer<'_>, out: &mut K, number: usize, label: Option<u32>)
     requires { writer.old.path ≡ [] }
     ensures path { writer.new.path ≡ note_path number }
     ensures puts { PutsPlaces K.Sink out.old writer.old.html out.new writer.new.html

@@ -9,31 +9,37 @@ ghost use Rattle.doc_columns.specs.Walks.{items_in, AreParts, IsWalk};
 ghost use Rattle.doc_view.specs.Course.{HasBeside, HasFormat, has_reference};
 ghost use Rattle.doc_view.specs.Page.{AreFormats};
 ghost use Rattle.doc_view.specs.Seen.{Formats, paragraphs_of, references_of, seen_from};
-ghost use Rattle.doc_places.specs.Places.{count_of, text_places};
-ghost use Rattle.html_page.specs.Printed.{PutsPlaces};
-ghost use Rattle.doc_html.specs.Writes.{IsReading, Writes, at};
+ghost use Rattle.doc_places.specs.Places.{count_of, hypertext_of, text_places};
+ghost use Rattle.form_page.specs.Forms.{PutsPlaces};
+ghost use Rattle.doc_html.specs.Writes.{IsReading, Writes, at, links_in};
 
+use crate::anchors::write_anchors;
+use crate::heads::{is_head, known_behind};
 use crate::writer::Writer;
 use doc_columns::{alike_from, paragraph_end};
 use doc_outer::Sink;
-use doc_places::{Grid, push_block};
+use doc_parts::Bookmarks;
+use doc_places::{Grid, Origin, push_block};
 use doc_view::{Bounds, Course, Reference, References, Standing, Stretch, Text, see, style_of};
 use run_lists::{Cursor, seek};
 use view_paths::MAX_DEPTH;
 
-/// Where the reading of a text is, and to how many notes the items in front refer.
+/// Where the reading of a text is, to how many notes the items in front refer, and where its paragraph is.
 #[derive(Drop)]
 pub(crate) struct Reading {
     pub(crate) course: Course,
     pub(crate) count: usize,
+    pub(crate) origin: Origin,
 }
 
-/// Writes a text inside of the elements that are open. It answers the notes that the text refers to. It is linear in the
-/// units and the runs.
+/// Writes the text of the note with this number, from 1, or the main text, inside of the elements that are open. Its
+/// bookmarks are in order. It answers the notes that the text refers to. It is linear in the units and the runs.
 pub(crate) fn write_text<K: Sink>(
-    writer: &mut Writer,
+    writer: &mut Writer<'_>,
     out: &mut K,
+    note: usize,
     text: &Text<'_>,
+    bookmarks: &Bookmarks,
     references: References,
 ) -> References
     requires parts { AreParts text.now.parts }
@@ -44,16 +50,23 @@ pub(crate) fn write_text<K: Sink>(
     ensures path { writer.new.path ≡ writer.old.path }
     ensures puts { (formats : Formats) → AreFormats text.now.formats.now formats
         → PutsPlaces K.Sink out.old writer.old.html out.new writer.new.html
-        (text_places writer.old.path (paragraphs_of formats text.now.manner (items_in text.now.parts))) }
+        (text_places (hypertext_of bookmarks.now note (items_in text.now.parts)) writer.old.path (paragraphs_of formats text.now.manner (items_in text.now.parts))) }
     ensures references { (formats : Formats) → AreFormats text.now.formats.now formats → result.list
         ≡ references.list ++ references_of (paragraphs_of formats text.now.manner (items_in text.now.parts)) }
 {
     let len = text.parts.units.len();
     let depth = writer.path.len();
     let course = Course::new(references);
-    let mut reading = Reading { course, count: 0 };
+    let first = Origin::new(note, 0);
+    let mut reading = Reading {
+        course,
+        count: 0,
+        origin: first,
+    };
     let mut marks = Cursor::new();
     let mut grid = Grid::new();
+    let mut known = None;
+    let mut next = 0;
     while reading.course.place < len {
         let end = paragraph_end(text.parts.besides, &mut marks, reading.course.place, len);
         let last = seek(text.parts.besides, &mut marks, end - 1);
@@ -62,17 +75,23 @@ pub(crate) fn write_text<K: Sink>(
             end,
             istd: style_of(&last.mark),
         };
-        push_block(&mut writer.path, grid, standing.is_in_table());
+        let head = is_head(&text.parts, marks, end, standing, known);
+        let in_head = grid.in_head(head);
+        push_block(&mut writer.path, grid, standing.is_in_table(), in_head);
+        let origin = Origin::new(note, reading.course.place);
+        reading.origin = origin;
+        next = write_anchors(writer, out, bookmarks, next, end);
         write_paragraph(writer, out, &mut reading, text, bounds);
         writer.path.truncate(depth);
         grid = grid.behind(standing);
+        known = known_behind(standing, head);
     }
     reading.course.references
 }
 
 /// Writes the items of a paragraph, and goes to its end.
 fn write_paragraph<K: Sink>(
-    writer: &mut Writer,
+    writer: &mut Writer<'_>,
     out: &mut K,
     reading: &mut Reading,
     text: &Text<'_>,
@@ -89,8 +108,10 @@ fn write_paragraph<K: Sink>(
     ensures walk { IsWalk text.now.parts reading.new.course.walk bounds.end }
     ensures reading { IsReading text.now.manner (items_in text.now.parts) reading.new }
     ensures path { writer.new.path ≡ writer.old.path }
+    ensures origin { reading.new.origin ≡ reading.old.origin }
     ensures writes { (formats : Formats) → AreFormats text.now.formats.now formats → Writes K.Sink
-        (at out.old writer.old reading.old) (at out.new writer.new reading.new) writer.old.path
+        (at out.old writer.old reading.old) (at out.new writer.new reading.new)
+        (links_in reading.old.origin (items_in text.now.parts)) writer.old.path
         (seen_from formats text.now.manner bounds.istd (take reading.old.course.place (items_in text.now.parts))
         (slice_range (items_in text.now.parts) reading.old.course.place bounds.end)) }
 {
@@ -107,7 +128,7 @@ fn write_paragraph<K: Sink>(
 
 /// Writes items that are alike, and goes behind them.
 fn write_stretch<K: Sink>(
-    writer: &mut Writer,
+    writer: &mut Writer<'_>,
     out: &mut K,
     reading: &mut Reading,
     text: &Text<'_>,
@@ -123,10 +144,12 @@ fn write_stretch<K: Sink>(
     ensures walk { reading.new.course.walk ≡ reading.old.course.walk }
     ensures reading { IsReading text.now.manner (items_in text.now.parts) reading.new }
     ensures path { writer.new.path ≡ writer.old.path }
+    ensures origin { reading.new.origin ≡ reading.old.origin }
     ensures writes { (formats : Formats) (istd : ℕ)
         → HasFormat formats istd (items_in text.now.parts) reading.old.course.place stretch.now.until stretch.now.format
         → Writes K.Sink
-        (at out.old writer.old reading.old) (at out.new writer.new reading.new) writer.old.path
+        (at out.old writer.old reading.old) (at out.new writer.new reading.new)
+        (links_in reading.old.origin (items_in text.now.parts)) writer.old.path
         (seen_from formats text.now.manner istd (take reading.old.course.place (items_in text.now.parts))
         (slice_range (items_in text.now.parts) reading.old.course.place stretch.now.until)) }
 {
@@ -137,7 +160,7 @@ fn write_stretch<K: Sink>(
 
 /// Writes the item of the place, and goes behind it.
 fn write_item<K: Sink>(
-    writer: &mut Writer,
+    writer: &mut Writer<'_>,
     out: &mut K,
     reading: &mut Reading,
     text: &Text<'_>,
@@ -153,10 +176,12 @@ fn write_item<K: Sink>(
     ensures walk { reading.new.course.walk ≡ reading.old.course.walk }
     ensures reading { IsReading text.now.manner (items_in text.now.parts) reading.new }
     ensures path { writer.new.path ≡ writer.old.path }
+    ensures origin { reading.new.origin ≡ reading.old.origin }
     ensures writes { (formats : Formats) (istd : ℕ)
         → HasFormat formats istd (items_in text.now.parts) reading.old.course.place stretch.now.until stretch.now.format
         → Writes K.Sink
-        (at out.old writer.old reading.old) (at out.new writer.new reading.new) writer.old.path
+        (at out.old writer.old reading.old) (at out.new writer.new reading.new)
+        (links_in reading.old.origin (items_in text.now.parts)) writer.old.path
         (seen_from formats text.now.manner istd (take reading.old.course.place (items_in text.now.parts))
         (slice_range (items_in text.now.parts) reading.old.course.place (reading.old.course.place + 1))) }
 {
@@ -168,7 +193,8 @@ fn write_item<K: Sink>(
         unit,
         stretch.beside,
     );
-    writer.write(out, reading.count, &seen);
+    let link = reading.origin.link(&reading.course.fields);
+    writer.write(out, link, reading.count, &seen);
     reading.course.pass(unit, stretch.beside, seen.reference);
     reading.count = count_behind(reading.count, seen.reference);
 }

@@ -1,2 +1,3 @@
+pub mod AnchorLemmas
 pub mod PlaceLemmas
 pub mod PathLemmas

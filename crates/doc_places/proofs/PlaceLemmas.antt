@@ -1,5 +1,5 @@
 -- Places of items one after another, and what they show.
-use Rattle.std.proofs.Common.{◌≡◌, ℕ, ◌+◌, Bool, true, false, ◌||◌, List, [], ◌∷◌, ◌++◌, Option, Some, None, refl}
+use Rattle.std.proofs.Common.{◌≡◌, ℕ, ◌+◌, Bool, true, false, ◌||◌, ◌&&◌, List, [], ◌∷◌, ◌++◌, Option, Some, None, refl}
 use Rattle.std.proofs.Common.{sym, ap, ◌∙◌}
 use Rattle.std.proofs.Common.{append_assoc, append-nil, arith, length}
 use Rattle.std.specs.Prelude.{if◌then◌else◌}
@@ -12,12 +12,13 @@ use Rattle.view_places.specs.declared.glyph.Glyph.{Glyph}
 use Rattle.doc_view.specs.declared.references.Reference.{Reference}
 use Rattle.doc_view.specs.declared.reading.Seen.{Seen}
 use Rattle.doc_view.specs.declared.standing.Standing.{Standing}
-use Rattle.doc_view.specs.Layout.{ends_cell, is_in_table, keeps_row}
+use Rattle.doc_view.specs.Layout.{ends_cell, ends_head, is_in_table, keeps_row}
 use Rattle.doc_view.specs.Seen.{Paragraph, glyphs_in, references_in, shown_glyph}
 use Rattle.doc_places.specs.declared.grid.Grid.{Grid}
-use Rattle.doc_places.specs.Grid.{cells_of, first_of, grid_after, grid_of}
-use Rattle.doc_places.specs.Places.{Places, block_of, count_of, item_places, items_places, paragraphs_places, place_of}
-use Rattle.doc_places.specs.Places.{text_places}
+use Rattle.doc_places.specs.Grid.{all_heads, cells_of, first_of, grid_after, grid_of}
+use Rattle.doc_places.specs.Places.{Places, block_of, count_of, in_head, item_places, items_places, paragraphs_places, place_of}
+use Rattle.doc_places.specs.Places.{Hypertext, anchor_places, item_count, paragraph_places, text_places}
+use Rattle.view_places.specs.declared.element.Link.{Link}
 use Rattle.doc_places.specs.Laws.{EachGlyphHasAPlace}
 
 -- one more reference, or none
@@ -31,29 +32,34 @@ pub count_one : (seen : Seen) → length (references_in (seen ∷ [])) ≡ count
 count_one seen = refl
 
 -- items one after another
-pub items_places-append : (block : List Element) (count : ℕ) (xs ys : List Seen) → items_places block count (xs ++ ys) ≡
-    items_places block count xs ++ items_places block (count + length (references_in xs)) ys
+pub items_places-append : (links : ℕ → Option Link) (block : List Element) (count place : ℕ) (xs ys : List Seen) →
+    items_places links block count place (xs ++ ys) ≡ items_places links block count place xs ++ items_places links block
+    (count + length (references_in xs)) (place + length xs) ys
 unfolding items_places
-items_places-append block count [] ys = ap (λ (n : ℕ). items_places block n ys) (omega arith)
-items_places-append block count (x ∷ xs) ys =
+items_places-append links block count place [] ys =
+    let n : count ≡ count + 0 = omega arith in
+    let p : place ≡ place + 0 = omega arith in
+    λ i. items_places links block (n i) (p i) ys
+items_places-append links block count place (x ∷ xs) ys =
     let here = count_of x.reference in
     let sum : (count + here) + length (references_in xs) ≡ count + length (references_in (x ∷ xs)) =
     omega (arith, length-cons_option x.reference (references_in xs)) in
-    ap (λ (more : Places). item_places block count x ++ more) (items_places-append block (count + here) xs ys ∙ ap (λ
-    (n : ℕ).
-    items_places block (count + here) xs ++ items_places block n ys) sum) ∙ sym (append_assoc (item_places block count
-    x)
-    (items_places block (count + here) xs) (items_places block (count + length (references_in (x ∷ xs))) ys))
+    let on : (place + 1) + length xs ≡ place + length (x ∷ xs) = omega arith in
+    ap (λ (more : Places). item_places block (links place) count x ++ more) (items_places-append links block (count +
+    here) (place + 1) xs ys ∙ (λ i. items_places links block (count + here) (place + 1) xs ++ items_places links block
+    (sum i) (on i) ys)) ∙ sym (append_assoc (item_places block (links place) count x)
+    (items_places links block (count + here) (place + 1) xs) (items_places links block (count + length (references_in (x
+    ∷ xs))) (place + length (x ∷ xs)) ys))
 
-pub items_places-one : (block : List Element) (count : ℕ) (seen : Seen) → items_places block count (seen ∷ []) ≡
-    item_places
-    block count seen
+pub items_places-one : (links : ℕ → Option Link) (block : List Element) (count place : ℕ) (seen : Seen) → items_places
+    links block count place (seen ∷ []) ≡ item_places block (links place) count seen
 unfolding items_places
-items_places-one block count seen = append-nil (item_places block count seen)
+items_places-one links block count place seen = append-nil (item_places block (links place) count seen)
 
-pub items_places-none : (block : List Element) (count : ℕ) → items_places block count [] ≡ []
+pub items_places-none : (links : ℕ → Option Link) (block : List Element) (count place : ℕ) → items_places links block
+    count place [] ≡ []
 unfolding items_places
-items_places-none block count = refl
+items_places-none links block count place = refl
 
 -- where the next paragraph stands
 pub grid_of-cons : (paragraph : Paragraph) (before : List Paragraph) → grid_of (paragraph ∷ before) ≡ grid_after
@@ -67,56 +73,68 @@ grid_of-cons paragraph before =
       row = if keeps_row paragraph.standing then first_of keeps_row before else length before + 1;
       cell =
           if keeps_row paragraph.standing then cells_of before + (if ends_cell paragraph.standing then 1 else 0) else 0;
+      heads =
+          if is_in_table paragraph.standing then (keeps_row paragraph.standing || ends_head paragraph.standing) && all_heads
+          before else true;
     }
 
 -- ---- what places show
 
-glyph-place_of : (block : List Element) (count : ℕ) (seen : Seen) (glyph : Option Glyph) → filter_map (λ (place :
+glyph-place_of : (block : List Element) (link : Option Link) (count : ℕ) (seen : Seen) (glyph : Option Glyph) → filter_map (λ (place :
     Place Element
-    Glyph). place.glyph) (place_of block count seen glyph ∷ []) ≡ cons_option glyph []
-glyph-place_of block count seen None = refl
-glyph-place_of block count seen (Some glyph) = refl
+    Glyph). place.glyph) (place_of block link count seen glyph ∷ []) ≡ cons_option glyph []
+glyph-place_of block link count seen None = refl
+glyph-place_of block link count seen (Some glyph) = refl
 
-glyph-item : (block : List Element) (count : ℕ) (seen : Seen) → filter_map (λ (place : Place Element Glyph).
-    place.glyph)
-    (item_places block count seen) ≡ cons_option (shown_glyph seen) []
-glyph-item block count seen =
+glyph-item : (block : List Element) (link : Option Link) (count : ℕ) (seen : Seen) → filter_map (λ (place : Place
+    Element Glyph). place.glyph) (item_places block link count seen) ≡ cons_option (shown_glyph seen) []
+glyph-item block link count seen =
     elim seen.is_shown as (λ (b : Bool). filter_map (λ (place : Place Element Glyph). place.glyph) (if b then place_of
-    block
-    count seen seen.glyph ∷ [] else []) ≡ cons_option (if b then seen.glyph else None) [])
-    [ true ↦ glyph-place_of block count seen seen.glyph | false ↦ refl ]
+    block link count seen seen.glyph ∷ [] else []) ≡ cons_option (if b then seen.glyph else None) [])
+    [ true ↦ glyph-place_of block link count seen seen.glyph | false ↦ refl ]
 
 option_then : (glyph : Option Glyph) (more : List Glyph) → cons_option glyph [] ++ more ≡ cons_option glyph more
 option_then None more = refl
 option_then (Some glyph) more = refl
 
-glyphs-items : (block : List Element) (count : ℕ) (seen : List Seen) → filter_map (λ (place : Place Element Glyph).
-    place.glyph)
-    (items_places block count seen) ≡ glyphs_in seen
+glyphs-items : (links : ℕ → Option Link) (block : List Element) (count place : ℕ) (seen : List Seen) → filter_map (λ
+    (place : Place Element Glyph). place.glyph) (items_places links block count place seen) ≡ glyphs_in seen
 unfolding items_places
-glyphs-items block count [] = refl
-glyphs-items block count (x ∷ xs) =
-    filter_map-append (λ (place : Place Element Glyph). place.glyph) (item_places block count x) (items_places block
-    (count +
-    count_of x.reference) xs) ∙ (λ i. glyph-item block count x i ++ glyphs-items block (count + count_of x.reference)
-    xs i) ∙
-    option_then (shown_glyph x) (glyphs_in xs)
+glyphs-items links block count place [] = refl
+glyphs-items links block count place (x ∷ xs) =
+    let rest = count + count_of x.reference in
+    filter_map-append (λ (place : Place Element Glyph). place.glyph) (item_places block (links place) count x)
+    (items_places links block rest (place + 1) xs) ∙ (λ i. glyph-item block (links place) count x i ++ glyphs-items links
+    block rest (place + 1) xs i) ∙ option_then (shown_glyph x) (glyphs_in xs)
 
-glyphs-paragraphs : (outer : List Element) (before : List Paragraph) (count : ℕ) (paragraphs : List Paragraph) →
-    filter_map (λ
-    (place : Place Element Glyph). place.glyph) (paragraphs_places outer before count paragraphs) ≡ flat_map (λ
-    (paragraph :
-    Paragraph). glyphs_in paragraph.items) paragraphs
+no_glyphs-anchors : (block : List Element) (numbers : List ℕ) → filter_map (λ (place : Place Element Glyph).
+    place.glyph) (anchor_places block numbers) ≡ []
+no_glyphs-anchors block [] = refl
+no_glyphs-anchors block (number ∷ numbers) = no_glyphs-anchors block numbers
+
+glyphs-paragraph : (hypertext : Hypertext) (block : List Element) (count begin : ℕ) (seen : List Seen) → filter_map (λ
+    (place : Place Element Glyph). place.glyph) (paragraph_places hypertext block count begin seen) ≡ glyphs_in seen
+glyphs-paragraph hypertext block count begin seen =
+    let anchors = anchor_places block (hypertext.anchors begin (begin + length seen)) in
+    filter_map-append (λ (place : Place Element Glyph). place.glyph) anchors (items_places (hypertext.links begin) block
+    count begin seen) ∙ (λ i. no_glyphs-anchors block (hypertext.anchors begin (begin + length seen)) i ++ glyphs-items
+    (hypertext.links begin) block count begin seen i)
+
+glyphs-paragraphs : (hypertext : Hypertext) (outer : List Element) (before : List Paragraph) (count : ℕ) (paragraphs :
+    List Paragraph) → filter_map (λ (place : Place Element Glyph). place.glyph) (paragraphs_places hypertext outer
+    before count paragraphs) ≡ flat_map (λ (paragraph : Paragraph). glyphs_in paragraph.items) paragraphs
 unfolding paragraphs_places
-glyphs-paragraphs outer before count [] = refl
-glyphs-paragraphs outer before count (paragraph ∷ more) =
-    let block = outer ++ block_of (grid_of before) (is_in_table paragraph.standing) in
+glyphs-paragraphs hypertext outer before count [] = refl
+glyphs-paragraphs hypertext outer before count (paragraph ∷ more) =
+    let block =
+    outer ++ block_of (grid_of before) (is_in_table paragraph.standing) (in_head before (paragraph ∷ more)) in
+    let at = item_count before in
     let rest = count + length (references_in paragraph.items) in
-    filter_map-append (λ (place : Place Element Glyph). place.glyph) (items_places block count paragraph.items)
-    (paragraphs_places outer (paragraph ∷ before) rest more) ∙ (λ i. glyphs-items block count paragraph.items i ++
-    glyphs-paragraphs outer (paragraph ∷ before) rest more i) ∙ sym (flat_map-cons (λ (p : Paragraph). glyphs_in
-    p.items)
-    paragraph more)
+    filter_map-append (λ (place : Place Element Glyph). place.glyph) (paragraph_places hypertext block count at
+    paragraph.items)
+    (paragraphs_places hypertext outer (paragraph ∷ before) rest more) ∙ (λ i. glyphs-paragraph hypertext block count
+    at paragraph.items i ++ glyphs-paragraphs hypertext outer (paragraph ∷ before) rest more i) ∙ sym (flat_map-cons (λ
+    (p : Paragraph). glyphs_in p.items) paragraph more)
 
 pub text_glyphs : EachGlyphHasAPlace
-text_glyphs outer paragraphs = glyphs-paragraphs outer [] 0 paragraphs
+text_glyphs hypertext outer paragraphs = glyphs-paragraphs hypertext outer [] 0 paragraphs

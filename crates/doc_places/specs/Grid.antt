@@ -1,8 +1,9 @@
--- Where paragraphs stand, by those before them, the nearest first: their numbers, and those of their tables, rows and cells.
-use Rattle.std.specs.Prelude.{ℕ, ◌+◌, Bool, List, [], ◌∷◌, length, if◌then◌else◌}
+-- Where paragraphs stand, by those before them, the nearest first: their numbers, and those of their tables, rows and cells;
+-- and which rows are the head of their table.
+use Rattle.std.specs.Prelude.{ℕ, ◌+◌, Bool, true, false, ◌&&◌, ◌||◌, List, [], ◌∷◌, length, if◌then◌else◌}
 use Rattle.doc_view.specs.declared.standing.Standing.{Standing}
 use Rattle.doc_view.specs.Seen.{Paragraph}
-use Rattle.doc_view.specs.Layout.{is_in_table, keeps_row, ends_cell}
+use Rattle.doc_view.specs.Layout.{is_in_table, keeps_row, ends_cell, ends_head}
 use Rattle.doc_places.specs.declared.grid.Grid.{Grid}
 
 -- the number of the first paragraph of those that go on up to here
@@ -17,12 +18,26 @@ cells_of [] = 0
 cells_of (paragraph ∷ before) =
     if keeps_row paragraph.standing then cells_of before + (if ends_cell paragraph.standing then 1 else 0) else 0
 
+-- each row of the table that ended is a head
+abbrev pub all_heads : List Paragraph → Bool
+all_heads [] = true
+all_heads (paragraph ∷ before) =
+    if is_in_table paragraph.standing then (keeps_row paragraph.standing || ends_head paragraph.standing) && all_heads
+    before else true
+
+-- the row that the first of these paragraphs stands in is a head
+abbrev pub is_head_row : List Paragraph → Bool
+is_head_row [] = false
+is_head_row (paragraph ∷ more) =
+    if keeps_row paragraph.standing then is_head_row more else ends_head paragraph.standing
+
 abbrev pub grid_of : List Paragraph → Grid
 grid_of before = record {
   number = length before;
   table = first_of is_in_table before;
   row = first_of keeps_row before;
   cell = cells_of before;
+  heads = all_heads before;
 }
 
 -- behind one more paragraph
@@ -32,4 +47,5 @@ grid_after grid standing = record {
   table = if is_in_table standing then grid.table else grid.number + 1;
   row = if keeps_row standing then grid.row else grid.number + 1;
   cell = if keeps_row standing then grid.cell + (if ends_cell standing then 1 else 0) else 0;
+  heads = if is_in_table standing then (keeps_row standing || ends_head standing) && grid.heads else true;
 }

@@ -1,5 +1,6 @@
 -- The places of a document: each item that is shown has one, in their order, and so has the label of each note.
-use Rattle.std.specs.Prelude.{ℕ, ◌+◌, Bool, List, [], ◌∷◌, ◌++◌, length, Option, Some, None, if◌then◌else◌, false, true}
+use Rattle.std.specs.Prelude.{zero, suc, ◌-◌, nat_le, nat_lt, map, take}
+use Rattle.std.specs.Prelude.{ℕ, ◌+◌, Bool, ◌&&◌, List, [], ◌∷◌, ◌++◌, length, Option, Some, None, if◌then◌else◌, false, true}
 use Rattle.std.specs.List.{cons_option}
 use Rattle.plain_doc.specs.declared.item.Item.{Item}
 use Rattle.plain_doc.specs.declared.document.Document.{Document}
@@ -8,11 +9,15 @@ use Rattle.char_formats.specs.declared.format.Position.{Position}
 use Rattle.char_formats.specs.declared.format.Position.TheVariants.{Normal, Raised as IsRaised, Lowered as IsLowered}
 use Rattle.view_paths.specs.Paths.{Place}
 use Rattle.view_places.specs.declared.element.Element.{Element}
-use Rattle.view_places.specs.declared.element.Element.TheVariants.{Notes, Note, Table, TableBody, Row, Cell}
+use Rattle.view_places.specs.declared.element.Element.TheVariants.{Notes, Note, Table, TableHead, TableBody, Row, Cell}
 use Rattle.view_places.specs.declared.element.Element.TheVariants.{Paragraph as AParagraph, Reference as AReference}
-use Rattle.view_places.specs.declared.element.Element.TheVariants.{BackLink}
+use Rattle.view_places.specs.declared.element.Element.TheVariants.{BackLink, HeadCell}
 use Rattle.view_places.specs.declared.element.Element.TheVariants.{Bold, Italic, Underline, Strike, SmallCaps, Caps}
-use Rattle.view_places.specs.declared.element.Element.TheVariants.{Raised, Lowered}
+use Rattle.view_places.specs.declared.element.Element.TheVariants.{Raised, Lowered, Link as ALink, Anchor}
+use Rattle.doc_parts.specs.declared.bookmark_order.Bookmark.{Bookmark}
+use Rattle.view_places.specs.declared.element.Link.{Link}
+use Rattle.field_links.specs.declared.places.OpenField.{OpenField}
+use Rattle.field_links.specs.OpenFields.{hyperlink_in, open_fields}
 use Rattle.view_places.specs.declared.glyph.Glyph.{Glyph}
 use Rattle.view_places.specs.declared.glyph.Glyph.TheVariants.{NoteMark, Unit}
 use Rattle.doc_view.specs.declared.references.Reference.{Reference}
@@ -23,7 +28,7 @@ use Rattle.doc_view.specs.Layout.{is_in_table}
 use Rattle.doc_view.specs.Page.{main_manner, note_manner}
 use Rattle.doc_view.specs.Seen.{Formats, Paragraph, paragraphs_of, references_in, references_of}
 use Rattle.doc_places.specs.declared.grid.Grid.{Grid}
-use Rattle.doc_places.specs.Grid.{grid_of}
+use Rattle.doc_places.specs.Grid.{grid_of, is_head_row}
 
 abbrev pub Places : Type 0
 Places = List (Place Element Glyph)
@@ -51,9 +56,14 @@ abbrev pub note_elements : ℕ → CharFormat → Option ℕ → List Element
 note_elements count format (Some number) = Raised ∷ AReference (count + 1) ∷ []
 note_elements count format None = format_elements format ++ AReference (count + 1) ∷ []
 
-abbrev pub inline_elements : ℕ → CharFormat → Option Reference → List Element
-inline_elements count format None = format_elements format
-inline_elements count format (Some reference) = note_elements count format reference.number
+abbrev pub link_elements : Option Link → List Element
+link_elements None = []
+link_elements (Some link) = ALink link ∷ []
+
+-- a reference to a note is a link by itself, and stands in no other one
+abbrev pub inline_elements : Option Link → ℕ → CharFormat → Option Reference → List Element
+inline_elements link count format None = link_elements link ++ format_elements format
+inline_elements link count format (Some reference) = note_elements count format reference.number
 
 -- ---- the places of items
 
@@ -64,45 +74,125 @@ abbrev pub shown : List Element → Glyph → Place Element Glyph
 shown path glyph = record { path = path; glyph = Some glyph }
 
 -- what is shown without a glyph stands in the paragraph itself
-abbrev pub place_of : List Element → ℕ → Seen → Option Glyph → Place Element Glyph
-place_of block count seen None = bare block
-place_of block count seen (Some glyph) = shown (block ++ inline_elements count seen.format seen.reference) glyph
+abbrev pub place_of : List Element → Option Link → ℕ → Seen → Option Glyph → Place Element Glyph
+place_of block link count seen None = bare block
+place_of block link count seen (Some glyph) = shown (block ++ inline_elements link count seen.format seen.reference)
+    glyph
 
-abbrev pub item_places : List Element → ℕ → Seen → Places
-item_places block count seen = if seen.is_shown then place_of block count seen seen.glyph ∷ [] else []
+abbrev pub item_places : List Element → Option Link → ℕ → Seen → Places
+item_places block link count seen = if seen.is_shown then place_of block link count seen seen.glyph ∷ [] else []
 
 -- how many references there are
 abbrev pub count_of : Option Reference → ℕ
 count_of reference = length (cons_option reference [])
 
--- items behind so many references to notes
-unfoldable pub items_places : List Element → ℕ → List Seen → Places
-items_places block count [] = []
-items_places block count (seen ∷ more) =
-    item_places block count seen ++ items_places block (count + count_of seen.reference) more
+-- items from a place on, with the links of their places, behind so many references to notes
+unfoldable pub items_places : (ℕ → Option Link) → List Element → ℕ → ℕ → List Seen → Places
+items_places links block count place [] = []
+items_places links block count place (seen ∷ more) =
+    item_places block (links place) count seen
+    ++ items_places links block (count + count_of seen.reference) (place + 1) more
+
+-- ---- the links of a text
+
+-- the link that is open at a place of a paragraph, by the first place of the paragraph and this one
+abbrev pub Links : Type 0
+Links = ℕ → ℕ → Option Link
+
+-- how many units the instruction of a link may have
+-- Profile: a longer one leads nowhere, so that a page is not much longer than its document
+abbrev pub longest_instruction : ℕ
+longest_instruction = 2048
+
+-- the instruction of a field that begins at a place, and whose result begins at another one
+abbrev pub link_between : ℕ → ℕ → Option ℕ → Option Link
+link_between note began None = None
+link_between note began (Some result) =
+    if nat_le result (began + 2 + longest_instruction) then
+    Some (record { note = note; begin = began + 1; end = result - 1 }) else None
+
+abbrev pub link_to : ℕ → Option OpenField → Option Link
+link_to note None = None
+link_to note (Some field) = link_between note field.began field.result
+
+-- the links of the note with this number, from 1, or of the main text: that of the outermost hyperlink whose result
+-- begins in the paragraph
+abbrev pub links_of : ℕ → List Item → Links
+links_of note items begin place = link_to note (hyperlink_in begin (open_fields (take place items)))
 
 -- ---- the places of paragraphs
 
+-- the table, its head or its body, the row and the cell
+abbrev pub cell_of : Grid → Bool → List Element
+cell_of grid in_head =
+    if in_head then Table grid.table ∷ TableHead ∷ Row grid.row ∷ HeadCell grid.cell ∷ [] else Table grid.table ∷
+    TableBody ∷ Row grid.row ∷ Cell grid.cell ∷ []
+
 -- what a paragraph stands in, and the paragraph
-abbrev pub block_of : Grid → Bool → List Element
-block_of grid in_table =
+abbrev pub block_of : Grid → Bool → Bool → List Element
+block_of grid in_table in_head =
     let paragraph = AParagraph (record {
       number = grid.number;
       level = 0;
       right_to_left = false;
       breaks_page = false;
     }) in
-    if in_table then Table grid.table ∷ TableBody ∷ Row grid.row ∷ Cell grid.cell ∷ paragraph ∷ [] else paragraph ∷ []
+    (if in_table then cell_of grid in_head else []) ++ paragraph ∷ []
+
+-- the first of some paragraphs behind others: the first rows of a table that are heads are its head
+abbrev pub in_head : List Paragraph → List Paragraph → Bool
+in_head before here = (grid_of before).heads && is_head_row here
+
+-- ---- the anchors of a text
+
+-- so many numbers from one on
+abbrev pub numbers : ℕ → ℕ → List ℕ
+numbers first zero = []
+numbers first (suc more) = first ∷ numbers (first + 1) more
+
+-- how many bookmarks at the front of a list, which are in the order of their places, begin before a place
+abbrev pub lead : List Bookmark → ℕ → ℕ
+lead [] place = 0
+lead (bookmark ∷ bookmarks) place = if nat_lt bookmark.from place then suc (lead bookmarks place) else 0
+
+-- the bookmarks that begin at the first place or behind it, and before the second, by their numbers
+abbrev pub anchors_of : List Bookmark → ℕ → ℕ → List ℕ
+anchors_of bookmarks begin end = numbers (lead bookmarks begin) (lead bookmarks end - lead bookmarks begin)
+
+-- their places stand in front of what is shown of the paragraph
+abbrev pub anchor_places : List Element → List ℕ → Places
+anchor_places block numbers = map (λ number. bare (block ++ Anchor number ∷ [])) numbers
+
+-- the links and the anchors of a text
+pub record Hypertext : Type 0 where
+  pub links : Links
+  pub anchors : ℕ → ℕ → List ℕ
+
+abbrev pub hypertext_of : List Bookmark → ℕ → List Item → Hypertext
+hypertext_of bookmarks note items = record { links = links_of note items; anchors = anchors_of bookmarks }
+
+-- how many items paragraphs have
+abbrev pub item_count : List Paragraph → ℕ
+item_count [] = 0
+item_count (paragraph ∷ paragraphs) = item_count paragraphs + length paragraph.items
+
+-- the places of a paragraph in a block, from a place on
+abbrev pub paragraph_places : Hypertext → List Element → ℕ → ℕ → List Seen → Places
+paragraph_places hypertext block count begin seen =
+    anchor_places block (hypertext.anchors begin (begin + length seen))
+    ++ items_places (hypertext.links begin) block count begin seen
 
 -- paragraphs behind others, the nearest first, and behind so many references, inside of elements
-unfoldable pub paragraphs_places : List Element → List Paragraph → ℕ → List Paragraph → Places
-paragraphs_places outer before count [] = []
-paragraphs_places outer before count (paragraph ∷ more) =
-    items_places (outer ++ block_of (grid_of before) (is_in_table paragraph.standing)) count paragraph.items
-    ++ paragraphs_places outer (paragraph ∷ before) (count + length (references_in paragraph.items)) more
+unfoldable pub paragraphs_places : Hypertext → List Element → List Paragraph → ℕ → List Paragraph → Places
+paragraphs_places hypertext outer before count [] = []
+paragraphs_places hypertext outer before count (paragraph ∷ more) =
+    paragraph_places hypertext
+    (outer ++ block_of (grid_of before) (is_in_table paragraph.standing) (in_head before (paragraph ∷ more))) count
+    (item_count before) paragraph.items
+    ++ paragraphs_places hypertext outer (paragraph ∷ before) (count + length (references_in paragraph.items)) more
 
-abbrev pub text_places : List Element → List Paragraph → Places
-text_places outer paragraphs = paragraphs_places outer [] 0 paragraphs
+abbrev pub text_places : Hypertext → List Element → List Paragraph → Places
+text_places hypertext outer paragraphs = paragraphs_places hypertext outer [] 0 paragraphs
 
 -- ---- the places of notes
 
@@ -117,8 +207,7 @@ note_path number = Notes ∷ Note number ∷ []
 abbrev pub note_places : Formats → Manner → ℕ → Reference → List Item → Places
 note_places formats manner number reference note =
     if reference.is_shown then shown (note_path number ++ BackLink number ∷ []) (label_of reference.number) ∷
-    text_places
-    (note_path number) (paragraphs_of formats manner note) else []
+    text_places (hypertext_of [] number note) (note_path number) (paragraphs_of formats manner note) else []
 
 -- the notes of references, the first of which has this number
 unfoldable pub notes_places : Formats → Manner → ℕ → List Reference → List (List Item) → Places
@@ -132,5 +221,5 @@ notes_places formats manner number (reference ∷ references) (note ∷ notes) =
 abbrev pub places_of : Formats → Options → Document → Places
 places_of formats options document =
     let paragraphs = paragraphs_of formats (main_manner options) document.main in
-    text_places [] paragraphs
+    text_places (hypertext_of document.bookmarks 0 document.main) [] paragraphs
     ++ notes_places formats (note_manner options) 1 (references_of paragraphs) document.notes

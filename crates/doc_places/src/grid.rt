@@ -1,35 +1,44 @@
 // Where a paragraph stands.
-ghost use Rattle.std.specs.Prelude.{◌≡◌, ◌+◌, ◌^◌, ◌<◌, ◌≤◌, ◌++◌, [], ◌∷◌, length, if◌then◌else◌};
+ghost use Rattle.std.specs.Prelude.{◌≡◌, ◌+◌, ◌^◌, ◌<◌, ◌≤◌, ◌++◌, ◌&&◌, [], ◌∷◌, length, true, if◌then◌else◌};
 ghost use Rattle.doc_places.specs.Grid.{grid_after};
-ghost use Rattle.doc_places.specs.Places.{block_of};
+ghost use Rattle.doc_places.specs.Places.{block_of, cell_of};
 ghost use Rattle.doc_view.specs.Layout.{ends_cell};
-ghost use Rattle.view_places.specs.declared.element.Element.TheVariants.{Table, TableBody, Row, Cell};
+ghost use Rattle.view_places.specs.declared.element.Element.TheVariants.{Table, TableBody, TableHead, Row, Cell, HeadCell};
 
 use doc_view::Standing;
 use view_paths::{MAX_DEPTH, Path};
 use view_places::{Element, Paragraph};
 
 /// The number of a paragraph in its text, the numbers of the first paragraphs of its table and of its row, and how many
-/// cells of the row are before it.
+/// cells of the row are before it; and whether each row of the table before its own is a head.
 #[derive(Clone, Copy)]
 pub struct Grid {
     pub number: usize,
     pub table: usize,
     pub row: usize,
     pub cell: usize,
+    pub heads: bool,
 }
 
 impl Grid {
     /// At the start of a text.
     pub fn new() -> Grid
-        ensures { result ≡ record { number = 0; table = 0; row = 0; cell = 0 } }
+        ensures { result ≡ record { number = 0; table = 0; row = 0; cell = 0; heads = true } }
     {
         Grid {
             number: 0,
             table: 0,
             row: 0,
             cell: 0,
+            heads: true,
         }
+    }
+
+    /// Whether a paragraph is in the head of its table, where its row is a head or not.
+    pub fn in_head(self, is_head: bool) -> bool
+        ensures { result ≡ (self.heads && is_head) }
+    {
+        self.heads && is_head
     }
 
     /// Behind one more paragraph.
@@ -39,19 +48,22 @@ impl Grid {
         ensures { result ≡ grid_after self standing }
     {
         let next = self.number + 1;
+        let in_table = standing.is_in_table();
         let keeps = standing.keeps_row();
+        let ends_head = standing.ends_head();
         Grid {
             number: next,
-            table: if standing.is_in_table() {
-                self.table
-            } else {
-                next
-            },
+            table: if in_table { self.table } else { next },
             row: if keeps { self.row } else { next },
             cell: if keeps {
                 self.cell + ended(standing)
             } else {
                 0
+            },
+            heads: if in_table {
+                (keeps || ends_head) && self.heads
+            } else {
+                true
             },
         }
     }
@@ -65,13 +77,14 @@ fn ended(standing: Standing) -> usize
     if standing.ends_cell() { 1 } else { 0 }
 }
 
-/// Puts the elements that a paragraph stands in, in a table or not, and the paragraph, inside of a path.
-pub fn push_block(path: &mut Path<Element>, grid: Grid, in_table: bool)
+/// Puts the elements that a paragraph stands in, in a table or not and in its head or not, and the paragraph, inside of
+/// a path.
+pub fn push_block(path: &mut Path<Element>, grid: Grid, in_table: bool, in_head: bool)
     requires { length path.old + 5 ≤ MAX_DEPTH }
-    ensures { path.new ≡ path.old ++ block_of grid in_table }
+    ensures { path.new ≡ path.old ++ block_of grid in_table in_head }
 {
     if in_table {
-        push_cell(path, grid);
+        push_cell(path, grid, in_head);
     }
     path.push(Element::Paragraph(Paragraph {
         number: grid.number,
@@ -81,8 +94,32 @@ pub fn push_block(path: &mut Path<Element>, grid: Grid, in_table: bool)
     }));
 }
 
+/// Puts a table, its head or its body, a row and a cell.
+fn push_cell(path: &mut Path<Element>, grid: Grid, in_head: bool)
+    requires { length path.old + 4 ≤ MAX_DEPTH }
+    ensures is { path.new ≡ path.old ++ cell_of grid in_head }
+    ensures few { length path.new ≤ length path.old + 4 }
+{
+    if in_head {
+        push_head_cell(path, grid);
+    } else {
+        push_body_cell(path, grid);
+    }
+}
+
+/// Puts a table, its head, a row and a cell.
+fn push_head_cell(path: &mut Path<Element>, grid: Grid)
+    requires { length path.old + 4 ≤ MAX_DEPTH }
+    ensures { path.new ≡ path.old ++ Table grid.table ∷ TableHead ∷ Row grid.row ∷ HeadCell grid.cell ∷ [] }
+{
+    path.push(Element::Table(grid.table));
+    path.push(Element::TableHead);
+    path.push(Element::Row(grid.row));
+    path.push(Element::HeadCell(grid.cell));
+}
+
 /// Puts a table, its body, a row and a cell.
-fn push_cell(path: &mut Path<Element>, grid: Grid)
+fn push_body_cell(path: &mut Path<Element>, grid: Grid)
     requires { length path.old + 4 ≤ MAX_DEPTH }
     ensures { path.new ≡ path.old ++ Table grid.table ∷ TableBody ∷ Row grid.row ∷ Cell grid.cell ∷ [] }
 {

@@ -1,28 +1,50 @@
 // What a glyph stands in within its paragraph.
 ghost use Rattle.std.specs.Prelude.{◌≡◌, ◌+◌, ◌^◌, ◌<◌, ◌≤◌, ◌++◌, [], ◌∷◌, length};
-ghost use Rattle.doc_places.specs.Places.{format_elements, given, inline_elements, note_elements, position_elements};
+ghost use Rattle.doc_places.specs.Places.{format_elements, given, inline_elements, link_elements};
+ghost use Rattle.doc_places.specs.Places.{note_elements, position_elements};
 ghost use Rattle.view_places.specs.declared.element.Element.TheVariants.{Raised, Reference as AReference};
 
 use char_formats::{CharFormat, Position};
 use doc_view::Reference;
 use view_paths::{MAX_DEPTH, Path};
-use view_places::Element;
+use view_places::{Element, Link};
 
-/// Puts the elements that a glyph of this format stands in, inside of a path. Where it refers to a note, so many references
-/// stand before it.
+/// Puts the elements that a glyph of this format in a link stands in, inside of a path. Where it refers to a note, so
+/// many references stand before it.
 pub fn push_inline(
     path: &mut Path<Element>,
+    link: Option<Link>,
     count: usize,
     format: &CharFormat,
     reference: Option<Reference>,
 )
     requires room { length path.old + 8 ≤ MAX_DEPTH }
     requires few { count + 1 < 2 ^ 64 }
-    ensures { path.new ≡ path.old ++ inline_elements count format.now reference }
+    ensures { path.new ≡ path.old ++ inline_elements link count format.now reference }
 {
     match reference {
-        None => push_format(path, format),
+        None => push_text(path, link, format),
         Some(reference) => push_note(path, count, format, reference.number),
+    }
+}
+
+/// Puts those of text in a link.
+fn push_text(path: &mut Path<Element>, link: Option<Link>, format: &CharFormat)
+    requires room { length path.old + 8 ≤ MAX_DEPTH }
+    ensures { path.new ≡ path.old ++ (link_elements link ++ format_elements format.now) }
+{
+    push_link(path, link);
+    push_format(path, format);
+}
+
+/// Puts that of a link.
+fn push_link(path: &mut Path<Element>, link: Option<Link>)
+    requires { length path.old < MAX_DEPTH }
+    ensures is { path.new ≡ path.old ++ link_elements link }
+    ensures few { length path.new ≤ length path.old + 1 }
+{
+    if let Some(link) = link {
+        path.push(Element::Link(link));
     }
 }
 

@@ -4,7 +4,9 @@
 mod grid;
 mod inline;
 mod laws;
+mod links;
 
 pub use grid::{Grid, push_block};
 pub use inline::push_inline;
 pub use laws::each_glyph_has_a_place;
+pub use links::Origin;

@@ -11,8 +11,9 @@ use Rattle.run_stages.specs.Stages.{ReadsFile}
 use Rattle.doc_view.specs.declared.view.Options.{Options}
 use Rattle.doc_view.specs.Page.{IsPage}
 use Rattle.doc_html.specs.Page.{IsHtmlPage}
+use Rattle.doc_markdown.specs.Page.{IsMarkdownPage}
 use Rattle.docview_run.specs.declared.view.Form.{Form}
-use Rattle.docview_run.specs.declared.view.Form.TheVariants.{Text, Html}
+use Rattle.docview_run.specs.declared.view.Form.TheVariants.{Text, Html, Markdown}
 use Rattle.docview_run.specs.declared.view.View.{View}
 use Rattle.docview_run.specs.declared.run.TheConstants.{HELP, VERSION}
 use Rattle.docview_run.specs.Requests.{Request, help, version, page, requested}
@@ -21,6 +22,7 @@ use Rattle.docview_run.specs.Requests.{Request, help, version, page, requested}
 abbrev pub IsPageIn : Form → Options → Document → List ℕ → Type 0
 IsPageIn Text options document bytes = IsPage options document bytes
 IsPageIn Html options document bytes = IsHtmlPage options document bytes
+IsPageIn Markdown options document bytes = IsMarkdownPage options document bytes
 
 -- the page of the document that a file holds
 pub record ShowsPage (view : View) (file : List ℕ) (outcome : Outcome) : Type 0 where
@@ -35,8 +37,8 @@ abbrev pub Shows : Option Files → Option Request → Outcome → Type 0
 Shows held None outcome = outcome ≡ says 2 []
 Shows held (Some help) outcome = outcome ≡ says 0 HELP.now
 Shows held (Some version) outcome = outcome ≡ says 0 VERSION.now
-Shows held (Some (page form hidden file)) outcome =
-    ReadsFile file held all_rules (ShowsPage (record { form = form; options = record { hidden = hidden } })) outcome
+Shows held (Some (page form options file)) outcome =
+    ReadsFile file held all_rules (ShowsPage (record { form = form; options = options })) outcome
 
 -- what a run over these words and this shelf may come to
 abbrev pub IsEnding : List (List ℕ) → Option Files → Outcome → Type 0

@@ -19,9 +19,10 @@ use doc_bits::{Memory, Text, Where};
 use doc_columns::ColumnDocument;
 use doc_html::write_html;
 use doc_load::ReadFault;
+use doc_markdown::write_markdown;
 use doc_outer::{Shelf, Sink, write_all};
 use doc_read::open;
-use doc_view::{Options, ViewFault, write_page};
+use doc_view::{ViewFault, write_page};
 use run_stages::{
     STATUS_DONE, STATUS_MEMORY, STATUS_REFUSED, STATUS_SINK_FAULT, STATUS_USAGE, Stage, part_name,
     reason_of_name, take_file, tell_reason, why_refused,
@@ -33,11 +34,12 @@ pub const PROGRAM: &str = "docview";
 
 /// How the program is called.
 pub const HELP: &str =
-    "usage: docview [--hidden] [text | html] FILE\n\nPrints the text of a Word 97 document as people read it, in UTF-8, as text or as a page in HTML. FILE - is the standard input.\n  --hidden   hidden text too\n  --help     this text\n  --version  the version\n";
+    "usage: docview [--hidden] [--headers] [text | markdown | html] FILE\n\nPrints the text of a Word 97 document as people read it, in UTF-8, as text, or as a page in Markdown or in HTML. FILE - is the standard input.\n  --hidden   hidden text too\n  --headers  headers and footers too, in text\n  --help     this text\n  --version  the version\n";
 
 pub const VERSION: &str = "docview 1.0.0\n";
 
-const USAGE: &str = "usage: docview [--hidden] [text | html] FILE | --help | --version\n";
+const USAGE: &str =
+    "usage: docview [--hidden] [--headers] [text | markdown | html] FILE | --help | --version\n";
 
 /// Runs the words over the files of a shelf, and answers the status. The page goes to `out`, and where there is none, the
 /// reason to `reasons`, whose faults change nothing.
@@ -68,13 +70,7 @@ pub fn docview_run<S: Shelf, K: Sink, E: Sink>(
         }
         Some(Asked::Help) => print(out, HELP),
         Some(Asked::Version) => print(out, VERSION),
-        Some(Asked::Page { form, hidden, file }) => {
-            let view = View {
-                form,
-                options: Options { hidden },
-            };
-            show_name(alloc, shelf, file, view, out, reasons)
-        }
+        Some(Asked::Page { view, file }) => show_name(alloc, shelf, file, view, out, reasons),
     }
 }
 
@@ -187,6 +183,7 @@ fn write_view<K: Sink>(
     match view.form {
         Form::Text => write_page(alloc, document, view.options, out),
         Form::Html => write_html(alloc, document, view.options, out),
+        Form::Markdown => write_markdown(alloc, document, view.options, out),
     }
 }
 

@@ -6,6 +6,7 @@ use doc_view::Options;
 pub enum Form {
     Text,
     Html,
+    Markdown,
 }
 
 /// A form of a page, and what of the document is in it.

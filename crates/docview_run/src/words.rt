@@ -1,9 +1,11 @@
 // What the words of a run ask for.
 ghost use Rattle.std.specs.Prelude.{◌≡◌, [], ◌∷◌, true, false, MatchOption, None, Some, map};
 ghost use Rattle.std.specs.String.{string_bytes};
-ghost use Rattle.docview_run.specs.Requests.{begins_with_hyphen, named, request_of, requested, viewed};
+ghost use Rattle.docview_run.specs.Requests.{begins_with_hyphen, behind_option, in_form, is_headers, is_hidden};
+ghost use Rattle.docview_run.specs.Requests.{named, no_options, request_of, requested, viewed, viewed_by};
 
-use crate::Form;
+use crate::{Form, View};
+use doc_view::Options;
 
 /// The standard input, as `-` names it.
 const STANDARD_INPUT: &str = "/dev/stdin";
@@ -15,12 +17,15 @@ pub enum Asked<'a> {
     Help,
     /// Which program this is.
     Version,
-    /// The page of the document of a file in a form, with hidden text or without it.
-    Page {
-        form: Form,
-        hidden: bool,
-        file: &'a str,
-    },
+    /// The page of the document of a file.
+    Page { view: View, file: &'a str },
+}
+
+/// Options, and the words behind them.
+#[derive(Clone, Copy)]
+struct Behind<'a> {
+    options: Options,
+    words: &'a [String],
 }
 
 /// What the words ask for, where they ask for something.
@@ -30,12 +35,9 @@ pub(crate) fn asked_by(words: &[String]) -> Option<Asked<'_>>
         (λ asked. requested (map string_bytes words.now) ≡ Some (request_of asked)) }
 {
     match words {
+        [] => None,
         [word] => asked_alone(word.as_str()),
-        [first, second] => asked_by_two(first.as_str(), second.as_str()),
-        [first, second, third] => {
-            asked_by_three(first.as_str(), second.as_str(), third.as_str())
-        }
-        _ => None,
+        [_, _, ..] => asked_behind(words),
     }
 }
 
@@ -51,67 +53,120 @@ fn asked_alone(word: &str) -> Option<Asked<'_>>
     if word == "--version" {
         return Some(Asked::Version);
     }
-    asked_of(Form::Text, false, word)
+    asked_of(Form::Text, no_options(), word)
 }
 
-/// What three words ask for.
-fn asked_by_three<'a>(first: &str, second: &str, third: &'a str) -> Option<Asked<'a>>
+/// What words ask for behind their options.
+fn asked_behind(words: &[String]) -> Option<Asked<'_>>
     ensures { MatchOption result
-        (requested (first.now ∷ second.now ∷ third.now ∷ []) ≡ None)
-        (λ asked. requested (first.now ∷ second.now ∷ third.now ∷ []) ≡ Some (request_of asked)) }
+        (viewed_by (map string_bytes words.now) ≡ None)
+        (λ asked. viewed_by (map string_bytes words.now) ≡ Some (request_of asked)) }
 {
-    if first == "--hidden" {
-        asked_in_form(true, second, third)
-    } else {
-        None
+    let first = behind_option(no_options(), words);
+    let second = behind_option(first.options, first.words);
+    asked_view(second.options, second.words)
+}
+
+fn no_options() -> Options
+    ensures { result ≡ no_options }
+{
+    Options {
+        hidden: false,
+        headers: false,
     }
 }
 
-/// What two words ask for.
-fn asked_by_two<'a>(first: &str, second: &'a str) -> Option<Asked<'a>>
-    ensures { MatchOption result
-        (requested (first.now ∷ second.now ∷ []) ≡ None)
-        (λ asked. requested (first.now ∷ second.now ∷ []) ≡ Some (request_of asked)) }
+/// One option more, where the first word is one that was not there.
+fn behind_option(options: Options, words: &[String]) -> Behind<'_>
+    ensures options { result.options ≡ (behind_option options (map string_bytes words.now)).options }
+    ensures words { map string_bytes result.words.now ≡ (behind_option options (map string_bytes words.now)).words }
 {
-    if first == "--hidden" {
-        asked_of(Form::Text, true, second)
-    } else {
-        asked_in_form(false, first, second)
+    let [word, ..] = words else {
+        return Behind { options, words };
+    };
+    if is_hidden(options, word.as_str()) {
+        return Behind {
+            options: Options {
+                hidden: true,
+                headers: options.headers,
+            },
+            words: &words[1..],
+        };
+    }
+    if is_headers(options, word.as_str()) {
+        return Behind {
+            options: Options {
+                hidden: options.hidden,
+                headers: true,
+            },
+            words: &words[1..],
+        };
+    }
+    Behind { options, words }
+}
+
+/// Whether a word is the option for hidden text, which was not there.
+fn is_hidden(options: Options, word: &str) -> bool
+    ensures { result ≡ is_hidden options word.now }
+{
+    !options.hidden && word == "--hidden"
+}
+
+/// Whether a word is the option for header texts, which was not there.
+fn is_headers(options: Options, word: &str) -> bool
+    ensures { result ≡ is_headers options word.now }
+{
+    !options.headers && word == "--headers"
+}
+
+/// The page that words behind options ask for: of a file alone, or in a form.
+fn asked_view(options: Options, words: &[String]) -> Option<Asked<'_>>
+    ensures { MatchOption result
+        (viewed options (map string_bytes words.now) ≡ None)
+        (λ asked. viewed options (map string_bytes words.now) ≡ Some (request_of asked)) }
+{
+    match words {
+        [file] => asked_of(Form::Text, options, file.as_str()),
+        [form, file] => asked_in_form(options, form.as_str(), file.as_str()),
+        _ => None,
     }
 }
 
 /// The page of a file in the form that a word names.
-fn asked_in_form<'a>(hidden: bool, form: &str, file: &'a str) -> Option<Asked<'a>>
+fn asked_in_form<'a>(options: Options, form: &str, file: &'a str) -> Option<Asked<'a>>
     ensures { MatchOption result
-        (viewed hidden form.now file.now ≡ None)
-        (λ asked. viewed hidden form.now file.now ≡ Some (request_of asked)) }
+        (in_form options form.now file.now ≡ None)
+        (λ asked. in_form options form.now file.now ≡ Some (request_of asked)) }
 {
     if form == "text" {
-        return asked_of(Form::Text, hidden, file);
+        return asked_of(Form::Text, options, file);
+    }
+    if form == "markdown" {
+        return asked_of(Form::Markdown, options, file);
     }
     if form == "html" {
-        return asked_of(Form::Html, hidden, file);
+        return asked_of(Form::Html, options, file);
     }
     None
 }
 
 /// The page of a file. A word that begins with a hyphen names none.
-fn asked_of(form: Form, hidden: bool, file: &str) -> Option<Asked<'_>>
+fn asked_of(form: Form, options: Options, file: &str) -> Option<Asked<'_>>
     ensures { MatchOption result
-        (named form hidden file.now ≡ None)
-        (λ asked. named form hidden file.now ≡ Some (request_of asked)) }
+        (named form options file.now ≡ None)
+        (λ asked. named form options file.now ≡ Some (request_of asked)) }
 {
+    let view = View { form, options };
     if file == "-" {
         return Some(Asked::Page {
-            form,
-            hidden,
+            view,
             file: STANDARD_INPUT,
         });
     }
     if begins_with_hyphen(file) {
         return None;
     }
-    Some(Asked::Page { form, hidden, file })
+    Some(Asked::Page { view, file })
 }
 
 /// Whether a word begins with a hyphen.

@@ -2,6 +2,6 @@ mod AnchorLemmas
 mod CharacterLemmas
 pub mod OpenLemmas
 mod StepLemmas
-mod UrlLemmas
+pub mod UrlLemmas
 mod WaitingLemmas
 mod WordLemmas

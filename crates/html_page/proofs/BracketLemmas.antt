@@ -17,14 +17,17 @@ use Rattle.view_places.specs.declared.glyph.Glyph.TheVariants.{Object}
 use Rattle.view_places.specs.Same.{same}
 use Rattle.view_places.specs.SameLaws.{same_exact}
 use Rattle.html_page.specs.Tags.{attribute, attributes_of, attributes_text, ends_line, name_of, start_text}
-use Rattle.html_page.specs.Units.{half_text, unit_text}
-use Rattle.html_page.specs.Pages.{Events, Places, characters, start, end, close_tokens, open_tokens, other_tokens}
+use Rattle.glyph_units.specs.Units.{half_text, unit_text}
+use Rattle.html_page.specs.Pages.{Events, Head, Places, characters, start, end, close_tokens, open_tokens, other_tokens}
 use Rattle.html_page.specs.Pages.{glyph_tokens, image, style_text}
 use Rattle.html_page.specs.Pages.{event_tokens, event_half, tokens_of, half_of, body_tokens, front_tokens, style_tokens}
 use Rattle.html_page.specs.Pages.{back_tokens, page_tokens, page_text}
 use Rattle.html_page.specs.Brackets.{AreBrackets, IsBehind, End, Start, TagKind, Void, kind_of, kind_of_word, word_of}
 use Rattle.html_page.specs.Laws.{PagesNest}
 use Rattle.html_page.proofs.CloseLemmas.{by_name, page_read}
+use Rattle.plain_doc.specs.declared.document.Document.{Document}
+use Rattle.html_page.specs.Languages.{language_attributes}
+use Rattle.html_page.specs.Pages.{meta_tokens}
 
 abbrev Names : Type 0
 Names = List (List ℕ)
@@ -111,8 +114,8 @@ brackets-line : (a : Names) (line : Bool) → AreBrackets a (if line then Charac
 brackets-line a true = refl
 brackets-line a false = refl
 
-brackets-open : (a : Names) (e : Element) → AreBrackets a (open_tokens e) (a ++ name_of e ∷ [])
-brackets-open a e = brackets-start a (name_of e) (attributes_of e) [] (a ++ name_of e ∷ []) (is_word e) (starts e) refl
+brackets-open : (document : Document) (a : Names) (e : Element) → AreBrackets a (open_tokens document e) (a ++ name_of e ∷ [])
+brackets-open document a e = brackets-start a (name_of e) (attributes_of document e) [] (a ++ name_of e ∷ []) (is_word e) (starts e) refl
 
 brackets-close : (a : Names) (e : Element) → AreBrackets (a ++ name_of e ∷ []) (close_tokens e) a
 brackets-close a e =
@@ -161,35 +164,35 @@ names-push outer path e =
     (name_of e ∷ []))
 
 -- the tags of events that nest
-brackets-events : (outer : Names) (half : Option ℕ) (around behind : List Element) (events : Events) → AreNested
+brackets-events : (document : Document) (outer : Names) (half : Option ℕ) (around behind : List Element) (events : Events) → AreNested
     around events
-    behind → AreBrackets (outer ++ map name_of around) (tokens_of half events) (outer ++ map name_of behind)
+    behind → AreBrackets (outer ++ map name_of around) (tokens_of document half events) (outer ++ map name_of behind)
 unfolding tokens_of
-brackets-events outer half around behind [] nested = ap (λ (path : List Element). outer ++ map name_of path) nested
-brackets-events outer half around behind (Turn (Open front e) ∷ events) nested =
+brackets-events document outer half around behind [] nested = ap (λ (path : List Element). outer ++ map name_of path) nested
+brackets-events document outer half around behind (Turn (Open front e) ∷ events) nested =
     let a = outer ++ map name_of around in
     let b = outer ++ map name_of (around ++ e ∷ []) in
-    let here : AreBrackets a (open_tokens e) b =
-    subst (λ (names : Names). AreBrackets a (open_tokens e) names) (sym (names-push outer around e)) (brackets-open a
+    let here : AreBrackets a (open_tokens document e) b =
+    subst (λ (names : Names). AreBrackets a (open_tokens document e) names) (sym (names-push outer around e)) (brackets-open document a
     e) in
-    brackets-append a b (outer ++ map name_of behind) (characters (half_text half) ++ open_tokens e) (tokens_of None
+    brackets-append a b (outer ++ map name_of behind) (characters (half_text half) ++ open_tokens document e) (tokens_of document None
     events)
-    (brackets-behind a b half (open_tokens e) here) (brackets-events outer None (around ++ e ∷ []) behind events
+    (brackets-behind a b half (open_tokens document e) here) (brackets-events document outer None (around ++ e ∷ []) behind events
     nested.1)
-brackets-events outer half around behind (Turn (Close front e) ∷ events) nested =
+brackets-events document outer half around behind (Turn (Close front e) ∷ events) nested =
     let a = outer ++ map name_of around in
     let b = outer ++ map name_of front in
     let is : a ≡ b ++ name_of e ∷ [] =
     ap (λ (path : List Element). outer ++ map name_of path) nested.0 ∙ names-push outer front e in
     let here : AreBrackets a (close_tokens e) b =
     subst (λ (names : Names). AreBrackets names (close_tokens e) b) (sym is) (brackets-close b e) in
-    brackets-append a b (outer ++ map name_of behind) (characters (half_text half) ++ close_tokens e) (tokens_of None
+    brackets-append a b (outer ++ map name_of behind) (characters (half_text half) ++ close_tokens e) (tokens_of document None
     events)
-    (brackets-behind a b half (close_tokens e) here) (brackets-events outer None front behind events nested.1)
-brackets-events outer half around behind (Leaf path g ∷ events) nested =
+    (brackets-behind a b half (close_tokens e) here) (brackets-events document outer None front behind events nested.1)
+brackets-events document outer half around behind (Leaf path g ∷ events) nested =
     let a = outer ++ map name_of around in
-    brackets-append a a (outer ++ map name_of behind) (glyph_tokens half g) (tokens_of (event_half half (Leaf path g))
-    events) (brackets-glyph a half g) (brackets-events outer (event_half half (Leaf path g)) around behind events
+    brackets-append a a (outer ++ map name_of behind) (glyph_tokens half g) (tokens_of document (event_half half (Leaf path g))
+    events) (brackets-glyph a half g) (brackets-events document outer (event_half half (Leaf path g)) around behind events
     nested.1)
 
 -- ---- the page
@@ -209,9 +212,18 @@ in_style = codes "html" ∷ codes "head" ∷ codes "style" ∷ []
 abbrev in_body : Names
 in_body = codes "html" ∷ codes "body" ∷ []
 
-brackets-front : AreBrackets [] front_tokens in_title
-brackets-front =
-    ([], (refl, (in_page, (refl, (in_head, (refl, (in_head, (refl, (in_head, (refl, (in_title, (refl, refl))))))))))))
+brackets-metas : AreBrackets in_page meta_tokens in_title
+brackets-metas = (in_head, (refl, (in_head, (refl, (in_head, (refl, (in_title, (refl, refl))))))))
+
+brackets-front : (language : Option ℕ) → AreBrackets [] (front_tokens language) in_title
+brackets-front language = (
+  [],
+  (
+    refl,
+    brackets-start [] (codes "html") (language_attributes language) (Character 10 ∷ meta_tokens) in_title refl refl
+        brackets-metas,
+  ),
+)
 
 abbrev behind_style : List Token
 behind_style =
@@ -233,28 +245,28 @@ brackets-style = (
   ),
 )
 
-brackets-body : (places : Places) → AreBrackets in_body (body_tokens places) in_body
-brackets-body places =
+brackets-body : (document : Document) (places : Places) → AreBrackets in_body (body_tokens document places) in_body
+brackets-body document places =
     let events = events_from same [] places in
-    brackets-append in_body in_body in_body (tokens_of None events) (characters (half_text (half_of None events)))
-    (brackets-events in_body None [] [] events (nested-events_from same same_exact [] places)) (brackets-characters
+    brackets-append in_body in_body in_body (tokens_of document None events) (characters (half_text (half_of None events)))
+    (brackets-events document in_body None [] [] events (nested-events_from same same_exact [] places)) (brackets-characters
     in_body
     (half_text (half_of None events)))
 
 brackets-back : AreBrackets in_body back_tokens []
 brackets-back = (in_page, (refl, ([], (refl, refl))))
 
-brackets-page : (title : List ℕ) (places : Places) → AreBrackets [] (page_tokens title places) []
-brackets-page title places =
-    brackets-append [] in_title [] front_tokens (characters title ++ (style_tokens ++ (body_tokens places ++
-    back_tokens)))
-    brackets-front (brackets-append in_title in_title [] (characters title) (style_tokens ++ (body_tokens places ++
-    back_tokens)) (brackets-characters in_title title) (brackets-append in_title in_body [] style_tokens (body_tokens
-    places
-    ++ back_tokens) brackets-style (brackets-append in_body in_body [] (body_tokens places) back_tokens (brackets-body
-    places) brackets-back)))
+brackets-page : (document : Document) (head : Head) (places : Places) → AreBrackets [] (page_tokens document head places)
+    []
+brackets-page document head places =
+    brackets-append [] in_title [] (front_tokens head.language) (characters head.title ++ (style_tokens ++ (body_tokens
+    document places ++ back_tokens)))
+    (brackets-front head.language) (brackets-append in_title in_title [] (characters head.title) (style_tokens ++
+    (body_tokens document places ++ back_tokens)) (brackets-characters in_title head.title) (brackets-append in_title
+    in_body [] style_tokens (body_tokens document places ++ back_tokens) brackets-style (brackets-append in_body in_body
+    [] (body_tokens document places) back_tokens (brackets-body document places) brackets-back)))
 
 pub page_nests : PagesNest
-page_nests title places =
-    subst (λ (tokens : List Token). AreBrackets [] tokens []) (sym (page_read title places)) (brackets-page title
-    places)
+page_nests document head places =
+    subst (λ (tokens : List Token). AreBrackets [] tokens []) (sym (page_read document head places)) (brackets-page
+    document head places)

@@ -15,22 +15,40 @@ use Rattle.view_places.specs.declared.element.Paragraph.{Paragraph as ParagraphF
 use Rattle.view_places.specs.declared.element.Element.TheVariants.{Notes, Note, Table, TableHead, TableBody, Row, Cell}
 use Rattle.view_places.specs.declared.element.Element.TheVariants.{HeadCell, List as AList, Item, Paragraph, Label}
 use Rattle.view_places.specs.declared.element.Element.TheVariants.{Reference, BackLink, Bold, Italic, Underline, Strike}
-use Rattle.view_places.specs.declared.element.Element.TheVariants.{SmallCaps, Caps, Raised, Lowered}
+use Rattle.view_places.specs.declared.element.Element.TheVariants.{SmallCaps, Caps, Raised, Lowered, Link, Anchor}
 use Rattle.view_places.specs.declared.glyph.Glyph.{Glyph}
 use Rattle.view_places.specs.declared.glyph.Glyph.TheVariants.{Unit, Tab, LineBreak, PageBreak, NoteMark, Picture}
 use Rattle.view_places.specs.declared.glyph.Glyph.TheVariants.{Object}
 use Rattle.view_places.specs.Same.{same}
 use Rattle.html_page.specs.Tags.{attribute, attributes_of, attributes_text, ends_line, name_of, optional}
 use Rattle.html_page.specs.Tags.{paragraph_attributes, paragraph_name, start_text}
-use Rattle.html_page.specs.Units.{half_text, unit_text}
-use Rattle.html_page.specs.Pages.{Events, Places, characters, close_tokens, open_tokens, other_tokens, glyph_tokens}
+use Rattle.glyph_units.specs.Units.{half_text, unit_text}
+use Rattle.html_page.specs.Pages.{Events, Head, Places, characters, close_tokens, open_tokens, other_tokens, glyph_tokens}
 use Rattle.html_page.specs.Pages.{event_tokens, event_half, tokens_of, half_of, body_tokens, front_tokens, style_tokens}
 use Rattle.html_page.specs.Pages.{back_tokens, page_tokens, page_text}
 use Rattle.html_page.specs.Laws.{PagesAreReadBack}
+use Rattle.std.specs.Prelude.{◌||◌, ◌*◌, ◌+◌, ◌-◌, ◌&&◌, slice_range}
+use Rattle.html_page.proofs.PutLemmas.{all-slice}
+use Rattle.html_text.specs.Tokens.{escaped_text}
+use Rattle.html_text.specs.Safe.{is_safe}
+use Rattle.html_text.proofs.ReadLemmas.{no_markup}
+use Rattle.plain_doc.specs.declared.document.Document.{Document}
+use Rattle.field_links.specs.Urls.{anchor_name}
+use Rattle.html_page.specs.Links.{bookmark_name, instruction_of, url_in}
+use Rattle.html_page.specs.Languages.{language_attributes, language_code, language_codes}
+use Rattle.html_page.specs.Tags.{anchor_attributes, link_attributes, plain_attributes}
 
 pub both : (a b : Bool) → a ≡ true → b ≡ true → (a && b) ≡ true
 both true b one other = other
 both false b one other = absurd (cc (one))
+
+both_first : (a b : Bool) → (a && b) ≡ true → a ≡ true
+both_first true b e = refl
+both_first false b e = e
+
+both_second : (a b : Bool) → (a && b) ≡ true → b ≡ true
+both_second true b e = e
+both_second false b e = absurd (cc (e))
 
 -- ---- texts without >
 
@@ -107,38 +125,95 @@ numbered_attribute name front number one other =
     no_end-attribute name (front ++ decimal number) one (no_end-append front (decimal number) other (no_end-decimal
     number))
 
-no_end-attributes : (e : Element) → HaveNoEnd (attributes_of e)
-no_end-attributes Notes = refl
-no_end-attributes (Note number) =
+no_end-plain : (e : Element) → HaveNoEnd (plain_attributes e)
+no_end-plain Notes = refl
+no_end-plain (Note number) =
     have_no_end-cons (attribute (codes "id") (codes "fn-" ++ decimal number)) (attribute (codes "role") (codes
     "doc-footnote") ∷ []) (numbered_attribute (codes "id") (codes "fn-") number refl refl) refl
-no_end-attributes (Table first) = refl
-no_end-attributes TableHead = refl
-no_end-attributes TableBody = refl
-no_end-attributes (Row first) = refl
-no_end-attributes (Cell number) = refl
-no_end-attributes (HeadCell number) = refl
-no_end-attributes (AList list) = no_end-list list.is_ordered
-no_end-attributes (Item number) = refl
-no_end-attributes (Paragraph paragraph) = no_end-paragraph paragraph
-no_end-attributes Label = refl
-no_end-attributes (Reference number) =
+no_end-plain (Table first) = refl
+no_end-plain TableHead = refl
+no_end-plain TableBody = refl
+no_end-plain (Row first) = refl
+no_end-plain (Cell number) = refl
+no_end-plain (HeadCell number) = refl
+no_end-plain (AList list) = no_end-list list.is_ordered
+no_end-plain (Item number) = refl
+no_end-plain (Paragraph paragraph) = no_end-paragraph paragraph
+no_end-plain Label = refl
+no_end-plain (Reference number) =
     have_no_end-cons (attribute (codes "id") (codes "fnref-" ++ decimal number)) (attribute (codes "href") (codes
     "#fn-" ++
     decimal number) ∷ attribute (codes "role") (codes "doc-noteref") ∷ []) (numbered_attribute (codes "id") (codes
     "fnref-") number refl refl) (have_no_end-cons (attribute (codes "href") (codes "#fn-" ++ decimal number)) (attribute
     (codes "role") (codes "doc-noteref") ∷ []) (numbered_attribute (codes "href") (codes "#fn-") number refl refl) refl)
-no_end-attributes (BackLink number) =
+no_end-plain (BackLink number) =
     have_no_end-cons (attribute (codes "href") (codes "#fnref-" ++ decimal number)) (attribute (codes "role") (codes
     "doc-backlink") ∷ []) (numbered_attribute (codes "href") (codes "#fnref-") number refl refl) refl
-no_end-attributes Bold = refl
-no_end-attributes Italic = refl
-no_end-attributes Underline = refl
-no_end-attributes Strike = refl
-no_end-attributes SmallCaps = refl
-no_end-attributes Caps = refl
-no_end-attributes Raised = refl
-no_end-attributes Lowered = refl
+no_end-plain Bold = refl
+no_end-plain Italic = refl
+no_end-plain Underline = refl
+no_end-plain Strike = refl
+no_end-plain SmallCaps = refl
+no_end-plain Caps = refl
+no_end-plain Raised = refl
+no_end-plain Lowered = refl
+no_end-plain (Link link) = refl
+no_end-plain (Anchor number) = refl
+
+safe_has_no_end : (code : ℕ) → is_safe code ≡ true → not (code == 62) ≡ true
+safe_has_no_end code is =
+    elim (code == 60) as (λ a. not (a || (code == 62 || code == 34)) ≡ true → not (code == 62) ≡ true) [
+      | true ↦ λ e. absurd (cc (e))
+      | false ↦ elim (code == 62) as (λ b. not (false || (b || code == 34)) ≡ true → not b ≡ true)
+          [ true ↦ λ e. e | false ↦ λ e. refl ]
+    ] is
+
+all_safe : (text : List ℕ) → list_all is_safe text ≡ true → HasNoEnd text
+all_safe [] is = refl
+all_safe (code ∷ text) is =
+    both (not (code == 62)) (list_all (λ code. not (code == 62)) text) (safe_has_no_end code (both_first (is_safe code)
+    (list_all is_safe text) is)) (all_safe text (both_second (is_safe code) (list_all is_safe text) is))
+
+no_end-escaped : (text : List ℕ) → HasNoEnd (escaped_text text)
+no_end-escaped text = all_safe (escaped_text text) (no_markup text)
+
+no_end-link : (url : Option (List ℕ)) → HaveNoEnd (link_attributes url)
+no_end-link None = refl
+no_end-link (Some url) =
+    have_no_end-cons (attribute (codes "href") (escaped_text url)) [] (no_end-attribute (codes "href") (escaped_text
+    url) refl (no_end-escaped url)) refl
+
+no_end-anchor : (name : Option (List ℕ)) → HaveNoEnd (anchor_attributes name)
+no_end-anchor None = refl
+no_end-anchor (Some name) =
+    have_no_end-cons (attribute (codes "id") (escaped_text (anchor_name name))) [] (no_end-attribute (codes "id")
+    (escaped_text (anchor_name name)) refl (no_end-escaped (anchor_name name))) refl
+
+no_end-attributes : (document : Document) (e : Element) → HaveNoEnd (attributes_of document e)
+no_end-attributes document Notes = no_end-plain Notes
+no_end-attributes document (Note number) = no_end-plain (Note number)
+no_end-attributes document (Table first) = no_end-plain (Table first)
+no_end-attributes document TableHead = no_end-plain TableHead
+no_end-attributes document TableBody = no_end-plain TableBody
+no_end-attributes document (Row first) = no_end-plain (Row first)
+no_end-attributes document (Cell number) = no_end-plain (Cell number)
+no_end-attributes document (HeadCell number) = no_end-plain (HeadCell number)
+no_end-attributes document (AList list) = no_end-plain (AList list)
+no_end-attributes document (Item number) = no_end-plain (Item number)
+no_end-attributes document (Paragraph paragraph) = no_end-plain (Paragraph paragraph)
+no_end-attributes document Label = no_end-plain Label
+no_end-attributes document (Reference number) = no_end-plain (Reference number)
+no_end-attributes document (BackLink number) = no_end-plain (BackLink number)
+no_end-attributes document Bold = no_end-plain Bold
+no_end-attributes document Italic = no_end-plain Italic
+no_end-attributes document Underline = no_end-plain Underline
+no_end-attributes document Strike = no_end-plain Strike
+no_end-attributes document SmallCaps = no_end-plain SmallCaps
+no_end-attributes document Caps = no_end-plain Caps
+no_end-attributes document Raised = no_end-plain Raised
+no_end-attributes document Lowered = no_end-plain Lowered
+no_end-attributes document (Link link) = no_end-link (url_in (instruction_of document link))
+no_end-attributes document (Anchor number) = no_end-anchor (bookmark_name document number)
 
 by_level : (level : ℕ) (P : List ℕ → Type 0) → P (codes "p") → P (codes "h1") → P (codes "h2") → P (codes "h3") → P
     (codes
@@ -218,6 +293,9 @@ by_name SmallCaps P section aside table thead tbody tr td th ol ul li p h1 h2 h3
 by_name Caps P section aside table thead tbody tr td th ol ul li p h1 h2 h3 h4 h5 h6 span a b i u s sup sub = span
 by_name Raised P section aside table thead tbody tr td th ol ul li p h1 h2 h3 h4 h5 h6 span a b i u s sup sub = sup
 by_name Lowered P section aside table thead tbody tr td th ol ul li p h1 h2 h3 h4 h5 h6 span a b i u s sup sub = sub
+by_name (Link link) P section aside table thead tbody tr td th ol ul li p h1 h2 h3 h4 h5 h6 span a b i u s sup sub = a
+by_name (Anchor number) P section aside table thead tbody tr td th ol ul li p h1 h2 h3 h4 h5 h6 span a b i u s sup sub =
+    span
 
 no_end-name : (e : Element) → HasNoEnd (name_of e)
 no_end-name e =
@@ -238,11 +316,11 @@ closed-characters : (text : List ℕ) → AreClosed (characters text)
 closed-characters [] = refl
 closed-characters (code ∷ text) = closed-characters text
 
-closed-open : (e : Element) → AreClosed (open_tokens e)
-closed-open e =
-    both (list_all (λ code. not (code == 62)) (start_text (name_of e) (attributes_of e))) true (no_end-append (name_of
+closed-open : (document : Document) (e : Element) → AreClosed (open_tokens document e)
+closed-open document e =
+    both (list_all (λ code. not (code == 62)) (start_text (name_of e) (attributes_of document e))) true (no_end-append (name_of
     e)
-    (attributes_text (attributes_of e)) (no_end-name e) (no_end-attributes e)) refl
+    (attributes_text (attributes_of document e)) (no_end-name e) (no_end-attributes document e)) refl
 
 closed-line : (line : Bool) → AreClosed (if line then Character 10 ∷ [] else [])
 closed-line true = refl
@@ -277,30 +355,53 @@ closed-glyph half (NoteMark number) = closed-behind half (other_tokens (NoteMark
 closed-glyph half Picture = closed-behind half (other_tokens Picture) (closed-other Picture)
 closed-glyph half Object = closed-behind half (other_tokens Object) (closed-other Object)
 
-closed-event : (half : Option ℕ) (event : Event Element Glyph) → AreClosed (event_tokens half event)
-closed-event half (Turn (Open path e)) = closed-behind half (open_tokens e) (closed-open e)
-closed-event half (Turn (Close path e)) = closed-behind half (close_tokens e) (closed-close e)
-closed-event half (Leaf path g) = closed-glyph half g
+closed-event : (document : Document) (half : Option ℕ) (event : Event Element Glyph) → AreClosed (event_tokens document half event)
+closed-event document half (Turn (Open path e)) = closed-behind half (open_tokens document e) (closed-open document e)
+closed-event document half (Turn (Close path e)) = closed-behind half (close_tokens e) (closed-close e)
+closed-event document half (Leaf path g) = closed-glyph half g
 
-closed-events : (half : Option ℕ) (events : Events) → AreClosed (tokens_of half events)
+closed-events : (document : Document) (half : Option ℕ) (events : Events) → AreClosed (tokens_of document half events)
 unfolding tokens_of
-closed-events half [] = refl
-closed-events half (event ∷ events) =
-    closed-append (event_tokens half event) (tokens_of (event_half half event) events) (closed-event half event)
-    (closed-events (event_half half event) events)
+closed-events document half [] = refl
+closed-events document half (event ∷ events) =
+    closed-append (event_tokens document half event) (tokens_of document (event_half half event) events) (closed-event document half event)
+    (closed-events document (event_half half event) events)
 
-closed-body : (places : Places) → AreClosed (body_tokens places)
-closed-body places =
+closed-body : (document : Document) (places : Places) → AreClosed (body_tokens document places)
+closed-body document places =
     let events = events_from same [] places in
-    closed-append (tokens_of None events) (characters (half_text (half_of None events))) (closed-events None events)
+    closed-append (tokens_of document None events) (characters (half_text (half_of None events))) (closed-events document None events)
     (closed-characters (half_text (half_of None events)))
 
-closed-page : (title : List ℕ) (places : Places) → AreClosed (page_tokens title places)
-closed-page title places =
-    closed-append front_tokens (characters title ++ (style_tokens ++ (body_tokens places ++ back_tokens))) refl
-    (closed-append (characters title) (style_tokens ++ (body_tokens places ++ back_tokens)) (closed-characters title)
-    (closed-append style_tokens (body_tokens places ++ back_tokens) refl (closed-append (body_tokens places) back_tokens
-    (closed-body places) refl)))
+no_end-slice : (text : List ℕ) (from to : ℕ) → HasNoEnd text → HasNoEnd (slice_range text from to)
+no_end-slice text from to is =
+    all-slice (λ (code : ℕ). not (code == 62)) text from to is
+
+no_end-language : (language : Option ℕ) → HaveNoEnd (language_attributes language)
+no_end-language None = refl
+no_end-language (Some identifier) =
+    let number = identifier % 1024 - 1 in
+    elim (nat_le 1 (identifier % 1024) && nat_le (identifier % 1024) 45) as (λ (b : Bool). HaveNoEnd (if b then
+    attribute (codes "lang") (language_code number) ∷ [] else [])) [
+      | true ↦ have_no_end-cons (attribute (codes "lang") (language_code number)) [] (no_end-attribute (codes "lang")
+          (language_code number) refl (no_end-slice language_codes (2 * number) (2 * number + 2) refl)) refl
+      | false ↦ refl
+    ]
+
+closed-front : (language : Option ℕ) → AreClosed (front_tokens language)
+closed-front language =
+    both (list_all (λ code. not (code == 62)) (start_text (codes "html") (language_attributes language))) true
+    (no_end-append (codes "html") (attributes_text (language_attributes language)) refl (no_end-language language)) refl
+
+closed-page : (document : Document) (head : Head) (places : Places) → AreClosed (page_tokens document head places)
+closed-page document head places =
+    closed-append (front_tokens head.language) (characters head.title ++ (style_tokens ++ (body_tokens document places
+    ++ back_tokens))) (closed-front head.language)
+    (closed-append (characters head.title) (style_tokens ++ (body_tokens document places ++ back_tokens))
+    (closed-characters head.title)
+    (closed-append style_tokens (body_tokens document places ++ back_tokens) refl (closed-append (body_tokens document
+    places) back_tokens
+    (closed-body document places) refl)))
 
 pub page_read : PagesAreReadBack
-page_read title places = read_back (page_tokens title places) (closed-page title places)
+page_read document head places = read_back (page_tokens document head places) (closed-page document head places)

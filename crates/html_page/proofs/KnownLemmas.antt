@@ -13,21 +13,32 @@ use Rattle.view_places.specs.declared.element.Paragraph.{Paragraph as ParagraphF
 use Rattle.view_places.specs.declared.element.Element.TheVariants.{Notes, Note, Table, TableHead, TableBody, Row, Cell}
 use Rattle.view_places.specs.declared.element.Element.TheVariants.{HeadCell, List as AList, Item, Paragraph, Label}
 use Rattle.view_places.specs.declared.element.Element.TheVariants.{Reference, BackLink, Bold, Italic, Underline, Strike}
-use Rattle.view_places.specs.declared.element.Element.TheVariants.{SmallCaps, Caps, Raised, Lowered}
+use Rattle.view_places.specs.declared.element.Element.TheVariants.{SmallCaps, Caps, Raised, Lowered, Link, Anchor}
 use Rattle.view_places.specs.declared.glyph.Glyph.{Glyph}
 use Rattle.view_places.specs.declared.glyph.Glyph.TheVariants.{Unit, Tab, LineBreak, PageBreak, NoteMark, Picture}
 use Rattle.view_places.specs.declared.glyph.Glyph.TheVariants.{Object}
 use Rattle.view_places.specs.Same.{same}
 use Rattle.html_page.specs.Tags.{attribute, attributes_of, ends_line, name_of, optional, paragraph_attributes}
 use Rattle.html_page.specs.Tags.{start_text}
-use Rattle.html_page.specs.Units.{half_text, unit_text}
-use Rattle.html_page.specs.Pages.{Events, Places, characters, start, end, close_tokens, open_tokens, other_tokens}
+use Rattle.glyph_units.specs.Units.{half_text, unit_text}
+use Rattle.html_page.specs.Pages.{Events, Head, Places, characters, start, end, close_tokens, open_tokens, other_tokens}
 use Rattle.html_page.specs.Pages.{glyph_tokens, image, style_text}
 use Rattle.html_page.specs.Pages.{event_tokens, event_half, tokens_of, half_of, body_tokens, front_tokens, style_tokens}
 use Rattle.html_page.specs.Pages.{back_tokens, page_tokens, page_text}
 use Rattle.html_page.specs.Known.{IsKnown, IsKnownName, IsKnownAttribute, IsKnownStart, IsKnownEnd}
 use Rattle.html_page.specs.Laws.{TagsAreKnown}
 use Rattle.html_page.proofs.CloseLemmas.{by_name, page_read}
+use Rattle.std.specs.Prelude.{◌==◌, ◌&&◌, ◌-◌, ◌%◌, ◌⊎◌}
+use Rattle.html_text.specs.Tokens.{escaped_text}
+use Rattle.plain_doc.specs.declared.document.Document.{Document}
+use Rattle.field_links.specs.Instructions.{target_of}
+use Rattle.field_links.specs.Laws.{IsSchemeUrl, IsLocalUrl}
+use Rattle.field_links.specs.Urls.{anchor_name, url_text}
+use Rattle.field_links.proofs.UrlLemmas.{allowed}
+use Rattle.html_page.specs.Links.{bookmark_name, instruction_of, is_plain, url_in}
+use Rattle.html_page.specs.Languages.{language_attributes, language_code}
+use Rattle.html_page.specs.Pages.{meta_tokens}
+use Rattle.html_page.specs.Tags.{anchor_attributes, link_attributes, plain_attributes}
 
 abbrev AreKnown : List Token → Type 0
 AreKnown tokens = All IsKnown tokens
@@ -93,65 +104,109 @@ optional-one : (there : Bool) (text : List ℕ) → IsKnownAttribute text → Ar
 optional-one true text one = one_attribute text one
 optional-one false text one = no_attributes
 
-known_attributes_of : (e : Element) → AreKnownAttributes (attributes_of e)
-known_attributes_of Notes = one_attribute (attribute (codes "aria-label") (codes "notes")) (0, (4, refl))
-known_attributes_of (Note number) =
+known_plain : (e : Element) → AreKnownAttributes (plain_attributes e)
+known_plain Notes = one_attribute (attribute (codes "aria-label") (codes "notes")) (inl (0, (4, refl)))
+known_plain (Note number) =
     attribute-cons (attribute (codes "id") (codes "fn-" ++ decimal number)) (attribute (codes "role") (codes
     "doc-footnote")
-    ∷ []) (number, (5, refl)) (one_attribute (attribute (codes "role") (codes "doc-footnote")) (0, (6, refl)))
-known_attributes_of (Table first) = no_attributes
-known_attributes_of TableHead = no_attributes
-known_attributes_of TableBody = no_attributes
-known_attributes_of (Row first) = no_attributes
-known_attributes_of (Cell number) = no_attributes
-known_attributes_of (HeadCell number) = one_attribute (attribute (codes "scope") (codes "col")) (0, (7, refl))
-known_attributes_of (AList list) =
-    optional-one list.is_ordered (attribute (codes "style") (codes "list-style:none")) (0, (8, refl))
-known_attributes_of (Item number) = no_attributes
-known_attributes_of (Paragraph paragraph) =
+    ∷ []) (inl (number, (5, refl))) (one_attribute (attribute (codes "role") (codes "doc-footnote")) (inl (0, (6, refl))))
+known_plain (Table first) = no_attributes
+known_plain TableHead = no_attributes
+known_plain TableBody = no_attributes
+known_plain (Row first) = no_attributes
+known_plain (Cell number) = no_attributes
+known_plain (HeadCell number) = one_attribute (attribute (codes "scope") (codes "col")) (inl (0, (7, refl)))
+known_plain (AList list) =
+    optional-one list.is_ordered (attribute (codes "style") (codes "list-style:none")) (inl (0, (8, refl)))
+known_plain (Item number) = no_attributes
+known_plain (Paragraph paragraph) =
     optional-known (nat_le 7 paragraph.level) (attribute (codes "aria-level") (decimal paragraph.level)) (optional
     paragraph.right_to_left (attribute (codes "dir") (codes "rtl")) ++ optional paragraph.breaks_page (attribute (codes
-    "style") (codes "break-before:page"))) (paragraph.level, (9, refl)) (optional-known paragraph.right_to_left
+    "style") (codes "break-before:page"))) (inl (paragraph.level, (9, refl))) (optional-known paragraph.right_to_left
     (attribute (codes "dir") (codes "rtl")) (optional paragraph.breaks_page (attribute (codes "style") (codes
-    "break-before:page"))) (0, (10, refl)) (optional-one paragraph.breaks_page (attribute (codes "style") (codes
-    "break-before:page")) (0, (11, refl))))
-known_attributes_of Label = one_attribute (attribute (codes "class") (codes "n")) (0, (12, refl))
-known_attributes_of (Reference number) =
+    "break-before:page"))) (inl (0, (10, refl))) (optional-one paragraph.breaks_page (attribute (codes "style") (codes
+    "break-before:page")) (inl (0, (11, refl)))))
+known_plain Label = one_attribute (attribute (codes "class") (codes "n")) (inl (0, (12, refl)))
+known_plain (Reference number) =
     attribute-cons (attribute (codes "id") (codes "fnref-" ++ decimal number)) (attribute (codes "href") (codes "#fn-"
     ++
-    decimal number) ∷ attribute (codes "role") (codes "doc-noteref") ∷ []) (number, (13, refl)) (attribute-cons
+    decimal number) ∷ attribute (codes "role") (codes "doc-noteref") ∷ []) (inl (number, (13, refl))) (attribute-cons
     (attribute
-    (codes "href") (codes "#fn-" ++ decimal number)) (attribute (codes "role") (codes "doc-noteref") ∷ []) (
-      number,
-      (
-        14,
-        refl,
-      ),
-    ) (one_attribute (attribute (codes "role") (codes "doc-noteref")) (0, (15, refl))))
-known_attributes_of (BackLink number) =
+    (codes "href") (codes "#fn-" ++ decimal number)) (attribute (codes "role") (codes "doc-noteref") ∷ []) (inl (number, (14, refl))) (one_attribute (attribute (codes "role") (codes "doc-noteref")) (inl (0, (15, refl)))))
+known_plain (BackLink number) =
     attribute-cons (attribute (codes "href") (codes "#fnref-" ++ decimal number)) (attribute (codes "role") (codes
-    "doc-backlink") ∷ []) (number, (16, refl)) (one_attribute (attribute (codes "role") (codes "doc-backlink")) (
-      0,
-      (
-        17,
-        refl,
-      ),
-    ))
-known_attributes_of Bold = no_attributes
-known_attributes_of Italic = no_attributes
-known_attributes_of Underline = no_attributes
-known_attributes_of Strike = no_attributes
-known_attributes_of SmallCaps =
-    one_attribute (attribute (codes "style") (codes "font-variant:small-caps")) (0, (18, refl))
-known_attributes_of Caps =
-    one_attribute (attribute (codes "style") (codes "text-transform:uppercase")) (0, (19, refl))
-known_attributes_of Raised = no_attributes
-known_attributes_of Lowered = no_attributes
+    "doc-backlink") ∷ []) (inl (number, (16, refl))) (one_attribute (attribute (codes "role") (codes "doc-backlink")) (inl (0, (17, refl))))
+known_plain Bold = no_attributes
+known_plain Italic = no_attributes
+known_plain Underline = no_attributes
+known_plain Strike = no_attributes
+known_plain SmallCaps =
+    one_attribute (attribute (codes "style") (codes "font-variant:small-caps")) (inl (0, (18, refl)))
+known_plain Caps =
+    one_attribute (attribute (codes "style") (codes "text-transform:uppercase")) (inl (0, (19, refl)))
+known_plain Raised = no_attributes
+known_plain Lowered = no_attributes
+known_plain (Link link) = no_attributes
+known_plain (Anchor number) = no_attributes
 
-known-open : (e : Element) → AreKnown (open_tokens e)
-known-open e =
-    known-cons (start (name_of e) (attributes_of e)) [] (start_is_known (name_of e) (attributes_of e) (known_name e)
-    (known_attributes_of e)) none_known
+-- each URL of an instruction is allowed
+known_url : (instruction url : List ℕ) → url_in instruction ≡ Some url → IsSchemeUrl url ⊎ IsLocalUrl url
+known_url instruction url is =
+    elim (is_plain instruction) as (λ (b : Bool). (if b then url_text (target_of instruction) else None) ≡ Some url →
+    IsSchemeUrl url ⊎ IsLocalUrl url) [
+      | true ↦ λ e. allowed (target_of instruction) url e
+      | false ↦ λ e. absurd (cc (e))
+    ] is
+
+known_link : (url : Option (List ℕ)) → ((text : List ℕ) → url ≡ Some text → IsSchemeUrl text ⊎ IsLocalUrl text) →
+    AreKnownAttributes (link_attributes url)
+known_link None each = no_attributes
+known_link (Some url) each =
+    one_attribute (attribute (codes "href") (escaped_text url)) (inr (inl (record {
+      url = url;
+      allowed = each url refl;
+      value = refl;
+    })))
+
+known_anchor : (name : Option (List ℕ)) → AreKnownAttributes (anchor_attributes name)
+known_anchor None = no_attributes
+known_anchor (Some name) =
+    one_attribute (attribute (codes "id") (escaped_text (anchor_name name))) (inr (inr (record {
+      name = name;
+      value = refl;
+    })))
+
+known_attributes_of : (document : Document) (e : Element) → AreKnownAttributes (attributes_of document e)
+known_attributes_of document Notes = known_plain Notes
+known_attributes_of document (Note number) = known_plain (Note number)
+known_attributes_of document (Table first) = known_plain (Table first)
+known_attributes_of document TableHead = known_plain TableHead
+known_attributes_of document TableBody = known_plain TableBody
+known_attributes_of document (Row first) = known_plain (Row first)
+known_attributes_of document (Cell number) = known_plain (Cell number)
+known_attributes_of document (HeadCell number) = known_plain (HeadCell number)
+known_attributes_of document (AList list) = known_plain (AList list)
+known_attributes_of document (Item number) = known_plain (Item number)
+known_attributes_of document (Paragraph paragraph) = known_plain (Paragraph paragraph)
+known_attributes_of document Label = known_plain Label
+known_attributes_of document (Reference number) = known_plain (Reference number)
+known_attributes_of document (BackLink number) = known_plain (BackLink number)
+known_attributes_of document Bold = known_plain Bold
+known_attributes_of document Italic = known_plain Italic
+known_attributes_of document Underline = known_plain Underline
+known_attributes_of document Strike = known_plain Strike
+known_attributes_of document SmallCaps = known_plain SmallCaps
+known_attributes_of document Caps = known_plain Caps
+known_attributes_of document Raised = known_plain Raised
+known_attributes_of document Lowered = known_plain Lowered
+known_attributes_of document (Link link) =
+    known_link (url_in (instruction_of document link)) (known_url (instruction_of document link))
+known_attributes_of document (Anchor number) = known_anchor (bookmark_name document number)
+
+known-open : (document : Document) (e : Element) → AreKnown (open_tokens document e)
+known-open document e =
+    known-cons (start (name_of e) (attributes_of document e)) [] (start_is_known (name_of e) (attributes_of document e) (known_name e)
+    (known_attributes_of document e)) none_known
 
 known-close : (e : Element) → AreKnown (close_tokens e)
 known-close e =
@@ -165,7 +220,7 @@ known-image name known =
     known-cons (start (codes "span") attributes) (characters (91 ∷ (name ++ 93 ∷ [])) ++ end (codes "span") ∷ [])
     (start_is_known (codes "span") attributes (25, refl) (attribute-cons (attribute (codes "role") (codes "img"))
     (attribute
-    (codes "aria-label") name ∷ []) (0, (20, refl)) (one_attribute (attribute (codes "aria-label") name) known)))
+    (codes "aria-label") name ∷ []) (inl (0, (20, refl))) (one_attribute (attribute (codes "aria-label") name) known)))
     (known-append (characters (91 ∷ (name ++ 93 ∷ []))) (end (codes "span") ∷ []) (known-characters (91 ∷ (name ++ 93 ∷
     []))) (known-cons (end (codes "span")) [] (end_is_known (codes "span") (25, refl)) none_known))
 
@@ -179,10 +234,10 @@ known-other PageBreak =
     (codes
     "br") (attribute (codes "style") (codes "break-after:page") ∷ []) (33, refl) (one_attribute (attribute (codes
     "style")
-    (codes "break-after:page")) (0, (23, refl)))) none_known
+    (codes "break-after:page")) (inl (0, (23, refl))))) none_known
 known-other (NoteMark number) = known-characters (decimal number)
-known-other Picture = known-image (codes "picture") (0, (21, refl))
-known-other Object = known-image (codes "object") (0, (22, refl))
+known-other Picture = known-image (codes "picture") (inl (0, (21, refl)))
+known-other Object = known-image (codes "object") (inl (0, (22, refl)))
 
 known-behind : (half : Option ℕ) (tokens : List Token) → AreKnown tokens → AreKnown (characters (half_text half) ++
     tokens)
@@ -197,22 +252,22 @@ known-glyph half (NoteMark number) = known-behind half (other_tokens (NoteMark n
 known-glyph half Picture = known-behind half (other_tokens Picture) (known-other Picture)
 known-glyph half Object = known-behind half (other_tokens Object) (known-other Object)
 
-known-event : (half : Option ℕ) (event : Event Element Glyph) → AreKnown (event_tokens half event)
-known-event half (Turn (Open path e)) = known-behind half (open_tokens e) (known-open e)
-known-event half (Turn (Close path e)) = known-behind half (close_tokens e) (known-close e)
-known-event half (Leaf path g) = known-glyph half g
+known-event : (document : Document) (half : Option ℕ) (event : Event Element Glyph) → AreKnown (event_tokens document half event)
+known-event document half (Turn (Open path e)) = known-behind half (open_tokens document e) (known-open document e)
+known-event document half (Turn (Close path e)) = known-behind half (close_tokens e) (known-close e)
+known-event document half (Leaf path g) = known-glyph half g
 
-known-events : (half : Option ℕ) (events : Events) → AreKnown (tokens_of half events)
+known-events : (document : Document) (half : Option ℕ) (events : Events) → AreKnown (tokens_of document half events)
 unfolding tokens_of
-known-events half [] = none_known
-known-events half (event ∷ events) =
-    known-append (event_tokens half event) (tokens_of (event_half half event) events) (known-event half event)
-    (known-events (event_half half event) events)
+known-events document half [] = none_known
+known-events document half (event ∷ events) =
+    known-append (event_tokens document half event) (tokens_of document (event_half half event) events) (known-event document half event)
+    (known-events document (event_half half event) events)
 
-known-body : (places : Places) → AreKnown (body_tokens places)
-known-body places =
+known-body : (document : Document) (places : Places) → AreKnown (body_tokens document places)
+known-body document places =
     let events = events_from same [] places in
-    known-append (tokens_of None events) (characters (half_text (half_of None events))) (known-events None events)
+    known-append (tokens_of document None events) (characters (half_text (half_of None events))) (known-events document None events)
     (known-characters (half_text (half_of None events)))
 
 -- ---- what stands round the text
@@ -254,24 +309,31 @@ in_metas = start (codes "meta") viewport ∷ line_end ∷ in_head
 abbrev in_html : List Token
 in_html = start (codes "meta") (attribute (codes "charset") (codes "utf-8") ∷ []) ∷ line_end ∷ in_metas
 
-known-front : AreKnown front_tokens
-known-front =
-    a_start (codes "!DOCTYPE") (codes "html" ∷ []) (start (codes "html") [] ∷ line_end ∷ start (codes "head") [] ∷
-    line_end ∷
-    in_html) (0, refl) (one_attribute (codes "html") (0, (0, refl))) (plain_start (codes "html") (start (codes
-    "head") [] ∷ line_end ∷ in_html) (1, refl) (plain_start (codes "head") in_html (2, refl) (a_start (codes "meta")
-    (attribute
-    (codes "charset") (codes "utf-8") ∷ []) in_metas (3, refl) (one_attribute (attribute (codes "charset") (codes
-    "utf-8")) (0, (1, refl))) (a_start (codes "meta") viewport in_head (3, refl) (attribute-cons (attribute (codes
-    "name") (codes "viewport")) (attribute (codes "content") (codes "width=device-width,initial-scale=1") ∷ []) (
-      0,
-      (
-        2,
-        refl,
-      ),
-    ) (one_attribute (attribute (codes "content") (codes "width=device-width,initial-scale=1")) (0, (3, refl))))
+known-metas : AreKnown meta_tokens
+known-metas =
+    plain_start (codes "head") in_html (2, refl) (a_start (codes "meta") (attribute (codes "charset") (codes "utf-8") ∷
+    []) in_metas (3, refl) (one_attribute (attribute (codes "charset") (codes "utf-8")) (inl (0, (1, refl)))) (a_start
+    (codes "meta") viewport in_head (3, refl) (attribute-cons (attribute (codes "name") (codes "viewport")) (attribute
+    (codes "content") (codes "width=device-width,initial-scale=1") ∷ []) (inl (0, (2, refl))) (one_attribute (attribute
+    (codes "content") (codes "width=device-width,initial-scale=1")) (inl (0, (3, refl)))))
     (known-cons (start (codes "title") []) [] (start_is_known (codes "title") [] (4, refl) no_attributes)
-    none_known)))))
+    none_known)))
+
+known-language : (language : Option ℕ) → AreKnownAttributes (language_attributes language)
+known-language None = no_attributes
+known-language (Some identifier) =
+    let number = identifier % 1024 - 1 in
+    elim (nat_le 1 (identifier % 1024) && nat_le (identifier % 1024) 45) as (λ (b : Bool). AreKnownAttributes (if b
+    then attribute (codes "lang") (language_code number) ∷ [] else [])) [
+      | true ↦ one_attribute (attribute (codes "lang") (language_code number)) (inl (number, (24, refl)))
+      | false ↦ no_attributes
+    ]
+
+known-front : (language : Option ℕ) → AreKnown (front_tokens language)
+known-front language =
+    a_start (codes "!DOCTYPE") (codes "html" ∷ []) (start (codes "html") (language_attributes language) ∷ line_end ∷
+    meta_tokens) (0, refl) (one_attribute (codes "html") (inl (0, (0, refl)))) (a_start (codes "html")
+    (language_attributes language) meta_tokens (1, refl) (known-language language) known-metas)
 
 abbrev in_body : List Token
 in_body = end (codes "style") ∷ line_end ∷ end (codes "head") ∷ line_end ∷ start (codes "body") [] ∷ line_end ∷ []
@@ -290,13 +352,16 @@ known-back =
     plain_end (codes "body") (end (codes "html") ∷ line_end ∷ []) (6, refl) (plain_end (codes "html") [] (1, refl)
     none_known)
 
-known-page : (title : List ℕ) (places : Places) → AreKnown (page_tokens title places)
-known-page title places =
-    known-append front_tokens (characters title ++ (style_tokens ++ (body_tokens places ++ back_tokens))) known-front
-    (known-append (characters title) (style_tokens ++ (body_tokens places ++ back_tokens)) (known-characters title)
-    (known-append style_tokens (body_tokens places ++ back_tokens) known-style (known-append (body_tokens places)
-    back_tokens (known-body places) known-back)))
+known-page : (document : Document) (head : Head) (places : Places) → AreKnown (page_tokens document head places)
+known-page document head places =
+    known-append (front_tokens head.language) (characters head.title ++ (style_tokens ++ (body_tokens document places
+    ++ back_tokens))) (known-front head.language)
+    (known-append (characters head.title) (style_tokens ++ (body_tokens document places ++ back_tokens))
+    (known-characters head.title)
+    (known-append style_tokens (body_tokens document places ++ back_tokens) known-style (known-append (body_tokens
+    document places) back_tokens (known-body document places) known-back)))
 
 pub tags_known : TagsAreKnown
-tags_known title places =
-    subst (λ (tokens : List Token). All IsKnown tokens) (sym (page_read title places)) (known-page title places)
+tags_known document head places =
+    subst (λ (tokens : List Token). All IsKnown tokens) (sym (page_read document head places)) (known-page document
+    head places)

@@ -2,7 +2,7 @@
 use Rattle.std.proofs.Common.{◌≡◌, ℕ, zero, suc, ◌+◌, ◌/◌, ◌%◌, ◌==◌, ◌<◌, ◌≤◌, Bool, true, false, not, ◌&&◌, List}
 use Rattle.std.proofs.Common.{[], ◌∷◌, ◌++◌, map, Option, Some, None}
 use Rattle.std.proofs.Common.{refl, sym, ap, subst, ◌∙◌, append_assoc, arith, length, take, drop, take_all}
-use Rattle.std.specs.Prelude.{if◌then◌else◌, codes, nat_le, nat_lt, slice_index}
+use Rattle.std.specs.Prelude.{if◌then◌else◌, codes, nat_le, nat_lt, slice_index, slice_range, ◌-◌}
 use Rattle.std.specs.Str.{IsAscii}
 use Rattle.std.specs.List.{list_all}
 use Rattle.std.proofs.lemmas.Bool.{ltb-true}
@@ -14,7 +14,7 @@ use Rattle.doc_outer.specs.declared.sink.Sink.{Ghosts}
 use Rattle.page_out.specs.declared.page.Page.{Page}
 use Rattle.page_out.specs.Printed.{Prints}
 use Rattle.page_out.proofs.PrintLemmas.{put_then, put_none}
-use Rattle.html_text.specs.Tokens.{Token, Character, Tag, escaped, printed, printed_token}
+use Rattle.html_text.specs.Tokens.{Token, Character, Tag, escaped, escaped_text, printed, printed_token}
 use Rattle.view_paths.specs.Paths.{Place, last_path}
 use Rattle.view_paths.specs.Events.{Event, Turn, Leaf, Open, Close, closes, opens, transition, turns, leaf}
 use Rattle.view_paths.specs.Events.{events_up_to}
@@ -28,38 +28,39 @@ use Rattle.view_places.specs.declared.glyph.Glyph.TheVariants.{Unit, Tab, LineBr
 use Rattle.view_places.specs.declared.glyph.Glyph.TheVariants.{Object}
 use Rattle.view_places.specs.Same.{same}
 use Rattle.html_page.specs.declared.printer.HtmlPage.{HtmlPage}
-use Rattle.html_page.specs.Glyphs.{unit_in}
+use Rattle.glyph_units.specs.Glyphs.{unit_in}
 use Rattle.view_places.specs.declared.element.Paragraph.{Paragraph}
 use Rattle.html_page.specs.Tags.{attribute, attributes_text, optional, paragraph_attributes}
-use Rattle.html_page.specs.Units.{half_text, unit_text, unit_half}
+use Rattle.glyph_units.specs.Units.{half_text, unit_text, unit_half}
 use Rattle.html_page.specs.Pages.{Events, Places, characters, close_tokens, open_tokens, event_tokens, event_half}
 use Rattle.html_page.specs.Pages.{glyph_tokens, glyph_half, other_tokens, tokens_of, half_of}
 use Rattle.html_page.specs.Printed.{PutsEvents, PutsPlaces}
+use Rattle.plain_doc.specs.declared.document.Document.{Document}
 
 -- ---- tokens one after another
 
 pub printed-append : (xs ys : List Token) → printed (xs ++ ys) ≡ printed xs ++ printed ys
 printed-append xs ys = flat_map-append printed_token xs ys
 
-pub tokens_of-append : (half : Option ℕ) (xs ys : Events) → tokens_of half (xs ++ ys) ≡ tokens_of half xs ++ tokens_of
-    (half_of
-    half xs) ys
+pub tokens_of-append : (document : Document) (half : Option ℕ) (xs ys : Events) → tokens_of document half (xs ++ ys) ≡
+    tokens_of document half xs ++ tokens_of document (half_of half xs) ys
 unfolding tokens_of half_of
-tokens_of-append half [] ys = refl
-tokens_of-append half (event ∷ xs) ys =
-    ap (λ (more : List Token). event_tokens half event ++ more) (tokens_of-append (event_half half event) xs ys)
-    ∙ sym (append_assoc (event_tokens half event) (tokens_of (event_half half event) xs) (tokens_of (half_of
-    (event_half half
-    event) xs) ys))
+tokens_of-append document half [] ys = refl
+tokens_of-append document half (event ∷ xs) ys =
+    ap (λ (more : List Token). event_tokens document half event ++ more) (tokens_of-append document (event_half half
+    event) xs ys)
+    ∙ sym (append_assoc (event_tokens document half event) (tokens_of document (event_half half event) xs) (tokens_of
+    document (half_of (event_half half event) xs) ys))
 
 pub half_of-append : (half : Option ℕ) (xs ys : Events) → half_of half (xs ++ ys) ≡ half_of (half_of half xs) ys
 unfolding half_of
 half_of-append half [] ys = refl
 half_of-append half (event ∷ xs) ys = half_of-append (event_half half event) xs ys
 
-tokens_of-one : (half : Option ℕ) (event : Event Element Glyph) → tokens_of half (event ∷ []) ≡ event_tokens half event
+tokens_of-one : (document : Document) (half : Option ℕ) (event : Event Element Glyph) → tokens_of document half (event ∷
+    []) ≡ event_tokens document half event
 unfolding tokens_of
-tokens_of-one half event = append-nil (event_tokens half event)
+tokens_of-one document half event = append-nil (event_tokens document half event)
 
 half_of-one : (half : Option ℕ) (event : Event Element Glyph) → half_of half (event ∷ []) ≡ event_half half event
 unfolding half_of
@@ -86,16 +87,16 @@ tokens_none sink at page = put_none sink at page
 -- ---- events
 
 none_put : {K : Type 0} (sink : Ghosts K) (at : K) (html left : HtmlPage) → left.page ≡ html.page → left.half ≡
-    html.half →
+    html.half → left.document.now ≡ html.document.now →
     PutsEvents sink at html at left [] left.path
 unfolding tokens_of half_of
-none_put sink at html left page half = record {
+none_put sink at html left page half document = record {
   prints =
-      subst (λ (p : Page). Prints sink at html.page at p (printed (tokens_of html.half []))) (sym page) (put_none sink
-      at
-      html.page);
+      subst (λ (p : Page). Prints sink at html.page at p (printed (tokens_of html.document.now html.half []))) (sym
+      page) (put_none sink at html.page);
   half = half;
   path = refl;
+  document = document;
 }
 
 pub events_then : {K : Type 0} (sink : Ghosts K) (a b c : K) (p q r : HtmlPage) (xs ys : Events) (first second : List
@@ -103,26 +104,30 @@ pub events_then : {K : Type 0} (sink : Ghosts K) (a b c : K) (p q r : HtmlPage) 
     PutsEvents sink a p b q xs first → PutsEvents sink b q c r ys second → PutsEvents sink a p c r (xs ++ ys) second
 events_then sink a b c p q r xs ys first second one other = record {
   prints =
-      subst (λ (tokens : List Token). Prints sink a p.page c r.page (printed tokens)) (sym (tokens_of-append p.half xs
-      ys))
-      (tokens_then sink a b c p.page q.page r.page (tokens_of p.half xs) (tokens_of (half_of p.half xs) ys) one.prints
-      (subst (λ (h : Option ℕ). Prints sink b q.page c r.page (printed (tokens_of h ys))) one.half other.prints));
+      subst (λ (tokens : List Token). Prints sink a p.page c r.page (printed tokens)) (sym (tokens_of-append
+      p.document.now p.half xs ys))
+      (tokens_then sink a b c p.page q.page r.page (tokens_of p.document.now p.half xs) (tokens_of p.document.now
+      (half_of p.half xs) ys) one.prints
+      (subst (λ (d : Document). Prints sink b q.page c r.page (printed (tokens_of d (half_of p.half xs) ys)))
+      one.document (subst (λ (h : Option ℕ). Prints sink b q.page c r.page (printed (tokens_of q.document.now h ys)))
+      one.half other.prints)));
   half = other.half ∙ ap (λ (h : Option ℕ). half_of h ys) one.half ∙ sym (half_of-append p.half xs ys);
   path = other.path;
+  document = other.document ∙ one.document;
 }
 
 pub one_event : {K : Type 0} (sink : Ghosts K) (a b : K) (html left : HtmlPage) (event : Event Element Glyph) (path :
     List
-    Element) → Prints sink a html.page b left.page (printed (event_tokens html.half event)) → left.half ≡ event_half
-    html.half
-    event → left.path ≡ path → PutsEvents sink a html b left (event ∷ []) path
-one_event sink a b html left event path prints half is = record {
+    Element) → Prints sink a html.page b left.page (printed (event_tokens html.document.now html.half event)) →
+    left.half ≡ event_half html.half event → left.path ≡ path → left.document.now ≡ html.document.now → PutsEvents sink
+    a html b left (event ∷ []) path
+one_event sink a b html left event path prints half is document = record {
   prints =
       subst (λ (tokens : List Token). Prints sink a html.page b left.page (printed tokens)) (sym (tokens_of-one
-      html.half
-      event)) prints;
+      html.document.now html.half event)) prints;
   half = half ∙ sym (half_of-one html.half event);
   path = is;
+  document = document;
 }
 
 -- the same events and the same path by other words
@@ -138,29 +143,30 @@ puts_as sink a b html left xs ys one other is path puts =
 
 pub close_done : {K : Type 0} (sink : Ghosts K) (at : K) (html left : HtmlPage) (count : ℕ) → left.page ≡ html.page →
     left.half
-    ≡ html.half → left.path ≡ html.path → length html.path ≤ count → PutsEvents sink at html at left (map Turn (closes
+    ≡ html.half → left.path ≡ html.path → left.document.now ≡ html.document.now → length html.path ≤ count → PutsEvents sink at html at left (map Turn (closes
     (take
     count html.path) (drop count html.path))) (take count html.path)
-close_done sink at html left count page half path short =
+close_done sink at html left count page half path document short =
     let no : Events = [] in
     puts_as sink at at html left no (map Turn (closes (take count html.path) (drop count html.path))) left.path (take
     count
     html.path) (ap (map Turn) (sym (closes-none html.path count short))) (path ∙ sym (take_all count html.path short))
-    (none_put sink at html left page half)
+    (none_put sink at html left page half document)
 
 pub close_step : {K : Type 0} (sink : Ghosts K) (a b c : K) (html next left : HtmlPage) (new : List Element) (e :
     Element)
     (count : ℕ) → html.path ≡ new ++ e ∷ [] → count ≤ length new → Prints sink a html.page b next.page (printed
     (characters
-    (half_text html.half) ++ close_tokens e)) → next.path ≡ new → next.half ≡ None → PutsEvents sink b next c left
+    (half_text html.half) ++ close_tokens e)) → next.path ≡ new → next.half ≡ None → next.document.now ≡
+    html.document.now → PutsEvents sink b next c left
     (map Turn
     (closes (take count next.path) (drop count next.path))) (take count next.path) → PutsEvents sink a html c left
     (map Turn
     (closes (take count html.path) (drop count html.path))) (take count html.path)
-close_step sink a b c html next left new e count is within prints path half rest =
+close_step sink a b c html next left new e count is within prints path half document rest =
     let event : Event Element Glyph = Turn (Close new e) in
     let first : PutsEvents sink a html b next (event ∷ []) new = one_event sink a b html next event new prints half
-    path in
+    path document in
     let more : Events = map Turn (closes (take count new) (drop count new)) in
     let second : PutsEvents sink b next c left more (take count new) =
     subst (λ (p : List Element). PutsEvents sink b next c left (map Turn (closes (take count p) (drop count p))) (take
@@ -177,27 +183,28 @@ close_step sink a b c html next left new e count is within prints path half rest
 
 pub open_done : {K : Type 0} (sink : Ghosts K) (at : K) (html left : HtmlPage) (to : List Element) → left.page ≡
     html.page →
-    left.half ≡ html.half → left.path ≡ html.path → html.path ≡ to → PutsEvents sink at html at left (map Turn (opens
+    left.half ≡ html.half → left.path ≡ html.path → left.document.now ≡ html.document.now → html.path ≡ to → PutsEvents sink at html at left (map Turn (opens
     html.path
     (drop (length html.path) to))) to
-open_done sink at html left to page half path is =
+open_done sink at html left to page half path document is =
     let no : Events = [] in
     puts_as sink at at html left no (map Turn (opens html.path (drop (length html.path) to))) left.path to (ap (map
     Turn) (sym
-    (opens-none html.path to is))) (path ∙ is) (none_put sink at html left page half)
+    (opens-none html.path to is))) (path ∙ is) (none_put sink at html left page half document)
 
 pub open_step : {K : Type 0} (sink : Ghosts K) (a b c : K) (html next left : HtmlPage) (new to : List Element) (e :
     Element) →
     new ≡ html.path ++ e ∷ [] → IsFront new to → Prints sink a html.page b next.page (printed (characters (half_text
     html.half)
-    ++ open_tokens e)) → next.path ≡ new → next.half ≡ None → PutsEvents sink b next c left (map Turn (opens next.path
+    ++ open_tokens html.document.now e)) → next.path ≡ new → next.half ≡ None → next.document.now ≡ html.document.now →
+    PutsEvents sink b next c left (map Turn (opens next.path
     (drop
     (length next.path) to))) to → PutsEvents sink a html c left (map Turn (opens html.path (drop (length html.path)
     to))) to
-open_step sink a b c html next left new to e is front prints path half rest =
+open_step sink a b c html next left new to e is front prints path half document rest =
     let event : Event Element Glyph = Turn (Open html.path e) in
     let first : PutsEvents sink a html b next (event ∷ []) new = one_event sink a b html next event new prints half
-    path in
+    path document in
     let more : Events = map Turn (opens new (drop (length new) to)) in
     let second : PutsEvents sink b next c left more to =
     subst (λ (p : List Element). PutsEvents sink b next c left (map Turn (opens p (drop (length p) to))) to) path rest
@@ -254,18 +261,19 @@ pub place_shown : {K : Type 0} (sink : Ghosts K) (a b c : K) (html next left : H
     Glyph) →
     PutsEvents sink a html b next (turns same html.path to) to → Prints sink b next.page c left.page (printed
     (glyph_tokens
-    next.half g)) → left.path ≡ next.path → left.half ≡ glyph_half next.half g → PutsPlaces sink a html c left
+    next.half g)) → left.path ≡ next.path → left.half ≡ glyph_half next.half g → left.document.now ≡ next.document.now →
+    PutsPlaces sink a html c left
     (place_of to
     (Some g))
-place_shown sink a b c html next left to g puts prints path half =
+place_shown sink a b c html next left to g puts prints path half document =
     let event : Event Element Glyph = Leaf to g in
     let shown : PutsEvents sink b next c left (event ∷ []) to =
-    one_event sink b c next left event to prints half (path ∙ puts.path) in
+    one_event sink b c next left event to prints half (path ∙ puts.path) document in
     events_then sink a b c html next left (turns same html.path to) (event ∷ []) to to puts shown
 
 -- places one after another
 pub places_none : {K : Type 0} (sink : Ghosts K) (at : K) (html : HtmlPage) → PutsPlaces sink at html at html []
-places_none sink at html = none_put sink at html html refl refl
+places_none sink at html = none_put sink at html html refl refl refl
 
 pub places_then : {K : Type 0} (sink : Ghosts K) (a b c : K) (p q r : HtmlPage) (xs ys : Places) → PutsPlaces sink a p
     b q xs →
@@ -346,6 +354,26 @@ both_second : (a b : Bool) → (a && b) ≡ true → b ≡ true
 both_second true b e = e
 both_second false b e = absurd (cc (e))
 
+both : (a b : Bool) → a ≡ true → b ≡ true → (a && b) ≡ true
+both true b one other = other
+both false b one other = absurd (cc (one))
+
+all-drop : (p : ℕ → Bool) (count : ℕ) (text : List ℕ) → list_all p text ≡ true → list_all p (drop count text) ≡ true
+all-drop p zero text is = is
+all-drop p (suc count) [] is = refl
+all-drop p (suc count) (code ∷ text) is = all-drop p count text (both_second (p code) (list_all p text) is)
+
+all-take : (p : ℕ → Bool) (count : ℕ) (text : List ℕ) → list_all p text ≡ true → list_all p (take count text) ≡ true
+all-take p zero text is = refl
+all-take p (suc count) [] is = refl
+all-take p (suc count) (code ∷ text) is =
+    both (p code) (list_all p (take count text)) (both_first (p code) (list_all p text) is) (all-take p count text
+    (both_second (p code) (list_all p text) is))
+
+pub all-slice : (p : ℕ → Bool) (text : List ℕ) (from to : ℕ) → list_all p text ≡ true → list_all p (slice_range text
+    from to) ≡ true
+all-slice p text from to is = all-take p (to - from) (drop from text) (all-drop p from text is)
+
 abbrev is_ascii : ℕ → Bool
 is_ascii code = nat_lt code 128
 
@@ -353,6 +381,9 @@ pub ascii_all : (text : List ℕ) → list_all is_ascii text ≡ true → IsAsci
 ascii_all [] is i = omega arith
 ascii_all (code ∷ text) is zero = ltb-true code 128 (both_first (is_ascii code) (list_all is_ascii text) is)
 ascii_all (code ∷ text) is (suc i) = ascii_all text (both_second (is_ascii code) (list_all is_ascii text) is) i
+
+pub ascii_slice : (text : List ℕ) (from to : ℕ) → list_all is_ascii text ≡ true → IsAscii (slice_range text from to)
+ascii_slice text from to is = ascii_all (slice_range text from to) (all-slice is_ascii text from to is)
 
 -- ---- digits stand for themselves
 
@@ -388,10 +419,6 @@ printed-plain (code ∷ text) is =
 
 digit_is_plain : (d : ℕ) → is_plain (digit_glyph false d) ≡ true
 digit_is_plain d = grind (arith, nat_tests)
-
-both : (a b : Bool) → a ≡ true → b ≡ true → (a && b) ≡ true
-both true b one other = other
-both false b one other = absurd (cc (one))
 
 plain-digits_onto : (k n : ℕ) (acc : List ℕ) → list_all is_plain acc ≡ true → list_all is_plain (digits_onto k 10
     false n acc) ≡
@@ -461,3 +488,9 @@ unit_glyph_half half PageBreak unit is = absurd (cc (is))
 unit_glyph_half half (NoteMark number) unit is = absurd (cc (is))
 unit_glyph_half half Picture unit is = absurd (cc (is))
 unit_glyph_half half Object unit is = absurd (cc (is))
+
+-- ---- values of attributes
+
+pub printed-characters : (text : List ℕ) → printed (characters text) ≡ escaped_text text
+printed-characters [] = refl
+printed-characters (code ∷ text) = ap (λ (more : List ℕ). escaped code ++ more) (printed-characters text)

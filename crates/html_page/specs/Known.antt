@@ -2,8 +2,11 @@
 use Rattle.std.specs.Prelude.{◌≡◌, ℕ, List, [], ◌∷◌, ◌++◌, codes, slice_get, Some, ⊤, ◌⊎◌}
 use Rattle.std.specs.Fmt.{decimal}
 use Rattle.std.specs.List.{All}
-use Rattle.html_text.specs.Tokens.{Token, Character, Tag}
+use Rattle.html_text.specs.Tokens.{Token, Character, Tag, escaped_text}
+use Rattle.field_links.specs.Urls.{anchor_name}
+use Rattle.field_links.specs.Laws.{IsSchemeUrl, IsLocalUrl}
 use Rattle.html_page.specs.Tags.{attribute, start_text}
+use Rattle.html_page.specs.Languages.{language_code}
 
 -- the names of elements
 abbrev pub known_names : List (List ℕ)
@@ -15,7 +18,7 @@ known_names =
     ∷ codes "h6" ∷ codes "span" ∷ codes "a" ∷ codes "b" ∷ codes "i" ∷ codes "u" ∷ codes "s" ∷ codes "sup" ∷ codes "sub"
     ∷ codes "br" ∷ []
 
--- the attributes of elements, some with a number
+-- the attributes of elements, some with a number, but those of links and bookmarks
 abbrev pub known_attributes : ℕ → List (List ℕ)
 known_attributes number =
     codes "html"
@@ -42,13 +45,28 @@ known_attributes number =
     ∷ attribute (codes "aria-label") (codes "picture")
     ∷ attribute (codes "aria-label") (codes "object")
     ∷ attribute (codes "style") (codes "break-after:page")
+    ∷ attribute (codes "lang") (language_code number)
     ∷ []
 
 abbrev pub IsKnownName : List ℕ → Type 0
 IsKnownName name = (i : ℕ) × (slice_get known_names i ≡ Some name)
 
+abbrev pub IsListedAttribute : List ℕ → Type 0
+IsListedAttribute text = (number : ℕ) × ((i : ℕ) × (slice_get (known_attributes number) i ≡ Some text))
+
+-- the attribute of a link: its URL has one of five schemes, or leads to a bookmark
+pub record IsLinkAttribute (text : List ℕ) : Type 0 where
+  pub url : List ℕ
+  pub allowed : IsSchemeUrl url ⊎ IsLocalUrl url
+  pub value : text ≡ attribute (codes "href") (escaped_text url)
+
+-- the attribute of the beginning of a bookmark
+pub record IsAnchorAttribute (text : List ℕ) : Type 0 where
+  pub name : List ℕ
+  pub value : text ≡ attribute (codes "id") (escaped_text (anchor_name name))
+
 abbrev pub IsKnownAttribute : List ℕ → Type 0
-IsKnownAttribute text = (number : ℕ) × ((i : ℕ) × (slice_get (known_attributes number) i ≡ Some text))
+IsKnownAttribute text = IsListedAttribute text ⊎ (IsLinkAttribute text ⊎ IsAnchorAttribute text)
 
 -- a start tag of these
 pub record IsKnownStart (inner : List ℕ) : Type 0 where

@@ -1,19 +1,22 @@
 -- What the definitions imply.
-use Rattle.std.specs.Prelude.{◌≡◌, ℕ, List, []}
+use Rattle.std.specs.Prelude.{◌≡◌, []}
 use Rattle.std.specs.List.{All}
 use Rattle.html_text.specs.Reading.{read}
-use Rattle.html_page.specs.Pages.{Places, page_tokens, page_text}
+use Rattle.plain_doc.specs.declared.document.Document.{Document}
+use Rattle.html_page.specs.Pages.{Head, Places, page_tokens, page_text}
 use Rattle.html_page.specs.Known.{IsKnown}
 use Rattle.html_page.specs.Brackets.{AreBrackets}
 
 -- a page is read as the characters and tags that it was printed of
 abbrev pub PagesAreReadBack : Type 0
-PagesAreReadBack = (title : List ℕ) (places : Places) → read (page_text title places) ≡ page_tokens title places
+PagesAreReadBack =
+    (document : Document) (head : Head) (places : Places) →
+    read (page_text document head places) ≡ page_tokens document head places
 
--- each tag that is read of a page is one of a closed list
+-- each tag that is read of a page is one of a closed list, in which links lead to allowed URLs alone
 abbrev pub TagsAreKnown : Type 0
-TagsAreKnown = (title : List ℕ) (places : Places) → All IsKnown (read (page_text title places))
+TagsAreKnown = (document : Document) (head : Head) (places : Places) → All IsKnown (read (page_text document head places))
 
 -- the tags that are read of a page nest, and at its end nothing is open
 abbrev pub PagesNest : Type 0
-PagesNest = (title : List ℕ) (places : Places) → AreBrackets [] (read (page_text title places)) []
+PagesNest = (document : Document) (head : Head) (places : Places) → AreBrackets [] (read (page_text document head places)) []

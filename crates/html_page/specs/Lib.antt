@@ -1,6 +1,6 @@
+pub mod Links
 pub mod Tags
-pub mod Units
-pub mod Glyphs
+pub mod Languages
 pub mod Pages
 pub mod Known
 pub mod Brackets

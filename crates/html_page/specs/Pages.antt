@@ -1,6 +1,7 @@
 -- The tokens of a page: what its events open, close and show.
 use Rattle.std.specs.Prelude.{ℕ, List, [], ◌∷◌, ◌++◌, map, codes, Option, None, Some, if◌then◌else◌}
 use Rattle.std.specs.Fmt.{decimal}
+use Rattle.plain_doc.specs.declared.document.Document.{Document}
 use Rattle.html_text.specs.Tokens.{Token, Character, Tag, printed}
 use Rattle.view_paths.specs.Paths.{Place}
 use Rattle.view_paths.specs.Events.{Event, Turn, Leaf, Open, Close, events_from}
@@ -11,7 +12,8 @@ use Rattle.view_places.specs.declared.glyph.Glyph.TheVariants.{Unit, Tab, LineBr
 use Rattle.view_places.specs.declared.glyph.Glyph.TheVariants.{Object}
 use Rattle.view_places.specs.Same.{same}
 use Rattle.html_page.specs.Tags.{name_of, attributes_of, attribute, start_text, ends_line}
-use Rattle.html_page.specs.Units.{half_text, unit_text, unit_half}
+use Rattle.html_page.specs.Languages.{language_attributes}
+use Rattle.glyph_units.specs.Units.{half_text, unit_text, unit_half}
 
 abbrev pub Places : Type 0
 Places = List (Place Element Glyph)
@@ -30,15 +32,15 @@ abbrev pub end : List ℕ → Token
 end name = Tag (47 ∷ name)
 
 -- an element is opened or closed
-abbrev pub open_tokens : Element → List Token
-open_tokens element = start (name_of element) (attributes_of element) ∷ []
+abbrev pub open_tokens : Document → Element → List Token
+open_tokens document element = start (name_of element) (attributes_of document element) ∷ []
 
 abbrev pub close_tokens : Element → List Token
 close_tokens element = end (name_of element) ∷ (if ends_line element then Character 10 ∷ [] else [])
 
-abbrev pub tag_tokens : PathTag Element → List Token
-tag_tokens (Open path element) = open_tokens element
-tag_tokens (Close path element) = close_tokens element
+abbrev pub tag_tokens : Document → PathTag Element → List Token
+tag_tokens document (Open path element) = open_tokens document element
+tag_tokens document (Close path element) = close_tokens element
 
 -- an image that is not shown, by what it is called
 abbrev pub image : List ℕ → List Token
@@ -76,18 +78,19 @@ glyph_half half (NoteMark number) = None
 glyph_half half Picture = None
 glyph_half half Object = None
 
-abbrev pub event_tokens : Option ℕ → Event Element Glyph → List Token
-event_tokens half (Turn tag) = characters (half_text half) ++ tag_tokens tag
-event_tokens half (Leaf path glyph) = glyph_tokens half glyph
+abbrev pub event_tokens : Document → Option ℕ → Event Element Glyph → List Token
+event_tokens document half (Turn tag) = characters (half_text half) ++ tag_tokens document tag
+event_tokens document half (Leaf path glyph) = glyph_tokens half glyph
 
 abbrev pub event_half : Option ℕ → Event Element Glyph → Option ℕ
 event_half half (Turn tag) = None
 event_half half (Leaf path glyph) = glyph_half half glyph
 
 -- events where a half waits or none: so the halves of a character are one where nothing stands between them
-unfoldable pub tokens_of : Option ℕ → Events → List Token
-tokens_of half [] = []
-tokens_of half (event ∷ events) = event_tokens half event ++ tokens_of (event_half half event) events
+unfoldable pub tokens_of : Document → Option ℕ → Events → List Token
+tokens_of document half [] = []
+tokens_of document half (event ∷ events) =
+    event_tokens document half event ++ tokens_of document (event_half half event) events
 
 -- what waits behind them
 unfoldable pub half_of : Option ℕ → Events → Option ℕ
@@ -95,9 +98,10 @@ half_of half [] = half
 half_of half (event ∷ events) = half_of (event_half half event) events
 
 -- the text of places, from the first to the end of the last
-abbrev pub body_tokens : Places → List Token
-body_tokens places =
-    let events = events_from same [] places in tokens_of None events ++ characters (half_text (half_of None events))
+abbrev pub body_tokens : Document → Places → List Token
+body_tokens document places =
+    let events = events_from same [] places in
+    tokens_of document None events ++ characters (half_text (half_of None events))
 
 -- how a page looks
 abbrev pub style_text : List ℕ
@@ -106,14 +110,15 @@ style_text =
     ++ (codes "td p,th p{margin:0}table{border-collapse:collapse}"
     ++ codes "td,th{border:1px solid;padding:.2em;vertical-align:top}")
 
+-- what is said of a page: its language, by [MS-LCID], and its title
+pub record Head : Type 0 where
+  pub language : Option ℕ
+  pub title : List ℕ
+
 -- what stands before the title
-abbrev pub front_tokens : List Token
-front_tokens =
-    start (codes "!DOCTYPE") (codes "html" ∷ [])
-    ∷ Character 10
-    ∷ start (codes "html") []
-    ∷ Character 10
-    ∷ start (codes "head") []
+abbrev pub meta_tokens : List Token
+meta_tokens =
+    start (codes "head") []
     ∷ Character 10
     ∷ start (codes "meta") (attribute (codes "charset") (codes "utf-8") ∷ [])
     ∷ Character 10
@@ -122,6 +127,14 @@ front_tokens =
     ∷ Character 10
     ∷ start (codes "title") []
     ∷ []
+
+abbrev pub front_tokens : Option ℕ → List Token
+front_tokens language =
+    start (codes "!DOCTYPE") (codes "html" ∷ [])
+    ∷ Character 10
+    ∷ start (codes "html") (language_attributes language)
+    ∷ Character 10
+    ∷ meta_tokens
 
 -- between the title and the text
 abbrev pub style_tokens : List Token
@@ -142,11 +155,12 @@ style_tokens =
 abbrev pub back_tokens : List Token
 back_tokens = end (codes "body") ∷ Character 10 ∷ end (codes "html") ∷ Character 10 ∷ []
 
--- a page, by its title and the places of its text
-abbrev pub page_tokens : List ℕ → Places → List Token
-page_tokens title places =
-    front_tokens ++ (characters title ++ (style_tokens ++ (body_tokens places ++ back_tokens)))
+-- a page of a document, by its head and the places of its text
+abbrev pub page_tokens : Document → Head → Places → List Token
+page_tokens document head places =
+    front_tokens head.language
+    ++ (characters head.title ++ (style_tokens ++ (body_tokens document places ++ back_tokens)))
 
 -- the characters of a page
-abbrev pub page_text : List ℕ → Places → List ℕ
-page_text title places = printed (page_tokens title places)
+abbrev pub page_text : Document → Head → Places → List ℕ
+page_text document head places = printed (page_tokens document head places)

@@ -14,9 +14,10 @@ use Rattle.html_page.specs.Pages.{Events, Places, tokens_of, half_of}
 -- events were printed; then this path is open
 pub record PutsEvents {K : Type 0} (sink : Ghosts K) (before : K) (html : HtmlPage) (after : K) (left : HtmlPage)
     (events : Events) (to : List Element) : Type 0 where
-  pub prints : Prints sink before html.page after left.page (printed (tokens_of html.half events))
+  pub prints : Prints sink before html.page after left.page (printed (tokens_of html.document.now html.half events))
   pub half : left.half ≡ half_of html.half events
   pub path : left.path ≡ to
+  pub document : left.document.now ≡ html.document.now
 
 -- places were printed, the last of which stays open
 abbrev pub PutsPlaces : {K : Type 0} → Ghosts K → K → HtmlPage → K → HtmlPage → Places → Type 0

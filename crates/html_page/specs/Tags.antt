@@ -1,13 +1,19 @@
--- The tags of elements: a name, and attributes, each after a space. Their values are of this file, with the number of a note.
+-- The tags of elements: a name, and attributes, each after a space. Their values are of this file, with the number of a note,
+-- the URL of a link or the name of a bookmark.
 use Rattle.std.specs.Prelude.{ℕ, ◌==◌, nat_le, Bool, true, false, List, [], ◌∷◌, ◌++◌, codes, if◌then◌else◌}
+use Rattle.std.specs.Prelude.{Option, None, Some}
 use Rattle.std.specs.Fmt.{decimal}
 use Rattle.std.specs.List.{flat_map}
+use Rattle.html_text.specs.Tokens.{escaped_text}
+use Rattle.plain_doc.specs.declared.document.Document.{Document}
+use Rattle.field_links.specs.Urls.{anchor_name}
 use Rattle.view_places.specs.declared.element.Element.{Element}
 use Rattle.view_places.specs.declared.element.Element.TheVariants.{Notes, Note, Table, TableHead, TableBody, Row, Cell}
 use Rattle.view_places.specs.declared.element.Element.TheVariants.{HeadCell, List as AList, Item, Paragraph, Label}
 use Rattle.view_places.specs.declared.element.Element.TheVariants.{Reference, BackLink, Bold, Italic, Underline, Strike}
-use Rattle.view_places.specs.declared.element.Element.TheVariants.{SmallCaps, Caps, Raised, Lowered}
+use Rattle.view_places.specs.declared.element.Element.TheVariants.{SmallCaps, Caps, Raised, Lowered, Link, Anchor}
 use Rattle.view_places.specs.declared.element.Paragraph.{Paragraph as ParagraphForm}
+use Rattle.html_page.specs.Links.{bookmark_name, instruction_of, url_in}
 
 -- a heading below the sixth level is one of the sixth, and says its level
 abbrev pub paragraph_name : ℕ → List ℕ
@@ -42,6 +48,8 @@ name_of SmallCaps = codes "span"
 name_of Caps = codes "span"
 name_of Raised = codes "sup"
 name_of Lowered = codes "sub"
+name_of (Link link) = codes "a"
+name_of (Anchor number) = codes "span"
 
 -- a name, and what stands between quotes behind it
 abbrev pub attribute : List ℕ → List ℕ → List ℕ
@@ -57,35 +65,54 @@ paragraph_attributes paragraph =
     ++ (optional paragraph.right_to_left (attribute (codes "dir") (codes "rtl"))
     ++ optional paragraph.breaks_page (attribute (codes "style") (codes "break-before:page")))
 
-abbrev pub attributes_of : Element → List (List ℕ)
-attributes_of Notes = attribute (codes "aria-label") (codes "notes") ∷ []
-attributes_of (Note number) =
+-- a link, where it leads somewhere
+abbrev pub link_attributes : Option (List ℕ) → List (List ℕ)
+link_attributes None = []
+link_attributes (Some url) = attribute (codes "href") (escaped_text url) ∷ []
+
+-- what the links to a bookmark lead to
+abbrev pub anchor_attributes : Option (List ℕ) → List (List ℕ)
+anchor_attributes None = []
+anchor_attributes (Some name) = attribute (codes "id") (escaped_text (anchor_name name)) ∷ []
+
+-- the attributes of elements that say nothing of a document but numbers
+abbrev pub plain_attributes : Element → List (List ℕ)
+plain_attributes Notes = attribute (codes "aria-label") (codes "notes") ∷ []
+plain_attributes (Note number) =
     attribute (codes "id") (codes "fn-" ++ decimal number) ∷ attribute (codes "role") (codes "doc-footnote") ∷ []
-attributes_of (Table first) = []
-attributes_of TableHead = []
-attributes_of TableBody = []
-attributes_of (Row first) = []
-attributes_of (Cell number) = []
-attributes_of (HeadCell number) = attribute (codes "scope") (codes "col") ∷ []
-attributes_of (AList list) = optional list.is_ordered (attribute (codes "style") (codes "list-style:none"))
-attributes_of (Item number) = []
-attributes_of (Paragraph paragraph) = paragraph_attributes paragraph
-attributes_of Label = attribute (codes "class") (codes "n") ∷ []
-attributes_of (Reference number) =
+plain_attributes (Table first) = []
+plain_attributes TableHead = []
+plain_attributes TableBody = []
+plain_attributes (Row first) = []
+plain_attributes (Cell number) = []
+plain_attributes (HeadCell number) = attribute (codes "scope") (codes "col") ∷ []
+plain_attributes (AList list) = optional list.is_ordered (attribute (codes "style") (codes "list-style:none"))
+plain_attributes (Item number) = []
+plain_attributes (Paragraph paragraph) = paragraph_attributes paragraph
+plain_attributes Label = attribute (codes "class") (codes "n") ∷ []
+plain_attributes (Reference number) =
     attribute (codes "id") (codes "fnref-" ++ decimal number)
     ∷ attribute (codes "href") (codes "#fn-" ++ decimal number)
     ∷ attribute (codes "role") (codes "doc-noteref")
     ∷ []
-attributes_of (BackLink number) =
+plain_attributes (BackLink number) =
     attribute (codes "href") (codes "#fnref-" ++ decimal number) ∷ attribute (codes "role") (codes "doc-backlink") ∷ []
-attributes_of Bold = []
-attributes_of Italic = []
-attributes_of Underline = []
-attributes_of Strike = []
-attributes_of SmallCaps = attribute (codes "style") (codes "font-variant:small-caps") ∷ []
-attributes_of Caps = attribute (codes "style") (codes "text-transform:uppercase") ∷ []
-attributes_of Raised = []
-attributes_of Lowered = []
+plain_attributes Bold = []
+plain_attributes Italic = []
+plain_attributes Underline = []
+plain_attributes Strike = []
+plain_attributes SmallCaps = attribute (codes "style") (codes "font-variant:small-caps") ∷ []
+plain_attributes Caps = attribute (codes "style") (codes "text-transform:uppercase") ∷ []
+plain_attributes Raised = []
+plain_attributes Lowered = []
+plain_attributes (Link link) = []
+plain_attributes (Anchor number) = []
+
+-- the attributes of an element of a page of the document
+abbrev pub attributes_of : Document → Element → List (List ℕ)
+attributes_of document (Link link) = link_attributes (url_in (instruction_of document link))
+attributes_of document (Anchor number) = anchor_attributes (bookmark_name document number)
+attributes_of document element = plain_attributes element
 
 -- attributes as they are written
 abbrev pub attributes_text : List (List ℕ) → List ℕ
@@ -119,3 +146,5 @@ ends_line SmallCaps = false
 ends_line Caps = false
 ends_line Raised = false
 ends_line Lowered = false
+ends_line (Link link) = false
+ends_line (Anchor number) = false

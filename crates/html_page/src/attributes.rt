@@ -1,19 +1,30 @@
 // The attributes of elements, as they are printed.
-ghost use Rattle.std.specs.Prelude.{◌++◌, [], ◌∷◌, codes, nat_le, if◌then◌else◌};
+ghost use Rattle.std.specs.Prelude.{◌++◌, [], ◌∷◌, codes, nat_le, if◌then◌else◌, option_map, Some};
 ghost use Rattle.std.specs.Fmt.{decimal};
 ghost use Rattle.std.specs.Str.{IsAscii};
 ghost use Rattle.view_places.specs.declared.element.Element.TheVariants.{Note, Reference, BackLink, SmallCaps, Caps};
 ghost use Rattle.view_places.specs.declared.element.Element.TheVariants.{List as ListElement};
-ghost use Rattle.html_page.specs.Tags.{attribute, attributes_of, attributes_text, paragraph_attributes};
+ghost use Rattle.html_page.specs.Tags.{anchor_attributes, attribute, attributes_of, attributes_text, link_attributes};
+ghost use Rattle.html_page.specs.Tags.{paragraph_attributes, plain_attributes};
+ghost use Rattle.html_text.specs.Tokens.{escaped_text};
 ghost use Rattle.page_out.specs.Printed.{Prints};
 
+use crate::links::{bookmark_name, instruction_of, url_in};
+use crate::tokens::push_character;
+use doc_columns::ColumnDocument;
 use doc_outer::Sink;
+use field_links::{LinkText, anchor_of};
 use page_out::Page;
 use view_places::{Element, List, Paragraph};
 
-/// Puts the attributes of an element, each after a space.
-pub(crate) fn push_attributes<K: Sink>(page: &mut Page, out: &mut K, element: Element)
-    ensures { Prints K.Sink out.old page.old out.new page.new (attributes_text (attributes_of element)) }
+/// Puts the attributes of an element of a page of the document, each after a space.
+pub(crate) fn push_attributes<K: Sink>(
+    page: &mut Page,
+    out: &mut K,
+    document: &ColumnDocument,
+    element: Element,
+)
+    ensures { Prints K.Sink out.old page.old out.new page.new (attributes_text (attributes_of document.now element)) }
 {
     match element {
         Element::Notes => page.push_ascii(out, b" aria-label=\"notes\""),
@@ -26,6 +37,8 @@ pub(crate) fn push_attributes<K: Sink>(page: &mut Page, out: &mut K, element: El
         Element::BackLink(number) => push_back_link(page, out, number),
         Element::SmallCaps => push_small_caps(page, out),
         Element::Caps => push_caps(page, out),
+        Element::Link(link) => push_link(page, out, url_in(instruction_of(document, link))),
+        Element::Anchor(number) => push_anchor(page, out, bookmark_name(document, number)),
         Element::Table(_)
         | Element::TableHead
         | Element::TableBody
@@ -41,23 +54,71 @@ pub(crate) fn push_attributes<K: Sink>(page: &mut Page, out: &mut K, element: El
     }
 }
 
+/// Puts those of a link that leads somewhere.
+fn push_link<K: Sink>(page: &mut Page, out: &mut K, url: Option<LinkText<'_>>)
+    ensures { Prints K.Sink out.old page.old out.new page.new (attributes_text (link_attributes url.entry)) }
+{
+    if let Some(url) = url {
+        push_href(page, out, url);
+    }
+}
+
+/// Puts the URL of a link.
+fn push_href<K: Sink>(page: &mut Page, out: &mut K, url: LinkText<'_>)
+    ensures { Prints K.Sink out.old page.old out.new page.new (attributes_text (link_attributes (Some url.entry))) }
+{
+    page.push_ascii(out, b" href=\"");
+    push_value(page, out, url);
+    page.push_ascii(out, b"\"");
+}
+
+/// Puts those of the beginning of a bookmark of this name.
+fn push_anchor<K: Sink>(page: &mut Page, out: &mut K, name: Option<&[u16]>)
+    ensures { Prints K.Sink out.old page.old out.new page.new
+        (attributes_text (anchor_attributes (option_map (λ n. n.now) name.entry))) }
+{
+    if let Some(name) = name {
+        push_id(page, out, anchor_of(name));
+    }
+}
+
+/// Puts the name of an anchor.
+fn push_id<K: Sink>(page: &mut Page, out: &mut K, anchor: LinkText<'_>)
+    ensures { Prints K.Sink out.old page.old out.new page.new
+        (attributes_text (attribute (codes "id") (escaped_text anchor.entry) ∷ [])) }
+{
+    page.push_ascii(out, b" id=\"");
+    push_value(page, out, anchor);
+    page.push_ascii(out, b"\"");
+}
+
+/// Puts the characters of a value.
+fn push_value<K: Sink>(page: &mut Page, out: &mut K, text: LinkText<'_>)
+    ensures { Prints K.Sink out.old page.old out.new page.new (escaped_text text.entry) }
+{
+    let mut left = text;
+    while let Some(character) = left.next_char() {
+        push_character(page, out, character as u32);
+    }
+}
+
 /// Puts those of small capitals.
 fn push_small_caps<K: Sink>(page: &mut Page, out: &mut K)
-    ensures { Prints K.Sink out.old page.old out.new page.new (attributes_text (attributes_of SmallCaps)) }
+    ensures { Prints K.Sink out.old page.old out.new page.new (attributes_text (plain_attributes SmallCaps)) }
 {
     page.push_ascii(out, b" style=\"font-variant:small-caps\"");
 }
 
 /// Puts those of capitals.
 fn push_caps<K: Sink>(page: &mut Page, out: &mut K)
-    ensures { Prints K.Sink out.old page.old out.new page.new (attributes_text (attributes_of Caps)) }
+    ensures { Prints K.Sink out.old page.old out.new page.new (attributes_text (plain_attributes Caps)) }
 {
     page.push_ascii(out, b" style=\"text-transform:uppercase\"");
 }
 
 /// Puts those of a note.
 fn push_note<K: Sink>(page: &mut Page, out: &mut K, number: usize)
-    ensures { Prints K.Sink out.old page.old out.new page.new (attributes_text (attributes_of (Note number))) }
+    ensures { Prints K.Sink out.old page.old out.new page.new (attributes_text (plain_attributes (Note number))) }
 {
     push_numbered(page, out, b" id=\"fn-", number);
     page.push_ascii(out, b"\" role=\"doc-footnote\"");
@@ -65,7 +126,7 @@ fn push_note<K: Sink>(page: &mut Page, out: &mut K, number: usize)
 
 /// Puts those of a list.
 fn push_list<K: Sink>(page: &mut Page, out: &mut K, list: List)
-    ensures { Prints K.Sink out.old page.old out.new page.new (attributes_text (attributes_of (ListElement list))) }
+    ensures { Prints K.Sink out.old page.old out.new page.new (attributes_text (plain_attributes (ListElement list))) }
 {
     push_where(page, out, list.is_ordered, b" style=\"list-style:none\"");
 }
@@ -114,7 +175,7 @@ fn push_where<K: Sink>(page: &mut Page, out: &mut K, there: bool, text: &[u8])
 
 /// Puts those of a reference to a note.
 fn push_reference<K: Sink>(page: &mut Page, out: &mut K, number: usize)
-    ensures { Prints K.Sink out.old page.old out.new page.new (attributes_text (attributes_of (Reference number))) }
+    ensures { Prints K.Sink out.old page.old out.new page.new (attributes_text (plain_attributes (Reference number))) }
 {
     push_numbered(page, out, b" id=\"fnref-", number);
     push_numbered(page, out, b"\" href=\"#fn-", number);
@@ -123,7 +184,7 @@ fn push_reference<K: Sink>(page: &mut Page, out: &mut K, number: usize)
 
 /// Puts those of the way back from a note.
 fn push_back_link<K: Sink>(page: &mut Page, out: &mut K, number: usize)
-    ensures { Prints K.Sink out.old page.old out.new page.new (attributes_text (attributes_of (BackLink number))) }
+    ensures { Prints K.Sink out.old page.old out.new page.new (attributes_text (plain_attributes (BackLink number))) }
 {
     push_numbered(page, out, b" href=\"#fnref-", number);
     page.push_ascii(out, b"\" role=\"doc-backlink\"");

@@ -33,6 +33,8 @@ pub(crate) fn name_of(element: Element) -> &'static [u8]
         Element::Caps => b"span",
         Element::Raised => b"sup",
         Element::Lowered => b"sub",
+        Element::Link(_) => b"a",
+        Element::Anchor(_) => b"span",
     }
 }
 
@@ -86,6 +88,8 @@ pub(crate) fn ends_line(element: Element) -> bool
         | Element::SmallCaps
         | Element::Caps
         | Element::Raised
-        | Element::Lowered => false,
+        | Element::Lowered
+        | Element::Link(_)
+        | Element::Anchor(_) => false,
     }
 }

@@ -12,14 +12,14 @@ ghost use Rattle.view_places.specs.Same.{same};
 ghost use Rattle.html_page.specs.Pages.{back_tokens, characters, close_tokens, front_tokens, glyph_half, glyph_tokens};
 ghost use Rattle.html_page.specs.Pages.{half_of, open_tokens, style_tokens, tokens_of};
 ghost use Rattle.html_page.specs.Printed.{PutsEvents, PutsPlaces};
-ghost use Rattle.html_page.specs.Units.{first_half, first_text, half_text, unit_half, unit_text};
+ghost use Rattle.glyph_units.specs.Units.{first_half, first_text, half_text, unit_half, unit_text};
 
 use crate::tokens::{
-    push_back, push_character, push_close, push_front, push_open, push_other, push_style,
-    push_text, unit_in,
+    push_back, push_character, push_close, push_front, push_open, push_other, push_style, push_text,
 };
-use crate::units::{REPLACEMENT, alone, is_high, pair};
+use doc_columns::ColumnDocument;
 use doc_outer::{OutBlock, Sink, SinkFailed};
+use glyph_units::{REPLACEMENT, alone, is_high, pair, unit_in};
 use page_out::Page;
 use view_paths::Path;
 use view_places::{Element, Glyph};
@@ -27,33 +27,40 @@ use view_places::{Element, Glyph};
 /// A page on its way to a sink: the elements that are open, and the first half of a character that waits for the other
 /// one.
 #[derive(Drop)]
-pub struct HtmlPage {
+pub struct HtmlPage<'a> {
     pub page: Page,
     pub path: Path<Element>,
     pub half: Option<u16>,
+    /// The document that it is a page of.
+    pub document: &'a ColumnDocument,
 }
 
-impl HtmlPage {
-    /// A page of which nothing was put.
-    pub fn new(block: OutBlock) -> HtmlPage
-        ensures { result ≡ record { page = record { block = block; failed = false }; path = []; half = None } }
+impl<'a> HtmlPage<'a> {
+    /// A page of a document of which nothing was put.
+    pub fn new(block: OutBlock, document: &'a ColumnDocument) -> HtmlPage<'a>
+        ensures page { result.page ≡ record { block = block; failed = false } }
+        ensures path { result.path ≡ [] }
+        ensures half { result.half ≡ None }
+        ensures document { result.document.now ≡ document.now }
     {
         HtmlPage {
             page: Page::new(block),
             path: Path::new(Element::Notes),
             half: None,
+            document,
         }
     }
 
-    /// Puts what stands before the text of a page with this title.
-    pub fn begin<K: Sink>(&mut self, out: &mut K, title: &[u32])
+    /// Puts what stands before the text of a page with this language, by its identifier of [MS-LCID], and this title.
+    pub fn begin<K: Sink>(&mut self, out: &mut K, language: Option<u16>, title: &[u32])
         requires { All IsScalar title.now }
         ensures prints { Prints K.Sink out.old self.old.page out.new self.new.page
-            (printed (front_tokens ++ (characters title.now ++ style_tokens))) }
+            (printed (front_tokens language ++ (characters title.now ++ style_tokens))) }
         ensures path { self.new.path ≡ self.old.path }
         ensures half { self.new.half ≡ self.old.half }
+        ensures document { self.new.document.now ≡ self.old.document.now }
     {
-        push_front(&mut self.page, out);
+        push_front(&mut self.page, out, language);
         push_text(&mut self.page, out, title);
         push_style(&mut self.page, out);
     }
@@ -72,7 +79,7 @@ impl HtmlPage {
     /// Closes all that is open, and puts what stands behind the text.
     pub fn end<K: Sink>(&mut self, out: &mut K)
         ensures { Prints K.Sink out.old self.old.page out.new self.new.page
-            (printed (tokens_of self.old.half (turns same self.old.path [])
+            (printed (tokens_of self.old.document.now self.old.half (turns same self.old.path [])
             ++ (characters (half_text (half_of self.old.half (turns same self.old.path []))) ++ back_tokens))) }
     {
         self.go(out, &Path::new(Element::Notes));
@@ -82,10 +89,10 @@ impl HtmlPage {
 
     /// Lets the sink take what waits, and tells whether it failed at any time.
     pub fn finish<K: Sink>(self, out: &mut K) -> Result<(), SinkFailed>
-        ensures right { OnOk result (self.page.failed ≡ false) }
-        ensures ok { OnOk result (Appends (K.written out.old) (K.written out.new) self.page.block) }
-        ensures fails { OnErr result (self.page.failed ≡ false → FailsIn K.Sink out.old self.page out.new []) }
-        ensures stays { OnErr result (self.page.failed ≡ true → K.written out.new ≡ K.written out.old) }
+        ensures right { OnOk result (self.entry.page.failed ≡ false) }
+        ensures ok { OnOk result (Appends (K.written out.old) (K.written out.new) self.entry.page.block) }
+        ensures fails { OnErr result (self.entry.page.failed ≡ false → FailsIn K.Sink out.old self.entry.page out.new []) }
+        ensures stays { OnErr result (self.entry.page.failed ≡ true → K.written out.new ≡ K.written out.old) }
         ensures faults { GoesOn (K.faults out.old) (K.faults out.new) }
     {
         self.page.finish(out)
@@ -135,6 +142,7 @@ impl HtmlPage {
             (printed (characters (half_text self.old.half) ++ close_tokens element)) }
         ensures path { self.new.path ≡ self.old.path }
         ensures half { self.new.half ≡ None }
+        ensures document { self.new.document.now ≡ self.old.document.now }
     {
         self.put_half(out);
         push_close(&mut self.page, out, element);
@@ -143,12 +151,13 @@ impl HtmlPage {
     /// Puts the start of an element.
     fn put_open<K: Sink>(&mut self, out: &mut K, element: Element)
         ensures prints { Prints K.Sink out.old self.old.page out.new self.new.page
-            (printed (characters (half_text self.old.half) ++ open_tokens element)) }
+            (printed (characters (half_text self.old.half) ++ open_tokens self.old.document.now element)) }
         ensures path { self.new.path ≡ self.old.path }
         ensures half { self.new.half ≡ None }
+        ensures document { self.new.document.now ≡ self.old.document.now }
     {
         self.put_half(out);
-        push_open(&mut self.page, out, element);
+        push_open(&mut self.page, out, self.document, element);
     }
 
     /// Puts the half that waits, which no other one follows.
@@ -157,6 +166,7 @@ impl HtmlPage {
             (printed (characters (half_text self.old.half))) }
         ensures path { self.new.path ≡ self.old.path }
         ensures half { self.new.half ≡ None }
+        ensures document { self.new.document.now ≡ self.old.document.now }
     {
         if self.half.is_some() {
             push_character(&mut self.page, out, REPLACEMENT);
@@ -170,6 +180,7 @@ impl HtmlPage {
             (printed (glyph_tokens self.old.half glyph)) }
         ensures path { self.new.path ≡ self.old.path }
         ensures half { self.new.half ≡ glyph_half self.old.half glyph }
+        ensures document { self.new.document.now ≡ self.old.document.now }
     {
         match unit_in(glyph) {
             Some(unit) => self.put_unit(out, unit),
@@ -186,6 +197,7 @@ impl HtmlPage {
             (printed (characters (unit_text self.old.half unit))) }
         ensures path { self.new.path ≡ self.old.path }
         ensures half { self.new.half ≡ unit_half self.old.half unit }
+        ensures document { self.new.document.now ≡ self.old.document.now }
     {
         match self.half {
             None => self.put_first(out, unit),
@@ -199,6 +211,7 @@ impl HtmlPage {
             (printed (characters (first_text unit))) }
         ensures path { self.new.path ≡ self.old.path }
         ensures half { self.new.half ≡ first_half unit }
+        ensures document { self.new.document.now ≡ self.old.document.now }
     {
         if is_high(unit) {
             self.half = Some(unit);
@@ -214,6 +227,7 @@ impl HtmlPage {
             (printed (characters (unit_text (Some first) unit))) }
         ensures path { self.new.path ≡ self.old.path }
         ensures half { self.new.half ≡ unit_half (Some first) unit }
+        ensures document { self.new.document.now ≡ self.old.document.now }
     {
         match pair(first, unit) {
             Some(code) => {

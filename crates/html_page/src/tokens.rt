@@ -6,25 +6,32 @@ ghost use Rattle.std.specs.Str.{IsAscii};
 ghost use Rattle.page_out.specs.Printed.{Prints};
 ghost use Rattle.html_text.specs.Tokens.{printed, Character};
 ghost use Rattle.view_places.specs.declared.glyph.Glyph.TheVariants.{NoteMark, Object, PageBreak, Picture};
-ghost use Rattle.html_page.specs.Glyphs.{unit_in};
 ghost use Rattle.html_page.specs.Pages.{back_tokens, characters, close_tokens, end, front_tokens, open_tokens};
-ghost use Rattle.html_page.specs.Pages.{other_tokens, style_tokens};
+ghost use Rattle.html_page.specs.Pages.{meta_tokens, other_tokens, style_tokens};
 
 use crate::attributes::push_attributes;
+use crate::language::push_language;
 use crate::names::{ends_line, name_of};
+use doc_columns::ColumnDocument;
 use doc_outer::Sink;
 use html_text::reference;
 use page_out::Page;
 use view_places::{Element, Glyph};
 
-/// Puts what stands before the title.
-pub(crate) fn push_front<K: Sink>(page: &mut Page, out: &mut K)
-    ensures { Prints K.Sink out.old page.old out.new page.new (printed front_tokens) }
+/// Puts what stands before the title of a page in a language.
+pub(crate) fn push_front<K: Sink>(page: &mut Page, out: &mut K, language: Option<u16>)
+    ensures { Prints K.Sink out.old page.old out.new page.new (printed (front_tokens language)) }
 {
-    page.push_ascii(
-        out,
-        b"<!DOCTYPE html>\n<html>\n<head>\n<meta charset=\"utf-8\">\n",
-    );
+    page.push_ascii(out, b"<!DOCTYPE html>\n<html");
+    push_language(page, out, language);
+    push_metas(page, out);
+}
+
+/// Puts what stands between the language and the title.
+fn push_metas<K: Sink>(page: &mut Page, out: &mut K)
+    ensures { Prints K.Sink out.old page.old out.new page.new (62 ∷ 10 ∷ printed meta_tokens) }
+{
+    page.push_ascii(out, b">\n<head>\n<meta charset=\"utf-8\">\n");
     page.push_ascii(
         out,
         b"<meta name=\"viewport\" content=\"width=device-width,initial-scale=1\">\n<title>",
@@ -74,13 +81,18 @@ pub(crate) fn push_character<K: Sink>(page: &mut Page, out: &mut K, code: u32)
     }
 }
 
-/// Puts the start of an element.
-pub(crate) fn push_open<K: Sink>(page: &mut Page, out: &mut K, element: Element)
-    ensures { Prints K.Sink out.old page.old out.new page.new (printed (open_tokens element)) }
+/// Puts the start of an element of a page of the document.
+pub(crate) fn push_open<K: Sink>(
+    page: &mut Page,
+    out: &mut K,
+    document: &ColumnDocument,
+    element: Element,
+)
+    ensures { Prints K.Sink out.old page.old out.new page.new (printed (open_tokens document.now element)) }
 {
     page.push_ascii(out, b"<");
     page.push_ascii(out, name_of(element));
-    push_attributes(page, out, element);
+    push_attributes(page, out, document, element);
     page.push_ascii(out, b">");
 }
 
@@ -110,21 +122,6 @@ fn push_end<K: Sink>(page: &mut Page, out: &mut K, name: &[u8])
     page.push_ascii(out, b"</");
     page.push_ascii(out, name);
     page.push_ascii(out, b">");
-}
-
-/// The unit that a glyph is, where it is one.
-pub(crate) fn unit_in(glyph: Glyph) -> Option<u16>
-    ensures { result ≡ unit_in glyph }
-{
-    match glyph {
-        Glyph::Unit(unit) => Some(unit),
-        Glyph::Tab => None,
-        Glyph::LineBreak => None,
-        Glyph::PageBreak => None,
-        Glyph::NoteMark(_) => None,
-        Glyph::Picture => None,
-        Glyph::Object => None,
-    }
 }
 
 /// Puts a glyph that is no unit.

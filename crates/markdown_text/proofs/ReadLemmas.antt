@@ -9,7 +9,7 @@ use Rattle.std.specs.List.{list_all}
 use Rattle.markdown_text.specs.declared.line.LineState.{LineState}
 use Rattle.markdown_text.specs.declared.line.LineState.TheVariants.{Start, Digits, Within, Bracket}
 use Rattle.markdown_text.specs.Lines.{is_special, after_character, after_markup, after_markups, after_tag}
-use Rattle.markdown_text.specs.Tokens.{Token, Character, Markup, Tag, Destination, after_token, are_right}
+use Rattle.markdown_text.specs.Tokens.{Token, Character, Markup, Tag, Destination, after_token, after_tokens, are_right}
 use Rattle.markdown_text.specs.Tokens.{destination_code, destination_text, escaped, escaped_by, is_bracket}
 use Rattle.markdown_text.specs.Tokens.{is_destination_markup, is_right, printed_from, printed_token, reference}
 use Rattle.markdown_text.specs.Reading.{In_text, In_tag, In_destination, all_as_read, as_read, read_from}
@@ -226,14 +226,13 @@ text_back text = read_all Start (map Character text) (text_is_right Start text) 
 
 -- ---- for callers: tokens one behind the other
 
--- where a line is behind tokens
-pub after_tokens : LineState → List Token → LineState
-after_tokens state [] = state
-after_tokens state (token ∷ tokens) = after_tokens (after_token state token) tokens
+pub after_tokens-append : (state : LineState) (one more : List Token) → after_tokens state (one ++ more) ≡
+    after_tokens (after_tokens state one) more
+after_tokens-append state [] more = refl
+after_tokens-append state (token ∷ one) more = after_tokens-append (after_token state token) one more
 
 pub printed_from-append : (state : LineState) (one more : List Token) → printed_from state (one ++ more) ≡
     printed_from state one ++ printed_from (after_tokens state one) more
-unfolding after_tokens
 printed_from-append state [] more = refl
 printed_from-append state (token ∷ one) more =
     ap (λ text. printed_token state token ++ text) (printed_from-append (after_token state token) one more)
@@ -242,7 +241,6 @@ printed_from-append state (token ∷ one) more =
 
 pub are_right-append : (state : LineState) (one more : List Token) → are_right state (one ++ more) ≡
     (are_right state one && are_right (after_tokens state one) more)
-unfolding after_tokens
 are_right-append state [] more = refl
 are_right-append state (token ∷ one) more =
     elim (is_right state token) as (λ b. (b && are_right (after_token state token) (one ++ more)) ≡ ((b && are_right
@@ -258,7 +256,6 @@ printed_from-markup state (code ∷ text) = ap (λ more. code ∷ more) (printed
 
 pub after_tokens-markup : (state : LineState) (text : List ℕ) → after_tokens state (map Markup text) ≡ after_markups state
     text
-unfolding after_tokens
 after_tokens-markup state [] = refl
 after_tokens-markup state (code ∷ text) = after_tokens-markup (after_markup state code) text
 

@@ -62,6 +62,11 @@ after_token state (Markup code) = after_markup state code
 after_token state (Tag inner) = after_tag state
 after_token state (Destination url) = Within
 
+-- where it is behind tokens
+abbrev pub after_tokens : LineState → List Token → LineState
+after_tokens state [] = state
+after_tokens state (token ∷ tokens) = after_tokens (after_token state token) tokens
+
 -- the characters of tokens, and of a page
 abbrev pub printed_from : LineState → List Token → List ℕ
 printed_from state [] = []

@@ -1,5 +1,6 @@
 // Where a line is while it is printed, and how characters are spelled there.
-ghost use Rattle.std.specs.Prelude.{◌≡◌, option_map};
+ghost use Rattle.std.specs.Prelude.{◌≡◌, option_map, IfSome};
+ghost use Rattle.std.specs.Str.{IsAscii};
 ghost use Rattle.markdown_text.specs.Lines.{after_character, after_markup, after_markups, after_special, after_tag};
 ghost use Rattle.markdown_text.specs.Lines.{is_always_special, is_special};
 ghost use Rattle.markdown_text.specs.Tokens.{break_reference, is_destination_markup, reference, start_reference};
@@ -21,7 +22,8 @@ impl LineState {
     /// The reference that stands for a character there, in ASCII; none where the character is written, behind a
     /// reverse solidus where it is special.
     pub fn reference(self, code: u32) -> Option<&'static [u8]>
-        ensures { option_map (λ text. text.now) result ≡ reference self code }
+        ensures is { option_map (λ text. text.now) result ≡ reference self code }
+        ensures ascii { IfSome result (λ text. IsAscii text.now) }
     {
         match code {
             0x0A | 0x0D => Some(break_reference(code)),
@@ -32,7 +34,8 @@ impl LineState {
 
     /// The reference of a space or a tab: they are markup where a block may begin.
     fn start_reference(self, code: u32) -> Option<&'static [u8]>
-        ensures { option_map (λ text. text.now) result ≡ start_reference self code }
+        ensures is { option_map (λ text. text.now) result ≡ start_reference self code }
+        ensures ascii { IfSome result (λ text. IsAscii text.now) }
     {
         match self {
             LineState::Start => Some(if code == 0x20 { b"&#32;" } else { b"&#9;" }),
@@ -128,7 +131,8 @@ fn is_always_special(code: u32) -> bool
 
 /// The reference of the end of a line.
 fn break_reference(code: u32) -> &'static [u8]
-    ensures { result.now ≡ break_reference code }
+    ensures is { result.now ≡ break_reference code }
+    ensures ascii { IsAscii result.now }
 {
     if code == 0x0A { b"&#10;" } else { b"&#13;" }
 }

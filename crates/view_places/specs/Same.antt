@@ -5,11 +5,19 @@ use Rattle.view_places.specs.declared.element.Element.{Element}
 use Rattle.view_places.specs.declared.element.Element.TheVariants.{Notes, Note, Table, TableHead, TableBody, Row, Cell}
 use Rattle.view_places.specs.declared.element.Element.TheVariants.{HeadCell, List, Item, Paragraph, Label, Reference}
 use Rattle.view_places.specs.declared.element.Element.TheVariants.{BackLink, Bold, Italic, Underline, Strike, SmallCaps}
-use Rattle.view_places.specs.declared.element.Element.TheVariants.{Caps, Raised, Lowered}
+use Rattle.view_places.specs.declared.element.Element.TheVariants.{Caps, Raised, Lowered, Link, Anchor}
 
 -- an element with a number
 abbrev pub numbered : ℕ → ℕ → Code
-numbered kind number = record { kind = kind; number = number; level = 0; one = false; other = false }
+numbered kind number = record {
+  kind = kind;
+  number = number;
+  begin = 0;
+  end = 0;
+  level = 0;
+  one = false;
+  other = false;
+}
 
 -- an element by numbers
 abbrev pub code_of : Element → Code
@@ -21,11 +29,9 @@ code_of TableBody = numbered 4 0
 code_of (Row first) = numbered 5 first
 code_of (Cell number) = numbered 6 number
 code_of (HeadCell number) = numbered 7 number
-code_of (List list) = record { kind = 8; number = list.first; level = 0; one = list.is_ordered; other = false }
+code_of (List list) = record (numbered 8 list.first) { one = list.is_ordered }
 code_of (Item number) = numbered 9 number
-code_of (Paragraph paragraph) = record {
-  kind = 10;
-  number = paragraph.number;
+code_of (Paragraph paragraph) = record (numbered 10 paragraph.number) {
   level = paragraph.level;
   one = paragraph.right_to_left;
   other = paragraph.breaks_page;
@@ -41,14 +47,16 @@ code_of SmallCaps = numbered 18 0
 code_of Caps = numbered 19 0
 code_of Raised = numbered 20 0
 code_of Lowered = numbered 21 0
+code_of (Link link) = record (numbered 22 link.note) { begin = link.begin; end = link.end }
+code_of (Anchor number) = numbered 23 number
 
 abbrev pub equal : Bool → Bool → Bool
 equal one other = if one then other else not other
 
 abbrev pub same_code : Code → Code → Bool
 same_code one two =
-    one.kind == two.kind && (one.number == two.number && (one.level == two.level
-    && (equal one.one two.one && equal one.other two.other)))
+    one.kind == two.kind && (one.number == two.number && (one.begin == two.begin && (one.end == two.end
+    && (one.level == two.level && (equal one.one two.one && equal one.other two.other)))))
 
 -- elements are the same where their numbers are
 abbrev pub same : Element → Element → Bool

@@ -7,7 +7,7 @@ use Rattle.view_places.specs.declared.element.Element.{Element}
 use Rattle.view_places.specs.declared.element.Element.TheVariants.{Notes, Note, Table, TableHead, TableBody, Row, Cell}
 use Rattle.view_places.specs.declared.element.Element.TheVariants.{HeadCell, List, Item, Paragraph, Label, Reference}
 use Rattle.view_places.specs.declared.element.Element.TheVariants.{BackLink, Bold, Italic, Underline, Strike, SmallCaps}
-use Rattle.view_places.specs.declared.element.Element.TheVariants.{Caps, Raised, Lowered}
+use Rattle.view_places.specs.declared.element.Element.TheVariants.{Caps, Raised, Lowered, Link, Anchor}
 use Rattle.view_places.specs.Same.{code_of, equal, same, same_code}
 
 -- the element that a code is of
@@ -38,7 +38,10 @@ element_of code =
     if code.kind == 17 then Strike else
     if code.kind == 18 then SmallCaps else
     if code.kind == 19 then Caps else
-    if code.kind == 20 then Raised else Lowered
+    if code.kind == 20 then Raised else
+    if code.kind == 21 then Lowered else
+    if code.kind == 22 then Link (record { note = code.number; begin = code.begin; end = code.end }) else
+    Anchor code.number
 
 element_of-code_of : (e : Element) → element_of (code_of e) ≡ e
 element_of-code_of Notes = refl
@@ -63,6 +66,8 @@ element_of-code_of SmallCaps = refl
 element_of-code_of Caps = refl
 element_of-code_of Raised = refl
 element_of-code_of Lowered = refl
+element_of-code_of (Link link) = refl
+element_of-code_of (Anchor number) = refl
 
 both_first : (a b : Bool) → (a && b) ≡ true → a ≡ true
 both_first true b e = refl
@@ -91,32 +96,50 @@ eqb-self n = eq-eqb n n refl
 
 code_is : (one two : Code) → same_code one two ≡ true → one ≡ two
 code_is one two e =
-    let more = one.number == two.number && (one.level == two.level && (equal one.one two.one && equal one.other
-    two.other)) in
     let flags = equal one.one two.one && equal one.other two.other in
-    let rest = both_second (one.kind == two.kind) more e in
-    let rest2 = both_second (one.number == two.number) (one.level == two.level && flags) rest in
-    let rest3 = both_second (one.level == two.level) flags rest2 in
-    let kind : one.kind ≡ two.kind = eqb-true one.kind two.kind (both_first (one.kind == two.kind) more e) in
+    let levels = one.level == two.level && flags in
+    let ends = one.end == two.end && levels in
+    let begins = one.begin == two.begin && ends in
+    let numbers = one.number == two.number && begins in
+    let rest = both_second (one.kind == two.kind) numbers e in
+    let rest2 = both_second (one.number == two.number) begins rest in
+    let rest3 = both_second (one.begin == two.begin) ends rest2 in
+    let rest4 = both_second (one.end == two.end) levels rest3 in
+    let rest5 = both_second (one.level == two.level) flags rest4 in
+    let kind : one.kind ≡ two.kind = eqb-true one.kind two.kind (both_first (one.kind == two.kind) numbers e) in
     let number : one.number ≡ two.number =
-    eqb-true one.number two.number (both_first (one.number == two.number) (one.level == two.level && flags) rest) in
+    eqb-true one.number two.number (both_first (one.number == two.number) begins rest) in
+    let begin : one.begin ≡ two.begin =
+    eqb-true one.begin two.begin (both_first (one.begin == two.begin) ends rest2) in
+    let end : one.end ≡ two.end = eqb-true one.end two.end (both_first (one.end == two.end) levels rest3) in
     let level : one.level ≡ two.level =
-    eqb-true one.level two.level (both_first (one.level == two.level) flags rest2) in
+    eqb-true one.level two.level (both_first (one.level == two.level) flags rest4) in
     let first : one.one ≡ two.one =
-    equal_is one.one two.one (both_first (equal one.one two.one) (equal one.other two.other) rest3) in
+    equal_is one.one two.one (both_first (equal one.one two.one) (equal one.other two.other) rest5) in
     let second : one.other ≡ two.other =
-    equal_is one.other two.other (both_second (equal one.one two.one) (equal one.other two.other) rest3) in
-    λ i. record { kind = kind i; number = number i; level = level i; one = first i; other = second i }
+    equal_is one.other two.other (both_second (equal one.one two.one) (equal one.other two.other) rest5) in
+    λ i. record {
+      kind = kind i;
+      number = number i;
+      begin = begin i;
+      end = end i;
+      level = level i;
+      one = first i;
+      other = second i;
+    }
 
 code_self : (code : Code) → same_code code code ≡ true
 code_self code =
     let flags = equal code.one code.one && equal code.other code.other in
     let level = code.level == code.level && flags in
-    let number = code.number == code.number && level in
-    both (code.kind == code.kind) number (eqb-self code.kind) (both (code.number == code.number) level (eqb-self
+    let end = code.end == code.end && level in
+    let begin = code.begin == code.begin && end in
+    let number = code.number == code.number && begin in
+    both (code.kind == code.kind) number (eqb-self code.kind) (both (code.number == code.number) begin (eqb-self
     code.number)
+    (both (code.begin == code.begin) end (eqb-self code.begin) (both (code.end == code.end) level (eqb-self code.end)
     (both (code.level == code.level) flags (eqb-self code.level) (both (equal code.one code.one) (equal code.other
-    code.other) (equal_self code.one) (equal_self code.other))))
+    code.other) (equal_self code.one) (equal_self code.other))))))
 
 pub same_exact : (one other : Element) → same one other ≡ true ↔ one ≡ other
 same_exact one other = (

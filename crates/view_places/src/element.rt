@@ -1,6 +1,6 @@
 // The elements that the text of a document stands in.
-ghost use Rattle.std.specs.Prelude.{◌≡◌, false};
-ghost use Rattle.view_places.specs.Same.{code_of};
+ghost use Rattle.std.specs.Prelude.{◌≡◌};
+ghost use Rattle.view_places.specs.Same.{code_of, numbered};
 
 /// A list, by the number of its first paragraph.
 #[derive(Clone, Copy)]
@@ -20,6 +20,16 @@ pub struct Paragraph {
     pub right_to_left: bool,
     /// It begins on a page of its own.
     pub breaks_page: bool,
+}
+
+/// A hyperlink, by where the instruction of its field is.
+#[derive(Clone, Copy)]
+pub struct Link {
+    /// The number of the note that it is in, from 1; 0 in the main text.
+    pub note: usize,
+    /// The first place of the instruction, and the one behind it.
+    pub begin: usize,
+    pub end: usize,
 }
 
 /// What text stands in.
@@ -49,6 +59,9 @@ pub enum Element {
     Reference(usize),
     /// The way back from the note with this number.
     BackLink(usize),
+    Link(Link),
+    /// Where the bookmark with this number, from 0, begins.
+    Anchor(usize),
     Bold,
     Italic,
     Underline,
@@ -66,6 +79,8 @@ pub enum Element {
 pub(crate) struct Code {
     pub(crate) kind: u8,
     pub(crate) number: usize,
+    pub(crate) begin: usize,
+    pub(crate) end: usize,
     pub(crate) level: u8,
     pub(crate) one: bool,
     pub(crate) other: bool,
@@ -74,11 +89,13 @@ pub(crate) struct Code {
 impl Code {
     /// That of an element with a number.
     fn of(kind: u8, number: usize) -> Code
-        ensures { result ≡ record { kind = kind; number = number; level = 0; one = false; other = false } }
+        ensures { result ≡ numbered kind number }
     {
         Code {
             kind,
             number,
+            begin: 0,
+            end: 0,
             level: 0,
             one: false,
             other: false,
@@ -103,6 +120,8 @@ impl Element {
             Element::List(list) => Code {
                 kind: 8,
                 number: list.first,
+                begin: 0,
+                end: 0,
                 level: 0,
                 one: list.is_ordered,
                 other: false,
@@ -111,6 +130,8 @@ impl Element {
             Element::Paragraph(paragraph) => Code {
                 kind: 10,
                 number: paragraph.number,
+                begin: 0,
+                end: 0,
                 level: paragraph.level,
                 one: paragraph.right_to_left,
                 other: paragraph.breaks_page,
@@ -126,6 +147,16 @@ impl Element {
             Element::Caps => Code::of(19, 0),
             Element::Raised => Code::of(20, 0),
             Element::Lowered => Code::of(21, 0),
+            Element::Link(link) => Code {
+                kind: 22,
+                number: link.note,
+                begin: link.begin,
+                end: link.end,
+                level: 0,
+                one: false,
+                other: false,
+            },
+            Element::Anchor(number) => Code::of(23, number),
         }
     }
 }
@@ -143,6 +174,8 @@ impl view_paths::Element for Element {
         let two = other.code();
         one.kind == two.kind
             && one.number == two.number
+            && one.begin == two.begin
+            && one.end == two.end
             && one.level == two.level
             && one.one == two.one
             && one.other == two.other

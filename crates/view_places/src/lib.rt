@@ -4,5 +4,5 @@
 mod element;
 mod glyph;
 
-pub use element::{Element, List, Paragraph};
+pub use element::{Element, Link, List, Paragraph};
 pub use glyph::Glyph;

@@ -7,7 +7,7 @@ use Rattle.doc_view.specs.Course.{IsCourse}
 use Rattle.doc_view.proofs.CourseLemmas.{item_course, item_room, item_there, few_numbered, seen_is}
 use Rattle.doc_view.proofs.RangeLemmas.{seen_range}
 use Rattle.doc_places.specs.Places.{count_of}
-use Rattle.doc_html.specs.Writes.{At, IsReading, Writes, at}
+use Rattle.doc_html.specs.Writes.{At, IsReading, Writes, at, links_in}
 use Rattle.doc_html.proofs.WriteLemmas.{count_few, item_written}
 use Rattle.doc_html.proofs.reading.write_item.Goals as goal
 
@@ -72,23 +72,26 @@ returns-clause-writes g c = λ formats istd has.
     seen_is manner format course.front one.0 unit beside c.see-seen.result one.1.1
     (c.requires.beside course.place one.0 (omega arith) ahead one.1.0) c.see-seen.ensures in
     let written =
-    item_written g.K.Sink c.args.out.now c.write.new.out writer.html c.write.new.self.html reading.count writer.path
-    manner
+    item_written g.K.Sink c.args.out.now c.write.new.out writer.html c.write.new.self.html reading.count reading.origin
+    c.link-link.result writer.path manner
     (items_in parts) course format one.0 c.see-seen.result formats istd c.requires.reading.course one.1.0 same
-    (has course.place one.0 (omega arith) ahead one.1.0) c.write.ensures.puts in
+    (has course.place one.0 (omega arith) ahead one.1.0) c.link-link.ensures c.write.ensures.puts in
+    let links = links_in reading.origin (items_in parts) in
     subst (λ (n : ℕ). Writes g.K.Sink (at c.args.out.now writer reading) (record {
       out = c.write.new.out;
       html = c.write.new.self.html;
       count = n;
+      place = c.pass.new.self.place;
       references =
           c.pass.new.self.references.list;
-    }) writer.path (seen_range formats manner istd (items_in parts) course.place (course.place + 1))) (sym
+    }) links writer.path (seen_range formats manner istd (items_in parts) course.place (course.place + 1))) (sym
     c.count_behind-reading.ensures)
     (subst (λ (x : Course). Writes g.K.Sink (at c.args.out.now writer reading) (record {
       out = c.write.new.out;
       html = c.write.new.self.html;
       count = reading.count + count_of c.see-seen.result.reference;
+      place = x.place;
       references = x.references.list;
-    }) writer.path (seen_range formats manner istd (items_in parts) course.place (course.place + 1))) (sym
+    }) links writer.path (seen_range formats manner istd (items_in parts) course.place (course.place + 1))) (sym
     c.pass.ensures)
     written)

@@ -5,8 +5,8 @@ use Rattle.doc_columns.specs.declared.walk.Walk.{Walk}
 use Rattle.doc_columns.proofs.WalkLemmas.{later_walk}
 use Rattle.char_formats.proofs.FormatLemmas.{format_one}
 use Rattle.view_places.specs.declared.element.Element.{Element}
-use Rattle.doc_html.specs.Writes.{At, IsReading, Writes, at}
-use Rattle.doc_html.proofs.WriteLemmas.{reading_walk, writes_further, writes_in, writes_start, writes_to}
+use Rattle.doc_html.specs.Writes.{At, IsReading, Writes, at, links_in}
+use Rattle.doc_html.proofs.WriteLemmas.{reading_walk, writes_from, writes_further, writes_in, writes_start, writes_to}
 use Rattle.doc_view.proofs.RangeLemmas.{seen_range}
 use Rattle.doc_html.proofs.reading.write_paragraph.Goals as goal
 
@@ -17,8 +17,10 @@ loop-reading-init g c = record {
   walk = c.requires.walk;
   reading = c.requires.reading;
   path = refl;
+  origin = refl;
   writes = λ formats are.
-      writes_start g.K.Sink (at c.args.out.now c.args.writer.now c.args.reading.now) c.args.writer.now.path formats
+      writes_start g.K.Sink (at c.args.out.now c.args.writer.now c.args.reading.now) (links_in
+      c.args.reading.now.origin (items_in c.args.text.now.parts)) c.args.writer.now.path formats
       c.args.text.now.manner c.args.bounds.istd (items_in c.args.text.now.parts) c.args.reading.now.course.place;
 }
 
@@ -27,6 +29,11 @@ write_stretch-requires-clause-reading g c =
     reading_walk c.args.text.now.manner (items_in c.args.text.now.parts) c.loop-reading.reading
     c.alike_from-alike.new.walk
     c.loop-reading.invariant.reading
+
+pub write_stretch-requires-clause-beside : goal.write_stretch-requires-clause-beside
+write_stretch-requires-clause-beside g c = λ k item low until here.
+    let least = c.min.ensures in
+    c.alike_from-alike.ensures.besides k item low (omega (arith, until, least)) here
 
 pub write_stretch-requires-clause-depth : goal.write_stretch-requires-clause-depth
 write_stretch-requires-clause-depth g c =
@@ -51,6 +58,7 @@ loop-reading-preserved g c =
     let least = c.min.ensures in
     let ahead : at_place ≤ to = omega (arith, some, more, place, least) in
     let block = c.args.writer.now.path in
+    let links = links_in c.args.reading.now.origin items in
     let a = at c.args.out.now c.args.writer.now c.args.reading.now in
     let b = at old.out old.writer old.reading in
     let d = at next.new.out next.new.writer next.new.reading in
@@ -62,16 +70,18 @@ loop-reading-preserved g c =
           (later_walk parts alike.new.walk at_place to alike.ensures.walk ahead);
       reading = next.ensures.reading;
       path = next.ensures.path ∙ old.invariant.path;
+      origin = next.ensures.origin ∙ old.invariant.origin;
       writes = λ formats are.
-          writes_further g.K.Sink a b d block formats manner istd items first at_place to low ahead
+          writes_further g.K.Sink a b d links block formats manner istd items first at_place to low ahead
           (old.invariant.writes formats are)
-          (writes_to g.K.Sink b d block formats manner istd items at_place c.min.result to (sym place)
-          (writes_in g.K.Sink b d old.writer.path block (seen_range formats manner istd items at_place c.min.result)
+          (writes_to g.K.Sink b d links block formats manner istd items at_place c.min.result to (sym place)
+          (writes_in g.K.Sink b d links old.writer.path block (seen_range formats manner istd items at_place c.min.result)
           old.invariant.path
-          (next.ensures.writes formats istd
+          (writes_from g.K.Sink b d old.reading.origin c.args.reading.now.origin items old.writer.path (seen_range
+          formats manner istd items at_place c.min.result) old.invariant.origin (next.ensures.writes formats istd
           (λ k item le until here. ap (formats istd) (alike.ensures.chps k item le (omega (arith, until, least)) here)
           ∙ format_one c.args.text.now.formats.now istd alike.result.chp.now (formats istd alike.result.chp.now)
-          c.format.result (are.right istd alike.result.chp.now c.requires.style) c.format.ensures))));
+          c.format.result (are.right istd alike.result.chp.now c.requires.style) c.format.ensures)))));
     }
 
 pub returns-clause-writes : goal.returns-clause-writes
@@ -81,7 +91,11 @@ returns-clause-writes g c = λ formats are.
     let all : c.loop-reading.reading.course.place ≡ c.args.bounds.end = omega (arith, within, done) in
     writes_to g.K.Sink (at c.args.out.now c.args.writer.now c.args.reading.now) (at c.loop-reading.out
     c.loop-reading.writer
-    c.loop-reading.reading) c.args.writer.now.path formats c.args.text.now.manner c.args.bounds.istd
+    c.loop-reading.reading) (links_in c.args.reading.now.origin (items_in c.args.text.now.parts))
+    c.args.writer.now.path formats c.args.text.now.manner c.args.bounds.istd
     (items_in c.args.text.now.parts) c.args.reading.now.course.place c.loop-reading.reading.course.place
     c.args.bounds.end all
     (c.loop-reading.invariant.writes formats are)
+
+pub returns-clause-origin : goal.returns-clause-origin
+returns-clause-origin g c = c.loop-reading.invariant.origin

@@ -2,8 +2,8 @@
 use Rattle.std.proofs.Common.{◌≡◌, ◌∙◌, ◌+◌, ◌≤◌, ℕ, refl, sym, arith, List, length, subst}
 use Rattle.doc_columns.specs.Walks.{items_in}
 use Rattle.view_places.specs.declared.element.Element.{Element}
-use Rattle.doc_html.specs.Writes.{At, IsReading, Writes, at}
-use Rattle.doc_html.proofs.WriteLemmas.{writes_further, writes_in, writes_start, writes_to}
+use Rattle.doc_html.specs.Writes.{At, IsReading, Writes, at, links_in}
+use Rattle.doc_html.proofs.WriteLemmas.{writes_from, writes_further, writes_in, writes_start, writes_to}
 use Rattle.doc_view.proofs.RangeLemmas.{seen_range}
 use Rattle.doc_html.proofs.reading.write_stretch.Goals as goal
 
@@ -14,8 +14,10 @@ loop-reading-init g c = record {
   walk = refl;
   reading = c.requires.reading;
   path = refl;
+  origin = refl;
   writes = λ formats istd has.
-      writes_start g.K.Sink (at c.args.out.now c.args.writer.now c.args.reading.now) c.args.writer.now.path formats
+      writes_start g.K.Sink (at c.args.out.now c.args.writer.now c.args.reading.now) (links_in
+      c.args.reading.now.origin (items_in c.args.text.now.parts)) c.args.writer.now.path formats
       c.args.text.now.manner istd (items_in c.args.text.now.parts) c.args.reading.now.course.place;
 }
 
@@ -43,6 +45,7 @@ loop-reading-preserved g c =
     let items = items_in c.args.text.now.parts in
     let manner = c.args.text.now.manner in
     let block = c.args.writer.now.path in
+    let links = links_in c.args.reading.now.origin items in
     let a = at c.args.out.now c.args.writer.now c.args.reading.now in
     let b = at old.out old.writer old.reading in
     let d = at item.new.out item.new.writer item.new.reading in
@@ -52,15 +55,17 @@ loop-reading-preserved g c =
       walk = item.ensures.walk ∙ old.invariant.walk;
       reading = item.ensures.reading;
       path = item.ensures.path ∙ old.invariant.path;
+      origin = item.ensures.origin ∙ old.invariant.origin;
       writes = λ formats istd has.
-          writes_to g.K.Sink a d block formats manner istd items first (at_place + 1) item.new.reading.course.place
+          writes_to g.K.Sink a d links block formats manner istd items first (at_place + 1) item.new.reading.course.place
           (sym place)
-          (writes_further g.K.Sink a b d block formats manner istd items first at_place (at_place + 1) low (omega arith)
+          (writes_further g.K.Sink a b d links block formats manner istd items first at_place (at_place + 1) low (omega arith)
           (old.invariant.writes formats istd has)
-          (writes_in g.K.Sink b d old.writer.path block (seen_range formats manner istd items at_place (at_place + 1))
+          (writes_in g.K.Sink b d links old.writer.path block (seen_range formats manner istd items at_place (at_place + 1))
           old.invariant.path
-          (item.ensures.writes formats istd
-          (λ k x le until here. has k x (omega (arith, low, le)) until here))));
+          (writes_from g.K.Sink b d old.reading.origin c.args.reading.now.origin items old.writer.path (seen_range
+          formats manner istd items at_place (at_place + 1)) old.invariant.origin (item.ensures.writes formats istd
+          (λ k x le until here. has k x (omega (arith, low, le)) until here)))));
     }
 
 pub returns-clause-reading : goal.returns-clause-reading
@@ -73,6 +78,10 @@ returns-clause-writes g c = λ formats istd has.
     let all : c.loop-reading.reading.course.place ≡ c.args.stretch.now.until = omega (arith, within, done) in
     writes_to g.K.Sink (at c.args.out.now c.args.writer.now c.args.reading.now) (at c.loop-reading.out
     c.loop-reading.writer
-    c.loop-reading.reading) c.args.writer.now.path formats c.args.text.now.manner istd (items_in c.args.text.now.parts)
+    c.loop-reading.reading) (links_in c.args.reading.now.origin (items_in c.args.text.now.parts))
+    c.args.writer.now.path formats c.args.text.now.manner istd (items_in c.args.text.now.parts)
     c.args.reading.now.course.place c.loop-reading.reading.course.place c.args.stretch.now.until all
     (c.loop-reading.invariant.writes formats istd has)
+
+pub returns-clause-origin : goal.returns-clause-origin
+returns-clause-origin g c = c.loop-reading.invariant.origin

@@ -4,7 +4,7 @@ use Rattle.doc_view.specs.Course.{HasFormat}
 use Rattle.doc_view.specs.Page.{AreFormats}
 use Rattle.doc_view.specs.Seen.{Formats}
 use Rattle.doc_view.proofs.RangeLemmas.{seen_range}
-use Rattle.doc_html.specs.Writes.{At, IsReading, Writes, at}
+use Rattle.doc_html.specs.Writes.{At, IsReading, Writes, at, links_in}
 use Rattle.doc_html.proofs.reading.write_stretch.Given as goal
 
 -- the items so far were written
@@ -15,9 +15,11 @@ invariant-loop-reading g l = record {
   walk : l.reading.course.walk ≡ l.fn.reading.course.walk;
   reading : IsReading l.fn.text.manner (items_in l.fn.text.parts) l.reading;
   path : l.writer.path ≡ l.fn.writer.path;
+  origin : l.reading.origin ≡ l.fn.reading.origin;
   writes : (formats : Formats) (istd : ℕ) → HasFormat formats istd (items_in l.fn.text.parts) l.fn.reading.course.place
       l.fn.stretch.until l.fn.stretch.format → Writes g.K.Sink
-      (at l.fn.out l.fn.writer l.fn.reading) (at l.out l.writer l.reading) l.fn.writer.path
+      (at l.fn.out l.fn.writer l.fn.reading) (at l.out l.writer l.reading)
+      (links_in l.fn.reading.origin (items_in l.fn.text.parts)) l.fn.writer.path
       (seen_range formats l.fn.text.manner istd (items_in l.fn.text.parts) l.fn.reading.course.place
       l.reading.course.place);
 }

@@ -1,11 +1,12 @@
-use Rattle.std.proofs.Common.{◌≡◌, ◌≤◌, ◌-◌, length, take, drop}
+use Rattle.std.proofs.Common.{◌≡◌, ◌≤◌, ◌-◌, length, Bool, Some}
 use Rattle.run_lists.specs.Places.{IsAt}
-use Rattle.plain_doc.specs.Settings.{is_inside}
-use Rattle.plain_doc.specs.Stretches.{stretches}
 use Rattle.doc_columns.specs.Walks.{items_in, IsWalk}
+use Rattle.doc_view.specs.declared.reading.Manner.{Manner}
 use Rattle.doc_view.specs.Page.{AreFormats}
-use Rattle.doc_view.specs.Seen.{Formats, paragraphs_from, paragraphs_of}
-use Rattle.doc_html.specs.Writes.{IsReading}
+use Rattle.doc_view.specs.Seen.{Formats, paragraphs_of}
+use Rattle.doc_places.specs.Grid.{is_head_row}
+use Rattle.doc_places.specs.Places.{hypertext_of, lead}
+use Rattle.doc_html.specs.Writes.{IsReading, paragraphs_left}
 use Rattle.doc_html.proofs.TextLemmas.{TextAt}
 use Rattle.doc_html.proofs.reading.write_text.Given as goal
 
@@ -20,11 +21,13 @@ invariant-loop-reading g l = record {
   path : l.writer.path ≡ l.fn.writer.path;
   number : l.grid.number ≤ l.reading.course.place;
   cell : l.grid.cell ≤ l.grid.number;
+  next : l.next ≡ lead l.bookmarks l.reading.course.place;
+  known : (formats : Formats) (manner : Manner) (head : Bool) → l.known ≡ Some head → head ≡ is_head_row
+      (paragraphs_left formats manner (items_in l.text.parts) l.reading.course.place);
   text : (formats : Formats) → AreFormats l.text.formats.now formats → TextAt g.K.Sink l.fn.out l.fn.writer.html l.out
-      l.writer.html l.fn.writer.path (paragraphs_of formats l.text.manner (items_in l.text.parts))
-      (paragraphs_from formats l.text.manner (take l.reading.course.place (items_in l.text.parts))
-      (stretches is_inside (drop l.reading.course.place (items_in l.text.parts))))
-      l.grid l.reading.count l.fn.references.list l.reading.course.references.list;
+      l.writer.html (hypertext_of l.bookmarks l.note (items_in l.text.parts)) l.fn.writer.path (paragraphs_of formats l.text.manner (items_in l.text.parts))
+      (paragraphs_left formats l.text.manner (items_in l.text.parts) l.reading.course.place)
+      l.grid l.reading.count l.reading.course.place l.fn.references.list l.reading.course.references.list;
 }
 
 abbrev pub decreases-loop-reading : goal.decreases-loop-reading

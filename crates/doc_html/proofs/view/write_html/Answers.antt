@@ -1,5 +1,7 @@
-use Rattle.plain_doc.proofs.RightLemmas.{sound_is_right}
+use Rattle.doc_html.proofs.PageLemmas.{html_safe}
 use Rattle.doc_html.proofs.view.write_html.Goals as goal
 
-pub needs_of-requires : goal.needs_of-requires
-needs_of-requires g c = (sound_is_right c.args.document.now c.requires).bases
+pub returns-clause-safe : goal.returns-clause-safe
+returns-clause-safe g c =
+    html_safe g.K.Sink c.args.out.now c.write_form.new.out c.args.document.now c.args.options c.write_form.result
+    c.write_form.ensures.ok

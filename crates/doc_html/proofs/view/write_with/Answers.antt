@@ -1,30 +1,54 @@
-use Rattle.std.proofs.Common.{◌≡◌, [], false, sym, ap, ◌∙◌}
-use Rattle.html_page.specs.declared.printer.HtmlPage.{HtmlPage}
-use Rattle.doc_html.proofs.PageLemmas.{html_ok, html_prefix, html_rose}
+use Rattle.std.proofs.Common.{◌≡◌, [], List, ℕ, false, sym, ap, subst, ◌∙◌}
+use Rattle.page_out.specs.Printed.{Prints}
+use Rattle.form_page.specs.declared.page.PageForm.{PageForm}
+use Rattle.form_page.specs.Forms.{IsFresh, form_text, page_in}
+use Rattle.form_page.proofs.FormLemmas.{fresh_block, fresh_right}
+use Rattle.doc_view.specs.Page.{AreFormats}
+use Rattle.doc_view.specs.Seen.{Formats}
+use Rattle.doc_places.specs.Places.{places_of}
+use Rattle.doc_html.specs.Head.{head_of}
+use Rattle.doc_html.proofs.PageLemmas.{form_ok, form_prefix, form_rose}
 use Rattle.doc_html.proofs.view.write_with.Goals as goal
+
+pub write-written-requires-clause-fresh : goal.write-written-requires-clause-fresh
+write-written-requires-clause-fresh g c =
+    subst (λ (block : List ℕ). IsFresh c.new-html.result block c.args.document.now) c.requires.block c.new-html.ensures.fresh
 
 pub returns-clause-ok : goal.returns-clause-ok
 returns-clause-ok g c =
     let html = c.new-html.result in
-    html_ok g.K.Sink c.args.out.now c.write-written.new.out c.finish.new.out html.page c.write-written.result.page
-    c.args.document.now c.args.options c.finish.result c.requires.sound
-    (ap (λ (h : HtmlPage). h.page.block) c.new-html.ensures ∙ c.requires.block)
-    (ap (λ (h : HtmlPage). h.page.failed) c.new-html.ensures) c.write-written.ensures c.finish.ensures.right
-    c.finish.ensures.ok
+    let written = c.write-written in
+    let fresh : IsFresh html [] c.args.document.now =
+    subst (λ (block : List ℕ). IsFresh html block c.args.document.now) c.requires.block c.new-html.ensures.fresh in
+    form_ok g.K.Sink c.args.out.now written.new.out c.finish.new.out (page_in html) (page_in written.result)
+    c.args.form c.args.document.now c.args.options c.finish.result c.requires.sound (fresh_block html [] c.args.document.now fresh) (fresh_right html [] c.args.document.now fresh)
+    (λ (formats : Formats) (are : AreFormats c.args.document.now.sheet formats).
+    subst (λ (form : PageForm). Prints g.K.Sink c.args.out.now (page_in html) written.new.out (page_in written.result)
+    (form_text form c.args.document.now (head_of c.args.document.now) (places_of formats c.args.options c.args.document.now))) c.new-html.ensures.form
+    (written.ensures formats are)) c.finish.ensures.right c.finish.ensures.ok
 
 pub returns-clause-prefix : goal.returns-clause-prefix
 returns-clause-prefix g c =
     let html = c.new-html.result in
-    html_prefix g.K.Sink c.args.out.now c.write-written.new.out c.finish.new.out html.page c.write-written.result.page
-    c.args.document.now c.args.options c.finish.result c.requires.sound
-    (ap (λ (h : HtmlPage). h.page.block) c.new-html.ensures ∙ c.requires.block)
-    (ap (λ (h : HtmlPage). h.page.failed) c.new-html.ensures) c.write-written.ensures c.finish.ensures.fails
-    c.finish.ensures.stays c.finish.ensures.faults
+    let written = c.write-written in
+    let fresh : IsFresh html [] c.args.document.now =
+    subst (λ (block : List ℕ). IsFresh html block c.args.document.now) c.requires.block c.new-html.ensures.fresh in
+    form_prefix g.K.Sink c.args.out.now written.new.out c.finish.new.out (page_in html) (page_in written.result)
+    c.args.form c.args.document.now c.args.options c.finish.result c.requires.sound (fresh_block html [] c.args.document.now fresh) (fresh_right html [] c.args.document.now fresh)
+    (λ (formats : Formats) (are : AreFormats c.args.document.now.sheet formats).
+    subst (λ (form : PageForm). Prints g.K.Sink c.args.out.now (page_in html) written.new.out (page_in written.result)
+    (form_text form c.args.document.now (head_of c.args.document.now) (places_of formats c.args.options c.args.document.now))) c.new-html.ensures.form
+    (written.ensures formats are)) c.finish.ensures.fails c.finish.ensures.stays c.finish.ensures.faults
 
 pub returns-clause-failed : goal.returns-clause-failed
 returns-clause-failed g c =
     let html = c.new-html.result in
-    html_rose g.K.Sink c.args.out.now c.write-written.new.out c.finish.new.out html.page c.write-written.result.page
-    c.args.document.now c.args.options c.finish.result c.requires.sound
-    (ap (λ (h : HtmlPage). h.page.failed) c.new-html.ensures) c.write-written.ensures c.finish.ensures.fails
-    c.finish.ensures.stays c.finish.ensures.faults
+    let written = c.write-written in
+    let fresh : IsFresh html [] c.args.document.now =
+    subst (λ (block : List ℕ). IsFresh html block c.args.document.now) c.requires.block c.new-html.ensures.fresh in
+    form_rose g.K.Sink c.args.out.now written.new.out c.finish.new.out (page_in html) (page_in written.result)
+    c.args.form c.args.document.now c.args.options c.finish.result c.requires.sound (fresh_right html [] c.args.document.now fresh)
+    (λ (formats : Formats) (are : AreFormats c.args.document.now.sheet formats).
+    subst (λ (form : PageForm). Prints g.K.Sink c.args.out.now (page_in html) written.new.out (page_in written.result)
+    (form_text form c.args.document.now (head_of c.args.document.now) (places_of formats c.args.options c.args.document.now))) c.new-html.ensures.form
+    (written.ensures formats are)) c.finish.ensures.fails c.finish.ensures.stays c.finish.ensures.faults

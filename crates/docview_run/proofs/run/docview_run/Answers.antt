@@ -54,10 +54,10 @@ pub returns-in-Some-Page-clause-ends : goal.returns-in-Some-Page-clause-ends
 returns-in-Some-Page-clause-ends g c =
     let asked = rw c.in-Some-Page.field-0-is at c.in-Some-Page.ensures in
     asked_ends g.K.Sink c.args.out.now c.show_name.new.out (g.S.Shelf.held c.args.shelf.now)
-    (requested (map string_bytes c.args.words.now)) (page c.in-Some-Page.form c.in-Some-Page.hidden c.in-Some-Page.file.now) c.show_name.result asked c.show_name.ensures.ends
+    (requested (map string_bytes c.args.words.now)) (page c.in-Some-Page.view.form c.in-Some-Page.view.options c.in-Some-Page.file.now) c.show_name.result asked c.show_name.ensures.ends
 
 pub returns-in-Some-Page-clause-usage : goal.returns-in-Some-Page-clause-usage
 returns-in-Some-Page-clause-usage g c =
     let asked = rw c.in-Some-Page.field-0-is at c.in-Some-Page.ensures in
-    usage_apart c.show_name.result (requested (map string_bytes c.args.words.now)) (page c.in-Some-Page.form c.in-Some-Page.hidden c.in-Some-Page.file.now) asked
+    usage_apart c.show_name.result (requested (map string_bytes c.args.words.now)) (page c.in-Some-Page.view.form c.in-Some-Page.view.options c.in-Some-Page.file.now) asked
     c.show_name.ensures.asked

@@ -3,7 +3,7 @@ use Rattle.std.specs.Prelude.{codes, nat_le, if◌then◌else◌}
 use Rattle.std.specs.Fmt.{decimal}
 use Rattle.page_out.proofs.PrintLemmas.{put_then, three_put}
 use Rattle.html_page.proofs.PutLemmas.{put_as, value_pieces, optional_text, paragraph_pieces}
-use Rattle.html_page.specs.Tags.{attribute, attributes_of, attributes_text, paragraph_attributes}
+use Rattle.html_page.specs.Tags.{attribute, plain_attributes, attributes_text, paragraph_attributes}
 use Rattle.view_places.specs.declared.element.Element.TheVariants.{Note, Reference, BackLink}
 use Rattle.view_places.specs.declared.element.Element.TheVariants.{List as ListElement}
 use Rattle.html_page.proofs.attributes.push_back_link.Goals as goal
@@ -12,7 +12,7 @@ pub returns : goal.returns
 returns g c =
     put_as g.K.Sink c.args.out.now c.push_ascii.new.out c.args.page.now c.push_ascii.new.self ((codes
     " href=\"#fnref-" ++ decimal
-    c.args.number) ++ codes "\" role=\"doc-backlink\"") (attributes_text (attributes_of (BackLink c.args.number)))
+    c.args.number) ++ codes "\" role=\"doc-backlink\"") (attributes_text (plain_attributes (BackLink c.args.number)))
     (value_pieces (codes " href=\"#fnref-") (decimal c.args.number) (codes " role=\"doc-backlink\""))
     (put_then g.K.Sink c.args.out.now c.push_numbered.new.out c.push_ascii.new.out c.args.page.now
     c.push_numbered.new.page c.push_ascii.new.self (codes " href=\"#fnref-" ++ decimal c.args.number) (codes

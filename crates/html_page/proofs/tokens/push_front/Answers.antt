@@ -1,25 +1,23 @@
-use Rattle.std.proofs.Common.{◌++◌, ◌∷◌, [], List, ℕ, sym, ap, ◌∙◌, append-nil, refl}
-use Rattle.std.specs.Prelude.{codes, if◌then◌else◌}
-use Rattle.std.specs.Fmt.{decimal}
-use Rattle.page_out.proofs.PrintLemmas.{put_then, three_put}
-use Rattle.html_text.specs.Tokens.{Character, escaped, printed}
-use Rattle.html_page.specs.Pages.{back_tokens, characters, close_tokens, end, front_tokens, open_tokens, other_tokens}
-use Rattle.html_page.specs.Pages.{style_tokens}
-use Rattle.html_page.specs.Tags.{attributes_of, attributes_text, ends_line, name_of}
-use Rattle.html_page.proofs.PutLemmas.{end_pieces, four_put, open_pieces, put_as, tokens_then}
-use Rattle.html_page.proofs.PutLemmas.{ascii_all}
+use Rattle.std.proofs.Common.{◌++◌, ◌∷◌, [], List, ℕ, sym, ap, append_assoc, refl}
+use Rattle.std.specs.Prelude.{codes}
+use Rattle.page_out.proofs.PrintLemmas.{three_put}
+use Rattle.html_text.specs.Tokens.{printed}
+use Rattle.html_page.specs.Languages.{language_attributes}
+use Rattle.html_page.specs.Pages.{front_tokens, meta_tokens}
+use Rattle.html_page.specs.Tags.{attributes_text}
+use Rattle.html_page.proofs.PutLemmas.{ascii_all, put_as}
 use Rattle.html_page.proofs.tokens.push_front.Goals as goal
+
+pub push_ascii-requires : goal.push_ascii-requires
+push_ascii-requires g c = ascii_all (codes "<!DOCTYPE html>\n<html") refl
 
 pub returns : goal.returns
 returns g c =
-    put_then g.K.Sink c.args.out.now c.push_ascii.new.out c.push_ascii-2.new.out c.args.page.now c.push_ascii.new.self
-    c.push_ascii-2.new.self (codes "<!DOCTYPE html>\n<html>\n<head>\n<meta charset=\"utf-8\">\n") (codes
-    "<meta name=\"viewport\" content=\"width=device-width,initial-scale=1\">\n<title>") c.push_ascii.ensures
-    c.push_ascii-2.ensures
-
-pub push_ascii-requires : goal.push_ascii-requires
-push_ascii-requires g c = ascii_all (codes "<!DOCTYPE html>\n<html>\n<head>\n<meta charset=\"utf-8\">\n") refl
-
-pub push_ascii-requires-2 : goal.push_ascii-requires-2
-push_ascii-requires-2 g c = ascii_all (codes
-    "<meta name=\"viewport\" content=\"width=device-width,initial-scale=1\">\n<title>") refl
+    let said = attributes_text (language_attributes c.args.language) in
+    let rest = 62 ∷ 10 ∷ printed meta_tokens in
+    put_as g.K.Sink c.args.out.now c.push_metas.new.out c.args.page.now c.push_metas.new.page (codes
+    "<!DOCTYPE html>\n<html" ++ (said ++ rest)) (printed (front_tokens c.args.language)) (ap (λ (text : List ℕ). codes
+    "<!DOCTYPE html>\n<html" ++ text) (sym (append_assoc said (62 ∷ []) (10 ∷ printed meta_tokens))))
+    (three_put g.K.Sink c.args.out.now c.push_ascii.new.out c.push_language.new.out c.push_metas.new.out
+    c.args.page.now c.push_ascii.new.self c.push_language.new.page c.push_metas.new.page (codes
+    "<!DOCTYPE html>\n<html") said rest c.push_ascii.ensures c.push_language.ensures c.push_metas.ensures)

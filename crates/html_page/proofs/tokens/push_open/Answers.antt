@@ -13,9 +13,9 @@ pub returns : goal.returns
 returns g c =
     let e = c.args.element in
     let name = name_of e in
-    let attributes = attributes_text (attributes_of e) in
+    let attributes = attributes_text (attributes_of c.args.document.now e) in
     put_as g.K.Sink c.args.out.now c.push_ascii-3.new.out c.args.page.now c.push_ascii-3.new.self ((60 ∷ []) ++ (name ++
-    (attributes ++ 62 ∷ []))) (printed (open_tokens e)) (open_pieces name attributes)
+    (attributes ++ 62 ∷ []))) (printed (open_tokens c.args.document.now e)) (open_pieces name attributes)
     (four_put g.K.Sink c.args.out.now c.push_ascii.new.out c.push_ascii-2.new.out c.push_attributes.new.out
     c.push_ascii-3.new.out c.args.page.now c.push_ascii.new.self c.push_ascii-2.new.self c.push_attributes.new.page
     c.push_ascii-3.new.self (60 ∷ []) (name) (attributes) (62 ∷ []) c.push_ascii.ensures (put_as g.K.Sink

@@ -3,6 +3,7 @@ use Rattle.std.proofs.Common.{◌≡◌, ◌+◌, ◌<◌, ◌≤◌, ◌⊎◌,
 use Rattle.std.proofs.lemmas.Bool.{cases_lt}
 use Rattle.doc_bits.proofs.ListLemmas.{there_is}
 use Rattle.doc_html.proofs.NoteLemmas.{NotesAt, note_on, notes_start, notes_written}
+use Rattle.doc_view.specs.declared.reading.TextKind.TheVariants as text_kind
 use Rattle.doc_html.proofs.notes.Notes.write.Goals as goal
 
 pub loop-k-init : goal.loop-k-init
@@ -11,7 +12,7 @@ loop-k-init g c = record {
   notes = λ formats are.
       notes_start g.K.Sink c.args.out.now c.args.writer.now.html formats (record {
         hidden = c.args.self.now.hidden;
-        is_note = true;
+        kind = text_kind.Note;
       }) c.args.references.now.list c.args.self.now.texts.now;
 }
 
@@ -26,7 +27,7 @@ loop-k-preserved g c = record {
       let note = there_is notes old.k (omega arith) in
       note_on g.K.Sink c.args.out.now c.args.writer.now.html old.out old.writer.html put.new.out put.new.writer.html
       formats
-      (record { hidden = c.args.self.now.hidden; is_note = true }) references notes old.k c.get.result note.0
+      (record { hidden = c.args.self.now.hidden; kind = text_kind.Note }) references notes old.k c.get.result note.0
       (old.invariant.notes formats are) c.get.ensures note.1 (put.ensures.puts formats note.0 are note.1);
 }
 
@@ -45,5 +46,5 @@ returns-clause-puts g c = λ formats are.
           (arith, more))
     ] in
     notes_written g.K.Sink c.args.out.now c.args.writer.now.html old.out old.writer.html formats
-    (record { hidden = c.args.self.now.hidden; is_note = true }) (old.k + 1) references notes old.k ended
+    (record { hidden = c.args.self.now.hidden; kind = text_kind.Note }) (old.k + 1) references notes old.k ended
     (old.invariant.notes formats are)

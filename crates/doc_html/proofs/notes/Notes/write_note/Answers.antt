@@ -1,14 +1,16 @@
 use Rattle.std.proofs.Common.{◌≡◌, ◌+◌, ◌∷◌, ◌++◌, [], ◌≤◌, List, ℕ, arith, subst, sym, ap, true, ◌∙◌, length, take}
 use Rattle.std.proofs.lemmas.Option.{same_Some}
 use Rattle.doc_columns.specs.Walks.{items_in}
+use Rattle.doc_parts.specs.declared.bookmark_order.Bookmark.{Bookmark}
 use Rattle.plain_doc.specs.declared.item.Item.{Item}
 use Rattle.view_places.specs.declared.element.Element.{Element}
 use Rattle.doc_view.specs.declared.reading.Manner.{Manner}
 use Rattle.doc_view.specs.Seen.{paragraphs_of}
 use Rattle.doc_view.proofs.NoteLemmas.{none_met}
-use Rattle.doc_places.specs.Places.{note_path, text_places}
-use Rattle.html_page.specs.Printed.{PutsPlaces}
+use Rattle.doc_places.specs.Places.{hypertext_of, note_path, text_places}
+use Rattle.form_page.specs.Forms.{PutsPlaces}
 use Rattle.doc_html.proofs.NoteLemmas.{is_hidden, is_not_hidden, note_hidden, note_shown}
+use Rattle.doc_view.specs.declared.reading.TextKind.TheVariants as text_kind
 use Rattle.doc_html.proofs.notes.Notes.write_note.Goals as goal
 
 pub write_text-requires-clause-room : goal.write_text-requires-clause-room
@@ -23,12 +25,12 @@ pub returns-then-not-reference-clause-puts : goal.returns-then-not-reference-cla
 returns-then-not-reference-clause-puts g c = λ formats note are there.
     note_hidden g.K.Sink c.args.out.now c.args.writer.now.html formats (record {
       hidden = c.args.self.now.hidden;
-      is_note = true;
+      kind = text_kind.Note;
     }) (c.args.k + 1) c.args.reference note (is_hidden c.args.reference.is_shown c.if-not-reference.true)
 
 pub returns-clause-puts : goal.returns-clause-puts
 returns-clause-puts g c = λ formats note are there.
-    let manner : Manner = record { hidden = c.args.self.now.hidden; is_note = true } in
+    let manner : Manner = record { hidden = c.args.self.now.hidden; kind = text_kind.Note } in
     let text = c.write_text in
     let label = c.open_note in
     let same : items_in c.parts.result ≡ note = c.parts.ensures.items ∙ same_Some c.get.result.now note
@@ -37,8 +39,11 @@ returns-clause-puts g c = λ formats note are there.
     text.new.writer.html formats manner (c.args.k + 1) c.args.reference note (is_not_hidden c.args.reference.is_shown c.if-not-reference.false) label.ensures.puts
     (subst (λ (items : List Item). PutsPlaces g.K.Sink label.new.out label.new.writer.html text.new.out
     text.new.writer.html
-    (text_places (note_path (c.args.k + 1)) (paragraphs_of formats manner items))) same
+    (text_places (hypertext_of [] (c.args.k + 1) items) (note_path (c.args.k + 1)) (paragraphs_of formats manner items))) same
     (subst (λ (path : List Element). PutsPlaces g.K.Sink label.new.out label.new.writer.html text.new.out
     text.new.writer.html
-    (text_places path (paragraphs_of formats manner (items_in c.parts.result)))) label.ensures.path (text.ensures.puts
-    formats are)))
+    (text_places (hypertext_of [] (c.args.k + 1) (items_in c.parts.result)) path (paragraphs_of formats manner (items_in
+    c.parts.result)))) label.ensures.path (subst (λ (bookmarks : List Bookmark). PutsPlaces g.K.Sink label.new.out
+    label.new.writer.html text.new.out text.new.writer.html (text_places (hypertext_of bookmarks (c.args.k + 1)
+    (items_in c.parts.result)) label.new.writer.path (paragraphs_of formats manner (items_in c.parts.result))))
+    c.new-bookmarks.ensures (text.ensures.puts formats are))))

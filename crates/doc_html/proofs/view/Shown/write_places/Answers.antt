@@ -10,15 +10,16 @@ use Rattle.plain_doc.specs.RightDocument.{HoldsAtItems}
 use Rattle.plain_doc.specs.RulesOfTexts.{HasParagraphStyle}
 use Rattle.doc_columns.specs.Walks.{items_in}
 use Rattle.view_places.specs.declared.element.Element.{Element}
-use Rattle.html_page.specs.Printed.{PutsPlaces}
-use Rattle.html_page.specs.Pages.{Places}
-use Rattle.html_page.proofs.PutLemmas.{places_then}
+use Rattle.form_page.specs.Forms.{PutsPlaces}
+use Rattle.form_page.specs.Forms.{Places}
+use Rattle.form_page.proofs.FormLemmas.{places_then}
 use Rattle.doc_view.specs.declared.reading.Manner.{Manner}
 use Rattle.doc_view.specs.Kept.{KeptReferences}
 use Rattle.doc_view.specs.Page.{AreFormats}
 use Rattle.doc_view.specs.Seen.{paragraphs_of, references_of}
 use Rattle.doc_view.proofs.PageLemmas.{sound_normal, sound_styles}
-use Rattle.doc_places.specs.Places.{notes_places, text_places}
+use Rattle.doc_places.specs.Places.{hypertext_of, notes_places, text_places}
+use Rattle.doc_view.specs.declared.reading.TextKind.TheVariants as text_kind
 use Rattle.doc_html.proofs.view.Shown.write_places.Goals as goal
 
 pub write_text-references-requires-clause-normal : goal.write_text-references-requires-clause-normal
@@ -55,24 +56,25 @@ returns g c = λ formats are.
     let document = c.args.self.now.document.now in
     let right : AreFormats c.args.self.now.formats.now formats =
     subst (λ (s : Sheet). AreFormats s formats) (sym c.requires.formats) are in
-    let main_manner : Manner = record { hidden = c.args.self.now.hidden; is_note = false } in
-    let note_manner : Manner = record { hidden = c.args.self.now.hidden; is_note = true } in
+    let main_manner : Manner = record { hidden = c.args.self.now.options.hidden; kind = text_kind.Main } in
+    let note_manner : Manner = record { hidden = c.args.self.now.options.hidden; kind = text_kind.Note } in
     let main = c.write_text-references in
     let same : items_in c.parts.result ≡ document.main =
     c.parts.ensures.items ∙ ap (λ (d : Document). d.main) c.document.view_is in
     let same_notes : c.document.inside.notes ≡ document.notes = ap (λ (d : Document). d.notes) c.document.view_is in
+    let same_bookmarks : c.document.inside.bookmarks ≡ document.bookmarks = ap (λ (d : Document). d.bookmarks)
+    c.document.view_is in
     let met : main.result.list ≡ references_of (paragraphs_of formats main_manner document.main) =
     main.ensures.references formats right
     ∙ ap (λ (r : KeptReferences). r.list ++ references_of (paragraphs_of formats main_manner (items_in c.parts.result)))
     c.requires.references
     ∙ ap (λ (items : List Item). references_of (paragraphs_of formats main_manner items)) same in
     let before = c.args.writer.now.html in
-    let text : PutsPlaces g.K.Sink c.args.out.now before main.new.out main.new.writer.html (text_places []
-    (paragraphs_of formats
+    let text : PutsPlaces g.K.Sink c.args.out.now before main.new.out main.new.writer.html (text_places (hypertext_of document.bookmarks 0 document.main) [] (paragraphs_of formats
     main_manner document.main)) =
     subst (λ (places : Places). PutsPlaces g.K.Sink c.args.out.now before main.new.out main.new.writer.html places) (λ
     i. text_places
-    (c.requires.path i) (paragraphs_of formats main_manner (same i))) (main.ensures.puts formats right) in
+    (hypertext_of (same_bookmarks i) 0 (same i)) (c.requires.path i) (paragraphs_of formats main_manner (same i))) (main.ensures.puts formats right) in
     let notes : PutsPlaces g.K.Sink main.new.out main.new.writer.html c.write.new.out c.write.new.writer.html
     (notes_places formats
     note_manner 1 (references_of (paragraphs_of formats main_manner document.main)) document.notes) =
@@ -80,6 +82,7 @@ returns g c = λ formats are.
     c.write.new.writer.html
     places) (λ i. notes_places formats note_manner 1 (met i) (same_notes i)) (c.write.ensures.puts formats right) in
     places_then g.K.Sink c.args.out.now main.new.out c.write.new.out before main.new.writer.html c.write.new.writer.html
-    (text_places [] (paragraphs_of formats main_manner document.main)) (notes_places formats note_manner 1
+    (text_places (hypertext_of document.bookmarks 0 document.main) [] (paragraphs_of formats
+    main_manner document.main)) (notes_places formats note_manner 1
     (references_of
     (paragraphs_of formats main_manner document.main)) document.notes) text notes

@@ -1,22 +1,22 @@
 use Rattle.std.proofs.Common.{◌≡◌, ◌∷◌, ◌++◌, [], List, Some, None, sym, subst}
-use Rattle.html_page.specs.Printed.{PutsPlaces}
+use Rattle.form_page.specs.Forms.{PutsPlaces}
 use Rattle.doc_places.specs.Places.{bare, inline_elements, item_places, shown}
 use Rattle.doc_html.proofs.WriteLemmas.{hidden_item, puts_same, shown_item}
-use Rattle.html_page.proofs.PutLemmas.{places_none}
+use Rattle.form_page.proofs.FormLemmas.{places_none}
 use Rattle.doc_html.proofs.writer.Writer.write.Goals as goal
 
 pub returns-then-not-seen-clause-puts : goal.returns-then-not-seen-clause-puts
 returns-then-not-seen-clause-puts g c =
     let old = c.args.self.now in
-    puts_same g.K.Sink c.args.out.now c.args.out.now old.html old.html [] (item_places old.path c.args.count
+    puts_same g.K.Sink c.args.out.now c.args.out.now old.html old.html [] (item_places old.path c.args.link c.args.count
     c.args.seen.now)
-    (sym (hidden_item old.path c.args.count c.args.seen.now (cc))) (places_none g.K.Sink c.args.out.now old.html)
+    (sym (hidden_item old.path c.args.link c.args.count c.args.seen.now (cc))) (places_none g.K.Sink c.args.out.now old.html)
 
 pub returns-in-None-clause-puts : goal.returns-in-None-clause-puts
 returns-in-None-clause-puts g c =
     let old = c.args.self.now in
-    puts_same g.K.Sink c.args.out.now c.put.new.out old.html c.put.new.self (bare old.path ∷ []) (item_places old.path
-    c.args.count c.args.seen.now) (sym (shown_item old.path c.args.count c.args.seen.now None (cc) c.in-None.is))
+    puts_same g.K.Sink c.args.out.now c.put.new.out old.html c.put.new.self (bare old.path ∷ []) (item_places old.path c.args.link
+    c.args.count c.args.seen.now) (sym (shown_item old.path c.args.link c.args.count c.args.seen.now None (cc) c.in-None.is))
     c.put.ensures
 
 pub returns-in-Some-clause-puts : goal.returns-in-Some-clause-puts
@@ -24,7 +24,7 @@ returns-in-Some-clause-puts g c =
     let old = c.args.self.now in
     let seen = c.args.seen.now in
     let put = c.write_glyph in
-    puts_same g.K.Sink c.args.out.now put.new.out old.html put.new.self.html (shown (old.path ++ inline_elements
+    puts_same g.K.Sink c.args.out.now put.new.out old.html put.new.self.html (shown (old.path ++ inline_elements c.args.link
     c.args.count
-    seen.format seen.reference) c.in-Some.glyph ∷ []) (item_places old.path c.args.count seen) (sym (shown_item old.path
+    seen.format seen.reference) c.in-Some.glyph ∷ []) (item_places old.path c.args.link c.args.count seen) (sym (shown_item old.path c.args.link
     c.args.count seen (Some c.in-Some.glyph) (cc) c.in-Some.is)) put.ensures.puts

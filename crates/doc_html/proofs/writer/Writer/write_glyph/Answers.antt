@@ -2,13 +2,13 @@ use Rattle.std.proofs.Common.{◌≡◌, ◌++◌, ◌∷◌, [], List, ap, subs
 use Rattle.std.proofs.Math.Seq.{take-append_seam}
 use Rattle.view_places.specs.declared.element.Element.{Element}
 use Rattle.doc_places.specs.Places.{inline_elements, shown}
-use Rattle.html_page.specs.Printed.{PutsPlaces}
+use Rattle.form_page.specs.Forms.{PutsPlaces}
 use Rattle.doc_html.proofs.writer.Writer.write_glyph.Goals as goal
 
 pub returns-clause-path : goal.returns-clause-path
 returns-clause-path g c =
     let old = c.args.self.now.path in
-    let more = inline_elements c.args.count c.args.seen.now.format c.args.seen.now.reference in
+    let more = inline_elements c.args.link c.args.count c.args.seen.now.format c.args.seen.now.reference in
     let depth : c.len-depth.result ≡ length old = c.len-depth.ensures.len in
     c.truncate.ensures ∙ ap (λ (n : ℕ). take n c.push_inline.new.path) depth ∙ ap (take (length old))
     c.push_inline.ensures ∙

@@ -4,7 +4,7 @@ use Rattle.view_places.specs.Same.{same}
 use Rattle.html_page.specs.Pages.{back_tokens, characters, close_tokens, front_tokens, glyph_tokens, half_of}
 use Rattle.html_page.specs.Pages.{open_tokens}
 use Rattle.html_page.specs.Pages.{other_tokens, style_tokens, tokens_of}
-use Rattle.html_page.specs.Units.{half_text, unit_text, first_text, unit_half}
+use Rattle.glyph_units.specs.Units.{half_text, unit_text, first_text, unit_half}
 use Rattle.html_page.specs.declared.printer.HtmlPage.{HtmlPage}
 use Rattle.page_out.specs.Printed.{Prints}
 use Rattle.html_text.specs.Tokens.{Character, Token, printed}
@@ -16,10 +16,10 @@ use Rattle.html_page.proofs.printer.HtmlPage.+close_to.Goals as goal
 pub returns-in-None : goal.returns-in-None
 returns-in-None g t c =
     close_done g.K.Sink c.args.out.now c.args.self.now (record c.args.self.now { path = c.close_next.new.self })
-    c.args.shared refl refl c.in-None.ensures.0 c.in-None.ensures.1
+    c.args.shared refl refl c.in-None.ensures.0 refl c.in-None.ensures.1
 
 pub returns-in-Some : goal.returns-in-Some
 returns-in-Some g t c =
     close_step g.K.Sink c.args.out.now c.put_close.new.out c.close_to.new.out c.args.self.now c.put_close.new.self
     c.close_to.new.self c.close_next.new.self c.in-Some.element c.args.shared c.in-Some.ensures.0 c.in-Some.ensures.1
-    c.put_close.ensures.prints c.put_close.ensures.path c.put_close.ensures.half c.close_to.ensures
+    c.put_close.ensures.prints c.put_close.ensures.path c.put_close.ensures.half c.put_close.ensures.document c.close_to.ensures

@@ -6,7 +6,7 @@ use Rattle.html_page.specs.Printed.{PutsPlaces}
 use Rattle.html_page.specs.Pages.{back_tokens, characters, close_tokens, front_tokens, glyph_tokens, half_of}
 use Rattle.html_page.specs.Pages.{open_tokens}
 use Rattle.html_page.specs.Pages.{other_tokens, style_tokens, tokens_of}
-use Rattle.html_page.specs.Units.{half_text, unit_text, first_text, unit_half}
+use Rattle.glyph_units.specs.Units.{half_text, unit_text, first_text, unit_half}
 use Rattle.html_page.specs.declared.printer.HtmlPage.{HtmlPage}
 use Rattle.page_out.specs.Printed.{Prints}
 use Rattle.html_text.specs.Tokens.{Character, Token, printed}
@@ -34,4 +34,5 @@ returns-in-Some g c =
       glyph = glyph;
     } ∷ [])) (sym c.in-Some.is) (place_shown g.K.Sink c.args.out.now c.go.new.out c.show.new.out c.args.self.now
     c.go.new.self
-    c.show.new.self to c.in-Some.glyph c.go.ensures c.show.ensures.prints c.show.ensures.path c.show.ensures.half)
+    c.show.new.self to c.in-Some.glyph c.go.ensures c.show.ensures.prints c.show.ensures.path c.show.ensures.half
+    c.show.ensures.document)

@@ -4,7 +4,7 @@ use Rattle.view_places.specs.Same.{same}
 use Rattle.html_page.specs.Pages.{back_tokens, characters, close_tokens, front_tokens, glyph_tokens, half_of}
 use Rattle.html_page.specs.Pages.{open_tokens}
 use Rattle.html_page.specs.Pages.{other_tokens, style_tokens, tokens_of}
-use Rattle.html_page.specs.Units.{half_text, unit_text, first_text, unit_half}
+use Rattle.glyph_units.specs.Units.{half_text, unit_text, first_text, unit_half}
 use Rattle.html_page.specs.declared.printer.HtmlPage.{HtmlPage}
 use Rattle.page_out.specs.Printed.{Prints}
 use Rattle.html_text.specs.Tokens.{Character, Token, printed}

@@ -2,20 +2,20 @@
 ghost use Rattle.std.specs.Prelude.{◌≡◌, true, false, if◌then◌else◌, MatchOption};
 ghost use Rattle.std.specs.Char.{IsScalar};
 ghost use Rattle.text_codes.specs.Shown.{is_pair, pair_code};
-ghost use Rattle.html_page.specs.Units.{alone, is_high};
+ghost use Rattle.glyph_units.specs.Units.{alone, is_high};
 
 /// The replacement character.
-pub(crate) const REPLACEMENT: u32 = 0xFFFD;
+pub const REPLACEMENT: u32 = 0xFFFD;
 
 /// Whether a unit is the first half of characters.
-pub(crate) fn is_high(unit: u16) -> bool
+pub fn is_high(unit: u16) -> bool
     ensures { result ≡ is_high unit }
 {
     unit >= 0xD800 && unit < 0xDC00
 }
 
 /// The character of a unit that is in no pair.
-pub(crate) fn alone(unit: u16) -> u32
+pub fn alone(unit: u16) -> u32
     ensures is { result ≡ alone unit }
     ensures scalar { IsScalar result }
 {
@@ -27,7 +27,7 @@ pub(crate) fn alone(unit: u16) -> u32
 }
 
 /// The character of two halves, where they are one.
-pub(crate) fn pair(first: u16, second: u16) -> Option<u32>
+pub fn pair(first: u16, second: u16) -> Option<u32>
     ensures { MatchOption result
         (is_pair first second ≡ false)
         (λ code. (is_pair first second ≡ true) × ((code ≡ pair_code first second) × IsScalar code)) }

@@ -1,5 +1,0 @@
-use Rattle.doc_html.proofs.PageLemmas.{html_pages_one}
-use Rattle.doc_html.proofs.laws.html_pages_are_one.Goals as goal
-
-pub returns : goal.returns
-returns c = html_pages_one

@@ -1,0 +1,14 @@
+-- A page of a document is read back.
+use Rattle.doc_places.specs.Places.{places_of}
+use Rattle.markdown_page.specs.Pages.{page_text}
+use Rattle.markdown_page.proofs.RightLemmas.{page_read}
+use Rattle.doc_markdown.specs.Laws.{IsReadBack, MarkdownPagesAreReadBack}
+
+pub pages_read : MarkdownPagesAreReadBack
+pages_read options document bytes page = record {
+  formats = page.formats;
+  are = page.are;
+  text = page_text (places_of page.formats options document);
+  bytes_are = page.text;
+  reads = page_read (places_of page.formats options document);
+}

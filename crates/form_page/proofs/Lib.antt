@@ -1,0 +1,2 @@
+pub mod HtmlLemmas
+pub mod FormLemmas

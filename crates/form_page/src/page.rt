@@ -1,0 +1,87 @@
+// A page in one of its forms.
+ghost use Rattle.std.specs.Prelude.{◌≡◌, ◌∷◌, [], false, true, OnOk, OnErr};
+ghost use Rattle.std.specs.Char.{IsScalar};
+ghost use Rattle.std.specs.List.{All};
+ghost use Rattle.doc_outer.specs.Counts.{GoesOn};
+ghost use Rattle.doc_outer.specs.Written.{Appends};
+ghost use Rattle.page_out.specs.Printed.{FailsIn};
+ghost use Rattle.form_page.specs.Forms.{Begins, Ends, IsFresh, PutsPlaces, form_of, page_in};
+
+use doc_columns::ColumnDocument;
+use doc_outer::{OutBlock, Sink, SinkFailed};
+use html_page::HtmlPage;
+use markdown_page::MarkdownPage;
+use view_paths::Path;
+use view_places::{Element, Glyph};
+
+/// The form of a page.
+#[derive(Clone, Copy)]
+pub enum PageForm {
+    Html,
+    Markdown,
+}
+
+/// A page on its way to a sink.
+#[derive(Drop)]
+pub enum FormPage<'a> {
+    Html(HtmlPage<'a>),
+    Markdown(MarkdownPage),
+}
+
+impl<'a> FormPage<'a> {
+    /// A page of a document of which nothing was put.
+    pub fn new(form: PageForm, block: OutBlock, document: &'a ColumnDocument) -> FormPage<'a>
+        ensures form { form_of result ≡ form }
+        ensures fresh { IsFresh result block document.now }
+    {
+        match form {
+            PageForm::Html => FormPage::Html(HtmlPage::new(block, document)),
+            PageForm::Markdown => FormPage::Markdown(MarkdownPage::new(block)),
+        }
+    }
+
+    /// Puts what stands before the text of a page with this language, by its identifier of [MS-LCID], and this title.
+    pub fn begin<K: Sink>(&mut self, out: &mut K, language: Option<u16>, title: &[u32])
+        requires { All IsScalar title.now }
+        ensures { Begins K.Sink out.old self.old out.new self.new (record { language = language; title = title.now }) }
+    {
+        match self {
+            FormPage::Html(page) => page.begin(out, language, title),
+            FormPage::Markdown(_) => {}
+        }
+    }
+
+    /// Puts a place: closes and opens what differs, and shows its glyph.
+    pub fn put<K: Sink>(&mut self, out: &mut K, to: &Path<Element>, glyph: Option<Glyph>)
+        ensures { PutsPlaces K.Sink out.old self.old out.new self.new (record { path = to.now; glyph = glyph } ∷ []) }
+    {
+        match self {
+            FormPage::Html(page) => page.put(out, to, glyph),
+            FormPage::Markdown(page) => page.put(out, to, glyph),
+        }
+    }
+
+    /// Closes all that is open, and puts what stands behind the text.
+    pub fn end<K: Sink>(&mut self, out: &mut K)
+        ensures { Ends K.Sink out.old self.old out.new self.new }
+    {
+        match self {
+            FormPage::Html(page) => page.end(out),
+            FormPage::Markdown(page) => page.end(out),
+        }
+    }
+
+    /// Lets the sink take what waits, and tells whether it failed at any time.
+    pub fn finish<K: Sink>(self, out: &mut K) -> Result<(), SinkFailed>
+        ensures right { OnOk result ((page_in self.entry).failed ≡ false) }
+        ensures ok { OnOk result (Appends (K.written out.old) (K.written out.new) (page_in self.entry).block) }
+        ensures fails { OnErr result ((page_in self.entry).failed ≡ false → FailsIn K.Sink out.old (page_in self.entry) out.new []) }
+        ensures stays { OnErr result ((page_in self.entry).failed ≡ true → K.written out.new ≡ K.written out.old) }
+        ensures faults { GoesOn (K.faults out.old) (K.faults out.new) }
+    {
+        match self {
+            FormPage::Html(page) => page.finish(out),
+            FormPage::Markdown(page) => page.finish(out),
+        }
+    }
+}

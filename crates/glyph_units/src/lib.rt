@@ -1,0 +1,8 @@
+//! The units of glyphs, one by one, as characters.
+#![tactic(auto)]
+
+mod glyphs;
+mod units;
+
+pub use glyphs::unit_in;
+pub use units::{REPLACEMENT, alone, is_high, pair};

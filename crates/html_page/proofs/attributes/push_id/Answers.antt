@@ -1,0 +1,17 @@
+use Rattle.std.proofs.Common.{◌++◌, ◌∷◌, [], sym, append-nil}
+use Rattle.std.specs.Prelude.{codes}
+use Rattle.page_out.proofs.PrintLemmas.{three_put}
+use Rattle.html_text.specs.Tokens.{escaped_text}
+use Rattle.html_page.specs.Tags.{attribute, attributes_text}
+use Rattle.html_page.proofs.PutLemmas.{put_as}
+use Rattle.html_page.proofs.attributes.push_id.Goals as goal
+
+pub returns : goal.returns
+returns g c =
+    let value = escaped_text c.args.anchor in
+    let text = codes " id=\"" ++ (value ++ 34 ∷ []) in
+    put_as g.K.Sink c.args.out.now c.push_ascii-2.new.out c.args.page.now c.push_ascii-2.new.self text (text ++ []) (sym
+    (append-nil text))
+    (three_put g.K.Sink c.args.out.now c.push_ascii.new.out c.push_value.new.out c.push_ascii-2.new.out
+    c.args.page.now c.push_ascii.new.self c.push_value.new.page c.push_ascii-2.new.self (codes " id=\"") value (34 ∷ [])
+    c.push_ascii.ensures c.push_value.ensures c.push_ascii-2.ensures)

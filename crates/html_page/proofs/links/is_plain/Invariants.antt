@@ -1,0 +1,7 @@
+use Rattle.std.proofs.Common.{◌≡◌, take, true}
+use Rattle.html_page.specs.Links.{is_plain}
+use Rattle.html_page.proofs.links.is_plain.Given as goal
+
+-- none so far begins a field
+abbrev pub invariant-loop-unit : goal.invariant-loop-unit
+invariant-loop-unit l = is_plain (take l.unit-index l.instruction) ≡ true

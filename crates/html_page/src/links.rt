@@ -1,0 +1,77 @@
+// Where the links of a document lead, and what its bookmarks are called.
+ghost use Rattle.std.specs.Prelude.{◌≡◌, None, Some, MatchOption};
+ghost use Rattle.html_page.specs.Links.{between, bookmark_name, instruction_of, is_plain, units_of, url_in};
+
+use doc_columns::ColumnDocument;
+use field_links::{LinkText, link_of};
+use view_places::Link;
+
+/// [MS-DOC] The unit that begins a field.
+const FIELD_BEGIN: u16 = 0x13;
+
+/// The instruction of a link.
+pub(crate) fn instruction_of(document: &ColumnDocument, link: Link) -> &[u16]
+    ensures { result.now ≡ instruction_of document.now link }
+{
+    between(units_of(document, link.note), link.begin, link.end)
+}
+
+/// The units of the note with this number, from 1, or of the main text.
+fn units_of(document: &ColumnDocument, note: usize) -> &[u16]
+    ensures { result.now ≡ units_of document.now note }
+{
+    if note == 0 {
+        return document.main.units();
+    }
+    if note - 1 < document.notes.len() {
+        document.notes.get(note - 1).units()
+    } else {
+        &[]
+    }
+}
+
+/// The units between two places.
+fn between(units: &[u16], begin: usize, end: usize) -> &[u16]
+    ensures { result.now ≡ between units.now begin end }
+{
+    if begin <= end && end <= units.len() {
+        &units[begin..end]
+    } else {
+        &[]
+    }
+}
+
+/// Where the field of an instruction leads.
+pub(crate) fn url_in(instruction: &[u16]) -> Option<LinkText<'_>>
+    ensures { MatchOption result (url_in instruction.now ≡ None) (λ text. url_in instruction.now ≡ Some text) }
+{
+    if is_plain(instruction) {
+        link_of(instruction).url()
+    } else {
+        None
+    }
+}
+
+/// Whether no field begins in an instruction.
+fn is_plain(instruction: &[u16]) -> bool
+    ensures { result ≡ is_plain instruction.now }
+{
+    for unit in instruction {
+        if *unit == FIELD_BEGIN {
+            return false;
+        }
+    }
+    true
+}
+
+/// The name of the bookmark with this number.
+pub(crate) fn bookmark_name(document: &ColumnDocument, number: usize) -> Option<&[u16]>
+    ensures { MatchOption result (bookmark_name document.now number ≡ None)
+        (λ name. bookmark_name document.now number ≡ Some name.now) }
+{
+    if number < document.bookmarks.len() {
+        Some(document.bookmarks.get(number).name.as_slice())
+    } else {
+        None
+    }
+}

@@ -1,0 +1,226 @@
+-- What a page is printed of is right, so that it is read back.
+use Rattle.std.proofs.Common.{◌≡◌, ℕ, zero, suc, ◌+◌, ◌/◌, ◌%◌, ◌==◌, Bool, true, false, not, ◌&&◌, List, [], ◌∷◌, ◌++◌}
+use Rattle.std.proofs.Common.{map, Option, Some, None, refl, sym, ap, ◌∙◌, arith}
+use Rattle.std.specs.Prelude.{if◌then◌else◌, codes}
+use Rattle.std.specs.Fmt.{decimal, digits, digits_onto, digit_glyph}
+use Rattle.std.specs.List.{list_all}
+use Rattle.std.proofs.lemmas.Bool.Decides.{nat_tests}
+use Rattle.std.proofs.lemmas.List.Folds.{list_all-append}
+use Rattle.markdown_text.specs.declared.line.LineState.{LineState}
+use Rattle.markdown_text.specs.declared.line.LineState.TheVariants.{Start}
+use Rattle.markdown_text.specs.Lines.{is_among}
+use Rattle.markdown_text.specs.Tokens.{Token, Character, Markup, Tag, Destination, after_token, after_tokens, are_right, is_right}
+use Rattle.markdown_text.proofs.ReadLemmas.{read_back}
+use Rattle.view_paths.specs.Events.{Event, Turn, Leaf, events_up_to, turns}
+use Rattle.view_paths.specs.Paths.{last_path}
+use Rattle.view_places.specs.declared.element.Element.{Element}
+use Rattle.view_places.specs.declared.glyph.Glyph.{Glyph}
+use Rattle.view_places.specs.Same.{same}
+use Rattle.glyph_units.specs.Glyphs.{unit_in}
+use Rattle.glyph_units.specs.Units.{half_text, unit_text}
+use Rattle.markdown_page.specs.declared.marks.Mark.{Mark}
+use Rattle.markdown_page.specs.declared.marks.Mark.TheVariants as mark
+use Rattle.markdown_page.specs.declared.marks.TagName.{TagName}
+use Rattle.markdown_page.specs.declared.marks.TagName.TheVariants as tag
+use Rattle.markdown_page.specs.declared.context.Seam.{Seam}
+use Rattle.markdown_page.specs.declared.context.Context.{Context}
+use Rattle.markdown_page.specs.declared.pieces.Piece.{Piece}
+use Rattle.markdown_page.specs.declared.pieces.Piece.TheVariants.{Nothing, Write, Insert, Space, Number, Rule, Picture}
+use Rattle.markdown_page.specs.declared.pieces.Piece.TheVariants.{Object}
+use Rattle.markdown_page.specs.declared.pieces.Piece.TheVariants.{Tab as ATab}
+use Rattle.markdown_page.specs.declared.pieces.Pieces.{Pieces}
+use Rattle.markdown_page.specs.Contexts.{character_seam, is_parted}
+use Rattle.markdown_page.specs.Marks.{mark_text, tag_text}
+use Rattle.markdown_page.specs.Pages.{Events, State, behind_event, character_tokens, event_tokens, glyph_tokens}
+use Rattle.markdown_page.specs.Pages.{closing_tokens, half_tokens, page_tokens, start, state_of, text_tokens, tokens_of}
+use Rattle.markdown_page.specs.Pages.{turn_pieces, without_half}
+use Rattle.markdown_page.specs.Pieces.{characters, columns_text, given, markup, other_pieces, piece_tokens, pieces_tokens, rule_text}
+use Rattle.markdown_page.specs.Shape.{Places, all_shaped}
+use Rattle.markdown_page.specs.Laws.{PagesAreReadBack}
+
+-- ---- tokens that are right wherever they stand
+
+abbrev is_safe_code : ℕ → Bool
+is_safe_code code = not (is_among (codes "\\&<(") code)
+
+abbrev is_safe : Token → Bool
+is_safe (Character code) = true
+is_safe (Markup code) = is_safe_code code
+is_safe (Tag inner) = list_all (λ code. not (code == 62)) inner
+is_safe (Destination url) = false
+
+abbrev AreSafe : List Token → Type 0
+AreSafe tokens = list_all is_safe tokens ≡ true
+
+both : (a b : Bool) → a ≡ true → b ≡ true → (a && b) ≡ true
+both true b one other = other
+both false b one other = absurd (cc (one))
+
+both_first : (a b : Bool) → (a && b) ≡ true → a ≡ true
+both_first true b e = refl
+both_first false b e = e
+
+both_second : (a b : Bool) → (a && b) ≡ true → b ≡ true
+both_second true b e = e
+both_second false b e = absurd (cc (e))
+
+safe-right : (line : LineState) (token : Token) → is_safe token ≡ true → is_right line token ≡ true
+safe-right line (Character code) h = refl
+safe-right line (Markup code) h = h
+safe-right line (Tag inner) h = h
+safe-right line (Destination url) h = absurd (cc (h))
+
+all_right : (line : LineState) (tokens : List Token) → AreSafe tokens → are_right line tokens ≡ true
+all_right line [] h = refl
+all_right line (token ∷ tokens) h =
+    both (is_right line token) (are_right (after_token line token) tokens)
+    (safe-right line token (both_first (is_safe token) (list_all is_safe tokens) h))
+    (all_right (after_token line token) tokens (both_second (is_safe token) (list_all is_safe tokens) h))
+
+safe-append : (xs ys : List Token) → AreSafe xs → AreSafe ys → AreSafe (xs ++ ys)
+safe-append xs ys one other =
+    list_all-append is_safe xs ys ∙ both (list_all is_safe xs) (list_all is_safe ys) one other
+
+-- ---- pieces
+
+safe-characters : (text : List ℕ) → AreSafe (characters text)
+safe-characters [] = refl
+safe-characters (code ∷ text) = safe-characters text
+
+safe-markup : (text : List ℕ) → list_all is_safe_code text ≡ true → AreSafe (markup text)
+safe-markup [] h = refl
+safe-markup (code ∷ text) h =
+    both (is_safe_code code) (list_all is_safe (markup text))
+    (both_first (is_safe_code code) (list_all is_safe_code text) h)
+    (safe-markup text (both_second (is_safe_code code) (list_all is_safe_code text) h))
+
+safe_mark : (m : Mark) → list_all is_safe_code (mark_text m) ≡ true
+safe_mark mark.Strong = refl
+safe_mark mark.Emphasis = refl
+safe_mark mark.Strike = refl
+safe_mark mark.NoteFront = refl
+safe_mark mark.ReferenceEnd = refl
+safe_mark mark.NoteEnd = refl
+safe_mark mark.FirstCell = refl
+safe_mark mark.NextCell = refl
+safe_mark mark.RowEnd = refl
+safe_mark mark.RuleFront = refl
+safe_mark mark.RuleColumn = refl
+safe_mark mark.LineEnd = refl
+safe_mark mark.BlockEnd = refl
+safe_mark mark.Indent = refl
+safe_mark mark.Item = refl
+safe_mark mark.Heading1 = refl
+safe_mark mark.Heading2 = refl
+safe_mark mark.Heading3 = refl
+safe_mark mark.Heading4 = refl
+safe_mark mark.Heading5 = refl
+safe_mark mark.Heading6 = refl
+
+safe_tag : (t : TagName) → list_all (λ code. not (code == 62)) (tag_text t) ≡ true
+safe_tag tag.Underline = refl
+safe_tag tag.UnderlineEnd = refl
+safe_tag tag.Raised = refl
+safe_tag tag.RaisedEnd = refl
+safe_tag tag.Lowered = refl
+safe_tag tag.LoweredEnd = refl
+safe_tag tag.LineBreak = refl
+safe_tag tag.Comment = refl
+
+digit_is_safe : (d : ℕ) → is_safe_code (digit_glyph false d) ≡ true
+digit_is_safe d = grind (arith, nat_tests)
+
+safe-digits_onto : (k n : ℕ) (acc : List ℕ) → list_all is_safe_code acc ≡ true → list_all is_safe_code (digits_onto k 10
+    false n acc) ≡ true
+safe-digits_onto zero n acc h = h
+safe-digits_onto (suc k) n acc h =
+    let next : list_all is_safe_code (digit_glyph false (n % 10) ∷ acc) ≡ true =
+    both (is_safe_code (digit_glyph false (n % 10))) (list_all is_safe_code acc) (digit_is_safe (n % 10)) h in
+    elim (n / 10 == 0) as (λ (b : Bool). list_all is_safe_code (if b then digit_glyph false (n % 10) ∷ acc else
+    digits_onto k 10 false (n / 10) (digit_glyph false (n % 10) ∷ acc)) ≡ true) [
+      | true ↦ next
+      | false ↦ safe-digits_onto k (n / 10) (digit_glyph false (n % 10) ∷ acc) next
+    ]
+
+safe_decimal : (n : ℕ) → list_all is_safe_code (decimal n) ≡ true
+unfolding digits
+safe_decimal n = safe-digits_onto 64 n [] refl
+
+safe_columns : (n : ℕ) → list_all is_safe_code (columns_text n) ≡ true
+safe_columns zero = refl
+safe_columns (suc n) =
+    list_all-append is_safe_code (columns_text n) (mark_text mark.RuleColumn)
+    ∙ both (list_all is_safe_code (columns_text n)) true (safe_columns n) refl
+
+safe_rule : (n : ℕ) → list_all is_safe_code (rule_text n) ≡ true
+safe_rule n =
+    list_all-append is_safe_code (columns_text n) (mark_text mark.LineEnd)
+    ∙ both (list_all is_safe_code (columns_text n)) true (safe_columns n) refl
+
+safe-piece : (piece : Piece) → AreSafe (piece_tokens piece)
+safe-piece Nothing = refl
+safe-piece (Write mark) = safe-markup (mark_text mark) (safe_mark mark)
+safe-piece (Insert tag) =
+    both (list_all (λ code. not (code == 62)) (tag_text tag)) true (safe_tag tag) refl
+safe-piece Space = refl
+safe-piece ATab = refl
+safe-piece (Number number) = safe-markup (decimal number) (safe_decimal number)
+safe-piece (Rule columns) = safe-markup (rule_text columns) (safe_rule columns)
+safe-piece Picture = refl
+safe-piece Object = refl
+
+safe-pieces : (pieces : Pieces) → AreSafe (pieces_tokens pieces)
+safe-pieces pieces =
+    safe-append (piece_tokens pieces.first) (piece_tokens pieces.second ++ piece_tokens pieces.third)
+    (safe-piece pieces.first)
+    (safe-append (piece_tokens pieces.second) (piece_tokens pieces.third) (safe-piece pieces.second)
+    (safe-piece pieces.third))
+
+-- ---- events
+
+safe-text : (seam : Seam) (text : List ℕ) → AreSafe (text_tokens seam text)
+safe-text seam [] = refl
+safe-text seam (code ∷ text) =
+    safe-append (character_tokens seam code) (text_tokens (character_seam code) text)
+    (safe-append (piece_tokens (given (is_parted seam code) (Insert tag.Comment))) (Character code ∷ [])
+    (safe-piece (given (is_parted seam code) (Insert tag.Comment))) refl)
+    (safe-text (character_seam code) text)
+
+safe-behind : (context : Context) (pieces : Pieces) → AreSafe (half_tokens context ++ pieces_tokens pieces)
+safe-behind context pieces =
+    safe-append (half_tokens context) (pieces_tokens pieces) (safe-text context.seam (half_text context.half))
+    (safe-pieces pieces)
+
+safe-glyph : (state : State) (unit : Option ℕ) (glyph : Glyph) → AreSafe (glyph_tokens state unit glyph)
+safe-glyph state (Some unit) glyph = safe-text state.context.seam (unit_text state.context.half unit)
+safe-glyph state None glyph =
+    safe-behind state.context (other_pieces (after_tokens state.line (half_tokens state.context)) glyph)
+
+safe-event : (state : State) (event : Event Element Glyph) → AreSafe (event_tokens state event)
+safe-event state (Turn tag) =
+    safe-behind state.context (turn_pieces tag (after_tokens state.line (half_tokens state.context)) (without_half
+    state.context))
+safe-event state (Leaf path glyph) = safe-glyph state (unit_in glyph) glyph
+
+safe-events : (state : State) (events : Events) → AreSafe (tokens_of state events)
+unfolding tokens_of
+safe-events state [] = refl
+safe-events state (event ∷ events) =
+    safe-append (event_tokens state event) (tokens_of (behind_event state event) events) (safe-event state event)
+    (safe-events (behind_event state event) events)
+
+safe-closing : (state : State) (path : List Element) → AreSafe (closing_tokens state path)
+safe-closing state path =
+    let events : Events = turns same path [] in
+    let last = (state_of state events).context in
+    safe-append (tokens_of state events) (half_tokens last) (safe-events state events)
+    (safe-text last.seam (half_text last.half))
+
+-- a page is read back
+pub page_read : PagesAreReadBack
+page_read places =
+    let shaped = all_shaped places in
+    let events : Events = events_up_to same [] shaped in
+    read_back (page_tokens places) (all_right Start (page_tokens places)
+    (safe-append (tokens_of start events) (closing_tokens (state_of start events) (last_path [] shaped))
+    (safe-events start events) (safe-closing (state_of start events) (last_path [] shaped))))

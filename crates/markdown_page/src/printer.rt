@@ -1,0 +1,257 @@
+// A page in Markdown that is printed place by place.
+ghost use Rattle.std.specs.Prelude.{◌≡◌, [], ◌∷◌, ◌++◌, length, take, drop, map, false, true, Some, None, OnOk, OnErr};
+ghost use Rattle.std.specs.Char.{IsScalar};
+ghost use Rattle.doc_outer.specs.Counts.{GoesOn};
+ghost use Rattle.doc_outer.specs.Written.{Appends};
+ghost use Rattle.page_out.specs.Printed.{FailsIn};
+ghost use Rattle.markdown_text.specs.declared.line.LineState.TheVariants.{Start};
+ghost use Rattle.view_paths.specs.Events.{closes, opens, turns, Turn, Open, Close};
+ghost use Rattle.view_paths.specs.Turns.{IsFront};
+ghost use Rattle.view_places.specs.Same.{same};
+ghost use Rattle.glyph_units.specs.Glyphs.{unit_in};
+ghost use Rattle.glyph_units.specs.Units.{first_half, first_text, unit_half, unit_text};
+ghost use Rattle.markdown_page.specs.Pages.{closing_tokens, fresh, glyph_shown, glyph_tokens, half_tokens};
+ghost use Rattle.markdown_page.specs.Pages.{text_seam, text_tokens, tokens_behind, turn_pieces, turned};
+ghost use Rattle.markdown_page.specs.Pages.{unit_shown, unit_tokens, without_half};
+ghost use Rattle.markdown_page.specs.Printed.{PutsEvents, PutsPlaces, PutsTokens, state_in};
+
+use crate::context::{Context, character_seam};
+use crate::marks::TagName;
+use crate::pen::Pen;
+use crate::pieces::{Piece, closing, given, opening, other_pieces};
+use crate::shape::{inner_kind, shaped_glyph, shaped_path};
+use doc_outer::{OutBlock, Sink, SinkFailed};
+use glyph_units::{REPLACEMENT, alone, is_high, pair, unit_in};
+use view_paths::Path;
+use view_places::{Element, Glyph};
+
+/// A page on its way to a sink: the elements that are open, and what stands before the next place.
+#[derive(Drop)]
+pub struct MarkdownPage {
+    pub pen: Pen,
+    pub path: Path<Element>,
+    pub context: Context,
+}
+
+impl MarkdownPage {
+    /// A page of which nothing was put.
+    pub fn new(block: OutBlock) -> MarkdownPage
+        ensures { result ≡ record {
+          pen = record { page = record { block = block; failed = false }; line = Start };
+          path = [];
+          context = fresh;
+        } }
+    {
+        MarkdownPage {
+            pen: Pen::new(block),
+            path: Path::new(Element::Notes),
+            context: Context::new(),
+        }
+    }
+
+    /// Puts a place: closes and opens what differs, and shows its glyph.
+    pub fn put<K: Sink>(&mut self, out: &mut K, to: &Path<Element>, glyph: Option<Glyph>)
+        ensures { PutsPlaces K.Sink out.old self.old out.new self.new (record { path = to.now; glyph = glyph } ∷ []) }
+    {
+        let shaped = shaped_path(glyph, to);
+        self.go(out, &shaped);
+        match shaped_glyph(inner_kind(to), glyph) {
+            None => {}
+            Some(glyph) => self.show(out, glyph),
+        }
+    }
+
+    /// Closes all that is open.
+    pub fn end<K: Sink>(&mut self, out: &mut K)
+        ensures { PutsTokens K.Sink out.old self.old.pen out.new self.new.pen
+            (closing_tokens (state_in self.old) self.old.path) }
+    {
+        self.go(out, &Path::new(Element::Notes));
+        self.put_half(out);
+    }
+
+    /// Lets the sink take what waits, and tells whether it failed at any time.
+    pub fn finish<K: Sink>(self, out: &mut K) -> Result<(), SinkFailed>
+        ensures right { OnOk result (self.pen.page.failed ≡ false) }
+        ensures ok { OnOk result (Appends (K.written out.old) (K.written out.new) self.pen.page.block) }
+        ensures fails { OnErr result (self.pen.page.failed ≡ false → FailsIn K.Sink out.old self.pen.page out.new []) }
+        ensures stays { OnErr result (self.pen.page.failed ≡ true → K.written out.new ≡ K.written out.old) }
+        ensures faults { GoesOn (K.faults out.old) (K.faults out.new) }
+    {
+        self.pen.page.finish(out)
+    }
+
+    /// Closes and opens what differs.
+    fn go<K: Sink>(&mut self, out: &mut K, to: &Path<Element>)
+        ensures { PutsEvents K.Sink out.old self.old out.new self.new (turns same self.old.path to.now) to.now }
+    {
+        let shared = self.path.shared(to);
+        self.close_to(out, shared);
+        self.open_to(out, to);
+    }
+
+    /// Closes all but so many elements.
+    fn close_to<K: Sink>(&mut self, out: &mut K, shared: usize)
+        ensures { PutsEvents K.Sink out.old self.old out.new self.new
+            (map Turn (closes (take shared self.old.path) (drop shared self.old.path))) (take shared self.old.path) }
+    {
+        match self.path.close_next(shared) {
+            None => {}
+            Some(element) => {
+                self.put_close(out, element);
+                self.close_to(out, shared);
+            }
+        }
+    }
+
+    /// Opens the elements of a path that are not open.
+    fn open_to<K: Sink>(&mut self, out: &mut K, to: &Path<Element>)
+        requires { IsFront self.old.path to.now }
+        ensures { PutsEvents K.Sink out.old self.old out.new self.new
+            (map Turn (opens self.old.path (drop (length self.old.path) to.now))) to.now }
+    {
+        match self.path.open_next(to) {
+            None => {}
+            Some(element) => {
+                self.put_open(out, element);
+                self.open_to(out, to);
+            }
+        }
+    }
+
+    /// Puts the end of an element.
+    fn put_close<K: Sink>(&mut self, out: &mut K, element: Element)
+        ensures puts { PutsTokens K.Sink out.old self.old.pen out.new self.new.pen
+            (tokens_behind (state_in self.old) (turn_pieces (Close [] element))) }
+        ensures path { self.new.path ≡ self.old.path }
+        ensures context { self.new.context ≡ turned (Close [] element) (without_half self.old.context) }
+    {
+        self.put_half(out);
+        let pieces = closing(self.pen.line, &self.context, element);
+        self.context = self.context.closed(element);
+        self.pen.put_pieces(out, pieces);
+    }
+
+    /// Puts the start of an element.
+    fn put_open<K: Sink>(&mut self, out: &mut K, element: Element)
+        ensures puts { PutsTokens K.Sink out.old self.old.pen out.new self.new.pen
+            (tokens_behind (state_in self.old) (turn_pieces (Open [] element))) }
+        ensures path { self.new.path ≡ self.old.path }
+        ensures context { self.new.context ≡ turned (Open [] element) (without_half self.old.context) }
+    {
+        self.put_half(out);
+        let pieces = opening(&self.context, element);
+        self.context = self.context.opened(element);
+        self.pen.put_pieces(out, pieces);
+    }
+
+    /// Puts the half that waits, which no other one follows.
+    fn put_half<K: Sink>(&mut self, out: &mut K)
+        ensures puts { PutsTokens K.Sink out.old self.old.pen out.new self.new.pen (half_tokens self.old.context) }
+        ensures path { self.new.path ≡ self.old.path }
+        ensures context { self.new.context ≡ without_half self.old.context }
+    {
+        match self.context.half {
+            None => {}
+            Some(_) => {
+                self.put_character(out, REPLACEMENT);
+                self.context.half = None;
+            }
+        }
+    }
+
+    /// Puts a character of the text.
+    fn put_character<K: Sink>(&mut self, out: &mut K, code: u32)
+        requires { IsScalar code }
+        ensures puts { PutsTokens K.Sink out.old self.old.pen out.new self.new.pen
+            (text_tokens self.old.context.seam (code ∷ [])) }
+        ensures path { self.new.path ≡ self.old.path }
+        ensures context { self.new.context ≡ record self.old.context { seam = text_seam self.old.context.seam (code ∷ []) } }
+    {
+        let piece = given(
+            self.context.seam.is_parted(code),
+            Piece::Insert(TagName::Comment),
+        );
+        self.pen.put_piece(out, piece);
+        self.pen.put_character(out, code);
+        self.context.seam = character_seam(code);
+    }
+
+    /// Puts a glyph.
+    fn show<K: Sink>(&mut self, out: &mut K, glyph: Glyph)
+        ensures puts { PutsTokens K.Sink out.old self.old.pen out.new self.new.pen
+            (glyph_tokens (state_in self.old) (unit_in glyph) glyph) }
+        ensures path { self.new.path ≡ self.old.path }
+        ensures context { self.new.context ≡ glyph_shown self.old.context (unit_in glyph) }
+    {
+        match unit_in(glyph) {
+            Some(unit) => self.put_unit(out, unit),
+            None => self.put_other(out, glyph),
+        }
+    }
+
+    /// Puts a glyph that is no unit.
+    fn put_other<K: Sink>(&mut self, out: &mut K, glyph: Glyph)
+        ensures puts { PutsTokens K.Sink out.old self.old.pen out.new self.new.pen
+            (glyph_tokens (state_in self.old) None glyph) }
+        ensures path { self.new.path ≡ self.old.path }
+        ensures context { self.new.context ≡ glyph_shown self.old.context None }
+    {
+        self.put_half(out);
+        let pieces = other_pieces(self.pen.line, glyph);
+        self.context = self.context.cut();
+        self.pen.put_pieces(out, pieces);
+    }
+
+    /// Puts a unit, or lets it wait.
+    fn put_unit<K: Sink>(&mut self, out: &mut K, unit: u16)
+        ensures puts { PutsTokens K.Sink out.old self.old.pen out.new self.new.pen (unit_tokens self.old.context unit) }
+        ensures path { self.new.path ≡ self.old.path }
+        ensures context { self.new.context ≡ unit_shown self.old.context unit }
+    {
+        match self.context.half {
+            None => self.put_first(out, unit),
+            Some(first) => self.put_second(out, first, unit),
+        }
+    }
+
+    /// Puts a unit for which no half waits, or lets it wait.
+    fn put_first<K: Sink>(&mut self, out: &mut K, unit: u16)
+        ensures puts { PutsTokens K.Sink out.old self.old.pen out.new self.new.pen
+            (text_tokens self.old.context.seam (first_text unit)) }
+        ensures path { self.new.path ≡ self.old.path }
+        ensures context { self.new.context ≡ record self.old.context {
+          half = first_half unit;
+          seam = text_seam self.old.context.seam (first_text unit);
+        } }
+    {
+        if is_high(unit) {
+            self.context.half = Some(unit);
+        } else {
+            self.context.half = None;
+            self.put_character(out, alone(unit));
+        }
+    }
+
+    /// Puts a unit behind a half that waits.
+    fn put_second<K: Sink>(&mut self, out: &mut K, first: u16, unit: u16)
+        ensures puts { PutsTokens K.Sink out.old self.old.pen out.new self.new.pen
+            (text_tokens self.old.context.seam (unit_text (Some first) unit)) }
+        ensures path { self.new.path ≡ self.old.path }
+        ensures context { self.new.context ≡ record self.old.context {
+          half = unit_half (Some first) unit;
+          seam = text_seam self.old.context.seam (unit_text (Some first) unit);
+        } }
+    {
+        match pair(first, unit) {
+            Some(code) => {
+                self.context.half = None;
+                self.put_character(out, code);
+            }
+            None => {
+                self.put_character(out, REPLACEMENT);
+                self.put_first(out, unit);
+            }
+        }
+    }
+}
