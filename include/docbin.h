@@ -1,6 +1,7 @@
 /* docbin: documents of Word 97, by the library libdocbin_c.a. Each call takes bytes and gives bytes; no file is read or written.
 
-   A call serves one command of the program `docbin` and answers its status, the text that the command prints, and the bytes that it puts.
+   A call serves one command of the program `docbin` (the last three: of `docfit` and `docview`) and answers its status, the text that the command
+   prints, and the bytes that it puts.
    The caller lends room for both. `text_len` and `bytes_len` tell how much there is; the rooms hold as much of it as they can, and behind that
    what stood there. So a call with rooms of length 0 asks for the lengths, and a call whose rooms were too small is made once more.
 
@@ -10,7 +11,7 @@
      No call is made from a signal handler, or from the forked child of a process with threads.
    - In texts the file has the name `first`, the second file or the script `second`, as in `first: rule 1 File 356`.
 
-   What a status means, and its line, is said in docs/COMMANDS.md. */
+   What a status means, and its line, is said in docs/COMMANDS.md, docs/FIT.md and docs/VIEW.md. */
 #ifndef DOCBIN_H
 #define DOCBIN_H
 
@@ -38,7 +39,9 @@ enum docbin_status {
   DOCBIN_GUARD_REFUSED = 10, /* a guard does not allow an edit */
   DOCBIN_DIFFERENT = 11,     /* the documents differ */
   DOCBIN_NO_SUMMARY = 13,
-  DOCBIN_WRONG_SUMMARY = 14
+  DOCBIN_WRONG_SUMMARY = 14,
+  DOCBIN_NOT_WORD_97 = 15,   /* docbin_fit: a file is of another program than Word 97 to 2007 */
+  DOCBIN_ENCRYPTED = 16      /* docbin_fit: a file is encrypted or obfuscated */
 };
 
 /* What a call came to. */
@@ -93,6 +96,22 @@ docbin_answer docbin_import(const uint8_t *json, size_t json_len, uint8_t *text,
 /* The full save of one document with another behind it. */
 docbin_answer docbin_join(const uint8_t *first, size_t first_len, const uint8_t *second, size_t second_len, uint8_t *text, size_t text_room,
                           uint8_t *bytes, size_t bytes_room);
+
+/* The document of a file of Word 97 to 2007, as a file that docbin accepts: the run of `docfit first out`, whose text has a line for each part that is
+   left out (docs/FIT.md). */
+docbin_answer docbin_fit(const uint8_t *file, size_t file_len, uint8_t *text, size_t text_room, uint8_t *bytes, size_t bytes_room);
+
+/* What else a page shows: bits of `options`. */
+enum docview_options {
+  DOCVIEW_HIDDEN = 1, /* hidden text */
+  DOCVIEW_HEADERS = 2 /* header texts */
+};
+
+/* The document as people read it (docs/VIEW.md), as text or as a page in HTML: the runs of `docview text first` and `docview html first`, with
+   options of `enum docview_options` in one number, or 0. Where the status is not 0 the text is the line on why:
+   `docview: first: not shown: rule 1 File 356 (..)`. */
+docbin_answer docview_text(const uint8_t *file, size_t file_len, uint32_t options, uint8_t *text, size_t text_room);
+docbin_answer docview_html(const uint8_t *file, size_t file_len, uint32_t options, uint8_t *text, size_t text_room);
 
 #ifdef __cplusplus
 }

@@ -11,7 +11,7 @@ import tarfile
 import zipfile
 
 HERE = os.path.dirname(os.path.abspath(__file__))
-FILES = ("__init__.py", "__main__.py", "backends.py", "document.py", "names.py", "refusals.py", "py.typed")
+FILES = ("__init__.py", "__main__.py", "backends.py", "document.py", "fitting.py", "names.py", "refusals.py", "py.typed")
 LIBRARY = "libdocbin.so"
 SOURCES = ("pyproject.toml", "build_wheel.py")
 

@@ -81,9 +81,17 @@ static void keep(bytes *all, docbin_answer got) {
   memcpy(all->at, made, got.bytes_len);
 }
 
-static bytes hello, letter, titled, json;
+/* The example documents, one as JSON, and one of a later program: [MS-DOC] FibBase nFib is 0x00D9, and pnNext names AutoText. */
+static bytes hello, letter, titled, json, later;
 
-/* Each call of docbin.h, by its number. */
+static uint8_t *fib_of(bytes *file) {
+  size_t at = 512;
+  while (file->at[at] != 0xEC || file->at[at + 1] != 0xA5) at += 64;
+  return file->at + at;
+}
+
+/* Each call of docbin.h, by its number; the last ones are refused. */
+#define CALLS 20
 static docbin_answer call(int number) {
   const char *script = "[{\"do\":\"insert\",\"story\":\"main\",\"at\":0,\"text\":\"a\"},{\"do\":\"save\",\"mode\":\"fast\"}]";
   const uint8_t *name = (const uint8_t *)"New";
@@ -102,8 +110,43 @@ static docbin_answer call(int number) {
     case 11: return docbin_export(letter.at, letter.len, text, ROOM, made, ROOM);
     case 12: return docbin_import(json.at, json.len, text, ROOM, made, ROOM);
     case 13: return docbin_join(hello.at, hello.len, letter.at, letter.len, text, ROOM, made, ROOM);
-    default: return docbin_text(json.at, json.len, text, ROOM);
+    case 14: return docbin_fit(later.at, later.len, text, ROOM, made, ROOM);
+    case 15: return docview_text(letter.at, letter.len, DOCVIEW_HIDDEN | DOCVIEW_HEADERS, text, ROOM);
+    case 16: return docview_html(letter.at, letter.len, 0, text, ROOM);
+    case 17: return docbin_text(json.at, json.len, text, ROOM);
+    case 18: return docbin_fit(json.at, json.len, text, ROOM, made, ROOM);
+    default: return docview_text(json.at, json.len, 0, text, ROOM);
   }
+}
+
+/* Each call with no bytes for all that it is given, and no room: a file of no bytes breaks rule 1, a script of none is no JSON. */
+#define NO_BYTES 17
+
+static docbin_answer empty_call(int number) {
+  switch (number) {
+    case 0: return docbin_text(NULL, 0, NULL, 0);
+    case 1: return docbin_streams(NULL, 0, NULL, 0);
+    case 2: return docbin_check(NULL, 0, NULL, 0);
+    case 3: return docbin_show(NULL, 0, NULL, 0);
+    case 4: return docbin_props(NULL, 0, 3, NULL, 0);
+    case 5: return docbin_outline(NULL, 0, NULL, 0);
+    case 6: return docbin_title(NULL, 0, NULL, 0);
+    case 7: return docbin_equal(NULL, 0, NULL, 0, NULL, 0);
+    case 8: return docbin_full(NULL, 0, NULL, 0, NULL, 0);
+    case 9: return docbin_retitle(NULL, 0, NULL, 0, NULL, 0, NULL, 0);
+    case 10: return docbin_edit(NULL, 0, NULL, 0, true, NULL, 0, NULL, 0);
+    case 11: return docbin_export(NULL, 0, NULL, 0, NULL, 0);
+    case 12: return docbin_join(NULL, 0, NULL, 0, NULL, 0, NULL, 0);
+    case 13: return docbin_fit(NULL, 0, NULL, 0, NULL, 0);
+    case 14: return docview_text(NULL, 0, 0, NULL, 0);
+    case 15: return docview_html(NULL, 0, 0, NULL, 0);
+    default: return docbin_import(NULL, 0, NULL, 0, NULL, 0);
+  }
+}
+
+static void no_bytes(int number) {
+  docbin_answer got = empty_call(number);
+  has(got.status == (number == NO_BYTES - 1 ? DOCBIN_NO_SCRIPT : DOCBIN_RULE_BROKEN) && got.text_len > 0 && got.bytes_len == 0, "a call with no bytes");
 }
 
 /* A call leaves nothing behind, also where any one request for memory is refused: then its status is 6, or what it is else. */
@@ -133,6 +176,9 @@ int main(int count, char **words) {
   read_from(&letter, words[1], "letter.doc");
   read_from(&titled, words[1], "titled.doc");
   read_from(&edited, "", words[2]);
+  later = letter;
+  fib_of(&later)[2] = 0xD9;
+  fib_of(&later)[8] = 24;
 
   /* Rooms that are too small, and rooms that are large enough. */
   memset(text, '#', 10);
@@ -175,14 +221,18 @@ int main(int count, char **words) {
   has(got.status == 0, "join");
   has(docbin_equal(letter.at, letter.len, edited.at, edited.len, text, ROOM).status == 11, "an edited file");
 
-  /* A pointer whose length is 0 may be NULL. */
-  got = docbin_full(hello.at, hello.len, NULL, 0, NULL, 0);
-  has(got.status == 0 && got.text_len == 17 && got.bytes_len > 0, "no rooms");
-  says(docbin_text(NULL, 0, text, ROOM), 1, "first: rule 1 File 0\n");
-  has(docbin_equal(hello.at, hello.len, NULL, 0, NULL, 0).status == 1, "no second file");
+  says(docbin_fit(later.at, later.len, text, ROOM, made, ROOM), 0, "fit: 7680 bytes, left out 1, mended 0\nautotext page 24\n");
+  keep(&other, docbin_fit(later.at, later.len, text, ROOM, made, ROOM));
+  says(docbin_equal(letter.at, letter.len, other.at, other.len, text, ROOM), 0, "equal\n");
+  says(docview_text(letter.at, letter.len, 0, text, ROOM), 0, "Offer\nDear Ann,\tsee\tbelow[1].\n\n[1] Net price.\n");
+  got = docview_html(letter.at, letter.len, DOCVIEW_HIDDEN, text, ROOM);
+  has(got.status == 0 && got.bytes_len == 0 && !memcmp(text, "<!DOCTYPE html>", 15), "a page in HTML");
+
+  /* No input, and no room: NULL, of each call. */
+  for (int number = 0; number < NO_BYTES; number++) no_bytes(number);
 
   /* Nothing is left behind. */
-  for (int number = 0; number < 15; number++) leaves_nothing(number);
+  for (int number = 0; number < CALLS; number++) leaves_nothing(number);
 
   /* Refused. */
   says(docbin_text((const uint8_t *)"no", 2, text, ROOM), 1, "first: rule 1 File 2\n");
@@ -195,6 +245,13 @@ int main(int count, char **words) {
   says(docbin_import((const uint8_t *)"{}", 2, text, ROOM, made, ROOM), 7, "import: wrong shape\n");
   says(docbin_equal(hello.at, hello.len, letter.at, letter.len, text, ROOM), 11, "different\n");
   says(docbin_title(hello.at, hello.len, text, ROOM), 13, "first: no summary\n");
+  other = hello;
+  fib_of(&other)[0] = 0xDC;
+  says(docbin_fit(other.at, other.len, text, ROOM, made, ROOM), 15, "first: not of Word 97 to 2007: wIdent a5dc nFib 00c1\n");
+  other = hello;
+  fib_of(&other)[11] |= 1;
+  says(docbin_fit(other.at, other.len, text, ROOM, made, ROOM), 16, "first: encrypted\n");
+  has(docview_text(other.at, other.len, 0, text, ROOM).status == 1 && !memcmp(text, "docview: first: not shown: rule 19 WordDocument 10 (", 52), "no page");
   for (size_t at = 512; at + 28 < titled.len; at += 64)
     if (!memcmp(titled.at + at, "\xfe\xff\0\0", 4)) titled.at[at + 24] = 2;
   says(docbin_title(titled.at, titled.len, text, ROOM), 14, "first: summary wrong at 24\n");

@@ -19,28 +19,39 @@ Each function takes the bytes of a file, and gives a text or bytes. What is refu
 and whose `line` is the line that it prints: docs/COMMANDS.md tells what each means. An argument of another kind raises a TypeError, a ValueError or
 an OverflowError, and nothing is called.
 
-The calls are those of the library libdocbin.so (DOCBIN_LIBRARY, or beside this file); where it is not there, runs of the program (DOCBIN, or
-docbin in the PATH), with the same results. What is proved of a call stands in crates/docbin_c and crates/doc_run; this package hands bytes over and
-proves nothing."""
+A document of a later program is fitted first, and read as people read it:
+
+>>> fitted = docbin.fit(hello)
+>>> docbin.check(fitted.bytes), fitted.left_out
+('accepted: units 6 styles 3 sections 1 notes 0 streams 0', [])
+>>> docbin.plain(fitted.bytes)
+'Hello\\n'
+
+The calls are those of the library libdocbin.so (DOCBIN_LIBRARY, or beside this file); where it is not there, runs of the programs (DOCBIN, DOCFIT
+and DOCVIEW, or docbin, docfit and docview in the PATH), with the same results. What is proved of a call stands in crates/docbin_c, crates/doc_run,
+crates/docfit_run and crates/docview_run; this package hands bytes over and proves nothing."""
 import json as _json
 import operator
 import os
 import pathlib
 import re
-from typing import Any, Callable, Dict, Iterable, Iterator, List, Mapping, Optional, Tuple, Union
+from typing import Any, Callable, Dict, Iterable, Iterator, List, Mapping, Optional, Sequence, Tuple, Union
 
 from . import backends as _backends
 from .document import Document, Heading, Note, Paragraph, Properties, Run, Stream, Style, Summary, Table
-from .refusals import EditRefused, GuardRefused, NoSummary, Refused, RuleBroken, SaveRefused, WrongScript
+from .fitting import Feature, Fitted
+from .fitting import fitted as _fitted
+from .refusals import EditRefused, Encrypted, GuardRefused, NoSummary, NotWord97, Refused, RuleBroken, SaveRefused, WrongScript
 from .refusals import refused as _refused
 
 __version__ = "1.0.0"
 __all__ = [
-    "text", "streams", "check", "show", "props", "outline", "title", "equal", "full", "retitle", "edit", "export", "import_json", "join", "folder",
-    "FULL", "FAST", "Document", "Heading", "Note", "Paragraph", "Properties", "Run", "Stream", "Style", "Summary", "Table", "Refused", "RuleBroken", "WrongScript", "EditRefused", "SaveRefused", "GuardRefused", "NoSummary",
+    "text", "streams", "check", "show", "props", "outline", "title", "equal", "full", "retitle", "edit", "export", "import_json", "join", "fit", "plain",
+    "html", "folder", "FULL", "FAST", "Document", "Heading", "Note", "Paragraph", "Properties", "Run", "Stream", "Style", "Summary", "Table", "Feature",
+    "Fitted", "Refused", "RuleBroken", "WrongScript", "EditRefused", "SaveRefused", "GuardRefused", "NoSummary", "NotWord97", "Encrypted",
 ]
 
-for _it in (Document, Refused, RuleBroken, WrongScript, EditRefused, SaveRefused, GuardRefused, NoSummary):
+for _it in (Document, Feature, Fitted, Refused, RuleBroken, WrongScript, EditRefused, SaveRefused, GuardRefused, NoSummary, NotWord97, Encrypted):
     _it.__module__ = __name__
 
 FULL = {"do": "save", "mode": "full"}
@@ -53,11 +64,11 @@ _TITLE = re.compile(r"[ -~]{0,255}")
 _backend: Optional[Union[_backends.Library, _backends.Program]] = None
 
 
-def _call(name: str, *given: _backends.Given, puts: bool, guarded: Optional[bool] = None) -> _backends.Answer:
+def _call(name: str, *given: _backends.Given, flags: Sequence[bool] = ()) -> _backends.Answer:
     global _backend
     if _backend is None:
         _backend = _backends.found()
-    return _backend.call(name, given, puts, guarded)
+    return _backend.call(name, given, flags)
 
 
 def _bytes(data: BytesLike) -> bytes:
@@ -74,8 +85,15 @@ def _json_bytes(value: Any) -> bytes:
     return _json.dumps(value, allow_nan=False).encode()
 
 
-def _text(name: str, *given: _backends.Given) -> str:
-    status, line, _ = _call(name, *given, puts=False)
+def _flags(**flags: bool) -> Sequence[bool]:
+    for name, it in flags.items():
+        if not isinstance(it, bool):
+            raise TypeError(f"{name} is a bool, and not {type(it).__name__!r}")
+    return tuple(flags.values())
+
+
+def _text(name: str, *given: _backends.Given, flags: Sequence[bool] = ()) -> str:
+    status, line, _ = _call(name, *given, flags=flags)
     if status:
         raise _refused(status, line.rstrip("\n"))
     return line
@@ -85,8 +103,8 @@ def _lines(name: str, *given: _backends.Given) -> List[str]:
     return _text(name, *given).split("\n")[:-1]
 
 
-def _made(name: str, *given: _backends.Given, guarded: Optional[bool] = None) -> bytes:
-    status, line, made = _call(name, *given, puts=True, guarded=guarded)
+def _made(name: str, *given: _backends.Given, flags: Sequence[bool] = ()) -> bytes:
+    status, line, made = _call(name, *given, flags=flags)
     if status:
         raise _refused(status, line.rstrip("\n"))
     return made
@@ -134,7 +152,7 @@ def title(data: BytesLike) -> List[str]:
 
 def equal(first: BytesLike, second: BytesLike) -> bool:
     """Whether two files have equal documents."""
-    status, line, _ = _call("equal", _bytes(first), _bytes(second), puts=False)
+    status, line, _ = _call("equal", _bytes(first), _bytes(second))
     if status not in (0, 11):
         raise _refused(status, line.rstrip("\n"))
     return status == 0
@@ -167,11 +185,10 @@ def edit(data: BytesLike, commands: Iterable[Mapping[str, Any]], guarded: bool =
     for it in script:
         if not isinstance(it, Mapping):
             raise TypeError(f"a command is a dict, and not {type(it).__name__!r}")
-    if not isinstance(guarded, bool):
-        raise TypeError(f"guarded is a bool, and not {type(guarded).__name__!r}")
+    flags = _flags(guarded=guarded)
     if not script or script[-1].get("do") != "save":
         script.append(FULL)
-    return _made("edit", held, _json_bytes([dict(it) for it in script]), guarded=guarded)
+    return _made("edit", held, _json_bytes([dict(it) for it in script]), flags=flags)
 
 
 def export(data: BytesLike) -> Dict[str, Any]:
@@ -190,6 +207,25 @@ def import_json(document: Mapping[str, Any]) -> bytes:
 def join(first: BytesLike, second: BytesLike) -> bytes:
     """The full save of one document with another behind it."""
     return _made("join", _bytes(first), _bytes(second))
+
+
+def fit(data: BytesLike) -> Fitted:
+    """A document of Word 97 to 2007 as a file that docbin accepts, with what of it is left out (docs/FIT.md). `NotWord97` or `Encrypted` where it is
+    no such file or cannot be read, `RuleBroken` where it breaks a rule that is left."""
+    status, report, made = _call("fit", _bytes(data))
+    if status:
+        raise _refused(status, report.rstrip("\n"))
+    return _fitted(made, report)
+
+
+def plain(data: BytesLike, hidden: bool = False, headers: bool = False) -> str:
+    """The document as people read it (docs/VIEW.md), with hidden text, header texts, or without them. `text` gives the main text as it stands."""
+    return _text("plain", _bytes(data), flags=_flags(hidden=hidden, headers=headers))
+
+
+def html(data: BytesLike, hidden: bool = False, headers: bool = False) -> str:
+    """The same as a page in HTML."""
+    return _text("html", _bytes(data), flags=_flags(hidden=hidden, headers=headers))
 
 
 def folder(path: Union[str, "os.PathLike[str]"], call: Callable[[bytes], Any] = text, pattern: str = "**/*.doc") -> Iterator[Tuple[pathlib.Path, Any]]:

@@ -4,8 +4,9 @@
     props FILE POSITION                              the same
     equal FILE FILE                                  `equal` or `different`
     full export import FILE OUT, retitle FILE TEXT OUT, edit FILE SCRIPT OUT, join FILE FILE OUT
+    fit FILE OUT; plain html FILE                    what docfit and docview print
 
-Statuses are those of docbin (docs/COMMANDS.md)."""
+Statuses are those of docbin (docs/COMMANDS.md), of docfit (docs/FIT.md) and docview (docs/VIEW.md)."""
 import os
 import pathlib
 import sys
@@ -15,15 +16,18 @@ from . import backends
 
 # How many files each command reads, and whether a word that is no file stands behind them, and the name OUT last.
 FILES = {"edit": 2, "equal": 2, "join": 2}
-PUTS = ("full", "export", "import", "retitle", "edit", "join")
 WORDS = ("props", "retitle")
 WRONG, MISSING, FAULT = 2, 3, 4
 
 
 def main(words: List[str]) -> int:
     name, rest = (words or [""])[0], words[1:]
-    count, puts, has_word = FILES.get(name, 1), name in PUTS, name in WORDS
-    if name not in backends.COMMANDS or len(rest) != count + puts + has_word:
+    if name not in backends.CALLS:
+        print(__doc__, file=sys.stderr)
+        return WRONG
+    asked = backends.CALLS[name]
+    count, puts, has_word = FILES.get(name, 1), asked.puts, name in WORDS
+    if len(rest) != count + puts + has_word:
         print(__doc__, file=sys.stderr)
         return WRONG
     given: List[backends.Given] = []
@@ -38,10 +42,12 @@ def main(words: List[str]) -> int:
         if name == "props" and not isinstance(given[-1], int):
             print(f"{rest[count]}: no position", file=sys.stderr)
             return WRONG
-    status, text, made = backends.found().call(name, given, puts, True if name == "edit" else None)
+    status, text, made = backends.found().call(name, given, [True] * (name == "edit"))
+    before = f"{asked.program}: " if status and asked.program == "docview" else ""
     for number, file in enumerate(rest[:count]):
-        text = text.replace(f"{backends.FILES[number]}: ", f"{file}: ", 1) if text.startswith(f"{backends.FILES[number]}: ") else text
-    sys.stdout.write(text)
+        shown = f"{before}{backends.FILES[number]}: "
+        text = f"{before}{file}: {text[len(shown):]}" if text.startswith(shown) else text
+    (sys.stderr if before else sys.stdout).write(text)
     if puts and status == 0:
         place = os.path.realpath(rest[-1])
         pathlib.Path(place).write_bytes(made)

@@ -2,7 +2,7 @@
 import re
 from typing import Optional
 
-LAST = r"rule (\d+) (.+) (\d+)$"
+LAST = r"rule (\d+) (.+?) (\d+)(?: \(.*\))?$"
 
 
 class Refused(Exception):
@@ -25,7 +25,8 @@ class RuleBroken(Refused):
     def __init__(self, status: int, line: str):
         super().__init__(status, line)
         found = re.search(LAST, line)
-        self.rule: int = int(found[1]) if found else 0
+        number = re.search(r"rule (\d+)", line)
+        self.rule: int = int(number[1]) if number else 0
         self.place: str = found[2] if found else ""
         self.offset: int = int(found[3]) if found else 0
 
@@ -50,7 +51,21 @@ class NoSummary(Refused):
     """There is no summary, or it is wrong."""
 
 
-KINDS = {7: WrongScript, 8: EditRefused, 9: SaveRefused, 10: GuardRefused, 13: NoSummary, 14: NoSummary}
+class NotWord97(Refused):
+    """A file is not of Word 97 to 2007: the wIdent and nFib of its FIB."""
+
+    def __init__(self, status: int, line: str):
+        super().__init__(status, line)
+        found = re.search(r"wIdent ([0-9a-f]{4}) nFib ([0-9a-f]{4})$", line)
+        self.ident: int = int(found[1], 16) if found else 0
+        self.version: int = int(found[2], 16) if found else 0
+
+
+class Encrypted(Refused):
+    """A file is encrypted or obfuscated."""
+
+
+KINDS = {1: RuleBroken, 7: WrongScript, 8: EditRefused, 9: SaveRefused, 10: GuardRefused, 13: NoSummary, 14: NoSummary, 15: NotWord97, 16: Encrypted}
 
 
 def refused(status: int, line: str) -> Exception:

@@ -4,6 +4,7 @@ import doctest
 import json
 import os
 import pickle
+import re
 import subprocess
 import sys
 import tempfile
@@ -11,16 +12,27 @@ import unittest
 from concurrent.futures import ProcessPoolExecutor, ThreadPoolExecutor
 
 import docbin
-from docbin import backends
+from docbin import backends, fitting
 
 TOP = os.path.dirname(os.path.dirname(os.path.dirname(os.path.realpath(__file__))))
 LIBRARY = os.environ.get("DOCBIN_LIBRARY", f"{TOP}/python/docbin/libdocbin.so")
 PROGRAM = os.environ.get("DOCBIN", f"{TOP}/crates/docbin/out/docbin")
+for it in ("docfit", "docview"):
+    if os.access(f"{TOP}/crates/{it}/out/{it}", os.X_OK):
+        os.environ.setdefault(it.upper(), f"{TOP}/crates/{it}/out/{it}")
 
 
 def example(name):
     with open(f"{TOP}/examples/{name}", "rb") as file:
         return file.read()
+
+
+def changed(data, **numbers):
+    """A file whose FIB has these bytes at these places, as b8=24."""
+    made = bytearray(data)
+    for place, number in numbers.items():
+        made[data.index(b"\xec\xa5") + int(place[1:])] = number
+    return bytes(made)
 
 
 def refusal_of(data):
@@ -38,12 +50,22 @@ class Calls:
     def tearDown(self):
         docbin._backend = None
 
+    def needs(self, program):
+        """Skips the test where a run of this program is wanted and it is not there."""
+        if isinstance(docbin._backend, backends.Program):
+            try:
+                docbin._backend.place(program)
+            except FileNotFoundError as why:
+                self.skipTest(str(why))
+
     def raised(self, kind, call, *given):
         with self.assertRaises(kind) as got:
             call(*given)
         return got.exception
 
     def test_the_examples_of_the_package(self):
+        self.needs("docfit")
+        self.needs("docview")
         failed, tried = doctest.testmod(docbin, extraglobs={"docbin": docbin}, optionflags=doctest.IGNORE_EXCEPTION_DETAIL)
         self.assertEqual(failed, 0)
         self.assertGreater(tried, 5)
@@ -89,6 +111,89 @@ class Calls:
     def test_no_bytes(self):
         self.assertEqual(self.raised(docbin.RuleBroken, docbin.text, b"").line, "first: rule 1 File 0")
         self.assertEqual(docbin.title(docbin.retitle(example("titled.doc"), ""))[0], "title ")
+
+    def test_a_file_that_is_fitted(self):
+        self.needs("docfit")
+        letter = example("letter.doc")
+        got = docbin.fit(letter)
+        self.assertEqual((got.bytes, got.left_out, got.mended), (docbin.full(letter), [], []))
+        got = docbin.fit(changed(letter, b8=24))
+        self.assertEqual((got.bytes, got.left_out), (docbin.full(letter), [docbin.Feature("autotext", {"page": 24})]))
+        self.assertEqual(pickle.loads(pickle.dumps(got)), got)
+        self.assertEqual(docbin.check(docbin.fit(changed(letter, b2=0xD9)).bytes), docbin.check(letter))
+
+    def test_files_that_are_not_fitted(self):
+        self.needs("docfit")
+        hello = example("hello.doc")
+        got = self.raised(docbin.NotWord97, docbin.fit, changed(hello, b0=0xDC))
+        self.assertEqual((got.status, got.ident, got.version), (15, 0xA5DC, 0xC1))
+        self.assertEqual(self.raised(docbin.Encrypted, docbin.fit, changed(hello, b11=1)).status, 16)
+        got = self.raised(docbin.RuleBroken, docbin.fit, changed(hello, b32=13))
+        self.assertEqual((got.rule, got.place, got.offset), (21, "WordDocument", 32))
+        self.assertEqual(self.raised(docbin.RuleBroken, docbin.fit, b"").line, "first: rule 1 File 0")
+        self.raised(TypeError, docbin.fit, "hello")
+
+    def test_the_lines_of_a_report(self):
+        report = ("fit: 8 bytes, left out 12, mended 1\nstream 1Table\nstorage Object Pool\npart 50 DggInfo 1234\n"
+                  "story comments 7 | a\\u005cb \u00e4\\u000d\nautotext page 24\nreference endnotes note 3 57\ncode style-char 0801 87\n"
+                  "repeat par d634 12\ndeleted head 6 1 2\nbookmark a b 3 4\nsheet 12\nsomething new\ndeleted main 120 135: struck\n"
+                  "base 7\nmark head 6 0: style 65535\nreference comments main 9: cut\nend note 0\n")
+        got = fitting.fitted(b"", report)
+        self.assertEqual(got.left_out, [docbin.Feature(kind, fields) for kind, fields in (
+            ("stream", {"name": "1Table"}), ("storage", {"name": "Object Pool"}), ("part", {"pair": 50, "name": "DggInfo", "bytes": 1234}),
+            ("story", {"story": "comments", "units": 7, "text": "a\\b \u00e4\r"}), ("autotext", {"page": 24}),
+            ("reference", {"story": "endnotes", "place": "note 3", "at": 57}), ("code", {"list": "style-char", "code": "0801", "count": 87}),
+            ("repeat", {"list": "par", "code": "d634", "count": 12}), ("deleted", {"place": "head 6", "begin": 1, "end": 2}),
+            ("bookmark", {"name": "a b", "begin": 3, "end": 4}), ("sheet", {"bytes": 12}), ("something", {"words": "new"}))])
+        self.assertEqual(got.mended, [docbin.Feature(kind, fields) for kind, fields in (
+            ("deleted", {"place": "main", "begin": 120, "end": 135, "made": "struck"}), ("base", {"style": 7}),
+            ("mark", {"place": "head 6", "at": 0, "style": 65535}), ("reference", {"story": "comments", "place": "main", "at": 9, "made": "cut"}),
+            ("end", {"place": "note 0"}))])
+
+    def test_each_line_that_the_page_shows_has_a_form(self):
+        with open(f"{TOP}/docs/FIT.md", encoding="utf8") as file:
+            rows = re.findall(r"^\| `([a-z]+ [^`]*)` \|", file.read().partition("## What is printed")[2].partition("\n## ")[0].replace("\\|", "|"), re.M)
+        self.assertGreaterEqual(len(rows), 5)
+        for it in rows:
+            self.assertNotIn("words", fitting.feature(it).fields, it)
+
+    def test_pages_for_people(self):
+        self.needs("docview")
+        letter = example("letter.doc")
+        self.assertEqual(docbin.plain(letter), "Offer\nDear Ann,\tsee\tbelow[1].\n\n[1] Net price.\n")
+        self.assertIn("Dear <b>Ann</b>,", docbin.html(letter))
+        script = [{"do": "insert", "story": "main", "at": 0, "text": "\u00e4" * 100_000}, {"do": "char", "story": "main", "from": 0, "to": 9, "set": {"083c": "01"}}]
+        made = docbin.edit(example("hello.doc"), script)
+        self.assertEqual(docbin.plain(made), "\u00e4" * 99_991 + "Hello\n")
+        self.assertEqual(docbin.plain(made, hidden=True), "\u00e4" * 100_000 + "Hello\n")
+        self.assertEqual(len(docbin.html(made, hidden=True)) - len(docbin.html(made)), 9)
+        self.assertGreater(len(docbin.plain(letter, headers=True)), len(docbin.plain(letter)))
+        self.assertGreater(len(docbin.plain(letter, hidden=True, headers=True)), len(docbin.plain(letter)))
+        for call in (docbin.plain, docbin.html):
+            got = self.raised(docbin.RuleBroken, call, changed(letter, b11=1))
+            self.assertEqual((got.status, got.rule, got.place, got.offset), (1, 19, "WordDocument", 10))
+            self.raised(TypeError, call, letter, 1)
+
+    def test_the_package_as_a_program(self):
+        self.needs("docfit")
+        self.needs("docview")
+
+        def ran(*words):
+            got = subprocess.run([sys.executable, "-m", "docbin", *words], env={**os.environ, "PYTHONPATH": f"{TOP}/python", **self.env}, capture_output=True, check=False)
+            return got.returncode, got.stdout.decode(), got.stderr.decode()
+
+        with tempfile.TemporaryDirectory() as folder:
+            locked, out = f"{folder}/locked.doc", f"{folder}/out.doc"
+            with open(locked, "wb") as file:
+                file.write(changed(example("hello.doc"), b11=1))
+            self.assertEqual(ran("text", "examples/hello.doc"), (0, "Hello\n", ""))
+            self.assertEqual(ran("fit", "examples/hello.doc", out), (0, "fit: 6656 bytes, left out 0, mended 0\n", ""))
+            self.assertEqual(ran("equal", "examples/hello.doc", out), (0, "equal\n", ""))
+            self.assertEqual(ran("check", locked), (1, f"{locked}: rule 19 WordDocument 10\n", ""))
+            self.assertEqual(ran("fit", locked, out), (16, f"{locked}: encrypted\n", ""))
+            status, printed, said = ran("plain", locked)
+            self.assertEqual((status, printed, said.partition(" (")[0]), (1, "", f"docview: {locked}: not shown: rule 19 WordDocument 10"))
+            self.assertEqual(ran("plain")[:2], (2, ""))
 
     def saved_fast(self, times):
         data = example("hello.doc")
@@ -176,6 +281,7 @@ class Calls:
 @unittest.skipUnless(os.path.exists(LIBRARY), "the library is not made")
 class ByLibrary(Calls, unittest.TestCase):
     backend = staticmethod(lambda: backends.Library(LIBRARY))
+    env = {"DOCBIN_LIBRARY": LIBRARY}
 
     def test_without_a_guard(self):
         script = [it for _ in range(3) for it in ({"do": "insert", "story": "main", "at": 0, "text": "a" * 400_000}, {"do": "erase", "story": "main", "from": 0, "to": 400_000})]
@@ -199,6 +305,7 @@ class ByLibrary(Calls, unittest.TestCase):
 @unittest.skipUnless(os.access(PROGRAM, os.X_OK), "the program is not built")
 class ByProgram(Calls, unittest.TestCase):
     backend = staticmethod(lambda: backends.Program(PROGRAM))
+    env = {"DOCBIN": PROGRAM}
 
     def test_without_a_guard(self):
         self.assertIn("need the library", str(self.raised(NotImplementedError, docbin.edit, example("hello.doc"), [], False)))
@@ -219,6 +326,17 @@ class Found(unittest.TestCase):
         code = f"import sys; sys.path.insert(0, {TOP + '/python'!r}); from docbin import backends; backends.__file__ = '/none/x'; print(type(backends.found()).__name__)"
         ran = subprocess.run([sys.executable, "-c", code], env={"PATH": "/none", **env}, stdout=subprocess.PIPE, stderr=subprocess.PIPE, check=False)
         return ran.stdout.decode().strip() or ran.stderr.decode().splitlines()[-1]
+
+    def test_programs_beside_docbin(self):
+        with tempfile.TemporaryDirectory() as folder:
+            for name in ("docbin", "docfit"):
+                with open(f"{folder}/{name}", "w", encoding="ascii"):
+                    pass
+                os.chmod(f"{folder}/{name}", 0o755)
+            code = (f"import sys; sys.path.insert(0, {TOP + '/python'!r}); from docbin import backends; program = backends.Program({folder + '/docbin'!r})\n"
+                    "for it in ('docfit', 'docview'):\n    try:\n        print(program.place(it))\n    except FileNotFoundError as why:\n        print(why)")
+            ran = subprocess.run([sys.executable, "-c", code], env={"PATH": "/none"}, stdout=subprocess.PIPE, check=True)
+            self.assertEqual(ran.stdout.decode(), f"{folder}/docfit\ndocview is not there (DOCVIEW, or docview in the PATH)\n")
 
     def test_the_program_where_there_is_no_library(self):
         self.assertIn("docbin is not there: neither the library", self.asked())

@@ -4,6 +4,8 @@ use Rattle.doc_outer.specs.Held.{Files}
 use Rattle.edit_guards.specs.Policies.{Policy}
 use Rattle.run_stages.specs.Outcomes.{Outcome}
 use Rattle.doc_run.specs.Endings.{IsEnding}
+use Rattle.docfit_run.specs.Endings as fitting
+use Rattle.docbin_c.specs.Calls.{fit_words}
 use Rattle.docbin_c.specs.Rooms.{handed}
 use Rattle.docbin_c.specs.declared.answer.DocbinAnswer.{DocbinAnswer}
 
@@ -45,14 +47,22 @@ pub record IsReached (policies : List Policy) (words : List (List ℕ)) (files :
   pub ending : IsEnding policies words (Some files) outcome
   pub read : outcome.status ≢ 4
 
+-- a run of docfit over these words and files may end so; reading never fails
+pub record IsFitReached (words : List (List ℕ)) (files : Files) (outcome : Outcome) : Type 0 where
+  pub ending : fitting.IsEnding words (Some files) outcome
+  pub read : outcome.status ≢ 4
+
 -- what is handed over is such an ending
-pub record HandsEnding (policies : List Policy) (words : List (List ℕ)) (files : Files) (answer : DocbinAnswer)
-    (text bytes : Room) : Type 0 where
+pub record HandsEnding (IsSo : Outcome → Type 0) (answer : DocbinAnswer) (text bytes : Room) : Type 0 where
   pub outcome : Outcome
-  pub reached : IsReached policies words files outcome
+  pub reached : IsSo outcome
   pub over : HandsOver outcome answer text bytes
 
--- a call answers so
+-- a call answers so: one of the program docbin, and that of docfit
 abbrev pub Answers : List Policy → List (List ℕ) → Files → DocbinAnswer → (text bytes : Room) → Type 0
 Answers policies words files answer text bytes =
-    LacksMemory answer text bytes ⊎ HandsEnding policies words files answer text bytes
+    LacksMemory answer text bytes ⊎ HandsEnding (IsReached policies words files) answer text bytes
+
+abbrev pub AnswersFit : Files → DocbinAnswer → (text bytes : Room) → Type 0
+AnswersFit files answer text bytes =
+    LacksMemory answer text bytes ⊎ HandsEnding (IsFitReached fit_words files) answer text bytes

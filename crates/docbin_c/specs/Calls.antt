@@ -1,5 +1,5 @@
 -- What a call is given: files by their names.
-use Rattle.std.specs.Prelude.{ℕ, Bool, true, false, List, [], ◌∷◌, Option, Some, None, codes, refl}
+use Rattle.std.specs.Prelude.{ℕ, ◌%◌, ◌/◌, ◌==◌, Bool, true, false, List, [], ◌∷◌, Option, Some, None, codes, refl}
 use Rattle.std.specs.Coded.{Coded, code_by, coded×, coded_ℕ, coded_list, coded_option}
 use Rattle.std.specs.Fmt.{decimal}
 use Rattle.edit_guards.specs.Policies.{Policy}
@@ -62,3 +62,18 @@ props_words position = codes "props" ∷ codes "first" ∷ decimal position ∷ 
 -- the words that ask for another title
 abbrev pub retitle_words : List ℕ → List (List ℕ)
 retitle_words title = codes "retitle" ∷ codes "first" ∷ title ∷ codes "out" ∷ []
+
+-- the words of docfit
+abbrev pub fit_words : List (List ℕ)
+fit_words = codes "first" ∷ codes "out" ∷ []
+
+-- the words of docview in a form, with options or without them
+abbrev pub optional_words : (is_hidden has_headers : Bool) → (form : List ℕ) → List (List ℕ)
+optional_words true true form = codes "--hidden" ∷ codes "--headers" ∷ form ∷ codes "first" ∷ []
+optional_words true false form = codes "--hidden" ∷ form ∷ codes "first" ∷ []
+optional_words false true form = codes "--headers" ∷ form ∷ codes "first" ∷ []
+optional_words false false form = form ∷ codes "first" ∷ []
+
+-- the options are bits: 1 for hidden text, 2 for header texts
+abbrev pub view_words : (options : ℕ) → (form : List ℕ) → List (List ℕ)
+view_words options form = optional_words (options % 2 == 1) (options / 2 % 2 == 1) form

@@ -8,15 +8,12 @@ ghost use Rattle.docbin_c.specs.Calls.{call_policies, file_alone, two_files, ret
 ghost use Rattle.docbin_c.specs.Calls.{on_one, on_two, one_put, two_put};
 
 use crate::answer::DocbinAnswer;
-use crate::given::{FIRST, GivenFiles, SECOND};
+use crate::given::{FIRST, GivenFiles, OUT, SECOND};
 use crate::serve::{ending_over, hand_over};
 use doc_bits::Memory;
 use run_stages::Ending;
 use std::alloc::Global;
 use std::str;
-
-/// The name under which a command puts bytes.
-const OUT: &str = "out";
 
 /// The ending of a command on one file.
 fn ending_on_one(alloc: Global, command: &str, file: &[u8]) -> Result<Ending, Memory>

@@ -16,6 +16,9 @@ pub(crate) const FIRST: &str = "first";
 /// The name of the second file.
 pub(crate) const SECOND: &str = "second";
 
+/// The name under which a call puts bytes.
+pub(crate) const OUT: &str = "out";
+
 /// The bytes that a call is given, under their names. No read fails, and nothing can be put.
 #[derive(Drop)]
 pub(crate) struct GivenFiles {

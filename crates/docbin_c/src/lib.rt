@@ -3,9 +3,12 @@
 
 mod answer;
 mod exports;
+mod fit;
 mod given;
+mod growing;
 mod rooms;
 mod serve;
+mod view;
 mod words;
 
 pub use answer::DocbinAnswer;
