@@ -23,7 +23,7 @@ WRONG = {
     "<script>x</script>": "<script> with []",
     '<p onclick="x">x</p>': "<p> with ['onclick']",
     '<a href=" javascript:x">x</a>': " javascript:x is a link",
-    '<a href="#bm-x">x</a>': "#bm-x leads nowhere",
+    '<a href="#fn-x">x</a>': "#fn-x leads nowhere",
     "<p>x": "<p> is left open",
 }
 
@@ -41,7 +41,7 @@ class Views(Tool):
     @unittest.skipUnless(shutil.which("cmark-gfm"), "cmark-gfm is missing")
     def test_characters_are_read_as_they_are_written(self):
         status, out, _ = self.run_words([f"{TOP}/tools/check-views", "--rules", "20", "--documents", "0", "--docview", os.devnull])
-        self.assertEqual((status, out.splitlines()[0]), (0, "rules: 20 pages, 0 read otherwise"))
+        self.assertEqual((status, out.splitlines()[0]), (0, "rules: 40 pages, 0 read otherwise"))
 
     @unittest.skipUnless(shutil.which("cmark-gfm"), "cmark-gfm is missing")
     def test_a_parenthesis_behind_a_note_makes_a_link(self):
