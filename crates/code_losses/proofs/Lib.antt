@@ -3,7 +3,6 @@ pub mod TallyLemmas
 pub mod ListingLemmas
 pub mod JoinLemmas
 pub mod RunLemmas
-pub mod NameLemmas
 pub mod NamedLemmas
 pub mod OneLemmas
 pub mod PrcLemmas

@@ -1,10 +1,8 @@
 -- A file has one list of such codes.
-use Rattle.std.specs.Prelude.{slice_range, IsTrue, ◌==◌}
-use Rattle.std.proofs.Common.{◌≡◌, ◌∙◌, ◌+◌, ◌/◌, ◌%◌, ◌^◌, ◌++◌, sym, ap, subst, inl, inr, ℕ, List, [], ◌∷◌}
-use Rattle.std.proofs.Common.{false, length, get_or}
-use Rattle.std.proofs.Math.Nat.{zero-div}
-use Rattle.sprm_table.specs.Codes.{sgc, is_held}
-use Rattle.sprm_table.specs.Sprm.{Prl, SpellsSprmList, IsAcceptedList}
+use Rattle.std.specs.Prelude.{slice_range}
+use Rattle.std.proofs.Common.{◌≡◌, ◌∙◌, ◌+◌, ◌/◌, sym, ap, subst, inl, inr, ℕ, List, [], ◌∷◌, length}
+use Rattle.prl_skips.proofs.OneLemmas.{spelt_accepted}
+use Rattle.sprm_table.specs.Sprm.{Prl}
 use Rattle.sprm_table.proofs.SprmLemmas.{spelt_unique}
 use Rattle.fkp_pages.specs.declared.kind.PageKind.{PageKind}
 use Rattle.fkp_pages.specs.declared.kind.PageKind.TheVariants as pages
@@ -13,17 +11,6 @@ use Rattle.fkp_pages.specs.Bin.{page_at}
 use Rattle.code_losses.specs.Counted.{IsFound}
 use Rattle.code_losses.specs.Pages.{IsFoundInRun, IsFoundInPage, AreListsOfPages}
 use Rattle.code_losses.proofs.JoinLemmas.{joined_one}
-
--- a place that holds no group refuses no code
-none_held : (code : ℕ) → is_held 0 code ≡ false
-none_held code = ap (λ n. n % 2 == 1) (zero-div (2 ^ sgc code))
-
-pub spelt_accepted : (bytes : List ℕ) (prls : List Prl) → SpellsSprmList bytes prls → IsAcceptedList bytes 0
-spelt_accepted bytes prls spelt = record {
-  list = prls;
-  spelt = spelt;
-  accepted = λ k prl low refused. absurd (cc (subst IsTrue (none_held (get_or prls k prl).0) refused.0));
-}
 
 pub found_one : (bytes : List ℕ) (one other : List (List Prl)) → IsFound bytes one → IsFound bytes other → one ≡ other
 found_one bytes one other (inl a) (inl b) =

@@ -1,11 +1,12 @@
 -- [MS-DOC] ChpxFkp, PapxFkp: the lists of the runs of the pages that a bin table names, each page once.
-use Rattle.std.specs.Prelude.{◌≡◌, ◌⊎◌, ℕ, ◌+◌, ◌/◌, ◌≤◌, ◌==◌, Bool, true, List, [], ◌++◌, length, map}
+use Rattle.std.specs.Prelude.{◌≡◌, ◌⊎◌, ℕ, ◌+◌, ◌/◌, ◌≤◌, true, List, [], ◌++◌, length}
 use Rattle.std.specs.Prelude.{slice_get, slice_range, Some}
-use Rattle.std.specs.List.{list_any, flat_map, range_with_len}
+use Rattle.std.specs.List.{flat_map}
 use Rattle.sprm_table.specs.Sprm.{Prl}
 use Rattle.fkp_pages.specs.declared.kind.PageKind.{PageKind}
 use Rattle.fkp_pages.specs.Fkp.{HasRunCount, page_count, least_list, IsListOf}
-use Rattle.fkp_pages.specs.Bin.{bin_count, page_number, page_at}
+use Rattle.fkp_pages.specs.Bin.{page_at}
+use Rattle.page_copies.specs.Names.{names_page}
 use Rattle.code_losses.specs.declared.counts.CodeCounts.{CodeCounts}
 use Rattle.code_losses.specs.Counted.{IsFound, IsCounted}
 
@@ -34,11 +35,6 @@ IsFoundInRun kind page run found = IsRunList kind page run found ⊎ HasNoList k
 -- the lists of the runs of a page
 abbrev pub AreListsOfPage : PageKind → List ℕ → List (List Prl) → Type 0
 AreListsOfPage kind page lists = AreJoined (IsFoundInRun kind page) (page_count page) lists
-
--- a range of the table names the page
-abbrev pub names_page : List ℕ → ℕ → Bool
-names_page bin number =
-    list_any (λ page. page == number) (map (page_number bin) (range_with_len 0 (bin_count bin)))
 
 -- a page that does not lie over the FIB, is named, and has runs
 pub record HasRuns (kind : PageKind) (wd bin : List ℕ) (number : ℕ) : Type 0 where

@@ -6,7 +6,6 @@ mod counts;
 mod features;
 mod laws;
 mod losses;
-mod names;
 mod pages;
 mod prcs;
 

@@ -3,14 +3,14 @@ ghost use Rattle.std.specs.Prelude.{◌≡◌, ◌<◌, ◌≤◌, ◌+◌, ◌*
 ghost use Rattle.sprm_table.specs.Sprm.{Prl};
 ghost use Rattle.fkp_pages.specs.Fkp.{HasRunCount, page_count};
 ghost use Rattle.code_losses.specs.Counted.{HasAllCodes, IsCounted, CountsPart};
-ghost use Rattle.code_losses.specs.Pages.{AreListsOfPage, AreListsOfPages, names_page};
+ghost use Rattle.page_copies.specs.Names.{names_page, mark_of};
+ghost use Rattle.code_losses.specs.Pages.{AreListsOfPage, AreListsOfPages};
 ghost use Rattle.code_losses.specs.Pages.{IsFoundInRun, IsFoundInPage};
-ghost use Rattle.code_losses.specs.Names.{mark_of};
 
 use crate::counts::CodeCounts;
-use crate::names::named_pages;
 use doc_bits::Memory;
 use fkp_pages::{PAGE_LEN, PageKind, RunAnswer, answer_of, has_run_count};
+use page_copies::named_pages;
 use std::alloc::Global;
 
 /// Counts the list of a run, where it has one.

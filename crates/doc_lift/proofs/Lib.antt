@@ -1,2 +1,5 @@
+pub mod SepxLemmas
+pub mod SkipLemmas
 pub mod LiftLemmas
 pub mod RuleLemmas
+pub mod BinLemmas

@@ -30,11 +30,12 @@ use Rattle.doc_read.proofs.FewLemmas.{leaves_room}
 use Rattle.doc_read.proofs.FormedBookmarks.{parts-formed}
 use Rattle.doc_meaning.specs.Meaning.{MeansFrom}
 use Rattle.doc_meaning.proofs.EarlyLemmas.{early_count}
-use Rattle.doc_meaning.proofs.FrontLemmas.{HasFront, whole_text, front_loaded, front_text}
+use Rattle.doc_meaning.proofs.FrontLemmas.{HasFront, whole_text, front_text}
 use Rattle.doc_meaning.proofs.LoadedLemmas.{loaded_is_meant}
 use Rattle.doc_lift.specs.declared.text_lifting.LiftedText.{LiftedText}
-use Rattle.doc_lift.specs.LiftedRules.{lifted_wd}
+use Rattle.doc_lift.specs.LiftedRules.{lifted_wd, IsReadFor}
 use Rattle.doc_lift.specs.LiftedTexts.{IsLiftedBy}
+use Rattle.doc_lift.proofs.SkipLemmas.{read_table_len, read_loaded_for}
 
 -- a FIB that is long enough for the rules is as long as the early form
 pub early_long : (wd : List ℕ) → Hold (version_rules wd) → form_size Early ≤ length wd
@@ -64,21 +65,23 @@ front_short wd early fields =
     let own : text_length (fib_fields wd).ccps ≤ all_text_length wd = omega arith in
     omega (arith, same, own)
 
-pub front_room : (contents : Contents) (wd table : List ℕ) (text_len : ℕ) (text : FileText) (units : List ℕ) →
-    AreWithinBounds contents → HasFront contents wd table text_len → IsFrontOf (lifted_wd wd) table text units →
-    LeavesRoom contents text.table
-front_room contents wd table text_len text units bounds has front =
-    subst (LeavesRoom contents) (sym front.table_is)
-    (leaves_room contents (whole_text wd table front.all) bounds
-    (front_text contents wd table text_len text units has front))
+pub front_room : (contents : Contents) (wd table : List ℕ) (text_len : ℕ) (text : FileText) (units : List ℕ)
+    (read : FileText) → AreWithinBounds contents → HasFront contents wd table text_len →
+    IsFrontOf (lifted_wd wd) table text units → IsReadFor wd table units text read → LeavesRoom contents read.table
+front_room contents wd table text_len text units read bounds has front is =
+    let room = leaves_room contents (whole_text wd table front.all) bounds
+    (front_text contents wd table text_len text units has front) in
+    let len = read_table_len wd table units text read front is in
+    record { few = room.few; short = omega (arith, len, room.short) }
 
 pub front_meant : (contents : Contents) (wd table : List ℕ) (text_len : ℕ) (text : FileText) (units : List ℕ)
-    (document : Document) → HasFront contents wd table text_len → IsFrontOf (lifted_wd wd) table text units →
-    Hold (part_rules (source_of text)) → IsReadOf contents text document → MeansFrom contents document
-front_meant contents wd table text_len text units document has front hold read =
-    loaded_is_meant contents (whole_text wd table front.all) text read.lists document
+    (read : FileText) (document : Document) → HasFront contents wd table text_len →
+    IsFrontOf (lifted_wd wd) table text units → IsReadFor wd table units text read →
+    Hold (part_rules (source_of read)) → IsReadOf contents read document → MeansFrom contents document
+front_meant contents wd table text_len text units read document has front is hold from =
+    loaded_is_meant contents (whole_text wd table front.all) read from.lists document
     (front_text contents wd table text_len text units has front)
-    (front_loaded contents wd table text_len text units has front) hold read.has_lists read.document_is
+    (read_loaded_for contents wd table text_len text units read has front is) hold from.has_lists from.document_is
 
 pub read_formed : (contents : Contents) (text : FileText) (document : Document) →
     Hold (part_rules (source_of text)) → IsReadOf contents text document → HasFormedBookmarks document
@@ -121,6 +124,11 @@ written_front wd early lifted is bytes fields = record {
   bytes = bytes ∙ ap (λ (f : FibFields). written_fib f ++ drop (form_size f.form) wd) is;
   fields = fields ∙ is;
 }
+
+-- the early FIB of a FIB is that of its stream
+pub early_same : (wd fib : List ℕ) (early : FibFields) → fib ≡ wd → early ≡ early_fields fib (early_pairs fib) →
+    early ≡ early_fields wd (early_pairs wd)
+early_same wd fib early same is = is ∙ ap (λ (w : List ℕ). early_fields w (early_pairs w)) same
 
 -- so its front can be loaded
 pub has_front : (contents : Contents) (wd table lifted : List ℕ) → IsWrittenFront wd lifted →

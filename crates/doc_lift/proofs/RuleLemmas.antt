@@ -1,5 +1,5 @@
 -- The rules that are left ascend, and each of their objects is the only one.
-use Rattle.std.proofs.Common.{◌≡◌, ◌∙◌, sym, ap, ℕ, List, map, take, lit<, lit≤, arith}
+use Rattle.std.proofs.Common.{◌≡◌, ◌∙◌, refl, sym, ap, subst, inl, inr, ℕ, List, map, take, lit<, lit≤, arith}
 use Rattle.doc_bits.specs.declared.places.Where.TheVariants.{File, Wd}
 use Rattle.doc_bits.specs.Rules.{IsSingle, Ascends}
 use Rattle.doc_bits.proofs.RuleLemmas.{ascends_wider}
@@ -12,16 +12,17 @@ use Rattle.fib_form.specs.FibFields.{fib_fields, text_length}
 use Rattle.fib_versions.specs.Versions.{all_text_length}
 use Rattle.fib_versions.specs.VersionRules.{version_rules}
 use Rattle.fib_versions.proofs.VersionLemmas.{version_rules-IsSingle, version_rules-Ascends}
-use Rattle.piece_table.specs.Piece.{TextPiece, UnitPlace, flat_pieces}
-use Rattle.piece_table.proofs.UniqueLemmas.{clx_pieces_one}
+use Rattle.piece_table.specs.Piece.{UnitPlace, flat_pieces}
 use Rattle.doc_load.specs.Units.{unit_at}
 use Rattle.doc_load.specs.Source.{DocSource}
 use Rattle.doc_load.specs.FileRules.{FileText, IsFrontOf, source_of, clx_of, table_stream_name}
 use Rattle.doc_load.proofs.FileLemmas.{ascends_in, part_single, part_ascends, pieces_single, pieces_ascend}
 use Rattle.doc_load.proofs.NameLemmas.{named_one}
 use Rattle.doc_load.proofs.RefusalLemmas.{single_in}
-use Rattle.doc_lift.specs.LiftedRules.{IsLiftedSource, lifted_wd, lifted_table_rules, lifted_wd_rules}
+use Rattle.doc_lift.specs.LiftedRules.{IsSkippedText, IsReadFor, IsLiftedSource, lifted_wd, lifted_table_rules}
+use Rattle.doc_lift.specs.LiftedRules.{lifted_wd_rules}
 use Rattle.doc_lift.specs.LiftedFiles.{lifted_rules}
+use Rattle.doc_lift.proofs.SkipLemmas.{AreOneStreams, streams_one, pieces_one, units_one}
 
 -- the source of the first places of a text
 abbrev source_by : List ℕ → List ℕ → List UnitPlace → DocSource
@@ -39,17 +40,49 @@ front_source wd table text units front =
     ∙ (ap (λ (t : List ℕ). source_by wd t (flat_pieces text.pieces)) front.table_is
     ∙ ap (source_by wd table) front.front)
 
+-- of two fronts of the same streams
+front_one : (wd table other_wd other_table units others : List ℕ) (text other : FileText) →
+    IsFrontOf wd table text units → IsFrontOf other_wd other_table other others →
+    AreOneStreams wd table other_wd other_table → source_of other ≡ source_of text
+front_one wd table other_wd other_table units others text other one two streams =
+    let wd_is : other_wd ≡ wd = streams.wd_is in
+    let table_is : other_table ≡ table = streams.table_is in
+    let clx : clx_of other_wd other_table ≡ clx_of wd table = λ i. clx_of (wd_is i) (table_is i) in
+    let all : two.all ≡ one.all =
+    pieces_one wd table other_wd other_table units others text other one two clx in
+    front_source other_wd other_table other others two
+    ∙ ((λ i. source_by (wd_is i) (table_is i)
+    (take (text_length (fib_fields (wd_is i)).ccps) (flat_pieces (all i))))
+    ∙ sym (front_source wd table text units one))
+
+-- what is read in place of a text is one
+read_one : (wd table units others : List ℕ) (text other read other_read : FileText) →
+    IsFrontOf (lifted_wd wd) table text units → IsFrontOf (lifted_wd wd) table other others →
+    IsReadFor wd table units text read → IsReadFor wd table others other other_read → others ≡ units →
+    source_of other_read ≡ source_of read
+read_one wd table units others text other read other_read one two (inl a) (inl b) same =
+    front_one read.wd read.table other_read.wd other_read.table units others read other_read a.front b.front
+    (streams_one wd table read.wd read.table other_read.wd other_read.table a.streams b.streams)
+read_one wd table units others text other read other_read one two (inl a) (inr b) same =
+    absurd (b.0 read (subst (λ (us : List ℕ). IsSkippedText wd table us read) (sym same) a))
+read_one wd table units others text other read other_read one two (inr a) (inl b) same =
+    absurd (a.0 other_read (subst (λ (us : List ℕ). IsSkippedText wd table us other_read) same b))
+read_one wd table units others text other read other_read one two (inr a) (inr b) same =
+    let streams : AreOneStreams (lifted_wd wd) table (lifted_wd wd) table = record { wd_is = refl; table_is = refl } in
+    ap source_of b.1
+    ∙ (front_one (lifted_wd wd) table (lifted_wd wd) table units others text other one two streams
+    ∙ sym (ap source_of a.1))
+
 source_one : (wd table : List ℕ) (one other : DocSource) → IsLiftedSource wd table one →
     IsLiftedSource wd table other → one ≡ other
 source_one wd table one other a b =
     let early = lifted_wd wd in
-    let count = text_length (fib_fields early).ccps in
-    let pieces : a.front.all ≡ b.front.all =
-    clx_pieces_one (clx_of early table) a.front.all b.front.all a.front.has_pieces b.front.has_pieces in
+    let streams : AreOneStreams early table early table = record { wd_is = refl; table_is = refl } in
+    let units : a.units ≡ b.units =
+    units_one early table early table b.units a.units b.text a.text b.front a.front streams in
     a.source_is
-    ∙ (front_source early table a.text a.units a.front
-    ∙ (ap (λ (ps : List TextPiece). source_by early table (take count (flat_pieces ps))) pieces
-    ∙ (sym (front_source early table b.text b.units b.front) ∙ sym b.source_is)))
+    ∙ (read_one wd table b.units a.units b.text a.text b.read a.read b.front a.front b.read_is a.read_is units
+    ∙ sym b.source_is)
 
 table_single : (wd table : List ℕ) → IsSingle (lifted_table_rules wd table)
 table_single wd table = (

@@ -1,28 +1,60 @@
 -- The rules of the streams of a file of any program, 15 to 57: those of doc_load's `contents_rules`, of which 22 and 24
--- are gone, and 16 to 18, 21, 23 and 28 are weaker. Their places are those of the file.
-use Rattle.std.specs.Prelude.{◌≡◌, ℕ, List}
+-- are gone, and 16 to 18, 21, 23 and 28 are weaker. The rules 33 to 57 are asked of the streams in which the codes that
+-- are not read are skipped. Their places are those of the file.
+use Rattle.std.specs.Prelude.{◌≡◌, ◌⊎◌, ℕ, List, ◌++◌, drop}
 use Rattle.doc_bits.specs.declared.places.Where.TheVariants.{File, Wd}
-use Rattle.doc_bits.specs.Rules.{Rules, rule, ◌then◌, given}
+use Rattle.doc_bits.specs.Rules.{Rules, rule, ◌then◌, given, Hold}
 use Rattle.doc_bits.specs.Places.{Place, rules_in}
 use Rattle.cfb_streams.specs.Contents.{Contents, HasNamed}
 use Rattle.cfb_streams.specs.Names.{wd_name}
-use Rattle.fib_versions.specs.Early.{early_pairs, early_wd}
+use Rattle.fib_form.specs.Fib.{form_size}
+use Rattle.fib_form.specs.FibFields.{fib_fields}
+use Rattle.fib_form.specs.FibBytes.{written_fib}
+use Rattle.fib_form.specs.declared.form.Form.TheVariants.{Early}
+use Rattle.fib_versions.specs.Early.{early_pairs, early_fields, early_wd}
 use Rattle.fib_versions.specs.Versions.{all_text_length}
 use Rattle.fib_versions.specs.VersionRules.{version_rules}
+use Rattle.page_copies.specs.Pages.{SkipsPages}
 use Rattle.doc_load.specs.Source.{DocSource}
 use Rattle.doc_load.specs.PartRules.{part_rules}
 use Rattle.doc_load.specs.FileRules.{FileText, HasNoStream, IsFrontOf, source_of, table_stream_name, rules_of_pieces}
+use Rattle.doc_meaning.specs.Skipped.{bins_of, sections_of, SkipsTable, KeepsSepxs}
 
 -- WordDocument with a FIB of the early form in front, which has the same counts and the pairs of the same parts
 abbrev pub lifted_wd : List ℕ → List ℕ
 lifted_wd wd = early_wd wd (early_pairs wd)
 
--- what the rules on the parts read: this stream, the table stream, and the front of the text
+-- the streams in which the codes that are not read are skipped
+pub record SkipsStreams (wd table new_wd new_table : List ℕ) : Type 0 where
+  pub pages : List ℕ
+  pub skips : SkipsPages (bins_of wd table) wd pages
+  pub front : new_wd ≡ written_fib (early_fields wd (early_pairs wd)) ++ drop (form_size Early) pages
+  pub fields : fib_fields new_wd ≡ early_fields wd (early_pairs wd)
+  pub table_is : SkipsTable (early_pairs wd) table new_table
+
+-- the front of a text of such streams, which breaks none of the rules 26 to 32, and of which the units of all CPs and
+-- the Sepxs are those of the file
+pub record IsSkippedText (wd table units : List ℕ) (text : FileText) : Type 0 where
+  pub streams : SkipsStreams wd table text.wd text.table
+  pub rules : Hold (rules_of_pieces text.wd text.table (all_text_length wd))
+  pub front : IsFrontOf text.wd text.table text units
+  pub sepxs : KeepsSepxs (sections_of wd table) wd text.wd
+
+-- what is read in place of a text: such a text, where there is one
+abbrev pub IsReadFor : (wd table units : List ℕ) → FileText → FileText → Type 0
+IsReadFor wd table units text read =
+    IsSkippedText wd table units read
+    ⊎ (((other : FileText) → ¬ IsSkippedText wd table units other) × (read ≡ text))
+
+-- what the rules on the parts read: this stream, the table stream, and the front of the text; or these streams with the
+-- codes skipped that are not read
 pub record IsLiftedSource (wd table : List ℕ) (source : DocSource) : Type 0 where
   pub text : FileText
   pub units : List ℕ
   pub front : IsFrontOf (lifted_wd wd) table text units
-  pub source_is : source ≡ source_of text
+  pub read : FileText
+  pub read_is : IsReadFor wd table units text read
+  pub source_is : source ≡ source_of read
 
 -- rules 26 to 57. The pieces have the CPs of all stories
 abbrev pub lifted_table_rules : List ℕ → List ℕ → Rules Place

@@ -4,6 +4,7 @@
 
 mod laws;
 mod lifting;
+mod skipping;
 mod text_lifting;
 
 pub use doc_load::ReadFault;

@@ -1,8 +1,7 @@
 // The document that a file means, layer by layer: its streams, its FIB, and then its text.
-ghost use Rattle.std.specs.Prelude.{◌≡◌, ◌<◌, ◌^◌, length, MatchResult};
+ghost use Rattle.std.specs.Prelude.{◌≡◌, MatchResult};
 ghost use Rattle.cfb_streams.specs.Contents.{HasNamed};
 ghost use Rattle.cfb_streams.specs.Names.{wd_name};
-ghost use Rattle.fib_versions.specs.Early.{early_fields, early_pairs};
 ghost use Rattle.doc_load.specs.Faults.{IsReadFault};
 ghost use Rattle.doc_read.specs.CarriedParts.{AreWithinBounds};
 ghost use Rattle.doc_lift.specs.LiftedRules.{lifted_wd_rules, lifted_contents_rules};
@@ -14,7 +13,6 @@ use cfb_streams::{Container, OuterContainer, WORD_DOCUMENT, table_name};
 use doc_bits::Where;
 use doc_columns::ColumnDocument;
 use doc_load::{ReadFault, refused_container};
-use fib_form::Fib;
 use fib_versions::AnyFib;
 use std::alloc::Global;
 
@@ -110,14 +108,5 @@ fn lift_wd(alloc: Global, container: &Container, wd: &[u8]) -> Result<LiftedText
             offset: FLAGS,
         });
     };
-    lift_text(alloc, container, wd, table, early_fib(&fib), fib.text_len())
-}
-
-/// The FIB of the early form that stands for a FIB.
-fn early_fib(fib: &AnyFib<'_>) -> Fib
-    requires { length fib.now < 2 ^ 32 }
-    ensures { result ≡ early_fields fib.now (early_pairs fib.now) }
-{
-    let pairs = fib.early_pairs();
-    fib.early(&pairs)
+    lift_text(alloc, container, &fib, wd, table)
 }

@@ -10,12 +10,13 @@ rest_at xs k from low =
     let at : k + (from - k) ≡ from = omega (arith, low) in
     ap (λ n. drop n xs) (sym at) ∙ sym (drop-drop (from - k) k xs)
 
+pub drop_behind : (old new : List ℕ) (k from : ℕ) → drop k new ≡ drop k old → k ≤ from → drop from new ≡ drop from old
+drop_behind old new k from same low =
+    rest_at new k from low ∙ (ap (drop (from - k)) same ∙ sym (rest_at old k from low))
+
 pub range_behind : (old new : List ℕ) (k from to : ℕ) → drop k new ≡ drop k old → k ≤ from →
     slice_range new from to ≡ slice_range old from to
-range_behind old new k from to same low =
-    let rest : drop from new ≡ drop from old =
-    rest_at new k from low ∙ (ap (drop (from - k)) same ∙ sym (rest_at old k from low)) in
-    ap (take (to - from)) rest
+range_behind old new k from to same low = ap (take (to - from)) (drop_behind old new k from same low)
 
 byte_at : (xs : List ℕ) (k at : ℕ) → k ≤ at → slice_index xs at ≡ slice_index (drop k xs) (at - k)
 byte_at xs k at low =

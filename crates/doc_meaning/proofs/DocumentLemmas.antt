@@ -21,7 +21,7 @@ use Rattle.doc_read.proofs.ExistItems.{parts_of}
 use Rattle.doc_read.proofs.GivenPlaces.{RightText}
 use Rattle.doc_meaning.specs.Lifted.{ReadsTheSame}
 use Rattle.doc_meaning.specs.Meaning.{MeansFrom}
-use Rattle.doc_meaning.proofs.ListLemmas.{same_bytes, lists_same}
+use Rattle.doc_meaning.proofs.ListLemmas.{lists_same}
 use Rattle.doc_meaning.proofs.ItemLemmas.{begin_same, item_same, maps_same}
 
 -- a stretch of the three stories
@@ -56,12 +56,12 @@ carried_same : (contents : Contents) (old new : FileText) (levels : List ℕ) (c
     ReadsTheSame old new → HoldsCarried contents (source_of new) levels carried →
     HoldsCarried contents (source_of old) levels carried
 carried_same contents old new levels carried same holds = record {
-  fonts = holds.fonts ∙ same_bytes old new SttbfFfn same;
-  dop = holds.dop ∙ same_bytes old new Dop same;
-  assoc = holds.assoc ∙ same_bytes old new SttbfAssoc same;
-  lst = holds.lst ∙ same_bytes old new PlfLst same;
+  fonts = holds.fonts ∙ same.parts SttbfFfn (λ e. absurd (omega (arith, e)));
+  dop = holds.dop ∙ same.parts Dop (λ e. absurd (omega (arith, e)));
+  assoc = holds.assoc ∙ same.parts SttbfAssoc (λ e. absurd (omega (arith, e)));
+  lst = holds.lst ∙ same.parts PlfLst (λ e. absurd (omega (arith, e)));
   levels_are = holds.levels_are;
-  lfo = holds.lfo ∙ same_bytes old new PlfLfo same;
+  lfo = holds.lfo ∙ same.parts PlfLfo (λ e. absurd (omega (arith, e)));
   clsid = holds.clsid;
   lid = holds.lid ∙ ap (λ kept. kept.lid) same.kept;
   lid_fe = holds.lid_fe ∙ ap (λ kept. kept.lid_fe) same.kept;

@@ -1,4 +1,4 @@
--- A stream with a FIB of the early form in front reads the same.
+-- The counts and the pairs of a stream with a FIB of the early form in front are those of the stream.
 use Rattle.std.proofs.Common.{◌≡◌, ◌∙◌, ◌<◌, refl, sym, ap, ℕ, List, length, drop, lit<, zero-add}
 use Rattle.std.proofs.lemmas.List.FromFn.{get_or-map-range_with_len, length-map-range_with_len}
 use Rattle.fib_form.specs.declared.form.Form.TheVariants.{Early}
@@ -17,10 +17,7 @@ use Rattle.fib_form.proofs.PairLemmas.{pair_at-fib_pairs}
 use Rattle.fib_form.proofs.WriteLemmas.{length-written_fib, drop_front}
 use Rattle.fib_versions.specs.Early.{early_pair, early_pairs, early_fields, early_wd}
 use Rattle.doc_load.specs.Source.{DocSource, story_length}
-use Rattle.doc_load.specs.FileRules.{FileText, source_of}
 use Rattle.doc_load.proofs.StoryLemmas.{story_count}
-use Rattle.doc_meaning.specs.Lifted.{ReadsTheSame}
-use Rattle.doc_meaning.specs.Loaded.{IsLoadedFor}
 
 -- what stands behind it
 pub early_count : (wd : List ℕ) → length (early_pairs wd) ≡ kept_pairs
@@ -79,29 +76,20 @@ part_stays wd Clx = refl
 part_stays wd PlfLst = refl
 part_stays wd PlfLfo = refl
 
+-- so the pair of a part is that of the stream
+pub early_part : (wd : List ℕ) (part : TablePart) → pair_at (early_pairs wd) (pair_of part) ≡ fib_pair wd (pair_of part)
+early_part wd part = early_at wd (pair_of part) (part_below part) ∙ part_stays wd part
+
 -- the pair of a part, where a FIB has these fields
 pub pair_same : (old new : List ℕ) (part : TablePart) → fib_fields new ≡ early_fields old (early_pairs old) →
     fib_pair new (pair_of part) ≡ fib_pair old (pair_of part)
 pair_same old new part fields =
     let n = pair_of part in
-    let below = part_below part in
-    sym (pair_at-fib_pairs new n below)
-    ∙ (ap (λ (f : FibFields). pair_at f.pairs n) fields ∙ (early_at old n below ∙ part_stays old part))
+    sym (pair_at-fib_pairs new n (part_below part))
+    ∙ (ap (λ (f : FibFields). pair_at f.pairs n) fields ∙ early_part old part)
 
-story_same : (old new : DocSource) (story : StoryKind) →
+pub story_same : (old new : DocSource) (story : StoryKind) →
     fib_fields new.wd ≡ early_fields old.wd (early_pairs old.wd) → story_length new story ≡ story_length old story
 story_same old new story fields =
     sym (story_count new story)
     ∙ (ap (λ (f : FibFields). story_ccp f.ccps story) fields ∙ story_count old story)
-
--- a text that is loaded for another one reads the same
-pub loaded_reads : (old new : FileText) → IsLoadedFor old new → ReadsTheSame old new
-loaded_reads old new loaded = record {
-  behind = ap (drop (form_size Early)) loaded.wd ∙ early_behind old.wd;
-  counts = λ story. story_same (source_of old) (source_of new) story loaded.fields;
-  kept = ap (λ (f : FibFields). f.kept) loaded.fields;
-  pairs = λ part. pair_same old.wd new.wd part loaded.fields;
-  table = loaded.table;
-  places = loaded.places;
-  low = loaded.low;
-}

@@ -1,11 +1,12 @@
 -- The front of a text, behind a FIB of the early form, is loaded in place of the text that the streams name.
 use Rattle.std.specs.Prelude.{slice_get, slice_range}
 use Rattle.std.proofs.Common.{◌≡◌, ◌∙◌, ◌∷◌, [], ◌+◌, ◌<◌, ◌≤◌, refl, sym, ap, subst, inl, inr, ℕ, List, length, map}
-use Rattle.std.proofs.Common.{take, drop, Some, All, arith}
+use Rattle.std.proofs.Common.{Bool, true, false, take, drop, Some, All, arith}
 use Rattle.std.proofs.lemmas.Bool.{cases_lt}
 use Rattle.std.proofs.lemmas.Option.{slice_get_past}
 use Rattle.std.proofs.lemmas.List.{length-take, take-append-drop}
 use Rattle.std.proofs.lemmas.List.Elements.{All-head, All-tail, All-weaker}
+use Rattle.doc_bits.specs.Number.{u16_at}
 use Rattle.doc_bits.specs.Rules.{Hold}
 use Rattle.doc_bits.proofs.ListLemmas.{slice_get-take, slice_get_before}
 use Rattle.cfb_streams.specs.Contents.{Contents, HasNamed}
@@ -15,7 +16,8 @@ use Rattle.fib_form.specs.FibFields.{FibFields, fib_fields, text_length}
 use Rattle.fib_form.specs.declared.form.Form.TheVariants.{Early}
 use Rattle.fib_form.specs.declared.table_parts.TablePart.TheVariants.{Clx}
 use Rattle.fib_versions.specs.Early.{early_pairs, early_fields, early_wd}
-use Rattle.piece_table.specs.Piece.{TextPiece, UnitPlace, flat_pieces}
+use Rattle.text_codes.specs.Compressed.{unit_of}
+use Rattle.piece_table.specs.Piece.{TextPiece, UnitPlace, flat_pieces, place_of_cp}
 use Rattle.piece_table.specs.Clx.{IsClx}
 use Rattle.piece_table.specs.ClxRules.{text_bounds}
 use Rattle.doc_load.specs.Units.{unit_at, text_units}
@@ -23,9 +25,10 @@ use Rattle.doc_load.specs.FormatRules.{text_count}
 use Rattle.doc_load.specs.FileRules.{FileText, HasText, IsFrontOf, source_of, clx_of, rules_of_pieces}
 use Rattle.doc_load.specs.FileRules.{table_stream_name}
 use Rattle.doc_load.proofs.StandLemmas.{StandsBy, place_stands, places_stand}
+use Rattle.doc_meaning.specs.Skipped.{sections_of, fc_sepx, KeepsSepx}
 use Rattle.doc_meaning.specs.Loaded.{IsLoadedFor}
 use Rattle.doc_meaning.proofs.EarlyLemmas.{early_behind, pair_same}
-use Rattle.doc_meaning.proofs.ItemLemmas.{unit_same}
+use Rattle.doc_meaning.proofs.BehindLemmas.{range_behind, byte_behind, number_behind}
 
 -- the streams of a text, and as many CPs of its pieces as all stories have
 pub record HasFront (contents : Contents) (wd table : List ℕ) (text_len : ℕ) : Type 0 where
@@ -39,7 +42,7 @@ abbrev pub whole_text : List ℕ → List ℕ → List TextPiece → FileText
 whole_text wd table pieces = record { wd = wd; table = table; pieces = pieces }
 
 -- what stands at a place of the front stands there in the list
-front_get : {A : Type 0} (xs : List A) (n i : ℕ) → i < n → slice_get (take n xs) i ≡ slice_get xs i
+pub front_get : {A : Type 0} (xs : List A) (n i : ℕ) → i < n → slice_get (take n xs) i ≡ slice_get xs i
 front_get xs n i below =
     let len = length-take n xs in
     elim (cases_lt i (length xs)) [
@@ -55,6 +58,24 @@ early_size : (wd early : List ℕ) → fib_fields early ≡ early_fields wd (ear
     fib_size early ≡ form_size Early
 early_size wd early fields = ap (λ (f : FibFields). form_size f.form) fields
 
+-- what stands behind the FIB is the same
+abbrev pub AreSameBehind : List ℕ → List ℕ → Type 0
+AreSameBehind old new = drop (form_size Early) new ≡ drop (form_size Early) old
+
+unit_same : (old new : List ℕ) (place : UnitPlace) (wide : Bool) → AreSameBehind old new →
+    form_size Early ≤ place.at → unit_at new (record place { wide = wide }) ≡ unit_at old (record place { wide = wide })
+unit_same old new place true same low = number_behind old new (form_size Early) place.at 2 same low
+unit_same old new place false same low = ap unit_of (byte_behind old new (form_size Early) place.at same low)
+
+sepx_behind : (old new : List ℕ) (fc : ℕ) → AreSameBehind old new → KeepsSepx old new fc
+sepx_behind old new fc same = λ after within.
+    let k = form_size Early in
+    let count : u16_at new fc ≡ u16_at old fc = number_behind old new k fc 2 same (omega (arith, after)) in (
+      count,
+      range_behind old new k (fc + 2) (fc + 2 + u16_at new fc) same (omega (arith, after))
+          ∙ ap (λ n. slice_range old (fc + 2) (fc + 2 + n)) count,
+    )
+
 pub front_loaded : (contents : Contents) (wd table : List ℕ) (text_len : ℕ) (text : FileText) (units : List ℕ) →
     HasFront contents wd table text_len → (front : IsFrontOf (early_wd wd (early_pairs wd)) table text units) →
     IsLoadedFor (whole_text wd table front.all) text
@@ -65,19 +86,26 @@ front_loaded contents wd table text_len text units has front =
     let most : text_count (source_of text) ≤ text_length (fib_fields text.wd).ccps = omega arith in
     let few : text_count (source_of text) ≤ count =
     subst (λ (w : List ℕ). text_count (source_of text) ≤ text_length (fib_fields w).ccps) front.wd_is most in
+    let behind : drop (form_size Early) text.wd ≡ drop (form_size Early) wd =
+    ap (drop (form_size Early)) front.wd_is ∙ early_behind wd in
+    let place_low : (cp : ℕ) (place : UnitPlace) → place_of_cp text.pieces cp ≡ Some place →
+    form_size Early ≤ place.at = λ cp place here.
+    let there : slice_get flat cp ≡ Some place =
+    slice_get-take count flat cp place (sym (ap (λ (places : List UnitPlace). slice_get places cp) front.front)
+    ∙ here) in
+    let by = place_stands early table text_len front.all has.hold front.has_pieces cp place there in
+    omega (arith, by.0, early_size wd early has.fields) in
     record {
-      wd = front.wd_is;
+      pages = wd;
+      kept_pages = inr refl;
+      behind = behind;
       fields = ap fib_fields front.wd_is ∙ has.fields;
-      table = front.table_is;
+      table = inr front.table_is;
       places = λ cp below.
           ap (λ (places : List UnitPlace). slice_get places cp) front.front
           ∙ front_get flat count cp (omega (arith, below, few));
-      low = λ cp place here.
-          let there : slice_get flat cp ≡ Some place =
-          slice_get-take count flat cp place (sym (ap (λ (places : List UnitPlace). slice_get places cp) front.front)
-          ∙ here) in
-          let by = place_stands early table text_len front.all has.hold front.has_pieces cp place there in
-          omega (arith, by.0, early_size wd early has.fields);
+      units = λ cp place below here. unit_same wd text.wd place place.wide behind (place_low cp place here);
+      sepxs = λ k below. sepx_behind wd text.wd (fc_sepx (sections_of wd table) k) behind;
     }
 
 -- the streams have the text of all pieces

@@ -1,33 +1,37 @@
 -- What is read at a CP, and of the sections, is the same for a text that reads the same.
-use Rattle.std.specs.Prelude.{slice_range, is_some}
-use Rattle.std.proofs.Common.{◌≡◌, ◌≢◌, ◌∙◌, ◌+◌, ◌*◌, ◌<◌, ◌≤◌, refl, sym, ap, subst, inl, inr, ℕ, List, length}
-use Rattle.std.proofs.Common.{Bool, true, false, Option, Some, None, drop, arith, ◌++◌}
+use Rattle.std.specs.Prelude.{is_some}
+use Rattle.std.proofs.Common.{◌≡◌, ◌≢◌, ◌∙◌, ◌+◌, ◌<◌, refl, sym, ap, subst, inl, inr, ℕ, List, length, map}
+use Rattle.std.proofs.Common.{Bool, true, false, Option, Some, None, take, drop, arith, ◌++◌}
 use Rattle.std.proofs.lemmas.Bool.{cases_lt}
 use Rattle.std.proofs.lemmas.Option.{slice_get_within}
+use Rattle.std.specs.Option.{unwrap_or}
+use Rattle.std.specs.FinMap.{empty}
 use Rattle.doc_bits.specs.Number.{u16_at}
+use Rattle.doc_bits.proofs.NumberLemmas.{number_at-take}
+use Rattle.sprm_table.proofs.SprmLemmas.{spelt_unique}
 use Rattle.prop_map.specs.Settings.{Settings}
-use Rattle.prop_map.specs.Formed.{section_groups}
+use Rattle.prop_map.specs.Formed.{character_groups, paragraph_groups, section_groups}
+use Rattle.prop_map.specs.Acting.{ArePropertiesAfter, style_of}
+use Rattle.prop_map.specs.Modifiers.{mark_style}
 use Rattle.prop_map.specs.declared.modifiers.Modifier.{Modifier}
-use Rattle.text_codes.specs.Compressed.{unit_of}
+use Rattle.prl_skips.specs.Skips.{skipped, SkipsOrStays, HoldsNoPictures}
+use Rattle.prl_skips.proofs.SkipLemmas.{make_skips, style_skips}
 use Rattle.text_codes.specs.Paragraph.{is_paragraph_end}
-use Rattle.fib_form.specs.Fib.{form_size}
-use Rattle.fib_form.specs.declared.form.Form.TheVariants.{Early}
 use Rattle.fib_form.specs.declared.table_parts.TablePart.TheVariants.{PlcfBteChpx, PlcfBtePapx}
 use Rattle.fib_form.specs.declared.stories.StoryKind.TheVariants.{Main, Notes, Heads}
 use Rattle.fkp_pages.specs.declared.kind.PageKind.{PageKind}
 use Rattle.fkp_pages.specs.declared.kind.PageKind.TheVariants.{Chpx, Papx}
-use Rattle.fkp_pages.specs.Fkp.{HasRunAnswer}
-use Rattle.fkp_pages.specs.Bin.{IsBinPage, page_at}
-use Rattle.fkp_pages.specs.Properties.{IsListAnswered, HasListAt}
+use Rattle.fkp_pages.specs.Properties.{HasListAt}
+use Rattle.page_copies.specs.Pages.{bin_of}
+use Rattle.page_copies.specs.Laws.{IsListCopy, HasListBefore}
+use Rattle.page_copies.proofs.ListLemmas.{copy_acts}
 use Rattle.direct_props.specs.Direct.{MakesSettings, IsDirectCharacter}
 use Rattle.direct_props.specs.PageRules.{IsRightPlace}
 use Rattle.direct_props.proofs.RightLemmas.{right_places_have_lists}
-use Rattle.piece_table.specs.Piece.{UnitPlace}
 use Rattle.doc_parts.specs.Sections.{HasSepx}
 use Rattle.plain_doc.specs.declared.item.Item.{Item}
 use Rattle.plain_doc.specs.declared.item.Mark.{Mark}
 use Rattle.plain_doc.specs.Entries.{entry_at}
-use Rattle.doc_load.specs.Units.{unit_at}
 use Rattle.doc_load.specs.Source.{part_bytes, story_begin}
 use Rattle.doc_load.specs.SectionRules.{LacksSepx, sepx_list, section_fc}
 use Rattle.doc_load.specs.FormatRules.{text_count}
@@ -39,68 +43,102 @@ use Rattle.doc_read.specs.Marked.{story_bytes, field_bytes}
 use Rattle.doc_read.proofs.ExistItems.{parts_of}
 use Rattle.doc_read.proofs.GivenPlaces.{RightText, character_place, mark_place}
 use Rattle.doc_read.proofs.SettingsLemmas.{sepx-there}
-use Rattle.doc_meaning.specs.Lifted.{ReadsTheSame}
-use Rattle.doc_meaning.proofs.BehindLemmas.{range_behind, byte_behind, number_behind, length_behind}
-use Rattle.doc_meaning.proofs.ListLemmas.{same_bytes}
+use Rattle.doc_meaning.specs.Skipped.{bins_of}
+use Rattle.doc_meaning.specs.Lifted.{KeepsLists, ReadsTheSame}
 
--- the streams are the same behind the FIB
-abbrev AreSameBehind : List ℕ → List ℕ → Type 0
-AreSameBehind old new = drop (form_size Early) new ≡ drop (form_size Early) old
+-- ---- what lists make
 
-pub unit_same : (old new : List ℕ) (place : UnitPlace) (wide : Bool) → AreSameBehind old new →
-    form_size Early ≤ place.at → unit_at new (record place { wide = wide }) ≡ unit_at old (record place { wide = wide })
-unit_same old new place true same low = number_behind old new (form_size Early) place.at 2 same low
-unit_same old new place false same low = ap unit_of (byte_behind old new (form_size Early) place.at same low)
+-- what a list makes once its codes are skipped it makes before
+makes_before : (old new : List ℕ) (groups : ℕ) (made : Settings) (style : Option ℕ) → HoldsNoPictures groups →
+    SkipsOrStays old new → MakesSettings new groups made style → MakesSettings old groups made style
+makes_before old new groups made style none (inr stays) makes =
+    subst (λ l. MakesSettings l groups made style) stays.1 makes
+makes_before old new groups made style none (inl skips) makes =
+    let same = spelt_unique new makes.prls (map skipped skips.prls) makes.spelt skips.skips in
+    record {
+      prls = skips.prls;
+      spelt = skips.spelt;
+      map = (make_skips skips.prls groups empty made none).0
+          (subst (λ l. ArePropertiesAfter l groups empty made) same makes.map);
+      style_is = makes.style_is
+          ∙ (ap (λ l. style_of l groups) same ∙ style_skips skips.prls groups none);
+    }
+
+characters_before : (list made : List ℕ) (settings : Settings) (style : Option ℕ) → IsListCopy Chpx list made →
+    MakesSettings made character_groups settings style → MakesSettings list character_groups settings style
+characters_before list made settings style (inr same) makes =
+    subst (λ l. MakesSettings l character_groups settings style) same makes
+characters_before list made settings style (inl skips) makes =
+    makes_before list made character_groups settings style refl skips.sprms makes
+
+paragraphs_before : (list made : List ℕ) (settings : Settings) (style : Option ℕ) → IsListCopy Papx list made →
+    MakesSettings (drop 2 made) paragraph_groups settings style →
+    MakesSettings (drop 2 list) paragraph_groups settings style
+paragraphs_before list made settings style (inr same) makes =
+    subst (λ l. MakesSettings (drop 2 l) paragraph_groups settings style) same makes
+paragraphs_before list made settings style (inl skips) makes =
+    makes_before (drop 2 list) (drop 2 made) paragraph_groups settings style refl skips.sprms makes
+
+-- the style number in front of a paragraph's list
+istd_before : (list made : List ℕ) → IsListCopy Papx list made → u16_at made 0 ≡ u16_at list 0
+istd_before list made copy =
+    let front : take 2 made ≡ take 2 list = (copy_acts Papx list made copy).istd in
+    sym (number_at-take 2 made 0 2 (omega arith))
+    ∙ (ap (λ l. u16_at l 0) front ∙ number_at-take 2 list 0 2 (omega arith))
 
 -- ---- pages
 
 -- the list of a place whose page is right
-list_same : (kind : PageKind) (old new old_bin new_bin : List ℕ) (fc : ℕ) (list : List ℕ) → AreSameBehind old new →
-    new_bin ≡ old_bin → IsRightPlace kind new new_bin fc → HasListAt kind new_bin new fc list →
-    HasListAt kind old_bin old fc list
-list_same kind old new old_bin new_bin fc list same bins right has =
-    let is = right_places_have_lists kind new new_bin fc list right has in
-    let low = is.low in
-    let within = is.within in
-    let len = length_behind old new (form_size Early) same (omega (arith, low, within)) in
-    let page : page_at new is.number ≡ page_at old is.number =
-    range_behind old new (form_size Early) (512 * is.number) (512 * is.number + 512) same (omega (arith, low)) in
-    record {
+list_right : (kind : PageKind) (old new : FileText) (fc : ℕ) (made : List ℕ) → KeepsLists kind old new →
+    IsRightPlace kind new.wd (bin_of kind (bins_of new.wd new.table)) fc →
+    HasListAt kind (bin_of kind (bins_of new.wd new.table)) new.wd fc made →
+    HasListBefore kind (bin_of kind (bins_of old.wd old.table)) old.wd fc made
+list_right kind old new fc made keeps right has =
+    let is = right_places_have_lists kind new.wd (bin_of kind (bins_of new.wd new.table)) fc made right has in
+    keeps fc made (record {
       number = is.number;
-      named = subst (λ bin. IsBinPage bin fc is.number) bins is.named;
-      within = omega (arith, within, len);
+      named = is.named;
+      within = is.within;
       answer = is.answer;
-      answers = subst (λ p. HasRunAnswer kind p fc is.answer) page is.answers;
-      answered = subst (λ p. IsListAnswered kind p is.answer list) page is.answered;
+      answers = is.answers;
+      answered = is.answered;
+    }) is.low
+
+character_same : (old new : FileText) (fc : ℕ) (modifier : Modifier) (chp : Settings) → KeepsLists Chpx old new →
+    IsRightPlace Chpx new.wd (part_bytes (source_of new) PlcfBteChpx) fc →
+    IsDirectCharacter new.wd (part_bytes (source_of new) PlcfBteChpx) fc modifier chp →
+    IsDirectCharacter old.wd (part_bytes (source_of old) PlcfBteChpx) fc modifier chp
+character_same old new fc modifier chp keeps right is =
+    let before = list_right Chpx old new fc is.list keeps right is.has in
+    record {
+      list = before.list;
+      has = before.has;
+      made = is.made;
+      style = is.style;
+      makes = characters_before before.list is.list is.made is.style before.copy is.makes;
+      modified = is.modified;
     }
 
-character_same : (old new old_bin new_bin : List ℕ) (fc : ℕ) (modifier : Modifier) (chp : Settings) →
-    AreSameBehind old new → new_bin ≡ old_bin → IsRightPlace Chpx new new_bin fc →
-    IsDirectCharacter new new_bin fc modifier chp → IsDirectCharacter old old_bin fc modifier chp
-character_same old new old_bin new_bin fc modifier chp same bins right is = record {
-  list = is.list;
-  has = list_same Chpx old new old_bin new_bin fc is.list same bins right is.has;
-  made = is.made;
-  style = is.style;
-  makes = is.makes;
-  modified = is.modified;
-}
-
-mark_same : (ends : Bool) (old new old_bin new_bin : List ℕ) (fc : ℕ) (modifier : Modifier) (mark : Option Mark) →
-    AreSameBehind old new → new_bin ≡ old_bin → (ends ≡ true → IsRightPlace Papx new new_bin fc) →
-    IsMarkAt ends new new_bin fc modifier mark → IsMarkAt ends old old_bin fc modifier mark
-mark_same true old new old_bin new_bin fc modifier None same bins right is = is
-mark_same false old new old_bin new_bin fc modifier (Some mark) same bins right is = is
-mark_same false old new old_bin new_bin fc modifier None same bins right is = is
-mark_same true old new old_bin new_bin fc modifier (Some mark) same bins right is = record {
-  list = is.list;
-  has = list_same Papx old new old_bin new_bin fc is.list same bins (right refl) is.has;
-  made = is.made;
-  style = is.style;
-  makes = is.makes;
-  style_is = is.style_is;
-  modified = is.modified;
-}
+mark_same : (ends : Bool) (old new : FileText) (fc : ℕ) (modifier : Modifier) (mark : Option Mark) →
+    KeepsLists Papx old new →
+    (ends ≡ true → IsRightPlace Papx new.wd (part_bytes (source_of new) PlcfBtePapx) fc) →
+    IsMarkAt ends new.wd (part_bytes (source_of new) PlcfBtePapx) fc modifier mark →
+    IsMarkAt ends old.wd (part_bytes (source_of old) PlcfBtePapx) fc modifier mark
+mark_same true old new fc modifier None keeps right is = is
+mark_same false old new fc modifier (Some mark) keeps right is = is
+mark_same false old new fc modifier None keeps right is = is
+mark_same true old new fc modifier (Some mark) keeps right is =
+    let before = list_right Papx old new fc is.list keeps (right refl) is.has in
+    record {
+      list = before.list;
+      has = before.has;
+      made = is.made;
+      style = is.style;
+      makes = paragraphs_before before.list is.list is.made is.style before.copy is.makes;
+      style_is = is.style_is
+          ∙ ap (λ n. mark_style modifier (unwrap_or is.style n)) (istd_before before.list is.list before.copy);
+      modified = is.modified;
+    }
 
 -- ---- items
 
@@ -133,46 +171,31 @@ pub item_same : (old : FileText) (r : RightText) (maps : List Settings) (cp : �
 item_same old r maps cp item same below is =
     let new = r.text in
     let place = is.place in
-    let low = same.low cp place is.here in
-    let characters = same_bytes old new PlcfBteChpx same in
-    let paragraphs = same_bytes old new PlcfBtePapx same in
     record {
       place = place;
       here = sym (same.places cp below) ∙ is.here;
-      unit = is.unit ∙ unit_same old.wd new.wd place place.wide same.behind low;
+      unit = is.unit ∙ same.units cp place below is.here;
       characters =
-          character_same old.wd new.wd (part_bytes (source_of old) PlcfBteChpx) (part_bytes (source_of new) PlcfBteChpx)
-          place.at place.modifier item.chp same.behind characters (character_place r cp place below is.here)
-          is.characters;
+          character_same old new place.at place.modifier item.chp (same.lists Chpx)
+          (character_place r cp place below is.here) is.characters;
       section = is.section ∙ ap (λ n. entry_at (section_marks r.lists.sections n maps) cp) (same.counts Main);
       mark =
-          mark_same (is_paragraph_end item.unit (is_some item.sect)) old.wd new.wd
-          (part_bytes (source_of old) PlcfBtePapx) (part_bytes (source_of new) PlcfBtePapx) place.at place.modifier
-          item.mark same.behind paragraphs
-          (mark_place r maps cp place item below is.here is.unit is.section) is.mark;
+          mark_same (is_paragraph_end item.unit (is_some item.sect)) old new place.at place.modifier item.mark
+          (same.lists Papx) (mark_place r maps cp place item below is.here is.unit is.section) is.mark;
       field = is.field ∙ ap (λ entries. entry_at entries cp) (fields_at old new r.lists same);
       note = is.note;
     }
 
 -- ---- sections
 
--- the list of a Sepx that stands in the stream
-sepx_same : (old new : List ℕ) (fc : ℕ) → AreSameBehind old new → HasSepx new fc → sepx_list new fc ≡ sepx_list old fc
-sepx_same old new fc same there =
-    let after = there.after_fib in
-    let k = form_size Early in
-    let count : u16_at new fc ≡ u16_at old fc = number_behind old new k fc 2 same (omega (arith, after)) in
-    range_behind old new k (fc + 2) (fc + 2 + u16_at new fc) same (omega (arith, after))
-    ∙ ap (λ n. slice_range old (fc + 2) (fc + 2 + n)) count
-
-settings_same : (old new : List ℕ) (fc : ℕ) (settings : Settings) → AreSameBehind old new →
-    (fc ≢ 0xFFFFFFFF → HasSepx new fc) → IsSectionSettings new fc settings → IsSectionSettings old fc settings
-settings_same old new fc settings same there (inl none) = inl none
-settings_same old new fc settings same there (inr made) = inr (record {
+settings_same : (old new : List ℕ) (fc : ℕ) (settings : Settings) →
+    (fc ≢ 0xFFFFFFFF → sepx_list new fc ≡ sepx_list old fc) → IsSectionSettings new fc settings →
+    IsSectionSettings old fc settings
+settings_same old new fc settings same (inl none) = inl none
+settings_same old new fc settings same (inr made) = inr (record {
   there = made.there;
   style = made.style;
-  makes = subst (λ list. MakesSettings list section_groups settings made.style)
-      (sepx_same old new fc same (there made.there)) made.makes;
+  makes = subst (λ list. MakesSettings list section_groups settings made.style) (same made.there) made.makes;
 })
 
 -- a Sepx that does not lack is there
@@ -200,5 +223,7 @@ maps_same old r maps same have = record {
       let below : k < length r.lists.sections = omega (arith, inside, have.len) in
       let fc = section_fc r.lists.sections k in
       let lacks = sepx-there (source_of r.text) r.lists.sections k r.hold.0.0 r.has.has_sections below in
-      settings_same old.wd r.text.wd fc map same.behind (sepx_found r.text.wd fc lacks) (have.each k map here);
+      settings_same old.wd r.text.wd fc map
+      (λ some. same.sections r.lists.sections k r.has.has_sections below (sepx_found r.text.wd fc lacks some))
+      (have.each k map here);
 }

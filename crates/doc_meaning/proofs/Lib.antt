@@ -1,8 +1,9 @@
-pub mod MeaningLemmas
 pub mod BehindLemmas
 pub mod EarlyLemmas
+pub mod TableLemmas
 pub mod ListLemmas
 pub mod ItemLemmas
 pub mod DocumentLemmas
 pub mod LoadedLemmas
 pub mod FrontLemmas
+pub mod MeaningLemmas

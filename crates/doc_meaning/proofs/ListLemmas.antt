@@ -1,51 +1,41 @@
 -- What the parts hold is the same for a text that reads the same.
-use Rattle.std.specs.Prelude.{slice_range}
-use Rattle.std.proofs.Common.{◌≡◌, ◌⊎◌, ◌∙◌, ◌+◌, ap, subst, ℕ, List, [], ◌∷◌, length}
-use Rattle.fib_form.specs.Fib.{fib_pair}
-use Rattle.fib_form.specs.TableParts.{pair_of}
+use Rattle.std.proofs.Common.{◌≡◌, ◌⊎◌, ◌∙◌, ap, subst, ℕ, List, [], ◌∷◌, arith}
 use Rattle.fib_form.specs.declared.table_parts.TablePart.{TablePart}
-use Rattle.fib_form.specs.declared.table_parts.TablePart.TheVariants.{Stshf, PlcffndRef, PlcffndTxt, PlcfSed, PlcfHdd}
-use Rattle.fib_form.specs.declared.table_parts.TablePart.TheVariants.{SttbfBkmk, PlcfBkf, PlcfBkl, PlfLst}
+use Rattle.fib_form.specs.declared.table_parts.TablePart.TheVariants.{PlcffndRef, PlcffndTxt, PlcfSed, PlcfHdd}
+use Rattle.fib_form.specs.declared.table_parts.TablePart.TheVariants.{SttbfBkmk, PlcfBkf, PlcfBkl}
 use Rattle.fib_form.specs.declared.stories.StoryKind.{StoryKind}
 use Rattle.fib_form.specs.declared.stories.StoryKind.TheVariants.{Main, Notes, Heads}
-use Rattle.style_sheet.specs.Stsh.{HasStyleSheet}
 use Rattle.doc_parts.specs.declared.lists.Fld.{Fld}
 use Rattle.doc_parts.specs.declared.bookmark_order.Bookmark.{Bookmark}
 use Rattle.doc_parts.specs.Sections.{AreSections}
 use Rattle.doc_parts.specs.Fields.{AreFields}
 use Rattle.doc_parts.specs.Stories.{AreRefs, AreCuts}
-use Rattle.doc_parts.specs.Levels.{HaveLength}
 use Rattle.doc_parts.specs.BookmarkParts.{parts_at, bookmarks_of}
 use Rattle.doc_load.specs.Source.{DocSource, part_bytes, part_place, story_length}
 use Rattle.doc_load.specs.FieldRules.{HasFields, field_part}
 use Rattle.doc_load.specs.NoteRules.{HasEntries, HasNoteCuts}
-use Rattle.doc_load.specs.ListRules.{HasLevels}
 use Rattle.doc_load.specs.BookmarkRules.{HasBookmarks}
 use Rattle.doc_load.specs.PartRules.{PartLists, HasPartLists}
 use Rattle.doc_load.specs.FileRules.{FileText, source_of}
-use Rattle.doc_meaning.specs.Lifted.{ReadsTheSame}
+use Rattle.doc_meaning.specs.Lifted.{ReadsTheSame, IsOther}
 
 -- the parts of two sources, and how long their stories are
 record HaveSameParts (old new : DocSource) : Type 0 where
-  table : new.table ≡ old.table
   place : (part : TablePart) → part_place new part ≡ part_place old part
-  bytes : (part : TablePart) → part_bytes new part ≡ part_bytes old part
+  bytes : (part : TablePart) → IsOther part → part_bytes new part ≡ part_bytes old part
   count : (story : StoryKind) → story_length new story ≡ story_length old story
-
-pub same_bytes : (old new : FileText) (part : TablePart) → ReadsTheSame old new →
-    part_bytes (source_of new) part ≡ part_bytes (source_of old) part
-same_bytes old new part same =
-    let pair : fib_pair new.wd (pair_of part) ≡ fib_pair old.wd (pair_of part) = same.pairs part in
-    let table : new.table ≡ old.table = same.table in
-    λ i. slice_range (table i) (pair i).0 ((pair i).0 + (pair i).1)
 
 same_parts : (old new : FileText) → ReadsTheSame old new → HaveSameParts (source_of old) (source_of new)
 same_parts old new same = record {
-  table = same.table;
   place = λ part. ap (λ (p : ℕ × ℕ). p.0) (same.pairs part);
-  bytes = λ part. same_bytes old new part same;
+  bytes = same.parts;
   count = same.counts;
 }
+
+field_other : (story : StoryKind) → IsOther (field_part story)
+field_other Main = λ e. absurd (omega (arith, e))
+field_other Notes = λ e. absurd (omega (arith, e))
+field_other Heads = λ e. absurd (omega (arith, e))
 
 -- a fact on bytes and on a length
 two : (P : List ℕ → ℕ → Type 0) (x y : List ℕ) (m n : ℕ) → x ≡ y → m ≡ n → P x m → P y n
@@ -56,7 +46,7 @@ fields_same : (old new : DocSource) (story : StoryKind) (list : List Fld) → Ha
 fields_same old new story list same =
     let part = field_part story in
     two (λ b n. AreFields b n list) (part_bytes new part) (part_bytes old part) (story_length new story)
-    (story_length old story) (same.bytes part) (same.count story)
+    (story_length old story) (same.bytes part (field_other story)) (same.count story)
 
 -- the CPs that cut the notes, by the two parts
 abbrev AreNoteCuts : List ℕ → List ℕ → ℕ → List ℕ → Type 0
@@ -67,32 +57,19 @@ notes_same old new list same has =
     let cuts = part_bytes new PlcffndTxt in
     let count = story_length new Notes in
     let has_refs : AreNoteCuts (part_bytes old PlcffndRef) cuts count list =
-    subst (λ b. AreNoteCuts b cuts count list) (same.bytes PlcffndRef) has in
+    subst (λ b. AreNoteCuts b cuts count list) (same.bytes PlcffndRef (λ e. absurd (omega (arith, e)))) has in
     two (λ b n. AreNoteCuts (part_bytes old PlcffndRef) b n list) cuts (part_bytes old PlcffndTxt) count
-    (story_length old Notes) (same.bytes PlcffndTxt) (same.count Notes) has_refs
-
--- the levels stand behind their part
-abbrev StandBehindPart : List ℕ → ℕ → List ℕ → ℕ → List ℕ → Type 0
-StandBehindPart table at part len bytes =
-    HaveLength table at (length part) len
-    × (bytes ≡ slice_range table (at + length part) (at + length part + len))
-
-levels_same : (old new : DocSource) (bytes : List ℕ) → HaveSameParts old new → HasLevels new bytes → HasLevels old bytes
-levels_same old new bytes same has =
-    let at = part_place new PlfLst in
-    let part = part_bytes new PlfLst in
-    let first : StandBehindPart old.table at part has.len bytes =
-    subst (λ t. StandBehindPart t at part has.len bytes) same.table (has.have, has.bytes_are) in
-    let next = two (λ b n. StandBehindPart old.table n b has.len bytes) part (part_bytes old PlfLst) at
-    (part_place old PlfLst) (same.bytes PlfLst) (same.place PlfLst) first in
-    record { len = has.len; have = next.0; bytes_are = next.1 }
+    (story_length old Notes) (same.bytes PlcffndTxt (λ e. absurd (omega (arith, e)))) (same.count Notes) has_refs
 
 bookmarks_same : (old new : DocSource) (list : List Bookmark) → HaveSameParts old new → HasBookmarks new list →
     HasBookmarks old list
 bookmarks_same old new list same has =
-    let names : part_bytes new SttbfBkmk ≡ part_bytes old SttbfBkmk = same.bytes SttbfBkmk in
-    let starts : part_bytes new PlcfBkf ≡ part_bytes old PlcfBkf = same.bytes PlcfBkf in
-    let ends : part_bytes new PlcfBkl ≡ part_bytes old PlcfBkl = same.bytes PlcfBkl in
+    let names : part_bytes new SttbfBkmk ≡ part_bytes old SttbfBkmk =
+    same.bytes SttbfBkmk (λ e. absurd (omega (arith, e))) in
+    let starts : part_bytes new PlcfBkf ≡ part_bytes old PlcfBkf =
+    same.bytes PlcfBkf (λ e. absurd (omega (arith, e))) in
+    let ends : part_bytes new PlcfBkl ≡ part_bytes old PlcfBkl =
+    same.bytes PlcfBkl (λ e. absurd (omega (arith, e))) in
     let at_names : part_place new SttbfBkmk ≡ part_place old SttbfBkmk = same.place SttbfBkmk in
     let at_starts : part_place new PlcfBkf ≡ part_place old PlcfBkf = same.place PlcfBkf in
     let at_ends : part_place new PlcfBkl ≡ part_place old PlcfBkl = same.place PlcfBkl in
@@ -109,16 +86,19 @@ lists_same old new lists same has =
     let parts = same_parts old new same in
     record {
       has_sections = two (λ bytes n. AreSections bytes n lists.sections) (part_bytes b PlcfSed) (part_bytes a PlcfSed)
-          (story_length b Main) (story_length a Main) (parts.bytes PlcfSed) (parts.count Main) has.has_sections;
-      has_sheet = subst (λ bytes. HasStyleSheet bytes lists.sheet) (parts.bytes Stshf) has.has_sheet;
+          (story_length b Main) (story_length a Main) (parts.bytes PlcfSed (λ e. absurd (omega (arith, e))))
+          (parts.count Main) has.has_sections;
+      has_sheet = same.sheet lists.sheet has.has_sheet;
       has_main_fields = fields_same a b Main lists.main_fields parts has.has_main_fields;
       has_note_fields = fields_same a b Notes lists.note_fields parts has.has_note_fields;
       has_head_fields = fields_same a b Heads lists.head_fields parts has.has_head_fields;
       has_refs = two (λ bytes n. AreRefs bytes n lists.refs) (part_bytes b PlcffndRef) (part_bytes a PlcffndRef)
-          (story_length b Main) (story_length a Main) (parts.bytes PlcffndRef) (parts.count Main) has.has_refs;
+          (story_length b Main) (story_length a Main) (parts.bytes PlcffndRef (λ e. absurd (omega (arith, e))))
+          (parts.count Main) has.has_refs;
       has_notes = notes_same a b lists.notes parts has.has_notes;
       has_heads = two (λ bytes n. AreCuts bytes n lists.heads) (part_bytes b PlcfHdd) (part_bytes a PlcfHdd)
-          (story_length b Heads) (story_length a Heads) (parts.bytes PlcfHdd) (parts.count Heads) has.has_heads;
-      has_levels = levels_same a b lists.levels parts has.has_levels;
+          (story_length b Heads) (story_length a Heads) (parts.bytes PlcfHdd (λ e. absurd (omega (arith, e))))
+          (parts.count Heads) has.has_heads;
+      has_levels = same.levels lists.levels has.has_levels;
       has_bookmarks = bookmarks_same a b lists.bookmarks parts has.has_bookmarks;
     }

@@ -1,3 +1,4 @@
 pub mod Meaning
+pub mod Skipped
 pub mod Lifted
 pub mod Loaded

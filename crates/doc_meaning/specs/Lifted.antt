@@ -1,16 +1,28 @@
--- A text that reads the same as another one: behind the FIB the same bytes, the same counts and parts, and the same
--- places of its CPs.
-use Rattle.std.specs.Prelude.{◌≡◌, ℕ, ◌<◌, ◌≤◌, List, drop, Some}
-use Rattle.fib_form.specs.Fib.{form_size, fib_pair}
+-- A text that reads the same as another one: it has the same counts, parts and styles, the same places and units of its
+-- CPs, the same Sepxs, and at each byte place the same list, or one whose codes that are not read are skipped.
+use Rattle.std.specs.Prelude.{◌≡◌, ◌≢◌, ℕ, ◌<◌, ◌≤◌, List, length, Some}
+use Rattle.fib_form.specs.Fib.{fib_pair}
 use Rattle.fib_form.specs.FibFields.{fib_fields}
 use Rattle.fib_form.specs.TableParts.{pair_of}
-use Rattle.fib_form.specs.declared.form.Form.TheVariants.{Early}
 use Rattle.fib_form.specs.declared.stories.StoryKind.{StoryKind}
 use Rattle.fib_form.specs.declared.table_parts.TablePart.{TablePart}
+use Rattle.fib_form.specs.declared.table_parts.TablePart.TheVariants.{Stshf}
+use Rattle.fkp_pages.specs.declared.kind.PageKind.{PageKind}
+use Rattle.fkp_pages.specs.Properties.{HasListAt}
+use Rattle.page_copies.specs.Pages.{bin_of}
+use Rattle.page_copies.specs.Laws.{HasListBefore}
 use Rattle.piece_table.specs.Piece.{TextPiece, UnitPlace, place_of_cp}
-use Rattle.doc_load.specs.Source.{story_length}
+use Rattle.style_sheet.specs.Sheet.{Sheet}
+use Rattle.doc_parts.specs.declared.lists.Sed.{Sed}
+use Rattle.doc_parts.specs.Sections.{HasSepx}
+use Rattle.doc_load.specs.Units.{unit_at}
+use Rattle.doc_load.specs.Source.{story_length, part_bytes}
+use Rattle.doc_load.specs.SectionRules.{HasSections, section_fc, sepx_list}
+use Rattle.doc_load.specs.SheetRules.{HasSheet}
+use Rattle.doc_load.specs.ListRules.{HasLevels}
 use Rattle.doc_load.specs.FormatRules.{text_count}
 use Rattle.doc_load.specs.FileRules.{FileText, source_of}
+use Rattle.doc_meaning.specs.Skipped.{bins_of}
 
 -- the first CPs have the same places
 abbrev pub KeepsPlaces : List TextPiece → List TextPiece → ℕ → Type 0
@@ -20,11 +32,35 @@ KeepsPlaces old new count = (cp : ℕ) → cp < count → place_of_cp new cp ≡
 abbrev pub StandsBehind : List TextPiece → ℕ → Type 0
 StandsBehind pieces from = (cp : ℕ) (place : UnitPlace) → place_of_cp pieces cp ≡ Some place → from ≤ place.at
 
+-- the first CPs have the same units
+abbrev pub KeepsUnits : FileText → FileText → ℕ → Type 0
+KeepsUnits old new count = (cp : ℕ) (place : UnitPlace) → cp < count → place_of_cp new.pieces cp ≡ Some place →
+    unit_at new.wd place ≡ unit_at old.wd place
+
+-- each list of a page that does not lie over the FIB
+abbrev pub KeepsLists : PageKind → FileText → FileText → Type 0
+KeepsLists kind old new = (fc : ℕ) (made : List ℕ) →
+    (has : HasListAt kind (bin_of kind (bins_of new.wd new.table)) new.wd fc made) → 2 ≤ has.number →
+    HasListBefore kind (bin_of kind (bins_of old.wd old.table)) old.wd fc made
+
+-- each Sepx that is there
+abbrev pub KeepsSections : FileText → FileText → Type 0
+KeepsSections old new = (sections : List Sed) (k : ℕ) → HasSections (source_of new) sections → k < length sections →
+    HasSepx new.wd (section_fc sections k) →
+    sepx_list new.wd (section_fc sections k) ≡ sepx_list old.wd (section_fc sections k)
+
+-- a part that is no style sheet
+abbrev pub IsOther : TablePart → Type 0
+IsOther part = pair_of part ≢ pair_of Stshf
+
 pub record ReadsTheSame (old new : FileText) : Type 0 where
-  pub behind : drop (form_size Early) new.wd ≡ drop (form_size Early) old.wd
   pub counts : (story : StoryKind) → story_length (source_of new) story ≡ story_length (source_of old) story
   pub kept : (fib_fields new.wd).kept ≡ (fib_fields old.wd).kept
   pub pairs : (part : TablePart) → fib_pair new.wd (pair_of part) ≡ fib_pair old.wd (pair_of part)
-  pub table : new.table ≡ old.table
+  pub parts : (part : TablePart) → IsOther part → part_bytes (source_of new) part ≡ part_bytes (source_of old) part
+  pub sheet : (sheet : Sheet) → HasSheet (source_of new) sheet → HasSheet (source_of old) sheet
+  pub levels : (bytes : List ℕ) → HasLevels (source_of new) bytes → HasLevels (source_of old) bytes
   pub places : KeepsPlaces old.pieces new.pieces (text_count (source_of new))
-  pub low : StandsBehind new.pieces (form_size Early)
+  pub units : KeepsUnits old new (text_count (source_of new))
+  pub lists : (kind : PageKind) → KeepsLists kind old new
+  pub sections : KeepsSections old new

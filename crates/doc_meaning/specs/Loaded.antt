@@ -1,26 +1,39 @@
--- A text that is loaded in place of the one that the streams name: with a FIB of the early form in front, and with the
--- front of its pieces.
-use Rattle.std.specs.Prelude.{◌≡◌}
+-- A text that is loaded in place of the one that the streams name: with a FIB of the early form in front, with the
+-- front of its pieces, and with the codes skipped that are not read, or with none skipped.
+use Rattle.std.specs.Prelude.{◌≡◌, ◌⊎◌, ℕ, List, drop}
 use Rattle.doc_bits.specs.Rules.{Hold}
 use Rattle.cfb_streams.specs.Contents.{Contents}
 use Rattle.fib_form.specs.Fib.{form_size}
 use Rattle.fib_form.specs.FibFields.{fib_fields}
 use Rattle.fib_form.specs.declared.form.Form.TheVariants.{Early}
-use Rattle.fib_versions.specs.Early.{early_pairs, early_fields, early_wd}
+use Rattle.fib_versions.specs.Early.{early_pairs, early_fields}
+use Rattle.page_copies.specs.Pages.{SkipsPages}
 use Rattle.plain_doc.specs.declared.document.Document.{Document}
 use Rattle.doc_load.specs.FormatRules.{text_count}
 use Rattle.doc_load.specs.PartRules.{PartLists, HasPartLists, part_rules}
 use Rattle.doc_load.specs.FileRules.{FileText, HasText, source_of}
 use Rattle.doc_read.specs.Holds.{IsDocumentFrom}
 use Rattle.doc_meaning.specs.Meaning.{MeansFrom}
-use Rattle.doc_meaning.specs.Lifted.{KeepsPlaces, StandsBehind}
+use Rattle.doc_meaning.specs.Skipped.{bins_of, sections_of, SkipsFirst, KeepsSepxs}
+use Rattle.doc_meaning.specs.Lifted.{KeepsPlaces, KeepsUnits}
+
+-- a stream with skipped pages, or as it is
+abbrev pub KeepsPages : FileText → List ℕ → Type 0
+KeepsPages old pages = SkipsPages (bins_of old.wd old.table) old.wd pages ⊎ (pages ≡ old.wd)
+
+-- a table stream with a skipped style sheet, or as it is
+abbrev pub KeepsTable : FileText → List ℕ → Type 0
+KeepsTable old table = SkipsFirst (early_pairs old.wd) old.table table ⊎ (table ≡ old.table)
 
 pub record IsLoadedFor (old new : FileText) : Type 0 where
-  pub wd : new.wd ≡ early_wd old.wd (early_pairs old.wd)
+  pub pages : List ℕ
+  pub kept_pages : KeepsPages old pages
+  pub behind : drop (form_size Early) new.wd ≡ drop (form_size Early) pages
   pub fields : fib_fields new.wd ≡ early_fields old.wd (early_pairs old.wd)
-  pub table : new.table ≡ old.table
+  pub table : KeepsTable old new.table
   pub places : KeepsPlaces old.pieces new.pieces (text_count (source_of new))
-  pub low : StandsBehind new.pieces (form_size Early)
+  pub units : KeepsUnits old new (text_count (source_of new))
+  pub sepxs : KeepsSepxs (sections_of old.wd old.table) old.wd new.wd
 
 -- where the rules on the parts hold of it, the document of it is what the streams mean
 abbrev pub LoadedIsMeant : Type 0

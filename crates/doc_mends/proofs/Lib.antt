@@ -1,1 +1,9 @@
 pub mod MendLemmas
+pub mod BaseLemmas
+pub mod TextLemmas
+pub mod NormalLemmas
+pub mod EndLemmas
+pub mod NothingLemmas
+pub mod OneLemmas
+pub mod SoundLemmas
+pub mod BookmarkLemmas

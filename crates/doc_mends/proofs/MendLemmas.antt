@@ -1,20 +1,19 @@
 -- Ranges that are judged and struck.
 use Rattle.std.proofs.Common.{◌≡◌, ◌≢◌, inl, inr, ℕ, ◌+◌, ◌-◌, ◌<◌, ◌≤◌, Bool, true, false, List, [], ◌∷◌, ◌++◌, length}
 use Rattle.std.proofs.Common.{map, filter, Option, Some, None, slice_get, slice_set, slice_range, refl, sym, ap, ◌∙◌}
-use Rattle.std.proofs.Common.{subst, arith, length-set, drop, take, zero, suc, get_or}
-use Rattle.std.specs.Prelude.{not, option_map, All, MatchOption, ⊤, if◌then◌else◌}
-use Rattle.std.specs.List.{splice, list_all}
+use Rattle.std.proofs.Common.{subst, arith, length-set, drop, zero, suc, get_or}
+use Rattle.std.specs.Prelude.{not, option_map, MatchOption, if◌then◌else◌}
+use Rattle.std.specs.List.{list_all}
 use Rattle.std.specs.FinMap.{empty}
 use Rattle.std.proofs.lemmas.List.{get_or-take, get_or-drop}
 use Rattle.std.proofs.lemmas.List.Folds.{list_all_at}
 use Rattle.std.proofs.lemmas.Bool.{cases_lt, cases_eq}
-use Rattle.std.proofs.lemmas.List.{length-map, map-append, get_or-set_same, get_or-set_other, append-nil}
+use Rattle.std.proofs.lemmas.List.{length-map, map-append, get_or-set_same, get_or-set_other}
 use Rattle.std.proofs.lemmas.List.Edits.{length-between}
 use Rattle.std.proofs.lemmas.List.Elements.{All-head, All-tail, All-nil, All-cons, All-filter, filter-append}
 use Rattle.std.proofs.lemmas.Option.{slice_get-get_or, slice_get_past, slice_get_within, get_or_from_slice_get}
 use Rattle.doc_bits.specs.declared.places.Story.{Story}
 use Rattle.doc_bits.specs.declared.places.Story.TheVariants.{Main, Note, Head}
-use Rattle.prop_map.specs.declared.modifiers.Modifier.{Modifier}
 use Rattle.prop_map.specs.Modifiers.{IsFormedModifier}
 use Rattle.prop_map.specs.Settings.{Settings}
 use Rattle.prop_map.specs.Formed.{IsMapEntry, character_groups, paragraph_groups}
@@ -29,10 +28,9 @@ use Rattle.edit_changes.specs.Changes.{map_range, changed_at, put_changed, modif
 use Rattle.edit_changes.specs.Places.{text_at, HasText, HasRange}
 use Rattle.edit_changes.specs.Makes.{CanMakeAll}
 use Rattle.doc_mends.specs.declared.mends.DeletedRange.{DeletedRange}
-use Rattle.doc_mends.specs.declared.mends.Mend.{Mend}
 use Rattle.doc_mends.specs.declared.mends.Mend.TheVariants.{StrikeDeleted}
 use Rattle.doc_mends.specs.declared.judging.Judged.{Judged}
-use Rattle.doc_mends.specs.Mends.{striking, change_of, is_short, can_strike, strikes, kept_ranges, AreRanges}
+use Rattle.doc_mends.specs.Mends.{striking, strike_of, is_short, can_strike, strikes, kept_ranges, AreRanges}
 use Rattle.doc_mends.specs.Judging.{IsJudged, AddsRange}
 
 -- ---- texts keep their lengths
@@ -115,14 +113,14 @@ range_kept (Some old) (Some new) from to same there =
 -- ranges stay ranges when one of them is struck
 pub ranges_stay : (document : Document) (range : DeletedRange) (ranges : List DeletedRange) →
     HasText document range.story (HasRange range.from range.to) → AreRanges document ranges →
-    AreRanges (changed (change_of (StrikeDeleted range)) document) ranges
+    AreRanges (changed (strike_of range) document) ranges
 ranges_stay document range [] there are = All-nil
-    (λ (r : DeletedRange). HasText (changed (change_of (StrikeDeleted range)) document) r.story (HasRange r.from r.to))
+    (λ (r : DeletedRange). HasText (changed (strike_of range) document) r.story (HasRange r.from r.to))
 ranges_stay document range (other ∷ ranges) there are =
-    All-cons (λ (r : DeletedRange). HasText (changed (change_of (StrikeDeleted range)) document) r.story (HasRange
+    All-cons (λ (r : DeletedRange). HasText (changed (strike_of range) document) r.story (HasRange
     r.from r.to)) other ranges
     (range_kept (text_at document other.story)
-    (text_at (changed (change_of (StrikeDeleted range)) document) other.story) other.from other.to
+    (text_at (changed (strike_of range) document) other.story) other.from other.to
     (texts_kept document range.story other.story range.from range.to (modified_item striking) there)
     (All-head (λ (r : DeletedRange). HasText document r.story (HasRange r.from r.to)) other ranges are))
     (ranges_stay document range ranges there (All-tail (λ (r : DeletedRange). HasText document r.story (HasRange r.from
@@ -131,7 +129,7 @@ ranges_stay document range (other ∷ ranges) there are =
 -- ---- the changes can be made
 
 abbrev pub strike_all : List DeletedRange → List Change
-strike_all ranges = map change_of (map StrikeDeleted ranges)
+strike_all ranges = map strike_of ranges
 
 pub can_make : (ranges : List DeletedRange) (document : Document) → IsFormedModifier striking →
     AreRanges document ranges → CanMakeAll (strike_all ranges) document
@@ -140,7 +138,7 @@ can_make (range ∷ ranges) document formed are =
     let here = All-head (λ (r : DeletedRange). HasText document r.story (HasRange r.from r.to)) range ranges are in
     let rest = All-tail (λ (r : DeletedRange). HasText document r.story (HasRange r.from r.to)) range ranges are in (
       (here, formed),
-      can_make ranges (changed (change_of (StrikeDeleted range)) document) formed
+      can_make ranges (changed (strike_of range) document) formed
           (ranges_stay document range ranges here rest),
     )
 
@@ -155,7 +153,7 @@ filtered p document ranges are =
 pub judged_none : (document : Document) (judged : Judged) → judged.mends.items ≡ [] → judged.changes ≡ [] →
     judged.kept.items ≡ [] → IsJudged document [] judged
 judged_none document judged a b c =
-    record { mends = a; changes = b ∙ ap (map change_of) (sym a); kept = c }
+    record { mends = a; changes = b; kept = c }
 
 one_struck : (struck : Bool) (range : DeletedRange) (p : DeletedRange → Bool) → p range ≡ struck →
     map StrikeDeleted (filter p (range ∷ [])) ≡ (if struck then StrikeDeleted range ∷ [] else [])
@@ -167,11 +165,10 @@ one_kept : (struck : Bool) (range : DeletedRange) (p : DeletedRange → Bool) �
 one_kept true range p is = rw is refl
 one_kept false range p is = rw is refl
 
-mapped_one : (struck : Bool) (range : DeletedRange) →
-    map change_of (if struck then StrikeDeleted range ∷ [] else []) ≡ (if struck then change_of
-    (StrikeDeleted range) ∷ [] else [])
-mapped_one true range = refl
-mapped_one false range = refl
+one_change : (struck : Bool) (range : DeletedRange) (p : DeletedRange → Bool) → p range ≡ struck →
+    map strike_of (filter p (range ∷ [])) ≡ (if struck then strike_of range ∷ [] else [])
+one_change true range p is = rw is refl
+one_change false range p is = rw is refl
 
 pub judged_more : (document : Document) (ranges : List DeletedRange) (range : DeletedRange) (struck : Bool)
     (old new : Judged) → IsJudged document ranges old → struck ≡ can_strike document range →
@@ -185,10 +182,10 @@ judged_more document ranges range struck old new was is adds =
           ∙ (ap (λ l. strikes document ranges ++ l) (sym (one_struck struck range p (sym is)))
           ∙ (sym (map-append StrikeDeleted (filter p ranges) (filter p (range ∷ [])))
           ∙ ap (map StrikeDeleted) (sym mends))));
-      changes = adds.changes ∙ (ap (λ l. l ++ (if struck then change_of (StrikeDeleted range) ∷ [] else [])) was.changes
-          ∙ (ap (λ l. map change_of old.mends.items ++ l) (sym (mapped_one struck range))
-          ∙ (sym (map-append change_of old.mends.items (if struck then StrikeDeleted range ∷ [] else []))
-          ∙ ap (map change_of) (sym adds.mends))));
+      changes = adds.changes ∙ (ap (λ l. l ++ (if struck then strike_of range ∷ [] else [])) was.changes
+          ∙ (ap (λ l. map strike_of (filter p ranges) ++ l) (sym (one_change struck range p (sym is)))
+          ∙ (sym (map-append strike_of (filter p ranges) (filter p (range ∷ [])))
+          ∙ ap (map strike_of) (sym mends))));
       kept = adds.kept ∙ (ap (λ l. l ++ (if struck then [] else range ∷ [])) was.kept
           ∙ (ap (λ l. kept_ranges document ranges ++ l) (sym (one_kept struck range p (sym is))) ∙ sym kept));
     }
@@ -269,6 +266,6 @@ striking_formed = record {
 pub judged_makes : (document : Document) (ranges : List DeletedRange) (judged : Judged) →
     IsJudged document ranges judged → AreRanges document ranges → CanMakeAll judged.changes document
 judged_makes document ranges judged is are =
-    subst (λ changes. CanMakeAll changes document) (sym (is.changes ∙ ap (map change_of) is.mends))
+    subst (λ changes. CanMakeAll changes document) (sym is.changes)
     (can_make (filter (can_strike document) ranges) document striking_formed
     (filtered (can_strike document) document ranges are))

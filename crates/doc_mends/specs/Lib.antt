@@ -1,2 +1,10 @@
 pub mod Mends
 pub mod Judging
+pub mod Kept
+pub mod Sides
+pub mod Bases
+pub mod NormalMarks
+pub mod Besides
+pub mod Ends
+pub mod Lines
+pub mod Mending

@@ -1,12 +1,11 @@
 -- A document changed by named mends. Each mend is a value, and a function of documents.
-use Rattle.std.specs.Prelude.{ℕ, ◌+◌, Bool, not, List, [], ◌∷◌, length, map, filter, nat_le, slice_range, All}
+use Rattle.std.specs.Prelude.{Bool, not, List, [], ◌∷◌, length, map, filter, nat_le, slice_range, All}
 use Rattle.std.specs.List.{list_all}
 use Rattle.std.specs.FinMap.{empty, insert}
 use Rattle.prop_map.specs.declared.modifiers.Modifier.{Modifier}
 use Rattle.prop_map.specs.Settings.{Settings}
 use Rattle.prop_map.specs.Overlay.{modified_characters}
 use Rattle.prop_map.specs.Printing.{printed_list}
-use Rattle.plain_doc.specs.declared.item.Item.{Item}
 use Rattle.plain_doc.specs.declared.document.Document.{Document}
 use Rattle.edit_changes.specs.declared.changes.Change.{Change}
 use Rattle.edit_changes.specs.declared.changes.Change.TheVariants.{ModifyItems}
@@ -24,13 +23,13 @@ strike = insert empty 0x0837 (1 ∷ [])
 abbrev pub striking : Modifier
 striking = setting_characters strike
 
--- what a mend changes
-abbrev pub change_of : Mend → Change
-change_of (StrikeDeleted range) = ModifyItems range.story range.from range.to striking
+-- what striking a range changes
+abbrev pub strike_of : DeletedRange → Change
+strike_of range = ModifyItems range.story range.from range.to striking
 
--- the document after mends, one after another
-abbrev pub all_mended : List Mend → Document → Document
-all_mended mends document = all_changed (map change_of mends) document
+-- the document with ranges struck, one after another
+abbrev pub all_struck : List DeletedRange → Document → Document
+all_struck ranges document = all_changed (map strike_of ranges) document
 
 -- the settings of a character fit a page once it is struck
 abbrev pub is_short : Settings → Bool
@@ -46,8 +45,11 @@ abbrev pub can_strike : Document → DeletedRange → Bool
 can_strike document range = list_all is_short (range_chps document range)
 
 -- the ranges that are struck, each a mend, and those that stay as they are
+abbrev pub struck_ranges : Document → List DeletedRange → List DeletedRange
+struck_ranges document ranges = filter (can_strike document) ranges
+
 abbrev pub strikes : Document → List DeletedRange → List Mend
-strikes document ranges = map StrikeDeleted (filter (can_strike document) ranges)
+strikes document ranges = map StrikeDeleted (struck_ranges document ranges)
 
 abbrev pub kept_ranges : Document → List DeletedRange → List DeletedRange
 kept_ranges document ranges = filter (λ range. not (can_strike document range)) ranges

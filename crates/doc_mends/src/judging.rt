@@ -6,8 +6,7 @@ ghost use Rattle.prop_map.specs.Modifiers.{IsFormedModifier};
 ghost use Rattle.prop_map.specs.Formed.{IsPropertyMap, character_groups};
 ghost use Rattle.edit_changes.specs.Places.{HasText, HasRange};
 ghost use Rattle.doc_mends.specs.Mends.{strike as settings_of_strike, striking as modifier_of_strike, is_short};
-ghost use Rattle.doc_mends.specs.declared.mends.Mend.TheVariants.{StrikeDeleted};
-ghost use Rattle.doc_mends.specs.Mends.{can_strike, change_of, AreRanges};
+ghost use Rattle.doc_mends.specs.Mends.{can_strike, strike_of, AreRanges};
 ghost use Rattle.doc_mends.specs.Judging.{IsJudged, AddsRange};
 
 use crate::mends::{DeletedRange, Mend};
@@ -131,7 +130,7 @@ fn can_be_struck(
 /// The change that strikes a range.
 fn strike_change(alloc: Global, range: DeletedRange) -> Result<Change, Memory>
     ensures { IfOk result (λ change.
-        change ≡ change_of (StrikeDeleted range)) }
+        change ≡ strike_of range) }
 {
     let modifier = striking(alloc)?;
     Ok(Change::ModifyItems(range.story, range.from, range.to, modifier))

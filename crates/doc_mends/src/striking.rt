@@ -1,6 +1,6 @@
 // Text that a reviser deleted, struck through.
 ghost use Rattle.std.specs.Prelude.{◌≡◌, IfOk};
-ghost use Rattle.doc_mends.specs.Mends.{all_mended, strikes, kept_ranges, AreRanges};
+ghost use Rattle.doc_mends.specs.Mends.{all_struck, struck_ranges, strikes, kept_ranges, AreRanges};
 
 use crate::judging::judge;
 use crate::mends::{DeletedRange, Mended};
@@ -17,7 +17,8 @@ pub fn strike_deleted(
     ranges: &[DeletedRange],
 ) -> Result<Mended, Memory>
     requires { AreRanges document ranges.now }
-    ensures document { IfOk result (λ mended. mended.document ≡ all_mended mended.mends.items document) }
+    ensures document { IfOk result
+        (λ mended. mended.document ≡ all_struck (struck_ranges document ranges.now) document) }
     ensures mends { IfOk result (λ mended. mended.mends.items ≡ strikes document ranges.now) }
     ensures kept { IfOk result (λ mended. mended.kept.items ≡ kept_ranges document ranges.now) }
 {

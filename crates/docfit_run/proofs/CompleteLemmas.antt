@@ -8,16 +8,16 @@ use Rattle.doc_bits.proofs.RuleLemmas.{hold_or_first}
 use Rattle.doc_outer.specs.Held.{Files}
 use Rattle.full_save.specs.Layout.{FitsCompoundFile}
 use Rattle.plain_doc.specs.declared.document.Document.{Document}
-use Rattle.doc_meaning.specs.Meaning.{MeansDocument}
+use Rattle.doc_mends.specs.declared.mends.Mend.{Mend}
 use Rattle.run_stages.specs.Outcomes.{Outcome}
 use Rattle.run_stages.specs.Stages.{longest_file, BreaksLengthRule}
 use Rattle.run_stages.proofs.SaidLemmas.{Says, settled}
+use Rattle.doc_fit.specs.Rules.{HasMended, fit_rules}
+use Rattle.doc_fit.proofs.MeaningLemmas.{fit_single}
 use Rattle.docfit_run.specs.Requests.{fit, requested}
-use Rattle.docfit_run.specs.Rules.{fit_rules}
 use Rattle.docfit_run.specs.Fitted.{IsSaved, JudgesFit}
 use Rattle.docfit_run.specs.Endings.{Ends, IsEnding}
 use Rattle.docfit_run.specs.Completeness.{CanFit}
-use Rattle.docfit_run.proofs.MeaningLemmas.{fit_single}
 use Rattle.docfit_run.proofs.OneLemmas.{JudgesBytes, read_bytes}
 
 -- a file that breaks none of the rules is not too long
@@ -25,18 +25,18 @@ not_long : (file : List ℕ) → Hold (fit_rules file) → longest_file < length
 not_long file hold long =
     hold.0.0.0.0 (File, 7143937) (refl, record { here = omega (arith, long); wrong = inr (inr long) })
 
-saved_done : (out : List ℕ) (document : Document) (lines : List (List ℕ)) (outcome : Outcome) →
-    FitsCompoundFile document → IsSaved out document lines outcome → outcome.status ≡ 0
-saved_done out document lines outcome fits (inl put) = ap (λ (o : Outcome). o.status) put.ends
-saved_done out document lines outcome fits (inr many) = let over = many.over in absurd (omega (arith, fits, over))
+saved_done : (out : List ℕ) (document : Document) (lines : List (List ℕ)) (mends : List Mend) (outcome : Outcome) →
+    FitsCompoundFile document → IsSaved out document lines mends outcome → outcome.status ≡ 0
+saved_done out document lines mends outcome fits (inl put) = ap (λ (o : Outcome). o.status) put.ends
+saved_done out document lines mends outcome fits (inr many) = let over = many.over in absurd (omega (arith, fits, over))
 
 judged_done : (name out file : List ℕ) (outcome : Outcome) → AreBytes file → Hold (fit_rules file) →
-    ((document : Document) → MeansDocument file document → FitsCompoundFile document) →
+    ((document : Document) → HasMended file document → FitsCompoundFile document) →
     JudgesFit name out file outcome → outcome.status ≡ 0
 judged_done name out file outcome bytes hold fits (inl refused) =
     absurd (hold_or_first Upto (fit_rules file) refused.rule refused.place (fit_single file bytes) hold refused.first)
 judged_done name out file outcome bytes hold fits (inr (holds, fitted)) =
-    saved_done out fitted.document _ outcome (fits fitted.document fitted.means) fitted.saved
+    saved_done out fitted.document _ _ outcome (fits fitted.document fitted.mended) fitted.saved
 
 said_done : (name out : List ℕ) (files : Files) (outcome : Outcome) → (can : CanFit files name) →
     Says name (BreaksLengthRule name) (JudgesBytes name out) (Some can.bytes) outcome → outcome.status ≡ 0

@@ -6,8 +6,13 @@ use Rattle.full_save.specs.Layout.{full_save_image}
 use Rattle.fast_save.specs.Laws.{IsSavable, IsHeldInFull}
 use Rattle.fast_save.proofs.FullFileLemmas.{full_saves_hold}
 use Rattle.doc_bits.specs.Rules.{Hold}
-use Rattle.doc_read.specs.Holds.{HoldsDocument, all_rules}
-use Rattle.doc_meaning.proofs.MeaningLemmas.{meant_is_held}
+use Rattle.plain_doc.specs.Sound.{IsSound, document_rules}
+use Rattle.doc_read.specs.Holds.{HoldsDocument, IsAccepted, all_rules}
+use Rattle.doc_read.proofs.FormedBookmarks.{held_formed}
+use Rattle.doc_meaning.proofs.MeaningLemmas.{held_is_meant, meant_is_held}
+use Rattle.doc_mends.specs.declared.mends.Mend.{Mend}
+use Rattle.doc_mends.specs.Mending.{IsMended}
+use Rattle.doc_mends.proofs.SoundLemmas.{no_mends}
 use Rattle.run_stages.specs.Outcomes.{Outcome, PutFile}
 use Rattle.docfit_run.specs.Fitted.{IsSaved}
 use Rattle.docfit_run.specs.Laws.{FitsAreHeld, FitsSaveAccepted, FitsAreFixed}
@@ -17,41 +22,58 @@ record IsFullPut (document : Document) (put : PutFile) : Type 0 where
   savable : IsSavable document
   bytes : put.bytes ≡ full_save_image document
 
-full_put : (out : List ℕ) (document : Document) (lines : List (List ℕ)) (outcome : Outcome) (put : PutFile) →
-    IsSaved out document lines outcome → outcome.put ≡ Some put → IsFullPut document put
-full_put out document lines outcome put (inl is) here = record {
+full_put : (out : List ℕ) (document : Document) (lines : List (List ℕ)) (mends : List Mend) (outcome : Outcome)
+    (put : PutFile) → IsSaved out document lines mends outcome → outcome.put ≡ Some put → IsFullPut document put
+full_put out document lines mends outcome put (inl is) here = record {
   savable = is.savable;
   bytes =
       ap (λ (f : PutFile). f.bytes)
       (same_Some put (record { name = out; bytes = full_save_image document })
       (sym here ∙ ap (λ (o : Outcome). o.put) is.ends));
 }
-full_put out document lines outcome put (inr many) here =
+full_put out document lines mends outcome put (inr many) here =
     absurd (none-some put (sym (ap (λ (o : Outcome). o.put) many.ends) ∙ here))
+
+-- the document that an accepted file holds is sound
+sound_held : (file : List ℕ) (document : Document) → IsAccepted file → HoldsDocument file document → IsSound document
+sound_held file document accepted holds =
+    let other = accepted.1.0 in
+    let same : other ≡ document =
+    meant_is_held file other document accepted.1.1.0 (held_is_meant file document holds) in
+    record {
+      rules = subst (λ (d : Document). Hold (document_rules d)) same accepted.1.1.1;
+      bookmarks = held_formed file document holds;
+    }
 
 pub fits_are_held : FitsAreHeld
 fits_are_held out file outcome put fitted here =
     let document = fitted.document in
-    let full = full_put out document _ outcome put fitted.saved here in
+    let full = full_put out document _ _ outcome put fitted.saved here in
     let held : IsHeldInFull document = full_saves_hold document full.savable in
     record {
       document = document;
-      means = fitted.means;
+      mended = fitted.mended;
       accepted = subst (λ bytes. Hold (all_rules bytes)) (sym full.bytes) held.accepted;
       holds = subst (λ bytes. HoldsDocument bytes document) (sym full.bytes) held.holds;
     }
 
 pub fits_save_accepted : FitsSaveAccepted
-fits_save_accepted out file outcome document put holds fitted here =
-    let full = full_put out fitted.document _ outcome put fitted.saved here in
-    let same : document ≡ fitted.document = meant_is_held file document fitted.document holds fitted.means in
-    full.bytes ∙ ap full_save_image (sym same)
+fits_save_accepted out file outcome document put accepted holds fitted here =
+    let full = full_put out fitted.document _ _ outcome put fitted.saved here in
+    let mended = fitted.mended in
+    let meant : document ≡ mended.meant = meant_is_held file document mended.meant holds mended.means in
+    let same : fitted.document ≡ document =
+    (no_mends document fitted.document mended.mends (sound_held file document accepted holds)
+    (subst (λ (d : Document). IsMended d fitted.document mended.mends) (sym meant) mended.mended_is)).0 in
+    full.bytes ∙ ap full_save_image same
 
 pub fits_are_fixed : FitsAreFixed
 fits_are_fixed out file outcome put other again put_again fitted here fitted_again here_again =
     let document = fitted.document in
-    let full = full_put out document _ outcome put fitted.saved here in
+    let full = full_put out document _ _ outcome put fitted.saved here in
     let held : IsHeldInFull document = full_saves_hold document full.savable in
     let holds : HoldsDocument put.bytes document =
     subst (λ bytes. HoldsDocument bytes document) (sym full.bytes) held.holds in
-    fits_save_accepted other put.bytes again document put_again holds fitted_again here_again ∙ sym full.bytes
+    let accepted : IsAccepted put.bytes = subst (λ bytes. Hold (all_rules bytes)) (sym full.bytes) held.accepted in
+    fits_save_accepted other put.bytes again document put_again accepted holds fitted_again here_again
+    ∙ sym full.bytes

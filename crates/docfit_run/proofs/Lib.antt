@@ -1,5 +1,3 @@
-pub mod MeaningLemmas
-pub mod RefusalLemmas
 pub mod FitLemmas
 pub mod PutLemmas
 pub mod LawLemmas

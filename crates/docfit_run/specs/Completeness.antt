@@ -4,12 +4,11 @@ use Rattle.doc_bits.specs.Rules.{Hold}
 use Rattle.doc_outer.specs.Held.{Files, file_at}
 use Rattle.plain_doc.specs.declared.document.Document.{Document}
 use Rattle.full_save.specs.Layout.{FitsCompoundFile}
-use Rattle.doc_meaning.specs.Meaning.{MeansDocument}
-use Rattle.docfit_run.specs.Rules.{fit_rules}
+use Rattle.doc_fit.specs.Rules.{HasMended, fit_rules}
 
--- the name holds a file that breaks none of the rules that are left, and its document fits a file
+-- the name holds a file that breaks none of the rules that are left, and its mended document fits a file
 pub record CanFit (files : Files) (name : List ℕ) : Type 0 where
   pub bytes : List ℕ
   pub there : file_at files name ≡ Some bytes
   pub hold : Hold (fit_rules bytes)
-  pub fits : (document : Document) → MeansDocument bytes document → FitsCompoundFile document
+  pub fits : (document : Document) → HasMended bytes document → FitsCompoundFile document

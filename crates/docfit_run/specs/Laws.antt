@@ -4,16 +4,16 @@ use Rattle.doc_bits.specs.Rules.{Hold}
 use Rattle.doc_outer.specs.Held.{Files}
 use Rattle.plain_doc.specs.declared.document.Document.{Document}
 use Rattle.full_save.specs.Layout.{full_save_image}
-use Rattle.doc_read.specs.Holds.{HoldsDocument, all_rules}
-use Rattle.doc_meaning.specs.Meaning.{MeansDocument}
+use Rattle.doc_read.specs.Holds.{HoldsDocument, IsAccepted, all_rules}
 use Rattle.run_stages.specs.Outcomes.{Outcome, PutFile}
+use Rattle.doc_fit.specs.Rules.{HasMended}
 use Rattle.docfit_run.specs.Fitted.{IsFitted}
 use Rattle.docfit_run.specs.Endings.{IsEnding}
 
--- the bytes are accepted, and hold the document that the file means
+-- the bytes are accepted, and hold the mended document of what the file means
 pub record IsHeldFit (file bytes : List ℕ) : Type 0 where
   pub document : Document
-  pub means : MeansDocument file document
+  pub mended : HasMended file document
   pub accepted : Hold (all_rules bytes)
   pub holds : HoldsDocument bytes document
 
@@ -27,10 +27,10 @@ abbrev pub FitIsOne : Type 0
 FitIsOne = (words : List (List ℕ)) (files : Files) (one other : Outcome) → IsEnding words (Some files) one →
     IsEnding words (Some files) other → one.status ≢ 4 → other.status ≢ 4 → one ≡ other
 
--- where a file holds a document, its fit is the full save of this document
+-- where a file is accepted, its fit is the full save of the document that it holds
 abbrev pub FitsSaveAccepted : Type 0
 FitsSaveAccepted = (out file : List ℕ) (outcome : Outcome) (document : Document) (put : PutFile) →
-    HoldsDocument file document → IsFitted out file outcome → outcome.put ≡ Some put →
+    IsAccepted file → HoldsDocument file document → IsFitted out file outcome → outcome.put ≡ Some put →
     put.bytes ≡ full_save_image document
 
 -- the fit of a fit is the same bytes

@@ -1,7 +1,5 @@
 pub mod Requests
 pub mod Lines
-pub mod Rules
-pub mod Refusals
 pub mod Fitted
 pub mod Endings
 pub mod Completeness

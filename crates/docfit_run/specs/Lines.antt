@@ -1,7 +1,6 @@
 -- The lines that docfit prints, beside those of what is left out.
 use Rattle.std.specs.Prelude.{ℕ, List, ◌++◌, codes}
 use Rattle.std.specs.Fmt.{decimal}
-use Rattle.text_codes.specs.Digits.{word_text}
 use Rattle.text_codes.specs.Shown.{line}
 
 -- the bytes that are put, and how many features are left out and mended
@@ -15,13 +14,3 @@ fit_line bytes left_out mended =
 -- the document needs more sectors than a file has
 abbrev pub needs_line : ℕ → List ℕ
 needs_line sectors = line (codes "fit: needs " ++ (decimal sectors ++ codes " sectors"))
-
--- [MS-DOC] FibBase: wIdent and nFib of another program
-abbrev pub not_word_line : List ℕ → ℕ → ℕ → List ℕ
-not_word_line name ident version =
-    line
-    ((((name ++ codes ": not of Word 97 to 2007: wIdent ") ++ word_text ident) ++ codes " nFib ")
-    ++ word_text version)
-
-abbrev pub encrypted_line : List ℕ → List ℕ
-encrypted_line name = line (name ++ codes ": encrypted")

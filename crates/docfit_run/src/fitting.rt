@@ -1,30 +1,22 @@
-// A file of any program, as one that docbin accepts: its document is lifted, judged and saved, and what is left out
-// is named.
+// A file of any program, as one that docbin accepts: its document is opened and saved, and what is left out and what is
+// mended is named.
 ghost use Rattle.std.specs.Prelude.{◌≡◌, IfOk, length};
 ghost use Rattle.doc_bits.specs.Number.{AreBytes};
-ghost use Rattle.doc_lift.specs.LiftedFiles.{IsLifted};
 ghost use Rattle.plain_doc.specs.Sound.{IsSound};
-ghost use Rattle.full_save.specs.Layout.{full_save_image};
-ghost use Rattle.fast_save.specs.Laws.{IsSavable};
 ghost use Rattle.run_stages.specs.Leaves.{IsCaused, IsOnlyRead};
 ghost use Rattle.run_stages.specs.Outcomes.{puts, says};
 ghost use Rattle.run_stages.specs.Reading.{Follows};
 ghost use Rattle.docfit_run.specs.Lines.{needs_line as needs_of};
-ghost use Rattle.docfit_run.specs.Fitted.{FitsFile, JudgesFit, HasLiftedStreams, AreLossLines, Saves};
-ghost use Rattle.docfit_run.specs.Fitted.{SavesOrNot, fit_report};
+ghost use Rattle.docfit_run.specs.Fitted.{FitsFile, JudgesFit, IsSaved, fit_report};
 
 use crate::lines::{fit_line, needs_line};
-use crate::list_losses::{add_features, text_losses_of};
-use crate::refusing::refusal;
 use crate::status::STATUS_TOO_LARGE;
-use crate::streams::{fib_of, main_stream, table_stream};
 use doc_bits::{Bytes, Memory, Text};
 use doc_columns::columns_are_formed;
-use doc_lift::{Lifted, lift};
+use doc_fit::{OpenedAny, open_any, refusal};
+use doc_mends::push_mends;
 use doc_outer::Shelf;
-use doc_read::judge_document;
 use full_save::{SaveFault, full_by_columns};
-use loss_report::{LossLines, report};
 use run_stages::{Ending, FilePut, Stage, take_file};
 use std::alloc::Global;
 
@@ -58,10 +50,10 @@ fn fit_file(alloc: Global, name: &str, file: &[u8], out: &str) -> Result<Ending,
     ensures judges { IfOk result (λ e. JudgesFit name.now out.now file.now e) }
     ensures bytes { AreBytes file.now }
 {
-    match lift(alloc, file) {
-        Ok(lifted) => {
-            let ending = fit_lifted(alloc, name, file, &lifted, out);
-            let_go(lifted, ending)
+    match open_any(alloc, file) {
+        Ok(opened) => {
+            let ending = save(alloc, &opened, out);
+            let_go(opened, ending)
         }
         Err(fault) => refusal(alloc, name, file, fault),
     }
@@ -75,32 +67,16 @@ fn let_go<T: Drop, A>(value: T, answer: A) -> A
     answer
 }
 
-/// Fits what was lifted out of a file.
-fn fit_lifted(
-    alloc: Global,
-    name: &str,
-    file: &[u8],
-    lifted: &Lifted,
-    out: &str,
-) -> Result<Ending, Memory>
-    requires { IsLifted file.now lifted.now }
-    ensures { IfOk result (λ e. JudgesFit name.now out.now file.now e) }
+/// Saves the document that was opened, and names what is left out and what is mended.
+fn save(alloc: Global, opened: &OpenedAny, out: &str) -> Result<Ending, Memory>
+    requires { IsSound opened.now.lifted.document }
+    ensures { IfOk result (λ e.
+        IsSaved out.now opened.now.lifted.document opened.now.losses opened.now.mends.items e) }
 {
-    match judge_document(alloc, &lifted.document) {
-        Ok(()) => save(alloc, lifted, out),
-        Err(fault) => refusal(alloc, name, file, fault),
-    }
-}
-
-/// Saves the document that was lifted, and names what is left out.
-fn save(alloc: Global, lifted: &Lifted, out: &str) -> Result<Ending, Memory>
-    requires sound { IsSound lifted.now.document }
-    requires streams { HasLiftedStreams lifted.now }
-    ensures { IfOk result (λ e. SavesOrNot lifted.now out.now e) }
-{
-    columns_are_formed(&lifted.document);
-    match full_by_columns(alloc, &lifted.document) {
-        Ok(bytes) => put_under(alloc, lifted, bytes, out),
+    let document = &opened.lifted.document;
+    columns_are_formed(document);
+    match full_by_columns(alloc, document) {
+        Ok(bytes) => fitted(alloc, bytes, opened, out),
         Err(SaveFault::TooLarge { sectors }) => too_large(alloc, sectors),
         Err(SaveFault::Memory) => Err(Memory),
     }
@@ -114,38 +90,17 @@ fn too_large(alloc: Global, sectors: u64) -> Result<Ending, Memory>
     Ok(Ending::new(STATUS_TOO_LARGE, text))
 }
 
-/// The ending that puts the bytes, and prints what is left out.
-fn put_under(alloc: Global, lifted: &Lifted, bytes: Bytes, out: &str) -> Result<Ending, Memory>
-    requires image { bytes ≡ full_save_image lifted.now.document }
-    requires savable { IsSavable lifted.now.document }
-    requires streams { HasLiftedStreams lifted.now }
-    ensures { IfOk result (λ e. Saves lifted.now out.now e) }
+/// The ending that puts the bytes, and prints what is told of what was opened.
+fn fitted(alloc: Global, bytes: Bytes, opened: &OpenedAny, out: &str) -> Result<Ending, Memory>
+    ensures { IfOk result (λ e.
+        e ≡ puts (fit_report (length bytes) opened.now.losses opened.now.mends.items) out.now bytes) }
 {
-    let losses = losses_of(alloc, lifted)?;
-    fitted(alloc, bytes, losses, out)
-}
-
-/// The ending that puts the bytes, and prints these lines.
-fn fitted(alloc: Global, bytes: Bytes, losses: LossLines, out: &str) -> Result<Ending, Memory>
-    ensures { IfOk result (λ e. e ≡ puts (fit_report (length bytes) losses) out.now bytes) }
-{
-    let mut text = fit_line(alloc, bytes.as_slice().len(), losses.len(), 0)?;
+    let losses = &opened.losses;
+    let mends = &opened.mends;
+    let mut text = fit_line(alloc, bytes.as_slice().len(), losses.len(), mends.len())?;
     losses.put_behind(&mut text)?;
+    push_mends(alloc, &mut text, mends)?;
     let mut name = Text::new(alloc);
     name.push_all(out)?;
     Ok(Ending::with_file(text, FilePut { name, bytes }))
-}
-
-/// The lines of what is left out of a file.
-fn losses_of(alloc: Global, lifted: &Lifted) -> Result<LossLines, Memory>
-    requires { HasLiftedStreams lifted.now }
-    ensures { IfOk result (λ lines. AreLossLines lifted.now lines) }
-{
-    let wd = main_stream(&lifted.outer);
-    let fib = fib_of(wd);
-    let table = table_stream(&lifted.outer, &fib);
-    let mut lines = report(alloc, &lifted.outer, &fib, &lifted.units)?;
-    let texts = text_losses_of(alloc, wd, &fib, table)?;
-    add_features(alloc, &mut lines, &texts)?;
-    Ok(lines)
 }

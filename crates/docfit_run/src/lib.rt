@@ -3,13 +3,10 @@
 
 mod fitting;
 mod lines;
-mod list_losses;
-mod refusing;
 mod run;
 mod status;
-mod streams;
 mod words;
 
 pub use run::{PROGRAM, docfit_run, ending_of};
-pub use status::{STATUS_ENCRYPTED, STATUS_NOT_WORD, STATUS_TOO_LARGE};
+pub use status::STATUS_TOO_LARGE;
 pub use words::Asked;

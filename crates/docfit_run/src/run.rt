@@ -26,7 +26,7 @@ pub const PROGRAM: &str = "docfit";
 
 /// How the program is called.
 pub const HELP: &str =
-    "usage: docfit IN OUT\n\nReads IN, a document of Word 97 to 2007, and puts its document under OUT as a file that docbin accepts. Prints a line\nfor each stream, storage, part and story that is left out. OUT may be IN.\n  --help     this text\n  --version  the version\n";
+    "usage: docfit IN OUT\n\nReads IN, a document of Word 97 to 2007, and puts its document under OUT as a file that docbin accepts. Prints a line\nfor each stream, storage, part and story that is left out, and for each mend. OUT may be IN.\n  --help     this text\n  --version  the version\n";
 
 pub const VERSION: &str = "docfit 1.0.0\n";
 
@@ -62,13 +62,13 @@ pub fn docfit_run<S: Shelf, K: Sink, E: Sink>(
     ensures usage { result ≢ 5 → result ≢ 6
         → (result ≡ 2 ↔ requested (map string_bytes words.now) ≡ None) }
 
-    // What is put is accepted, and holds the document that the file means.
+    // What is put is accepted, and holds the mended document of what the file means.
     ensures held { FitsAreHeld }
 
     // Words and told files have one outcome, unless the shelf fails.
     ensures only { FitIsOne }
 
-    // Where a file holds a document, its fit is the full save of this document.
+    // Where a file is accepted, its fit is the full save of the document that it holds.
     ensures accepted { FitsSaveAccepted }
 
     // The fit of a fit is the same bytes.

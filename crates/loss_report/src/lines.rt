@@ -56,7 +56,8 @@ impl LossLines {
         Ok(())
     }
 
-    fn line(&self, i: usize) -> &str
+    /// A line by its place. It ends with a line feed.
+    pub fn line(&self, i: usize) -> &str
         requires { i < length self.now }
         ensures { slice_get self.now i ≡ Some result.now }
     {

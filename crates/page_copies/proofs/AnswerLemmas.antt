@@ -84,7 +84,7 @@ counted_same kind old new c h =
 none_skipped : SkipsRefused [] []
 none_skipped =
     let none = spells_end [] (inl (omega arith)) in
-    record { prls = []; spelt = none; skips = none }
+    record { prls = []; spelt = none; skips = none; rest = refl }
 
 -- the list of a run without properties stays
 bare_stays : (kind : PageKind) → SkipsList kind (bare_list kind) (bare_list kind)

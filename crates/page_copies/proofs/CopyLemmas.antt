@@ -6,10 +6,12 @@ use Rattle.std.proofs.lemmas.Bool.{cases_lt}
 use Rattle.std.proofs.lemmas.List.{drop-drop}
 use borrow.Rule.Slice.PartMut.{put_mid}
 use Rattle.doc_bits.proofs.ListLemmas.{length-range}
-use Rattle.sprm_table.specs.Sprm.{SpellsSprmList}
+use Rattle.std.specs.List.{flat_map}
+use Rattle.sprm_table.specs.Sprm.{spelling}
 use Rattle.sprm_table.proofs.SprmLemmas.{spelt_unique}
 use Rattle.prl_skips.specs.Skips.{skipped, SkipsRefused, SkipsOrStays, PutsSkipped}
 use Rattle.prl_skips.proofs.SkipLemmas.{skipped_again, accepted_skips}
+use Rattle.prl_skips.proofs.OneLemmas.{rest_one}
 use Rattle.fkp_pages.specs.declared.kind.PageKind.{PageKind}
 use Rattle.fkp_pages.specs.Fkp.{page_count, entry_place, entry_byte, least_list}
 use Rattle.page_copies.specs.declared.places.ListPlace.{ListPlace}
@@ -23,11 +25,18 @@ use Rattle.page_copies.proofs.PlaceLemmas.{place_stood, front_stays}
 -- what is skipped or stays, and then again, is skipped or stays
 skips_twice : (old now new : List ℕ) → SkipsRefused old now → SkipsRefused now new → SkipsRefused old new
 skips_twice old now new a b =
-    let same = spelt_unique now b.prls (map skipped a.prls) b.spelt a.skips in
+    let same : b.prls ≡ map skipped a.prls = spelt_unique now b.prls (map skipped a.prls) b.spelt a.skips in
+    let both : map skipped b.prls ≡ map skipped a.prls = ap (map skipped) same ∙ skipped_again a.prls in
     record {
       prls = a.prls;
       spelt = a.spelt;
-      skips = subst (SpellsSprmList new) (ap (map skipped) same ∙ skipped_again a.prls) b.skips;
+      skips = record {
+        rest = b.skips.rest;
+        entries = a.skips.entries;
+        spelt = b.skips.spelt ∙ ap (λ l. flat_map spelling l ++ b.skips.rest) both;
+        ends = b.skips.ends;
+      };
+      rest = b.rest ∙ (rest_one now b.prls (map skipped a.prls) b.spelt a.skips ∙ a.rest);
     }
 
 pub or_twice : (old now new : List ℕ) → SkipsOrStays old now → SkipsOrStays now new → SkipsOrStays old new
@@ -231,4 +240,5 @@ copied_all kind old now count size apart room all copied =
           let p : ListPlace = record { at = 2 * entry_byte kind old run; from = from; to = to } in
           let there : IsPlaceOf kind old run p = record { at = refl; list = is } in
           ((place_stays kind old now run p changes apart low there).list, copied.done run p (omega arith) there);
+      outside = changes.outside;
     }

@@ -1,6 +1,7 @@
 pub mod PlaceLemmas
 pub mod CopyLemmas
 pub mod AnswerLemmas
-pub mod TableLemmas
-pub mod CopyingLemmas
-pub mod RangeTableLemmas
+pub mod NameLemmas
+pub mod PageLemmas
+pub mod ListLemmas
+pub mod OneLemmas

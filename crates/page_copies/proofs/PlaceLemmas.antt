@@ -1,5 +1,5 @@
 -- Where lists stand in a page, and in one that differs in ranges of lists alone.
-use Rattle.std.proofs.Common.{◌≡◌, ◌⊎◌, inl, inr, ℕ, ◌+◌, ◌*◌, ◌<◌, ◌≤◌, ◌==◌, true, false, List, length}
+use Rattle.std.proofs.Common.{◌≡◌, inl, inr, ℕ, ◌+◌, ◌*◌, ◌<◌, ◌≤◌, ◌==◌, true, false, List, length}
 use Rattle.std.proofs.Common.{slice_index, refl, sym, ap, ◌∙◌, subst, arith}
 use Rattle.std.specs.Prelude.{if◌then◌else◌}
 use Rattle.fkp_pages.specs.declared.kind.PageKind.{PageKind}
@@ -7,7 +7,7 @@ use Rattle.fkp_pages.specs.declared.kind.PageKind.TheVariants.{Chpx, Papx}
 use Rattle.fkp_pages.specs.Fkp.{entry_size, page_count, entry_place, entry_byte, list_from, list_to, least_list}
 use Rattle.fkp_pages.specs.Fkp.{HasRunCount}
 use Rattle.page_copies.specs.declared.places.ListPlace.{ListPlace}
-use Rattle.page_copies.specs.Places.{IsPlaceOf, StandsClear, HasListsApart}
+use Rattle.page_copies.specs.Places.{IsPlaceOf, StandsClear, HasListsApart, IsInNoList}
 
 -- a list begins behind its head
 pub from_above : (page : List ℕ) (at : ℕ) → at < list_from Papx page at
@@ -89,29 +89,24 @@ in_order kind page run p is =
     let within = is.list.within.within in
     record { head = omega arith; order = omega arith; within = omega arith }
 
--- the place is in no list's range
-abbrev pub IsOutside : PageKind → List ℕ → ℕ → Type 0
-IsOutside kind page i = (run : ℕ) (p : ListPlace) → run < page_count page → IsPlaceOf kind page run p →
-    (i < p.from) ⊎ (p.to ≤ i)
-
 -- the page has other numbers in ranges of lists alone
 pub record ChangesLists (kind : PageKind) (old now : List ℕ) : Type 0 where
   pub size : length now ≡ length old
-  pub outside : (i : ℕ) → IsOutside kind old i → slice_index now i ≡ slice_index old i
+  pub outside : (i : ℕ) → IsInNoList kind old i → slice_index now i ≡ slice_index old i
 
 -- fcs and entries, the count, and the heads of lists are outside
 front_outside : (kind : PageKind) (old : List ℕ) (i : ℕ) → HasListsApart kind old →
-    i < entry_place kind old (page_count old) → IsOutside kind old i
+    i < entry_place kind old (page_count old) → IsInNoList kind old i
 front_outside kind old i apart low run p there is =
     let behind = (clear_of kind old run p apart there is).behind in
     let head = (in_order kind old run p is).head in
     inl (omega arith)
 
-count_outside : (kind : PageKind) (old : List ℕ) → IsOutside kind old 511
+count_outside : (kind : PageKind) (old : List ℕ) → IsInNoList kind old 511
 count_outside kind old run p there is = let within = (in_order kind old run p is).within in inr (omega arith)
 
 head_outside : (kind : PageKind) (old : List ℕ) (run : ℕ) (p : ListPlace) (i : ℕ) → HasListsApart kind old →
-    run < page_count old → IsPlaceOf kind old run p → p.at ≤ i → i < p.from → IsOutside kind old i
+    run < page_count old → IsPlaceOf kind old run p → p.at ≤ i → i < p.from → IsInNoList kind old i
 head_outside kind old run p i apart low is from to other q there at =
     let mine = in_order kind old run p is in
     let its = in_order kind old other q at in

@@ -1,5 +1,5 @@
 -- What a copy answers at a byte place, and what it means.
-use Rattle.std.specs.Prelude.{◌≡◌, ◌⊎◌, ◌↔◌, ℕ, ◌^◌, ◌<◌, ◌≤◌, List, length, take, drop}
+use Rattle.std.specs.Prelude.{◌≡◌, ◌⊎◌, ◌↔◌, ℕ, ◌≤◌, List, length, take, drop}
 use Rattle.prop_map.specs.declared.acting.Acted.{Acted}
 use Rattle.prop_map.specs.Settings.{Settings}
 use Rattle.prop_map.specs.Acting.{IsActedBy}
@@ -7,12 +7,10 @@ use Rattle.prl_skips.specs.Skips.{HoldsNoPictures}
 use Rattle.fkp_pages.specs.declared.kind.PageKind.{PageKind}
 use Rattle.fkp_pages.specs.declared.kind.RunAnswer.{RunAnswer}
 use Rattle.fkp_pages.specs.Fkp.{HasRunAnswer, least_list}
-use Rattle.fkp_pages.specs.Bin.{HasNoBin}
 use Rattle.fkp_pages.specs.Properties.{IsListAnswered, HasListAt}
-use Rattle.page_copies.specs.declared.copies.PageCopies.{PageCopies}
 use Rattle.page_copies.specs.Places.{HasListsApart}
 use Rattle.page_copies.specs.Copies.{SkipsList, IsCopyOf}
-use Rattle.page_copies.specs.Tables.{HasCopies}
+use Rattle.page_copies.specs.Pages.{BinTables, bin_of, SkipsPages}
 
 -- the page answers so at the place, and its list is the other one with the codes skipped that are not read
 pub record HasSkippedAnswer (kind : PageKind) (page : List ℕ) (fc : ℕ) (answer : RunAnswer) (list : List ℕ) : Type 0
@@ -56,12 +54,6 @@ pub record ActsTheSame (kind : PageKind) (old new : List ℕ) : Type 0 where
 abbrev pub ListCopiesActTheSame : Type 0
 ListCopiesActTheSame = (kind : PageKind) (old new : List ℕ) → IsListCopy kind old new → ActsTheSame kind old new
 
--- the copy of a list stands at the place
-pub record HasListCopyAt (kind : PageKind) (bin wd : List ℕ) (fc : ℕ) (list : List ℕ) : Type 0 where
-  pub made : List ℕ
-  pub has : HasListAt kind bin wd fc made
-  pub copy : IsListCopy kind list made
-
 -- a list whose copy is this one stands at the place, in a page that does not lie over the FIB
 pub record HasListBefore (kind : PageKind) (bin wd : List ℕ) (fc : ℕ) (made : List ℕ) : Type 0 where
   pub list : List ℕ
@@ -69,15 +61,13 @@ pub record HasListBefore (kind : PageKind) (bin wd : List ℕ) (fc : ℕ) (made 
   pub low : 2 ≤ has.number
   pub copy : IsListCopy kind list made
 
--- each place has the copy of its list, and no other list: those of pages that lie over the FIB are not copied
-pub record KeepsLists (kind : PageKind) (bin wd new_bin new_wd : List ℕ) : Type 0 where
-  pub lists : (fc : ℕ) (list : List ℕ) (has : HasListAt kind bin wd fc list) → 2 ≤ has.number →
-      HasListCopyAt kind new_bin new_wd fc list
-  pub only : (fc : ℕ) (made : List ℕ) → HasListAt kind new_bin new_wd fc made → HasListBefore kind bin wd fc made
-  pub none : (fc : ℕ) → HasNoBin bin fc ↔ HasNoBin new_bin fc
+-- where a stream with skipped pages has a list, the stream has the list that was skipped, or the same one
+abbrev pub SkippedPagesKeepLists : Type 0
+SkippedPagesKeepLists = (kind : PageKind) (bins : BinTables) (old new : List ℕ) (fc : ℕ) (made : List ℕ) →
+    SkipsPages bins old new → (has : HasListAt kind (bin_of kind bins) new fc made) → 2 ≤ has.number →
+    HasListBefore kind (bin_of kind bins) old fc made
 
--- whatever is put behind the copies
-abbrev pub CopiesKeepLists : Type 0
-CopiesKeepLists = (kind : PageKind) (bin wd : List ℕ) (copies : PageCopies) (old new all : List ℕ) →
-    HasCopies kind bin wd copies old new → take (length new) all ≡ new → length all < 2 ^ 31 →
-    KeepsLists kind bin wd copies.bin all
+-- the pages of a stream are skipped in one way
+abbrev pub PagesAreSkippedAlone : Type 0
+PagesAreSkippedAlone = (bins : BinTables) (old one other : List ℕ) → SkipsPages bins old one →
+    SkipsPages bins old other → one ≡ other

@@ -1,5 +1,5 @@
 pub mod Places
 pub mod Copies
-pub mod Tables
-pub mod Copying
+pub mod Names
+pub mod Pages
 pub mod Laws

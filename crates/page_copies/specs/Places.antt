@@ -38,3 +38,8 @@ IsApart kind page run = (entry_byte kind page run ≡ 0) ⊎ HasClearList kind p
 -- the lists of all runs do
 abbrev pub HasListsApart : PageKind → List ℕ → Type 0
 HasListsApart kind page = (run : ℕ) → run < page_count page → IsApart kind page run
+
+-- no list holds the byte
+abbrev pub IsInNoList : PageKind → List ℕ → ℕ → Type 0
+IsInNoList kind page i = (run : ℕ) (p : ListPlace) → run < page_count page → IsPlaceOf kind page run p →
+    (i < p.from) ⊎ (p.to ≤ i)

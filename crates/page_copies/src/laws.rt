@@ -1,5 +1,6 @@
 // Laws over the definitions alone.
-ghost use Rattle.page_copies.specs.Laws.{CopiesAnswer, CopiesAnswerAlone, ListCopiesActTheSame, CopiesKeepLists};
+ghost use Rattle.page_copies.specs.Laws.{CopiesAnswer, CopiesAnswerAlone, ListCopiesActTheSame};
+ghost use Rattle.page_copies.specs.Laws.{SkippedPagesKeepLists, PagesAreSkippedAlone};
 
 /// Where a page has a list, its copy has that list, skipped.
 pub fn copies_answer()
@@ -16,7 +17,12 @@ pub fn list_copies_act_the_same()
     ensures { ListCopiesActTheSame }
 {}
 
-/// By the table of the copies each place has the copy of its list, and no other list.
-pub fn copies_keep_lists()
-    ensures { CopiesKeepLists }
+/// Where a stream with skipped pages has a list, the stream has the list that was skipped, or the same one.
+pub fn skipped_pages_keep_lists()
+    ensures { SkippedPagesKeepLists }
+{}
+
+/// The pages of a stream are skipped in one way.
+pub fn pages_are_skipped_alone()
+    ensures { PagesAreSkippedAlone }
 {}

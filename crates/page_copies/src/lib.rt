@@ -1,13 +1,17 @@
 //! Formatted disk pages in whose lists the codes that are not read are skipped.
 #![tactic(auto)]
 
-mod copies;
-mod copying;
 mod laws;
+mod names;
+mod pages;
 mod places;
 mod skips;
 
-pub use copies::{CopiedPages, PageCopies, copy_pages};
-pub use laws::{copies_answer, copies_answer_alone, copies_keep_lists, list_copies_act_the_same};
+pub use laws::{
+    copies_answer, copies_answer_alone, list_copies_act_the_same, pages_are_skipped_alone,
+    skipped_pages_keep_lists,
+};
+pub use names::named_pages;
+pub use pages::skip_pages;
 pub use places::has_lists_apart;
 pub use skips::skip_page;

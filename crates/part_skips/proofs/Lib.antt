@@ -1,3 +1,4 @@
 pub mod PrcLemmas
 pub mod StyleLemmas
 pub mod SheetLemmas
+pub mod OneLemmas

@@ -1,5 +1,5 @@
 -- The slots of a sheet, skipped one after the other.
-use Rattle.std.proofs.Common.{◌≡◌, ◌↔◌, ◌⊎◌, inl, inr, ℕ, zero, suc, ◌+◌, ◌-◌, ◌*◌, ◌<◌, ◌≤◌, List, length, Option}
+use Rattle.std.proofs.Common.{◌≡◌, ◌↔◌, ◌⊎◌, inl, inr, ℕ, zero, suc, ◌+◌, ◌-◌, ◌<◌, ◌≤◌, List, length, Option}
 use Rattle.std.proofs.Common.{Some, None, slice_index, slice_range, take, drop, ◌++◌, refl, sym, ap, ◌∙◌, subst, arith}
 use Rattle.std.proofs.Common.{add-zero, add-one}
 use Rattle.std.proofs.lemmas.Bool.{cases_lt}
@@ -12,10 +12,11 @@ use Rattle.prl_skips.proofs.RangeLemmas.{range_same, put_length, put_before, put
 use Rattle.style_sheet.specs.declared.styles.Style.{Style}
 use Rattle.style_sheet.specs.Sheet.{Sheet, style_at}
 use Rattle.style_sheet.specs.Counted.{even_up, counted_end, counted_bytes, IsCounted}
-use Rattle.style_sheet.specs.StyleDefinition.{IsStd, SpellsStyle}
-use Rattle.style_sheet.specs.Stsh.{cb_stshi, cstd, std_base, slot_place, head_of, HasStshif, IsSlotAt, AreSlots}
+use Rattle.style_sheet.specs.StyleDefinition.{IsStd}
+use Rattle.style_sheet.specs.Stsh.{cstd, std_base, slot_place, head_of, HasStshif, IsSlotAt, AreSlots}
 use Rattle.style_sheet.specs.Stsh.{SpellsSlotAt, HasStyleSheet}
-use Rattle.part_skips.specs.Sheets.{SkipsStd, PutsSlot, SkipsSlotAt, SkipsSlots, SkipsSheet}
+use Rattle.part_skips.specs.Sheets.{SkipsStd, PutsSlot, SkipsSlotAt, IsInNoStyle, SkipsSlots, SkipsSheet}
+use Rattle.part_skips.specs.Sheets.{PutsSheet}
 use Rattle.part_skips.proofs.StyleLemmas.{style_before, style_after}
 
 -- ---- places of slots
@@ -58,19 +59,23 @@ bytes_there old new place len within same =
 -- ---- slots skipped so far
 
 pub record SlotsFront (old now : List ℕ) (count place : ℕ) : Type 0 where
+  pub few : count ≤ cstd old
   pub len : length now ≡ length old
   pub place_is : place ≡ slot_place old count
   pub front : (i : ℕ) → i < slot_place old 0 → slice_index now i ≡ slice_index old i
   pub rest : (i : ℕ) → place ≤ i → slice_index now i ≡ slice_index old i
   pub done : (istd : ℕ) → istd < count → SkipsSlotAt (std_base old) (slot_place old istd) old now
+  pub outside : (i : ℕ) → IsInNoStyle old count i → slice_index now i ≡ slice_index old i
 
 pub slots_none : (old : List ℕ) (place : ℕ) → place ≡ slot_place old 0 → SlotsFront old old 0 place
 slots_none old place is = record {
+  few = omega arith;
   len = refl;
   place_is = is;
   front = λ i low. refl;
   rest = λ i low. refl;
   done = λ istd low. absurd (omega arith);
+  outside = λ i out. refl;
 }
 
 -- the next slot is as it was
@@ -108,6 +113,7 @@ slots_more old now new count place next front are low next_is puts =
     let next_place : next ≡ slot_place old (count + 1) =
     subst (λ i. next ≡ slot_place old i) (sym (add-one count)) after in
     record {
+      few = omega (arith, low);
       len = new_len ∙ len;
       place_is = next_place;
       front = λ i below. puts.outside i (inl (omega arith)) ∙ front.front i below;
@@ -135,6 +141,11 @@ slots_more old now new count place next front are low next_is puts =
                   (puts.std (omega arith));
             })
       ];
+      outside = λ i out.
+          let here : (i < place + 2) ⊎ (counted_end now place ≤ i) =
+          subst (λ e. (i < place + 2) ⊎ (e ≤ i)) (sym end)
+          (subst (λ p. (i < p + 2) ⊎ (counted_end old p ≤ i)) (sym place_is) (out count (omega arith))) in
+          puts.outside i here ∙ front.outside i (λ istd below. out istd (omega arith));
     }
 
 pub slots_all : (old now : List ℕ) (count place : ℕ) → SlotsFront old now count place → HasStshif old → AreSlots old →
@@ -145,6 +156,7 @@ slots_all old now count place front stshif are all = record {
   len = front.len;
   front = front.front;
   slots = λ istd low. front.done istd (omega arith);
+  outside = λ i out. front.outside i (λ istd below. out istd (omega (arith, below, front.few)));
 }
 
 -- ---- what the sheet is
@@ -269,4 +281,18 @@ slot_put base place count old mid within is skips len =
       ];
       std = λ some. subst (SkipsStd base (counted_bytes old place)) (sym bytes)
           (subst (λ n. SkipsStd base (slice_range old from (from + n)) mid) is skips);
+    }
+
+-- ---- a sheet in a stream
+
+pub sheet_put : (old sheet : List ℕ) (from to : ℕ) → from ≤ to → to ≤ length old →
+    SkipsSheet (slice_range old from to) sheet → length sheet ≡ length (slice_range old from to) →
+    PutsSheet from to old (put_mid from (to - from) old sheet)
+sheet_put old sheet from to ordered within skips len =
+    let end : from + (to - from) ≡ to = omega arith in
+    record {
+      sheet = sheet;
+      skips = skips;
+      len = len;
+      put = ap (λ l. take from old ++ (sheet ++ l)) (drop-drop (to - from) from old ∙ ap (λ n. drop n old) end);
     }

@@ -1,6 +1,7 @@
 -- [MS-DOC] STSH, STD: a style sheet in whose lists the codes that are not read are skipped. Each list stays where it
 -- is, and keeps its length.
-use Rattle.std.specs.Prelude.{◌≡◌, ◌≢◌, ◌⊎◌, ◌↔◌, ℕ, ◌+◌, ◌<◌, ◌≤◌, List, length, slice_index}
+use Rattle.std.specs.Prelude.{◌≡◌, ◌≢◌, ◌⊎◌, ◌↔◌, ℕ, ◌+◌, ◌<◌, ◌≤◌, List, ◌++◌, length, take, drop}
+use Rattle.std.specs.Prelude.{slice_index, slice_range}
 use Rattle.doc_bits.specs.Number.{u16_at}
 use Rattle.prl_skips.specs.Skips.{PutsSkipped}
 use Rattle.style_sheet.specs.Sheet.{Sheet}
@@ -45,13 +46,19 @@ pub record SkipsSlotAt (base place : ℕ) (old new : List ℕ) : Type 0 where
   pub count : u16_at new place ≡ u16_at old place
   pub std : 0 < u16_at old place → SkipsStd base (counted_bytes old place) (counted_bytes new place)
 
--- all slots are skipped, and what stands before them stays
+-- no style holds the byte
+abbrev pub IsInNoStyle : List ℕ → ℕ → ℕ → Type 0
+IsInNoStyle part count i = (istd : ℕ) → istd < count →
+    (i < slot_place part istd + 2) ⊎ (counted_end part (slot_place part istd) ≤ i)
+
+-- all slots are skipped, and no byte outside of their styles changes
 pub record SkipsSlots (old new : List ℕ) : Type 0 where
   pub stshif : HasStshif old
   pub are : AreSlots old
   pub len : length new ≡ length old
   pub front : (i : ℕ) → i < slot_place old 0 → slice_index new i ≡ slice_index old i
   pub slots : (istd : ℕ) → istd < cstd old → SkipsSlotAt (std_base old) (slot_place old istd) old new
+  pub outside : (i : ℕ) → IsInNoStyle old (cstd old) i → slice_index new i ≡ slice_index old i
 
 -- a part that is no style sheet stays
 pub record StaysSheet (old new : List ℕ) : Type 0 where
@@ -60,6 +67,17 @@ pub record StaysSheet (old new : List ℕ) : Type 0 where
 
 abbrev pub SkipsSheet : List ℕ → List ℕ → Type 0
 SkipsSheet old new = SkipsSlots old new ⊎ StaysSheet old new
+
+-- the sheet that stands in this range of a stream is skipped, and nothing else changes
+pub record PutsSheet (from to : ℕ) (old new : List ℕ) : Type 0 where
+  pub sheet : List ℕ
+  pub skips : SkipsSheet (slice_range old from to) sheet
+  pub len : length sheet ≡ length (slice_range old from to)
+  pub put : new ≡ take from old ++ (sheet ++ drop to old)
+
+-- a sheet is skipped in one way
+abbrev pub SheetsAreSkippedAlone : Type 0
+SheetsAreSkippedAlone = (old one other : List ℕ) → SkipsSheet old one → SkipsSheet old other → one ≡ other
 
 -- it holds the same styles
 abbrev pub SkippedSheetsMeanTheSame : Type 0

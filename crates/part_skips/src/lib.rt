@@ -5,6 +5,8 @@ mod laws;
 mod prcs;
 mod sheets;
 
-pub use laws::{skipped_prcs_mean_the_same, skipped_sheets_mean_the_same};
+pub use laws::{
+    sheets_are_skipped_alone, skipped_prcs_mean_the_same, skipped_sheets_mean_the_same,
+};
 pub use prcs::skip_prcs;
-pub use sheets::skip_sheet;
+pub use sheets::{skip_sheet, skip_sheet_in};

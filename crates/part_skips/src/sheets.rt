@@ -4,7 +4,7 @@ ghost use Rattle.doc_bits.specs.Number.{u16_at};
 ghost use Rattle.style_sheet.specs.Counted.{IsCounted};
 ghost use Rattle.style_sheet.specs.StyleDefinition.{IsStd};
 ghost use Rattle.style_sheet.specs.Stsh.{HasStshif, IsSlotAt, AreSlots};
-ghost use Rattle.part_skips.specs.Sheets.{SkipsCounted, SkipsStd, PutsSlot, SkipsSlots, SkipsSheet};
+ghost use Rattle.part_skips.specs.Sheets.{SkipsCounted, SkipsStd, PutsSlot, SkipsSlots, SkipsSheet, PutsSheet};
 
 use doc_bits::get16;
 use prl_skips::skip_range;
@@ -22,6 +22,16 @@ pub fn skip_sheet(stsh: &mut [u8])
         return;
     }
     skip_slots(stsh);
+}
+
+/// Skips the codes of the sheet in a range of a stream. No byte outside of the range changes.
+pub fn skip_sheet_in(stream: &mut [u8], from: usize, to: usize)
+    requires ordered { from ≤ to }
+    requires within { to ≤ length stream.old }
+    requires small { length stream.old < 2 ^ 32 }
+    ensures { PutsSheet from to stream.old stream.new }
+{
+    skip_sheet(&mut stream[from..to]);
 }
 
 /// Skips the codes in the lists of all slots.

@@ -10,6 +10,17 @@ pub range_index : (xs : List ℕ) (from to i : ℕ) → i < to - from →
     slice_index (slice_range xs from to) i ≡ slice_index xs (from + i)
 range_index xs from to i h = get_or-take (to - from) (drop from xs) i 0 h ∙ get_or-drop from xs i 0
 
+-- what a range has, its bytes have
+pub byte_of_range : (a b : List ℕ) (from to i : ℕ) → from ≤ i → i < to →
+    slice_range a from to ≡ slice_range b from to → slice_index a i ≡ slice_index b i
+byte_of_range a b from to i low high same =
+    let place : from + (i - from) ≡ i = omega (arith, low) in
+    let inside : i - from < to - from = omega (arith, low, high) in
+    ap (slice_index a) (sym place)
+    ∙ (sym (range_index a from to (i - from) inside)
+    ∙ (ap (λ l. slice_index l (i - from)) same
+    ∙ (range_index b from to (i - from) inside ∙ ap (slice_index b) place)))
+
 -- ranges with the same numbers are equal
 pub range_same : (xs ys : List ℕ) (from to : ℕ) → to ≤ length xs → to ≤ length ys →
     ((i : ℕ) → from ≤ i → i < to → slice_index xs i ≡ slice_index ys i) → slice_range xs from to ≡ slice_range ys

@@ -175,6 +175,7 @@ front_all old now at front none =
         spelt = front.is;
         ends = ends;
       };
+      rest = refl;
     }
 
 -- the same of what is looked at from the place on

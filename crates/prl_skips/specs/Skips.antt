@@ -16,11 +16,13 @@ skipped_code code = if is_among code refused_codes then picture_code code else c
 abbrev pub skipped : Prl → Prl
 skipped prl = (skipped_code prl.0, prl.1)
 
--- the new bytes spell the entries that the old ones spell, with the codes that are not read skipped
+-- the new bytes spell the entries that the old ones spell, with the codes that are not read skipped, and what ends the
+-- list stays
 pub record SkipsRefused (old new : List ℕ) : Type 0 where
   pub prls : List Prl
   pub spelt : SpellsSprmList old prls
   pub skips : SpellsSprmList new (map skipped prls)
+  pub rest : skips.rest ≡ spelt.rest
 
 -- the same of any bytes: a list that is cut short stays as it is
 abbrev pub SkipsOrStays : List ℕ → List ℕ → Type 0

@@ -1,19 +1,17 @@
-use Rattle.std.proofs.Common.{◌≡◌, ◌∙◌, ◌<◌, ◌^◌, ℕ, List, length, sym, ap, subst, inl, inr}
+use Rattle.std.proofs.Common.{◌≡◌, ◌∙◌, ap, inl, inr}
 use Rattle.std.proofs.lemmas.Result.{MatchResult-weaker}
 use Rattle.doc_bits.specs.declared.places.Where.TheVariants.{Wd}
 use Rattle.doc_bits.specs.Rules.{rule, given, ◌then◌}
 use Rattle.doc_bits.specs.Places.{rules_in}
 use Rattle.doc_bits.proofs.RuleLemmas.{hold_in, first_in}
 use Rattle.fib_form.specs.Fib.{fib_which_table}
-use Rattle.fib_versions.specs.Early.{early_fields, early_pairs}
-use Rattle.fib_versions.specs.Versions.{all_text_length}
 use Rattle.fib_versions.specs.VersionRules.{version_rules}
-use Rattle.cfb_streams.specs.Names.{table_name, wd_name}
+use Rattle.cfb_streams.specs.Names.{table_name}
 use Rattle.cfb_streams.specs.Contents.{HasNamed, HasNoNamed}
 use Rattle.doc_load.specs.FileRules.{HasNoStream, table_stream_name}
 use Rattle.doc_load.proofs.RefusalLemmas.{refused-next, refused-given, stream-missing, stream-there}
 use Rattle.doc_lift.specs.LiftedRules.{lifted_table_rules, lifted_wd_rules}
-use Rattle.doc_lift.proofs.LiftLemmas.{lifted_under, stream_small}
+use Rattle.doc_lift.proofs.LiftLemmas.{lifted_under}
 use Rattle.doc_lift.proofs.lifting.lift_wd.Goals as goal
 
 pub returns-in-Err : goal.returns-in-Err
@@ -33,17 +31,8 @@ returns-in_default c =
           none),
     )
 
-pub early_fib-requires : goal.early_fib-requires
-early_fib-requires c =
-    subst (λ (w : List ℕ). length w < 2 ^ 32) (sym c.in-Ok.ensures.0)
-    (stream_small c.args.container.now wd_name c.args.wd.now c.requires.bounds c.requires.there)
-
-pub lift_text-requires-clause-early : goal.lift_text-requires-clause-early
-lift_text-requires-clause-early c =
-    c.early_fib.ensures ∙ ap (λ (w : List ℕ). early_fields w (early_pairs w)) c.in-Ok.ensures.0
-
-pub lift_text-requires-clause-text_len : goal.lift_text-requires-clause-text_len
-lift_text-requires-clause-text_len c = c.text_len.ensures.value ∙ ap all_text_length c.in-Ok.ensures.0
+pub lift_text-requires-clause-same : goal.lift_text-requires-clause-same
+lift_text-requires-clause-same c = c.in-Ok.ensures.0
 
 pub lift_text-requires-clause-named : goal.lift_text-requires-clause-named
 lift_text-requires-clause-named c =

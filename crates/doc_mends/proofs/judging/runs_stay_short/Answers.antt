@@ -1,4 +1,4 @@
-use Rattle.std.proofs.Common.{◌≡◌, ◌≤◌, length, sym, subst, arith}
+use Rattle.std.proofs.Common.{◌≤◌, length, sym, subst, arith}
 use Rattle.prop_map.specs.Formed.{IsPropertyMap, character_groups}
 use Rattle.run_lists.specs.Spread.{spread}
 use Rattle.run_lists.proofs.SpreadLemmas.{extent-nil, length-spread}

@@ -1,12 +1,23 @@
 use Rattle.std.proofs.Common.{inl, arith}
 use Rattle.std.proofs.lemmas.Result.{IfOk-weaker}
-use Rattle.docfit_run.specs.Refusals.{IsFitRefused}
-use Rattle.docfit_run.specs.Fitted.{JudgesFit}
-use Rattle.docfit_run.proofs.FitLemmas.{not_lifted}
+use Rattle.doc_fit.specs.Refusals.{IsFitRefused}
+use Rattle.docfit_run.specs.Fitted.{IsSaved, JudgesFit}
+use Rattle.docfit_run.proofs.FitLemmas.{opened_fits}
 use Rattle.docfit_run.proofs.fitting.fit_file.Goals as goal
 
-pub refusal-requires : goal.refusal-requires
-refusal-requires c = not_lifted c.args.file.now c.in-Err.fault c.in-Err.ensures
+pub save-ending-requires : goal.save-ending-requires
+save-ending-requires c = c.in-Ok.ensures.sound
+
+pub returns-in-Ok-clause-judges : goal.returns-in-Ok-clause-judges
+returns-in-Ok-clause-judges c =
+    let name = c.args.name.now in
+    let out = c.args.out.now in
+    let file = c.args.file.now in
+    let opened = c.in-Ok.opened in
+    rw c.let_go.ensures
+    (IfOk-weaker c.save-ending.result (λ e. IsSaved out opened.lifted.document opened.losses opened.mends.items e)
+    (λ e. JudgesFit name out file e) (λ e is. opened_fits name out file opened e c.in-Ok.ensures is)
+    c.save-ending.ensures)
 
 pub returns-in-Err-clause-judges : goal.returns-in-Err-clause-judges
 returns-in-Err-clause-judges c =

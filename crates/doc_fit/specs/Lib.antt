@@ -1,0 +1,5 @@
+pub mod Lines
+pub mod Rules
+pub mod Refusals
+pub mod Losses
+pub mod Opened

@@ -1,0 +1,25 @@
+-- The rules that are left: those of the file, and those on the document that it means, once this is mended.
+use Rattle.std.specs.Prelude.{List, ℕ}
+use Rattle.doc_bits.specs.Rules.{Rules, ◌then◌, given, Hold}
+use Rattle.doc_bits.specs.Places.{Place}
+use Rattle.plain_doc.specs.declared.document.Document.{Document}
+use Rattle.plain_doc.specs.Sound.{document_rules}
+use Rattle.doc_mends.specs.declared.mends.Mend.{Mend}
+use Rattle.doc_mends.specs.Mending.{IsMended}
+use Rattle.doc_meaning.specs.Meaning.{MeansDocument}
+use Rattle.doc_lift.specs.LiftedFiles.{lifted_rules}
+
+-- the document is the mended one of what the file means
+pub record HasMended (file : List ℕ) (document : Document) : Type 0 where
+  pub meant : Document
+  pub means : MeansDocument file meant
+  pub mends : List Mend
+  pub mended_is : IsMended meant document mends
+
+-- and the file breaks none of the rules 1 to 57 that are left
+pub record LiftsTo (file : List ℕ) (document : Document) : Type 0 where
+  pub rules : Hold (lifted_rules file)
+  pub mended : HasMended file document
+
+abbrev pub fit_rules : List ℕ → Rules Place
+fit_rules file = lifted_rules file then given (LiftsTo file) document_rules

@@ -1,0 +1,60 @@
+-- The rules on the bin tables hold of a file of which the rules that are left hold.
+use Rattle.std.proofs.Common.{◌≡◌, ◌∙◌, sym, ap, subst, ℕ, List, arith}
+use Rattle.doc_bits.specs.declared.places.Where.TheVariants.{Table}
+use Rattle.doc_bits.specs.Rules.{Hold, rule}
+use Rattle.doc_bits.specs.Places.{rules_in}
+use Rattle.fib_form.specs.Fib.{fib_pair, table_part}
+use Rattle.fib_form.specs.FibFields.{fib_fields}
+use Rattle.fib_form.specs.TableParts.{pair_of}
+use Rattle.fib_form.specs.declared.table_parts.TablePart.{TablePart}
+use Rattle.fib_form.specs.declared.table_parts.TablePart.TheVariants.{PlcfBteChpx, PlcfBtePapx}
+use Rattle.fib_versions.specs.Early.{early_pairs, early_fields}
+use Rattle.doc_load.specs.Source.{DocSource, part_place, part_bytes}
+use Rattle.doc_load.specs.BinRules.{BreaksBinTable, rules_of_bins}
+use Rattle.doc_meaning.specs.Lifted.{IsOther}
+use Rattle.doc_lift.specs.LiftedRules.{lifted_wd, lifted_table_rules}
+use Rattle.doc_lift.proofs.SkipLemmas.{read_part}
+
+-- the rule on a bin table reads its bytes and its place alone
+same_bin : (number : ℕ) (bytes other : List ℕ) (place at : ℕ) → bytes ≡ other → place ≡ at →
+    Hold (rules_in Table (rule number (BreaksBinTable bytes place))) →
+    Hold (rules_in Table (rule number (BreaksBinTable other at)))
+same_bin number bytes other place at same here hold =
+    subst (λ p. Hold (rules_in Table (rule number (BreaksBinTable other p)))) here
+    (subst (λ b. Hold (rules_in Table (rule number (BreaksBinTable b place)))) same hold)
+
+-- where a part begins and which bytes it has in a source
+record HasPartOf (wd table : List ℕ) (source : DocSource) (part : TablePart) : Type 0 where
+  place : part_place source part ≡ (fib_pair wd (pair_of part)).0
+  bytes : part_bytes source part ≡ table_part wd table (pair_of part)
+
+source_part : (wd table : List ℕ) (part : TablePart) → IsOther part →
+    fib_fields (lifted_wd wd) ≡ early_fields wd (early_pairs wd) → (hold : Hold (lifted_table_rules wd table)) →
+    HasPartOf wd table hold.1.0 part
+source_part wd table part other fields hold =
+    let is = hold.1.1.0 in
+    let reads = read_part wd table is.units is.text is.read part fields is.front is.read_is other in
+    record {
+      place = ap (λ (s : DocSource). part_place s part) is.source_is ∙ reads.place;
+      bytes = ap (λ (s : DocSource). part_bytes s part) is.source_is ∙ reads.bytes;
+    }
+
+-- so they hold of every source of the two streams
+pub lifted_bins : (wd table : List ℕ) (old : DocSource) → fib_fields (lifted_wd wd) ≡ early_fields wd (early_pairs wd) →
+    old.wd ≡ wd → old.table ≡ table → Hold (lifted_table_rules wd table) → Hold (rules_of_bins old)
+lifted_bins wd table old fields wd_is table_is hold =
+    let source = hold.1.0 in
+    let place : (part : TablePart) → part_place old part ≡ (fib_pair wd (pair_of part)).0 =
+    λ part. ap (λ (w : List ℕ). (fib_pair w (pair_of part)).0) wd_is in
+    let bytes : (part : TablePart) → part_bytes old part ≡ table_part wd table (pair_of part) =
+    λ part. λ i. table_part (wd_is i) (table_is i) (pair_of part) in
+    let chars = source_part wd table PlcfBteChpx (λ e. absurd (omega (arith, e))) fields hold in
+    let pars = source_part wd table PlcfBtePapx (λ e. absurd (omega (arith, e))) fields hold in
+    let bins = hold.1.1.1.0.1 in (
+      same_bin 37 (part_bytes source PlcfBteChpx) (part_bytes old PlcfBteChpx) (part_place source PlcfBteChpx)
+          (part_place old PlcfBteChpx) (chars.bytes ∙ sym (bytes PlcfBteChpx)) (chars.place ∙ sym (place PlcfBteChpx))
+          bins.0,
+      same_bin 38 (part_bytes source PlcfBtePapx) (part_bytes old PlcfBtePapx) (part_place source PlcfBtePapx)
+          (part_place old PlcfBtePapx) (pars.bytes ∙ sym (bytes PlcfBtePapx)) (pars.place ∙ sym (place PlcfBtePapx))
+          bins.1,
+    )

@@ -1,0 +1,29 @@
+use Rattle.std.proofs.Common.{◌≡◌, ◌∙◌, ap, arith, length, List}
+use Rattle.doc_bits.proofs.ListLemmas.{there_is}
+use Rattle.plain_doc.specs.declared.item.Item.{Item}
+use Rattle.edit_changes.specs.Changes.{changed_at}
+use Rattle.doc_mends.specs.NormalMarks.{normal_text}
+use Rattle.doc_mends.proofs.TextLemmas.{put_mapped, all_mapped, mapped_len}
+use Rattle.doc_mends.proofs.marking.normal_texts.Goals as goal
+
+pub normal_at-requires : goal.normal_at-requires
+normal_at-requires c =
+    let texts : List (List Item) = c.args.texts.now in
+    let len : length c.loop-k.texts ≡ length texts =
+    ap length c.loop-k.invariant ∙ mapped_len (normal_text c.args.sheet.now) texts c.loop-k.k in
+    omega (arith, len, c.len-k-end.ensures.len, c.loop-k-test.true)
+
+pub loop-k-preserved : goal.loop-k-preserved
+loop-k-preserved c =
+    let texts : List (List Item) = c.args.texts.now in
+    let f = normal_text c.args.sheet.now in
+    let k = c.loop-k.k in
+    let it = there_is texts k (omega (arith, c.len-k-end.ensures.len, c.loop-k-test.true)) in
+    c.in_ok-normal_at.ensures
+    ∙ (ap (λ (l : List (List Item)). changed_at l k f) c.loop-k.invariant ∙ put_mapped f texts k it.0 it.1)
+
+pub returns : goal.returns
+returns c =
+    c.loop-k.invariant
+    ∙ all_mapped (normal_text c.args.sheet.now) c.args.texts.now c.loop-k.k
+    (omega (arith, c.len-k-end.ensures.len, c.loop-k-test.false))

@@ -1,0 +1,37 @@
+-- The line of each mend.
+use Rattle.std.specs.Prelude.{ℕ, List, [], ◌∷◌, ◌++◌, codes}
+use Rattle.std.specs.Fmt.{decimal}
+use Rattle.doc_bits.specs.declared.places.Story.{Story}
+use Rattle.text_losses.specs.Lines.{place_text}
+use Rattle.doc_mends.specs.declared.mends.DeletedRange.{DeletedRange}
+use Rattle.doc_mends.specs.declared.mends.WrongMark.{WrongMark}
+use Rattle.doc_mends.specs.declared.mends.Mend.{Mend}
+use Rattle.doc_mends.specs.declared.mends.Mend.TheVariants as mends
+
+-- the range, and that it is struck
+abbrev pub strike_line : DeletedRange → List ℕ
+strike_line range =
+    codes "deleted "
+    ++ (place_text range.story
+    ++ (32 ∷ [] ++ (decimal range.from ++ (32 ∷ [] ++ (decimal range.to ++ (codes ": struck" ++ 10 ∷ []))))))
+
+-- the number of the style
+abbrev pub base_line : ℕ → List ℕ
+base_line istd = codes "base " ++ (decimal istd ++ 10 ∷ [])
+
+-- the mark, and the style that it had
+abbrev pub mark_line : WrongMark → List ℕ
+mark_line mark =
+    codes "mark "
+    ++ (place_text mark.story
+    ++ (32 ∷ [] ++ (decimal mark.at ++ (codes ": style " ++ (decimal mark.istd ++ 10 ∷ [])))))
+
+-- the text
+abbrev pub end_line : Story → List ℕ
+end_line story = codes "end " ++ (place_text story ++ 10 ∷ [])
+
+abbrev pub mend_line : Mend → List ℕ
+mend_line (mends.StrikeDeleted range) = strike_line range
+mend_line (mends.DropBase istd) = base_line istd
+mend_line (mends.NormalMark mark) = mark_line mark
+mend_line (mends.EndText story) = end_line story

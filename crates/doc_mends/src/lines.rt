@@ -1,0 +1,82 @@
+// The line of a mend.
+ghost use Rattle.std.specs.Prelude.{◌≡◌, ◌++◌, IfOk, OnOk};
+ghost use Rattle.std.specs.List.{flat_map};
+ghost use Rattle.doc_mends.specs.Lines.{mend_line as line_of, strike_line as line_of_strike};
+ghost use Rattle.doc_mends.specs.Lines.{base_line as line_of_base, mark_line as line_of_mark, end_line as line_of_end};
+
+use crate::mends::{DeletedRange, Mend, WrongMark};
+use doc_bits::{Memory, Story, Text};
+use std::alloc::Global;
+use text_losses::story_place;
+
+/// Appends the lines of mends. After want of memory some of them may be there.
+pub fn push_mends(alloc: Global, text: &mut Text, mends: &[Mend]) -> Result<(), Memory>
+    ensures { OnOk result (text.new ≡ text.old ++ flat_map line_of mends.now) }
+{
+    for k in 0..mends.len() {
+        push_mend(alloc, text, &mends[k])?;
+    }
+    Ok(())
+}
+
+/// Appends the line of a mend.
+fn push_mend(alloc: Global, text: &mut Text, mend: &Mend) -> Result<(), Memory>
+    ensures { OnOk result (text.new ≡ text.old ++ line_of mend.now) }
+{
+    let line = mend_line(alloc, mend)?;
+    text.push_all(line.as_str())
+}
+
+/// The line of a mend.
+fn mend_line(alloc: Global, mend: &Mend) -> Result<Text, Memory>
+    ensures { IfOk result (λ line. line ≡ line_of mend.now) }
+{
+    match mend {
+        Mend::StrikeDeleted(range) => strike_line(alloc, *range),
+        Mend::DropBase(istd) => base_line(alloc, *istd),
+        Mend::NormalMark(mark) => mark_line(alloc, *mark),
+        Mend::EndText(story) => end_line(alloc, *story),
+    }
+}
+
+/// The line of a range that is struck.
+fn strike_line(alloc: Global, range: DeletedRange) -> Result<Text, Memory>
+    ensures { IfOk result (λ line. line ≡ line_of_strike range) }
+{
+    let place = story_place(alloc, range.story)?;
+    let place = place.as_str();
+    let from = range.from;
+    let to = range.to;
+    let line = format!(in alloc; "deleted {place} {from} {to}: struck\n")?;
+    Ok(Text::from_string(line))
+}
+
+/// The line of a style whose base is taken away.
+fn base_line(alloc: Global, istd: u16) -> Result<Text, Memory>
+    ensures { IfOk result (λ line. line ≡ line_of_base istd) }
+{
+    let line = format!(in alloc; "base {istd}\n")?;
+    Ok(Text::from_string(line))
+}
+
+/// The line of a mark that gets style 0.
+fn mark_line(alloc: Global, mark: WrongMark) -> Result<Text, Memory>
+    ensures { IfOk result (λ line. line ≡ line_of_mark mark) }
+{
+    let place = story_place(alloc, mark.story)?;
+    let place = place.as_str();
+    let at = mark.at;
+    let istd = mark.istd;
+    let line = format!(in alloc; "mark {place} {at}: style {istd}\n")?;
+    Ok(Text::from_string(line))
+}
+
+/// The line of a text that gets an end.
+fn end_line(alloc: Global, story: Story) -> Result<Text, Memory>
+    ensures { IfOk result (λ line. line ≡ line_of_end story) }
+{
+    let place = story_place(alloc, story)?;
+    let place = place.as_str();
+    let line = format!(in alloc; "end {place}\n")?;
+    Ok(Text::from_string(line))
+}

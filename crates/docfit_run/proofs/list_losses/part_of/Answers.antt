@@ -1,7 +1,0 @@
-use Rattle.std.proofs.Common.{◌+◌, arith}
-use Rattle.loss_report.proofs.ReportLemmas.{range_cut}
-use Rattle.docfit_run.proofs.list_losses.part_of.Goals as goal
-
-pub returns : goal.returns
-returns c = rw c.min.ensures (range_cut c.args.table.now c.args.pair.0 (c.args.pair.0 + c.args.pair.1) c.min-end.result
-    (omega arith) c.min-end.ensures)
