@@ -1,11 +1,12 @@
 -- Rows that are the heads of tables.
-use Rattle.std.proofs.Common.{◌≡◌, ◌∙◌, Bool, true, false, List, Option, Some, None, sym, ap, refl}
+use Rattle.std.proofs.Common.{◌≡◌, ◌∙◌, Bool, true, false, List, [], ◌∷◌, Option, Some, None, sym, ap, refl}
 use Rattle.std.specs.Prelude.{if◌then◌else◌}
 use Rattle.std.proofs.lemmas.Option.{same_Some}
 use Rattle.doc_view.specs.declared.standing.Standing.{Standing}
 use Rattle.doc_view.specs.declared.standing.Standing.TheVariants.{Outside, Inside, Cell, Row, HeadRow}
 use Rattle.doc_view.specs.Layout.{ends_head, keeps_row}
-use Rattle.doc_view.specs.Seen.{Paragraph}
+use Rattle.list_numbers.specs.declared.paragraph_values.ParagraphValues.{ParagraphValues}
+use Rattle.doc_view.specs.Seen.{Paragraph, with_values}
 use Rattle.doc_places.specs.Grid.{is_head_row}
 use Rattle.doc_html.specs.Writes.{head_by}
 
@@ -17,6 +18,20 @@ head_on standing more keeps = ap (λ (b : Bool). if b then is_head_row more else
 pub head_ends : (standing : Standing) (more : List Paragraph) → keeps_row standing ≡ false → head_by standing more ≡
     ends_head standing
 head_ends standing more ends = ap (λ (b : Bool). if b then is_head_row more else ends_head standing) ends
+
+-- values change nothing of rows
+heads_with : (values : List ParagraphValues) (paragraphs : List Paragraph) → is_head_row (with_values values paragraphs)
+    ≡ is_head_row paragraphs
+unfolding with_values
+heads_with [] paragraphs = refl
+heads_with (one ∷ more) [] = refl
+heads_with (one ∷ more) (paragraph ∷ rest) =
+    ap (λ (b : Bool). if keeps_row paragraph.standing then b else ends_head paragraph.standing) (heads_with more rest)
+
+pub head_with : (standing : Standing) (values : List ParagraphValues) (more : List Paragraph) → head_by standing
+    (with_values values more) ≡ head_by standing more
+head_with standing values more =
+    ap (λ (b : Bool). if keeps_row standing then b else ends_head standing) (heads_with values more)
 
 -- what is known of a row is so behind one more paragraph
 known_by : (standing : Standing) (more : List Paragraph) (known : Option Bool) (head is : Bool) → known ≡ (if

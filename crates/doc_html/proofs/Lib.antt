@@ -1,4 +1,6 @@
 pub mod WriteLemmas
+pub mod LabelLemmas
+pub mod TitleLemmas
 pub mod HeadLemmas
 pub mod TextLemmas
 pub mod NoteLemmas

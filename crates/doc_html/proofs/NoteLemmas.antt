@@ -20,40 +20,40 @@ use Rattle.doc_places.specs.Places.{hypertext_of, label_of, note_path, note_plac
 use Rattle.doc_html.proofs.WriteLemmas.{puts_same}
 
 -- what was written of the notes, where those from a place on are left
-pub record NotesAt {K : Type 0} (sink : Ghosts K) (start : K) (html : FormPage) (out : K) (now : FormPage) (formats :
+pub record NotesAt {K : Type 0} (sink : Ghosts K) (start : K) (page : FormPage) (out : K) (now : FormPage) (formats :
     Formats)
     (manner : Manner) (number : ℕ) (references rest : List Reference) (notes others : List (List Item)) : Type 0 where
   pub places : Places
-  pub puts : PutsPlaces sink start html out now places
+  pub puts : PutsPlaces sink start page out now places
   pub whole : places ++ notes_places formats manner number rest others ≡ notes_places formats manner 1 references notes
 
-pub notes_start : {K : Type 0} (sink : Ghosts K) (start : K) (html : FormPage) (formats : Formats) (manner : Manner)
+pub notes_start : {K : Type 0} (sink : Ghosts K) (start : K) (page : FormPage) (formats : Formats) (manner : Manner)
     (references :
-    List Reference) (notes : List (List Item)) → NotesAt sink start html start html formats manner 1 references (drop
+    List Reference) (notes : List (List Item)) → NotesAt sink start page start page formats manner 1 references (drop
     0 references)
     notes (drop 0 notes)
-notes_start sink start html formats manner references notes =
-    record { places = []; puts = places_none sink start html; whole = refl }
+notes_start sink start page formats manner references notes =
+    record { places = []; puts = places_none sink start page; whole = refl }
 
-pub note_on : {K : Type 0} (sink : Ghosts K) (start : K) (html : FormPage) (out : K) (now : FormPage) (next : K)
+pub note_on : {K : Type 0} (sink : Ghosts K) (start : K) (page : FormPage) (out : K) (now : FormPage) (next : K)
     (after : FormPage)
     (formats : Formats) (manner : Manner) (references : List Reference) (notes : List (List Item)) (k : ℕ) (reference
     : Reference)
-    (note : List Item) → NotesAt sink start html out now formats manner (k + 1) references (drop k references) notes
+    (note : List Item) → NotesAt sink start page out now formats manner (k + 1) references (drop k references) notes
     (drop k notes)
     → slice_get references k ≡ Some reference → slice_get notes k ≡ Some note → PutsPlaces sink out now next after
     (note_places
-    formats manner (k + 1) reference note) → NotesAt sink start html next after formats manner (k + 1 + 1) references
+    formats manner (k + 1) reference note) → NotesAt sink start page next after formats manner (k + 1 + 1) references
     (drop (k + 1)
     references) notes (drop (k + 1) notes)
 unfolding notes_places
-note_on sink start html out now next after formats manner references notes k reference note at here there put =
+note_on sink start page out now next after formats manner references notes k reference note at here there put =
     let said = note_places formats manner (k + 1) reference note in
     let rest = drop (k + 1) references in
     let others = drop (k + 1) notes in
     record {
       places = at.places ++ said;
-      puts = places_then sink start out next html now after at.places said at.puts put;
+      puts = places_then sink start out next page now after at.places said at.puts put;
       whole =
           append_assoc at.places said (notes_places formats manner (k + 1 + 1) rest others)
           ∙ (λ i. at.places ++ notes_places formats manner (k + 1) (sym (run_and_rest references k reference here) i)
@@ -77,13 +77,13 @@ none_left formats manner number references notes k (inr h) =
     ap (λ (n : List (List Item)). notes_places formats manner number (drop k references) n) (drop_of_length-le notes h)
     ∙ no_notes formats manner number (drop k references)
 
-pub notes_written : {K : Type 0} (sink : Ghosts K) (start : K) (html : FormPage) (out : K) (now : FormPage)
+pub notes_written : {K : Type 0} (sink : Ghosts K) (start : K) (page : FormPage) (out : K) (now : FormPage)
     (formats : Formats) (manner : Manner) (number : ℕ) (references : List Reference) (notes : List (List Item))
     (k : ℕ) → (length references ≤ k) ⊎ (length notes ≤ k) →
-    NotesAt sink start html out now formats manner number references (drop k references) notes (drop k notes) →
-    PutsPlaces sink start html out now (notes_places formats manner 1 references notes)
-notes_written sink start html out now formats manner number references notes k ended at =
-    puts_same sink start out html now at.places (notes_places formats manner 1 references notes)
+    NotesAt sink start page out now formats manner number references (drop k references) notes (drop k notes) →
+    PutsPlaces sink start page out now (notes_places formats manner 1 references notes)
+notes_written sink start page out now formats manner number references notes k ended at =
+    puts_same sink start out page now at.places (notes_places formats manner 1 references notes)
     (sym (append-nil at.places)
     ∙ ap (λ (x : Places). at.places ++ x) (sym (none_left formats manner number references notes k ended))
     ∙ at.whole)
@@ -100,18 +100,18 @@ is_not_hidden true is = refl
 is_not_hidden false is = absurd (cc (is))
 
 -- one that is not shown
-pub note_hidden : {K : Type 0} (sink : Ghosts K) (a : K) (html : FormPage) (formats : Formats) (manner : Manner)
+pub note_hidden : {K : Type 0} (sink : Ghosts K) (a : K) (page : FormPage) (formats : Formats) (manner : Manner)
     (number : ℕ)
-    (reference : Reference) (note : List Item) → reference.is_shown ≡ false → PutsPlaces sink a html a html
+    (reference : Reference) (note : List Item) → reference.is_shown ≡ false → PutsPlaces sink a page a page
     (note_places formats
     manner number reference note)
-note_hidden sink a html formats manner number reference note hidden =
+note_hidden sink a page formats manner number reference note hidden =
     let none : Places = [] in
-    puts_same sink a a html html none (note_places formats manner number reference note) (sym (ap (λ (b : Bool). if b
+    puts_same sink a a page page none (note_places formats manner number reference note) (sym (ap (λ (b : Bool). if b
     then shown
     (note_path number ++ BackLink number ∷ []) (label_of reference.number) ∷ text_places (hypertext_of [] number note) (note_path number)
     (paragraphs_of formats
-    manner note) else none) hidden)) (places_none sink a html)
+    manner note) else none) hidden)) (places_none sink a page)
 
 -- one that is shown: its label, and its text
 pub note_shown : {K : Type 0} (sink : Ghosts K) (a b c : K) (p q r : FormPage) (formats : Formats) (manner : Manner)

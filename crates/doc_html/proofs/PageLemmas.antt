@@ -3,9 +3,6 @@ use Rattle.std.proofs.Common.{◌≡◌, ◌∙◌, ℕ, Bool, true, false, List
 use Rattle.std.proofs.Common.{Err}
 use Rattle.std.proofs.Common.{append_assoc, append-nil, Option, Some, None, map}
 use Rattle.std.specs.Prelude.{encode_utf8_all, OnOk, OnErr}
-use Rattle.std.specs.Char.{IsScalar}
-use Rattle.std.specs.List.{All}
-use Rattle.std.proofs.lemmas.List.Elements.{All-nil, All-cons}
 use Rattle.style_sheet.specs.Sheet.{Sheet}
 use Rattle.doc_outer.specs.Counts.{Rose, GoesOn}
 use Rattle.doc_outer.specs.Written.{Appends, AppendsPrefix}
@@ -18,103 +15,106 @@ use Rattle.form_page.specs.Forms.{form_text}
 use Rattle.plain_doc.specs.declared.document.Document.{Document}
 use Rattle.plain_doc.specs.Sound.{IsSound}
 use Rattle.plain_doc.proofs.RightLemmas.{sound_is_right}
+use Rattle.list_numbers.specs.declared.paragraph_values.ParagraphValues.{ParagraphValues}
+use Rattle.list_numbers.specs.ParagraphValues.{AreParagraphValuesOf}
+use Rattle.list_numbers.proofs.OneLemmas.{paragraph_values_of_one}
 use Rattle.doc_view.specs.declared.view.Options.{Options}
 use Rattle.doc_view.specs.Page.{AreFormats}
 use Rattle.doc_view.specs.Seen.{Formats}
 use Rattle.doc_view.proofs.LawLemmas.{same_formats}
 use Rattle.doc_view.proofs.PageLemmas.{failed_page, formats_there, prefix_page, whole_page}
 use Rattle.doc_places.specs.Places.{places_of}
-use Rattle.doc_html.specs.Laws.{FormPagesAreOne, HtmlPagesAreSafe}
-use Rattle.doc_html.specs.Head.{head_of, title}
+use Rattle.doc_html.specs.Laws.{FormPagesAreOne, HtmlPagesAreReadBack, HtmlPagesAreSafe}
+use Rattle.doc_html.specs.Head.{head_of}
 use Rattle.doc_html.specs.Page.{IsFormPage, IsHtmlPage, IsSafe}
+use Rattle.html_page.proofs.CloseLemmas.{page_read}
 use Rattle.html_page.proofs.KnownLemmas.{tags_known}
 use Rattle.html_page.proofs.BracketLemmas.{page_nests}
 
 -- ---- the page of a document
 
-pub form_ok : {K E : Type 0} (sink : Ghosts K) (a b c : K) (p q : Page) (form : PageForm) (document : Document) (options : Options)
-    (taken : Result (Unit {0}) E) → IsSound document → p.block ≡ [] → p.failed ≡ false →
-    ((formats : Formats) → AreFormats document.sheet formats → Prints sink a p b q (form_text form document (head_of document) (places_of formats
+pub form_ok : {K E : Type 0} (sink : Ghosts K) (a b c : K) (p q : Page) (form : PageForm) (document : Document) (values : List
+    ParagraphValues) (options : Options) (taken : Result (Unit {0}) E) → AreParagraphValuesOf document values → IsSound document → p.block ≡ [] → p.failed ≡ false →
+    ((formats : Formats) → AreFormats document.sheet formats → Prints sink a p b q (form_text form document (head_of formats options document) (places_of formats values
     options
     document))) → OnOk taken (q.failed ≡ false) → OnOk taken (Appends (sink.written b) (sink.written c) q.block) →
     OnOk taken ((bytes : List ℕ) × (IsFormPage form options document bytes × Appends (sink.written a) (sink.written c)
     bytes))
-form_ok sink a b c p q form document options (Err e) sound empty right put fine ends = tt
-form_ok sink a b c p q form document options (Ok u) sound empty right put fine ends =
+form_ok sink a b c p q form document values options (Err e) are sound empty right put fine ends = tt
+form_ok sink a b c p q form document values options (Ok u) are sound empty right put fine ends =
     let there = formats_there document.sheet (sound_is_right document sound).bases in
-    let bytes = encode_utf8_all (form_text form document (head_of document) (places_of there.0 options document)) in (
+    let bytes = encode_utf8_all (form_text form document (head_of there.0 options document) (places_of there.0 values options document)) in (
       bytes,
       (
-        record { formats = there.0; are = there.1; text = refl },
+        record { formats = there.0; are = there.1; values = values; are_values = are; text = refl },
         whole_page sink a b c p q bytes empty (put there.0 there.1) fine ends,
       ),
     )
 
-pub form_prefix : {K E : Type 0} (sink : Ghosts K) (a b c : K) (p q : Page) (form : PageForm) (document : Document) (options : Options)
-    (taken : Result (Unit {0}) E) → IsSound document → p.block ≡ [] → p.failed ≡ false →
-    ((formats : Formats) → AreFormats document.sheet formats → Prints sink a p b q (form_text form document (head_of document) (places_of formats
+pub form_prefix : {K E : Type 0} (sink : Ghosts K) (a b c : K) (p q : Page) (form : PageForm) (document : Document) (values : List
+    ParagraphValues) (options : Options) (taken : Result (Unit {0}) E) → AreParagraphValuesOf document values → IsSound document → p.block ≡ [] → p.failed ≡ false →
+    ((formats : Formats) → AreFormats document.sheet formats → Prints sink a p b q (form_text form document (head_of formats options document) (places_of formats values
     options
     document))) → OnErr taken (q.failed ≡ false → FailsIn sink b q c []) →
     OnErr taken (q.failed ≡ true → sink.written c ≡ sink.written b) → GoesOn (sink.faults b) (sink.faults c) →
     OnErr taken ((bytes : List ℕ) × (IsFormPage form options document bytes
     × AppendsPrefix (sink.written a) (sink.written c) bytes))
-form_prefix sink a b c p q form document options (Ok u) sound empty right put fails stays on = tt
-form_prefix sink a b c p q form document options (Err e) sound empty right put fails stays on =
+form_prefix sink a b c p q form document values options (Ok u) are sound empty right put fails stays on = tt
+form_prefix sink a b c p q form document values options (Err e) are sound empty right put fails stays on =
     let there = formats_there document.sheet (sound_is_right document sound).bases in
-    let bytes = encode_utf8_all (form_text form document (head_of document) (places_of there.0 options document)) in (
+    let bytes = encode_utf8_all (form_text form document (head_of there.0 options document) (places_of there.0 values options document)) in (
       bytes,
       (
-        record { formats = there.0; are = there.1; text = refl },
+        record { formats = there.0; are = there.1; values = values; are_values = are; text = refl },
         prefix_page sink a c p bytes empty (failed_page sink a b c p q bytes right (put there.0 there.1) fails stays
             on),
       ),
     )
 
-pub form_rose : {K E : Type 0} (sink : Ghosts K) (a b c : K) (p q : Page) (form : PageForm) (document : Document) (options : Options)
-    (taken : Result (Unit {0}) E) → IsSound document → p.failed ≡ false →
-    ((formats : Formats) → AreFormats document.sheet formats → Prints sink a p b q (form_text form document (head_of document) (places_of formats
+pub form_rose : {K E : Type 0} (sink : Ghosts K) (a b c : K) (p q : Page) (form : PageForm) (document : Document) (values : List
+    ParagraphValues) (options : Options) (taken : Result (Unit {0}) E) → AreParagraphValuesOf document values → IsSound document → p.failed ≡ false →
+    ((formats : Formats) → AreFormats document.sheet formats → Prints sink a p b q (form_text form document (head_of formats options document) (places_of formats values
     options
     document))) → OnErr taken (q.failed ≡ false → FailsIn sink b q c []) →
     OnErr taken (q.failed ≡ true → sink.written c ≡ sink.written b) → GoesOn (sink.faults b) (sink.faults c) →
     OnErr taken (Rose (sink.faults a) (sink.faults c))
-form_rose sink a b c p q form document options (Ok u) sound right put fails stays on = tt
-form_rose sink a b c p q form document options (Err e) sound right put fails stays on =
+form_rose sink a b c p q form document values options (Ok u) are sound right put fails stays on = tt
+form_rose sink a b c p q form document values options (Err e) are sound right put fails stays on =
     let there = formats_there document.sheet (sound_is_right document sound).bases in
-    let bytes = encode_utf8_all (form_text form document (head_of document) (places_of there.0 options document)) in
+    let bytes = encode_utf8_all (form_text form document (head_of there.0 options document) (places_of there.0 values options document)) in
     (failed_page sink a b c p q bytes right (put there.0 there.1) fails stays on).rose
 
 -- a document has one page
 pub form_pages_one : FormPagesAreOne
 form_pages_one form options document one other a b =
     a.text
-    ∙ ap (λ (formats : Formats). encode_utf8_all (form_text form document (head_of document) (places_of formats options document)))
+    ∙ ap (λ (formats : Formats). encode_utf8_all (form_text form document (head_of formats options document) (places_of formats a.values
+    options document)))
     (same_formats document.sheet a.formats b.formats a.are b.are)
+    ∙ ap (λ (values : List ParagraphValues). encode_utf8_all (form_text form document (head_of b.formats options document) (places_of
+    b.formats values options document))) (paragraph_values_of_one document a.values b.values a.are_values b.are_values)
     ∙ sym b.text
 
--- the title is of characters
-pub title_scalars : All IsScalar title
-title_scalars =
-    All-cons IsScalar 85 (110 ∷ 116 ∷ 105 ∷ 116 ∷ 108 ∷ 101 ∷ 100 ∷ []) refl (All-cons IsScalar 110 (116 ∷ 105 ∷ 116 ∷
-    108 ∷ 101
-    ∷ 100 ∷ []) refl (All-cons IsScalar 116 (105 ∷ 116 ∷ 108 ∷ 101 ∷ 100 ∷ []) refl (All-cons IsScalar 105 (116 ∷ 108
-    ∷ 101 ∷ 100 ∷
-    []) refl (All-cons IsScalar 116 (108 ∷ 101 ∷ 100 ∷ []) refl (All-cons IsScalar 108 (101 ∷ 100 ∷ []) refl (All-cons
-    IsScalar
-    101 (100 ∷ []) refl (All-cons IsScalar 100 [] refl (All-nil IsScalar))))))))
+-- each page is read back, and safe
+pub html_pages_read : HtmlPagesAreReadBack
+html_pages_read options document bytes is =
+    let head = head_of is.formats options document in
+    let places = places_of is.formats is.values options document in
+    record {
+      formats = is.formats;
+      are = is.are;
+      values = is.values;
+      are_values = is.are_values;
+      text = page_text document head places;
+      bytes_are = is.text;
+      reads = page_read document head places;
+      safe = record { known = tags_known document head places; nests = page_nests document head places };
+    }
 
--- each page is safe
 pub html_pages_safe : HtmlPagesAreSafe
 html_pages_safe options document bytes is =
-    let places = places_of is.formats options document in (
-      page_text document (head_of document) places,
-      (
-        is.text,
-        record {
-          known = tags_known document (head_of document) places;
-          nests = page_nests document (head_of document) places;
-        },
-      ),
-    )
+    let back = html_pages_read options document bytes is in
+    (back.text, (back.bytes_are, back.safe))
 
 -- so is the one that was written
 pub html_known : {K : Type 0} (sink : Ghosts K) (a b : K) (document : Document) (options : Options) → (bytes : List ℕ) ×

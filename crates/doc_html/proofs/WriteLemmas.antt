@@ -1,7 +1,8 @@
 -- Items that are written one after another.
 use Rattle.std.proofs.Common.{◌≡◌, ◌∙◌, ℕ, ◌+◌, ◌<◌, ◌≤◌, List, [], ◌∷◌, ◌++◌, length, take, refl, sym, ap, subst}
 use Rattle.std.proofs.Common.{arith}
-use Rattle.std.proofs.Common.{append_assoc, append-nil, Option, Some, None, length-append, Bool, true, false}
+use Rattle.std.proofs.Common.{append_assoc, append-nil, Option, Some, None, length-append, Bool, true, false, not}
+use Rattle.std.proofs.Common.{◌&&◌, ◌||◌}
 use Rattle.std.specs.Prelude.{slice_get, if◌then◌else◌}
 use Rattle.view_places.specs.declared.glyph.Glyph.{Glyph}
 use Rattle.std.specs.List.{cons_option}
@@ -22,31 +23,27 @@ use Rattle.doc_view.specs.declared.references.Reference.{Reference}
 use Rattle.doc_view.specs.declared.text.Course.{Course}
 use Rattle.doc_view.specs.Course.{IsCourse, with_reference}
 use Rattle.doc_view.specs.Kept.{KeptReferences}
-use Rattle.doc_view.specs.Seen.{Formats, front_of, references_in, seen_as}
+use Rattle.doc_view.specs.Seen.{Formats, front_of, references_in, seen_as, some_shown}
 use Rattle.doc_view.proofs.RangeLemmas.{seen_none, seen_one, seen_range, seen_then}
 use Rattle.doc_view.proofs.CourseLemmas.{course_walk}
-use Rattle.doc_places.specs.Places.{count_of, item_places, items_places, link_to, place_of}
+use Rattle.std.proofs.Math.Bool.{or_assoc}
+use Rattle.std.proofs.lemmas.List.Folds.{list_any-append}
+use Rattle.doc_places.specs.Places.{count_of, item_places, items_places, label_places, link_to, place_of}
 use Rattle.view_places.specs.declared.element.Link.{Link}
 use Rattle.field_links.specs.declared.places.OpenField.{OpenField}
 use Rattle.field_links.specs.OpenFields.{hyperlink_in}
 use Rattle.doc_places.specs.declared.links.Origin.{Origin}
-use Rattle.doc_places.proofs.PlaceLemmas.{count_one, items_places-append, items_places-none, items_places-one}
+use Rattle.doc_places.proofs.PlaceLemmas.{count_one, items_places-append, items_places-hidden, items_places-none, items_places-one}
 use Rattle.doc_html.specs.declared.reading.Reading.{Reading}
-use Rattle.doc_html.specs.Writes.{At, IsReading, Writes, links_in}
+use Rattle.doc_html.specs.Writes.{At, IsReading, Writes, label_before, links_in}
 
 -- other places that are the same
-pub puts_same : {K : Type 0} (sink : Ghosts K) (a b : K) (html left : FormPage) (xs ys : Places) → xs ≡ ys →
+pub puts_same : {K : Type 0} (sink : Ghosts K) (a b : K) (page left : FormPage) (xs ys : Places) → xs ≡ ys →
     PutsPlaces sink a
-    html b left xs → PutsPlaces sink a html b left ys
-puts_same sink a b html left xs ys is puts = subst (λ (places : Places). PutsPlaces sink a html b left places) is puts
+    page b left xs → PutsPlaces sink a page b left ys
+puts_same sink a b page left xs ys is puts = subst (λ (places : Places). PutsPlaces sink a page b left places) is puts
 
--- an item that is not shown, and one that is
-pub hidden_item : (block : List Element) (link : Option Link) (count : ℕ) (seen : Seen) → seen.is_shown ≡ false →
-    item_places block link count seen ≡ []
-hidden_item block link count seen hidden =
-    let none : Places = [] in
-    ap (λ (b : Bool). if b then place_of block link count seen seen.glyph ∷ [] else none) hidden
-
+-- an item that is shown
 pub shown_item : (block : List Element) (link : Option Link) (count : ℕ) (seen : Seen) (glyph : Option Glyph) →
     seen.is_shown ≡ true → seen.glyph ≡ glyph → item_places block link count seen ≡ place_of block link count seen glyph
     ∷ []
@@ -55,29 +52,63 @@ shown_item block link count seen glyph is same =
     ap (λ (b : Bool). if b then place_of block link count seen seen.glyph ∷ [] else none) is ∙ ap (λ (g : Option
     Glyph). place_of block link count seen g ∷ []) same
 
+-- ---- a label before the first item that is shown
+
+and_false : (b : Bool) → (b && false) ≡ false
+and_false true = refl
+and_false false = refl
+
+or_false : (b : Bool) → (b || false) ≡ b
+or_false true = refl
+or_false false = refl
+
+-- where something was written before, nothing of a label is
+pub past_label : (shown : Bool) (label : Places) → (if shown && false then label else []) ≡ []
+past_label true label = refl
+past_label false label = refl
+
+-- the places of some items, and then of others, where something is shown of them or not
+label_then : (begun one other : Bool) (label first second : Places) → (one ≡ false → first ≡ []) →
+    ((if one && not begun then label else []) ++ first) ++ ((if other && not (begun || one) then label else []) ++ second)
+    ≡ (if (one || other) && not begun then label else []) ++ (first ++ second)
+label_then true one other label first second none =
+    (λ i. (past_label one label i ++ first) ++ (past_label other label i ++ second))
+    ∙ sym (λ i. past_label (one || other) label i ++ (first ++ second))
+label_then false true other label first second none =
+    (λ i. (label ++ first) ++ (past_label other label i ++ second)) ∙ append_assoc label first second
+label_then false false other label first second none =
+    let here : Places = if other && true then label else [] in
+    (λ i. none refl i ++ (here ++ second)) ∙ sym (λ i. here ++ (none refl i ++ second))
+
 -- nothing was written
-pub writes_none : {K : Type 0} (sink : Ghosts K) (a : At K) (links : ℕ → Option Link) (block : List Element) → Writes
-    sink a a links block []
-writes_none sink a links block = record {
+pub writes_none : {K : Type 0} (sink : Ghosts K) (a : At K) (links : ℕ → Option Link) (block : List Element) (label :
+    List ℕ) → Writes sink a a links block label []
+writes_none sink a links block label = record {
   puts =
-      puts_same sink a.out a.out a.html a.html [] (items_places links block a.count a.place []) (sym (items_places-none
-      links block a.count a.place)) (places_none sink a.out a.html);
+      puts_same sink a.out a.out a.page a.page [] (items_places links block a.count a.place []) (sym (items_places-none
+      links block a.count a.place)) (places_none sink a.out a.page);
+  begun = sym (or_false a.begun);
   count = omega arith;
   place = omega arith;
   references = sym (append-nil a.references);
 }
 
 -- some items were written, and then others
-pub writes_then : {K : Type 0} (sink : Ghosts K) (a b c : At K) (links : ℕ → Option Link) (block : List Element) (xs ys
-    : List Seen) → Writes sink a b links block xs → Writes sink b c links block ys → Writes sink a c links block (xs ++
-    ys)
-writes_then sink a b c links block xs ys one other =
+pub writes_then : {K : Type 0} (sink : Ghosts K) (a b c : At K) (links : ℕ → Option Link) (block : List Element) (label :
+    List ℕ) (xs ys : List Seen) → Writes sink a b links block label xs → Writes sink b c links block label ys → Writes
+    sink a c links block label (xs ++ ys)
+writes_then sink a b c links block label xs ys one other =
     let count = a.count + length (references_in xs) in
     let place = a.place + length xs in
-    let second : PutsPlaces sink b.out b.html c.out c.html (items_places links block count place ys) =
-    subst (λ (n : ℕ). PutsPlaces sink b.out b.html c.out c.html (items_places links block count n ys)) one.place (subst
-    (λ (n : ℕ). PutsPlaces sink b.out b.html c.out c.html (items_places links block n b.place ys)) one.count other.puts)
-    in
+    let first = items_places links block a.count a.place xs in
+    let second = items_places links block count place ys in
+    let begun = a.begun || some_shown xs in
+    let later : PutsPlaces sink b.out b.page c.out c.page (label_before begun block label ys ++ second) =
+    subst (λ (n : ℕ). PutsPlaces sink b.out b.page c.out c.page (label_before begun block label ys ++ items_places
+    links block count n ys)) one.place (subst (λ (n : ℕ). PutsPlaces sink b.out b.page c.out c.page (label_before begun
+    block label ys ++ items_places links block n b.place ys)) one.count (subst (λ (x : Bool). PutsPlaces sink b.out
+    b.page c.out c.page (label_before x block label ys ++ items_places links block b.count b.place ys)) one.begun
+    other.puts)) in
     let all : references_in (xs ++ ys) ≡ references_in xs ++ references_in ys = filter_map-append (λ (s : Seen).
     s.reference) xs ys
     in
@@ -88,13 +119,26 @@ writes_then sink a b c links block xs ys one other =
     let next_count = other.count in
     let first_place = one.place in
     let next_place = other.place in
+    let places = label_places block label in
+    let whole : (label_before a.begun block label xs ++ first) ++ (label_before begun block label ys ++ second) ≡
+    label_before a.begun block label (xs ++ ys) ++ items_places links block a.count a.place (xs ++ ys) =
+    label_then a.begun (some_shown xs) (some_shown ys) places first second (items_places-hidden links block a.count
+    a.place xs)
+    ∙ sym (λ i. (if list_any-append (λ (s : Seen). s.is_shown) xs ys i && not a.begun then places else []) ++ items_places-append links block a.count
+    a.place xs ys i)
+    in
     record {
       puts =
-          puts_same sink a.out c.out a.html c.html (items_places links block a.count a.place xs ++ items_places links
-          block count place ys) (items_places links block a.count a.place (xs ++ ys)) (sym (items_places-append links
-          block a.count a.place xs ys))
-          (places_then sink a.out b.out c.out a.html b.html c.html (items_places links block a.count a.place xs)
-          (items_places links block count place ys) one.puts second);
+          puts_same sink a.out c.out a.page c.page ((label_before a.begun block label xs ++ first) ++ (label_before
+          begun block label ys ++ second)) (label_before a.begun block label (xs ++ ys) ++ items_places links block
+          a.count a.place (xs ++ ys)) whole
+          (places_then sink a.out b.out c.out a.page b.page c.page (label_before a.begun block label xs ++ first)
+          (label_before begun block label ys ++ second) one.puts later);
+      begun =
+          other.begun
+          ∙ ap (λ (x : Bool). x || some_shown ys) one.begun
+          ∙ or_assoc a.begun (some_shown xs) (some_shown ys)
+          ∙ sym (ap (λ (x : Bool). a.begun || x) (list_any-append (λ (s : Seen). s.is_shown) xs ys));
       count = omega (arith, first_count, next_count, long);
       place = omega (arith, first_place, next_place, both);
       references =
@@ -106,43 +150,43 @@ writes_then sink a b c links block xs ys one other =
 
 -- ---- ranges of items
 
-pub writes_start : {K : Type 0} (sink : Ghosts K) (a : At K) (links : ℕ → Option Link) (block : List Element) (formats :
-    Formats) (manner : Manner) (istd : ℕ) (items : List Item) (place : ℕ) → Writes sink a a links block (seen_range
+pub writes_start : {K : Type 0} (sink : Ghosts K) (a : At K) (links : ℕ → Option Link) (block : List Element) (label : List ℕ) (formats :
+    Formats) (manner : Manner) (istd : ℕ) (items : List Item) (place : ℕ) → Writes sink a a links block label (seen_range
     formats manner istd items place place)
-writes_start sink a links block formats manner istd items place =
-    subst (λ (seen : List Seen). Writes sink a a links block seen) (sym (seen_none formats manner istd items place))
-    (writes_none sink a links block)
+writes_start sink a links block label formats manner istd items place =
+    subst (λ (seen : List Seen). Writes sink a a links block label seen) (sym (seen_none formats manner istd items place))
+    (writes_none sink a links block label)
 
-pub writes_further : {K : Type 0} (sink : Ghosts K) (a b c : At K) (links : ℕ → Option Link) (block : List Element)
-    (formats : Formats) (manner : Manner) (istd : ℕ) (items : List Item) (from mid to : ℕ) → from ≤ mid → mid ≤ to →
-    Writes sink a b links block (seen_range formats manner istd items from mid) →
-    Writes sink b c links block (seen_range formats manner istd items mid to) →
-    Writes sink a c links block (seen_range formats manner istd items from to)
-writes_further sink a b c links block formats manner istd items from mid to low high one other =
-    subst (λ (seen : List Seen). Writes sink a c links block seen) (sym (seen_then formats manner istd items from mid to
-    low high))
-    (writes_then sink a b c links block (seen_range formats manner istd items from mid) (seen_range formats manner istd
+pub writes_further : {K : Type 0} (sink : Ghosts K) (a b c : At K) (links : ℕ → Option Link) (block : List Element) (label : List ℕ) (formats :
+    Formats) (manner : Manner) (istd : ℕ) (items : List Item) (from mid to : ℕ) → from ≤ mid → mid ≤ to →
+    Writes sink a b links block label (seen_range formats manner istd items from mid) →
+    Writes sink b c links block label (seen_range formats manner istd items mid to) →
+    Writes sink a c links block label (seen_range formats manner istd items from to)
+writes_further sink a b c links block label formats manner istd items from mid to low high one other =
+    subst (λ (seen : List Seen). Writes sink a c links block label seen) (sym (seen_then formats manner istd items from mid
+    to low high))
+    (writes_then sink a b c links block label (seen_range formats manner istd items from mid) (seen_range formats manner istd
     items mid to) one other)
 
-pub writes_to : {K : Type 0} (sink : Ghosts K) (a b : At K) (links : ℕ → Option Link) (block : List Element) (formats :
+pub writes_to : {K : Type 0} (sink : Ghosts K) (a b : At K) (links : ℕ → Option Link) (block : List Element) (label : List ℕ) (formats :
     Formats) (manner : Manner) (istd : ℕ) (items : List Item) (from mid to : ℕ) → mid ≡ to → Writes sink a b links block
-    (seen_range formats manner istd items from mid) → Writes sink a b links block (seen_range formats manner istd items
-    from to)
-writes_to sink a b links block formats manner istd items from mid to same writes =
-    subst (λ (n : ℕ). Writes sink a b links block (seen_range formats manner istd items from n)) same writes
+    label (seen_range formats manner istd items from mid) →
+    Writes sink a b links block label (seen_range formats manner istd items from to)
+writes_to sink a b links block label formats manner istd items from mid to same writes =
+    subst (λ (n : ℕ). Writes sink a b links block label (seen_range formats manner istd items from n)) same writes
 
 -- the same inside of the same elements
-pub writes_in : {K : Type 0} (sink : Ghosts K) (a b : At K) (links : ℕ → Option Link) (block other : List Element) (seen
-    : List Seen) → block ≡ other → Writes sink a b links block seen → Writes sink a b links other seen
-writes_in sink a b links block other seen is writes =
-    subst (λ (path : List Element). Writes sink a b links path seen) is writes
+pub writes_in : {K : Type 0} (sink : Ghosts K) (a b : At K) (links : ℕ → Option Link) (block other : List Element) (label : List ℕ) (seen : List
+    Seen) → block ≡ other → Writes sink a b links block label seen → Writes sink a b links other label seen
+writes_in sink a b links block other label seen is writes = subst (λ (path : List Element). Writes sink a b links path label seen)
+    is writes
 
 -- the same in the same paragraph
 pub writes_from : {K : Type 0} (sink : Ghosts K) (a b : At K) (one other : Origin) (items : List Item) (block : List
-    Element) (seen : List Seen) → one ≡ other → Writes sink a b (links_in one items) block seen → Writes sink a b
-    (links_in other items) block seen
-writes_from sink a b one other items block seen is writes =
-    subst (λ (origin : Origin). Writes sink a b (links_in origin items) block seen) is writes
+    Element) (label : List ℕ) (seen : List Seen) → one ≡ other → Writes sink a b (links_in one items) block label seen →
+    Writes sink a b (links_in other items) block label seen
+writes_from sink a b one other items block label seen is writes =
+    subst (λ (origin : Origin). Writes sink a b (links_in origin items) block label seen) is writes
 
 -- ---- the item of a place
 
@@ -156,75 +200,92 @@ references_on : (kept : KeptReferences) (reference : Option Reference) → (with
 references_on kept None = sym (append-nil kept.list)
 references_on kept (Some reference) = refl
 
-item_writes : {K : Type 0} (sink : Ghosts K) (out next : K) (html left : FormPage) (count place : ℕ) (kept :
-    KeptReferences) (links : ℕ → Option Link) (block : List Element) (seen : Seen) → PutsPlaces sink out html next left
-    (item_places block (links place) count seen) →
-    Writes sink (record { out = out; html = html; count = count; place = place; references = kept.list })
-    (record {
-      out = next;
-      html = left;
-      count = count + count_of seen.reference;
-      place = place + 1;
-      references = (with_reference kept seen.reference).list;
-    }) links block (seen ∷ [])
-item_writes sink out next html left count place kept links block seen puts = record {
-  puts =
-      puts_same sink out next html left (item_places block (links place) count seen) (items_places links block count
-      place (seen ∷ [])) (sym (items_places-one links block count place seen)) puts;
-  count = ap (λ (n : ℕ). count + n) (sym (count_one seen));
-  place = omega arith;
-  references = references_on kept seen.reference;
-}
-
-pub item_written : {K : Type 0} (sink : Ghosts K) (out next : K) (html left : FormPage) (count : ℕ) (origin : Origin)
-    (link : Option Link) (block : List Element) (manner : Manner) (items : List Item) (course : Course) (format :
-    CharFormat) (item : Item) (seen : Seen) (formats : Formats) (istd : ℕ)
-    → IsCourse manner items course → slice_get items course.place ≡ Some item → seen ≡ seen_as manner format
-    course.front item →
-    formats istd item.chp ≡ format → link ≡ link_to origin.note (hyperlink_in origin.begin course.fields) → PutsPlaces
-    sink out html next left (item_places block link count seen) →
+item_writes : {K : Type 0} (sink : Ghosts K) (out mid next : K) (page said left : FormPage) (begun : Bool) (count place
+    : ℕ) (kept : KeptReferences) (links : ℕ → Option Link) (block : List Element) (label : List ℕ) (seen : Seen) →
+    PutsPlaces sink out page mid said (if seen.is_shown && not begun then label_places block label else []) →
+    PutsPlaces sink mid said next left (item_places block (links place) count seen) →
     Writes sink (record {
       out = out;
-      html = html;
+      page = page;
+      begun = begun;
       count = count;
-      place = course.place;
-      references =
-          course.references.list;
+      place = place;
+      references = kept.list;
     })
     (record {
       out = next;
-      html = left;
+      page = left;
+      begun = begun || seen.is_shown;
+      count = count + count_of seen.reference;
+      place = place + 1;
+      references = (with_reference kept seen.reference).list;
+    }) links block label (seen ∷ [])
+item_writes sink out mid next page said left begun count place kept links block label seen first puts =
+    let places = label_places block label in
+    let here = item_places block (links place) count seen in
+    let before : Places = if seen.is_shown && not begun then places else [] in
+    record {
+      puts =
+          puts_same sink out next page left (before ++ here) (label_before begun block label (seen ∷ []) ++ items_places
+          links block count place (seen ∷ [])) (λ i. (if sym (or_false seen.is_shown) i && not begun then places else
+          []) ++ sym (items_places-one links block count place seen) i)
+          (places_then sink out mid next page said left before here first puts);
+      begun = ap (λ (b : Bool). begun || b) (sym (or_false seen.is_shown));
+      count = ap (λ (n : ℕ). count + n) (sym (count_one seen));
+      place = omega arith;
+      references = references_on kept seen.reference;
+    }
+
+pub item_written : {K : Type 0} (sink : Ghosts K) (out mid next : K) (page said left : FormPage) (begun : Bool)
+    (count : ℕ) (origin : Origin) (link : Option Link) (block : List Element) (label : List ℕ) (manner : Manner) (items :
+    List Item) (course : Course) (format : CharFormat) (item : Item) (seen : Seen) (formats : Formats) (istd : ℕ)
+    → IsCourse manner items course → slice_get items course.place ≡ Some item → seen ≡ seen_as manner format
+    course.front item → formats istd item.chp ≡ format →
+    link ≡ link_to origin.note (hyperlink_in origin.begin course.fields) →
+    PutsPlaces sink out page mid said (if seen.is_shown && not begun then label_places block label else []) →
+    PutsPlaces sink mid said next left (item_places block link count seen) →
+    Writes sink (record {
+      out = out;
+      page = page;
+      begun = begun;
+      count = count;
+      place = course.place;
+      references = course.references.list;
+    })
+    (record {
+      out = next;
+      page = left;
+      begun = begun || seen.is_shown;
       count = count + count_of seen.reference;
       place = course.place + 1;
-      references =
-          (with_reference course.references seen.reference).list;
-    }) (links_in origin items) block (seen_range formats manner istd items course.place (course.place + 1))
-item_written sink out next html left count origin link block manner items course format item seen formats istd is here
-    same formed leads puts =
+      references = (with_reference course.references seen.reference).list;
+    }) (links_in origin items) block label (seen_range formats manner istd items course.place (course.place + 1))
+item_written sink out mid next page said left begun count origin link block label manner items course format item seen
+    formats istd is here same formed leads first puts =
     let links = links_in origin items in
     let right : link ≡ links course.place =
     leads ∙ ap (λ (fields : List OpenField). link_to origin.note (hyperlink_in origin.begin fields)) is.fields in
     subst (λ (all : List Seen). Writes sink (record {
       out = out;
-      html = html;
+      page = page;
+      begun = begun;
       count = count;
       place = course.place;
-      references =
-          course.references.list;
+      references = course.references.list;
     })
     (record {
       out = next;
-      html = left;
+      page = left;
+      begun = begun || seen.is_shown;
       count = count + count_of seen.reference;
       place = course.place + 1;
-      references =
-          (with_reference course.references seen.reference).list;
-    }) links block all)
+      references = (with_reference course.references seen.reference).list;
+    }) links block label all)
     (sym (seen_one formats manner istd items course.place item here
     ∙ (λ i. seen_as manner (formed i) (sym is.front i) item ∷ []) ∙ ap (λ (s : Seen). s ∷ []) (sym same)))
-    (item_writes sink out next html left count course.place course.references links block seen (puts_same sink out next
-    html left (item_places block link count seen) (item_places block (links course.place) count seen) (ap (λ (l : Option
-    Link). item_places block l count seen) right) puts))
+    (item_writes sink out mid next page said left begun count course.place course.references links block label seen
+    first (puts_same sink mid next said left (item_places block link count seen) (item_places block (links course.place)
+    count seen) (ap (λ (l : Option Link). item_places block l count seen) right) puts))
 
 -- the walk over the columns is none of where the reading is
 pub reading_walk : (manner : Manner) (items : List Item) (reading : Reading) (walk : Walk) → IsReading manner items

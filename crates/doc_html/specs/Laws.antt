@@ -1,7 +1,15 @@
 -- What the definitions imply.
 use Rattle.std.specs.Prelude.{◌≡◌, ℕ, List, encode_utf8_all}
 use Rattle.plain_doc.specs.declared.document.Document.{Document}
+use Rattle.list_numbers.specs.declared.paragraph_values.ParagraphValues.{ParagraphValues}
+use Rattle.list_numbers.specs.ParagraphValues.{AreParagraphValuesOf}
+use Rattle.html_text.specs.Reading.{read}
+use Rattle.html_page.specs.Pages.{page_tokens}
 use Rattle.doc_view.specs.declared.view.Options.{Options}
+use Rattle.doc_view.specs.Page.{AreFormats}
+use Rattle.doc_view.specs.Seen.{Formats}
+use Rattle.doc_places.specs.Places.{places_of}
+use Rattle.doc_html.specs.Head.{head_of}
 use Rattle.form_page.specs.declared.page.PageForm.{PageForm}
 use Rattle.doc_html.specs.Page.{IsFormPage, IsHtmlPage, IsSafe}
 
@@ -10,6 +18,22 @@ abbrev pub FormPagesAreOne : Type 0
 FormPagesAreOne =
     (form : PageForm) (options : Options) (document : Document) (one other : List ℕ) →
     IsFormPage form options document one → IsFormPage form options document other → one ≡ other
+
+-- a page of a document is the UTF-8 of characters that are read as the tokens of its head and its places, and are safe
+pub record IsReadBack (options : Options) (document : Document) (bytes : List ℕ) : Type 0 where
+  pub formats : Formats
+  pub are : AreFormats document.sheet formats
+  pub values : List ParagraphValues
+  pub are_values : AreParagraphValuesOf document values
+  pub text : List ℕ
+  pub bytes_are : bytes ≡ encode_utf8_all text
+  pub reads : read text ≡ page_tokens document (head_of formats options document) (places_of formats values options document)
+  pub safe : IsSafe text
+
+abbrev pub HtmlPagesAreReadBack : Type 0
+HtmlPagesAreReadBack =
+    (options : Options) (document : Document) (bytes : List ℕ) →
+    IsHtmlPage options document bytes → IsReadBack options document bytes
 
 -- each page in HTML has the UTF-8 of characters that are safe
 abbrev pub HtmlPagesAreSafe : Type 0

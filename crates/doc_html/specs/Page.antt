@@ -2,6 +2,8 @@
 use Rattle.std.specs.Prelude.{◌≡◌, ℕ, List, [], encode_utf8_all}
 use Rattle.std.specs.List.{All}
 use Rattle.plain_doc.specs.declared.document.Document.{Document}
+use Rattle.list_numbers.specs.declared.paragraph_values.ParagraphValues.{ParagraphValues}
+use Rattle.list_numbers.specs.ParagraphValues.{AreParagraphValuesOf}
 use Rattle.doc_view.specs.declared.view.Options.{Options}
 use Rattle.doc_view.specs.Page.{AreFormats}
 use Rattle.doc_view.specs.Seen.{Formats}
@@ -18,7 +20,11 @@ use Rattle.doc_html.specs.Head.{head_of}
 pub record IsFormPage (form : PageForm) (options : Options) (document : Document) (bytes : List ℕ) : Type 0 where
   pub formats : Formats
   pub are : AreFormats document.sheet formats
-  pub text : bytes ≡ encode_utf8_all (form_text form document (head_of document) (places_of formats options document))
+  pub values : List ParagraphValues
+  pub are_values : AreParagraphValuesOf document values
+  pub text :
+      bytes ≡ encode_utf8_all (form_text form document (head_of formats options document)
+      (places_of formats values options document))
 
 -- the bytes are the page in HTML
 abbrev pub IsHtmlPage : Options → Document → List ℕ → Type 0

@@ -1,23 +1,24 @@
 -- A document while it is read and written: where the reading is, and the places that were put.
-use Rattle.std.specs.Prelude.{◌≡◌, ℕ, ◌+◌, ◌≤◌, Bool, List, ◌++◌, Option, length, take, drop, if◌then◌else◌}
+use Rattle.std.specs.Prelude.{◌≡◌, ℕ, ◌+◌, ◌≤◌, Bool, false, not, ◌&&◌, ◌||◌, List, [], ◌++◌, Option, length, take, drop}
+use Rattle.std.specs.Prelude.{if◌then◌else◌}
 use Rattle.doc_outer.specs.declared.sink.Sink.{Ghosts}
 use Rattle.plain_doc.specs.declared.item.Item.{Item}
 use Rattle.plain_doc.specs.Settings.{is_inside}
 use Rattle.plain_doc.specs.Stretches.{stretches}
 use Rattle.view_places.specs.declared.element.Element.{Element}
 use Rattle.form_page.specs.declared.page.FormPage.{FormPage}
-use Rattle.form_page.specs.Forms.{PutsPlaces}
+use Rattle.form_page.specs.Forms.{Places, PutsPlaces}
 use Rattle.doc_view.specs.declared.reading.Manner.{Manner}
 use Rattle.doc_view.specs.declared.reading.Seen.{Seen}
 use Rattle.doc_view.specs.declared.references.Reference.{Reference}
 use Rattle.doc_view.specs.declared.standing.Standing.{Standing}
 use Rattle.doc_view.specs.Course.{IsCourse}
 use Rattle.doc_view.specs.Layout.{ends_head, keeps_row}
-use Rattle.doc_view.specs.Seen.{Formats, Paragraph, paragraphs_from, references_in}
+use Rattle.doc_view.specs.Seen.{Formats, Paragraph, paragraphs_from, references_in, some_shown}
 use Rattle.doc_places.specs.Grid.{is_head_row}
 use Rattle.view_places.specs.declared.element.Link.{Link}
 use Rattle.doc_places.specs.declared.links.Origin.{Origin}
-use Rattle.doc_places.specs.Places.{items_places, links_of}
+use Rattle.doc_places.specs.Places.{items_places, label_places, links_of}
 use Rattle.doc_html.specs.declared.reading.Reading.{Reading}
 use Rattle.doc_html.specs.declared.writer.Writer.{Writer}
 
@@ -35,10 +36,12 @@ pub record IsReading (manner : Manner) (items : List Item) (reading : Reading) :
   pub course : IsCourse manner items reading.course
   pub few : reading.count ≤ reading.course.place
 
--- what was written of a page, up to which place, and how many references and which were met
+-- what was written of a page, whether something of the paragraph was and up to which place, and how many references and
+-- which were met
 pub record At (K : Type 0) : Type 0 where
   pub out : K
-  pub html : FormPage
+  pub page : FormPage
+  pub begun : Bool
   pub count : ℕ
   pub place : ℕ
   pub references : List Reference
@@ -46,22 +49,32 @@ pub record At (K : Type 0) : Type 0 where
 abbrev pub at : {K : Type 0} → K → Writer → Reading → At K
 at out writer reading = record {
   out = out;
-  html = writer.html;
+  page = writer.page;
+  begun = reading.begun;
   count = reading.count;
   place = reading.course.place;
   references = reading.course.references.list;
 }
 
+-- where nothing of the paragraph was written
+abbrev pub at_front : {K : Type 0} → At K → At K
+at_front at = record at { begun = false }
+
 -- the links of a paragraph
 abbrev pub links_in : Origin → List Item → ℕ → Option Link
 links_in origin items = links_of origin.note items origin.begin
 
--- items of a paragraph with these links were written
+-- a label stands before the first item that is shown
+abbrev pub label_before : Bool → List Element → List ℕ → List Seen → Places
+label_before begun block label seen = if some_shown seen && not begun then label_places block label else []
+
+-- items of a paragraph with these links and this label were written
 pub record Writes {K : Type 0} (sink : Ghosts K) (before after : At K) (links : ℕ → Option Link) (block : List Element)
-    (seen : List Seen) : Type 0 where
+    (label : List ℕ) (seen : List Seen) : Type 0 where
   pub puts :
-      PutsPlaces sink before.out before.html after.out after.html
-      (items_places links block before.count before.place seen)
+      PutsPlaces sink before.out before.page after.out after.page
+      (label_before before.begun block label seen ++ items_places links block before.count before.place seen)
+  pub begun : after.begun ≡ (before.begun || some_shown seen)
   pub count : after.count ≡ before.count + length (references_in seen)
   pub place : after.place ≡ before.place + length seen
   pub references : after.references ≡ before.references ++ references_in seen

@@ -22,7 +22,7 @@ pub(crate) fn write_anchors<K: Sink>(
     requires next { next ≤ lead bookmarks.now end }
     ensures path { writer.new.path ≡ writer.old.path }
     ensures next { result ≡ lead bookmarks.now end }
-    ensures puts { PutsPlaces K.Sink out.old writer.old.html out.new writer.new.html
+    ensures puts { PutsPlaces K.Sink out.old writer.old.page out.new writer.new.page
         (anchor_places writer.old.path (numbers next (lead bookmarks.now end - next))) }
 {
     let mut number = next;
@@ -49,11 +49,11 @@ fn begins_before(bookmarks: &Bookmarks, number: usize, end: usize) -> bool
 fn write_anchor<K: Sink>(writer: &mut Writer<'_>, out: &mut K, number: usize)
     requires { length writer.old.path < MAX_DEPTH }
     ensures path { writer.new.path ≡ writer.old.path }
-    ensures puts { PutsPlaces K.Sink out.old writer.old.html out.new writer.new.html
+    ensures puts { PutsPlaces K.Sink out.old writer.old.page out.new writer.new.page
         (bare (writer.old.path ++ Anchor number ∷ []) ∷ []) }
 {
     let depth = writer.path.len();
     writer.path.push(Element::Anchor(number));
-    writer.html.put(out, &writer.path, None);
+    writer.page.put(out, &writer.path, None);
     writer.path.truncate(depth);
 }

@@ -7,8 +7,9 @@ mod heads;
 mod laws;
 mod notes;
 mod reading;
+mod title;
 mod view;
 mod writer;
 
-pub use laws::{form_pages_are_one, html_pages_are_safe};
+pub use laws::{form_pages_are_one, html_pages_are_read_back, html_pages_are_safe};
 pub use view::{write_form, write_html};

@@ -11,13 +11,14 @@ ghost use Rattle.form_page.specs.Forms.{PutsPlaces};
 ghost use Rattle.view_places.specs.declared.element.Element.TheVariants.{BackLink};
 ghost use Rattle.doc_view.specs.declared.reading.TextKind.TheVariants as text_kind;
 
-use crate::reading::write_text;
+use crate::reading::{Context, write_text};
 use crate::writer::Writer;
 use char_formats::StyleFormats;
 use doc_columns::ColumnTexts;
 use doc_outer::Sink;
 use doc_parts::Bookmarks;
 use doc_view::{Manner, Reference, References, Text, TextKind};
+use list_numbers::ParagraphValuesList;
 use std::alloc::Global;
 use view_places::{Element, Glyph};
 
@@ -47,7 +48,7 @@ impl Notes<'_> {
         requires path { writer.old.path ≡ [] }
         ensures path { writer.new.path ≡ [] }
         ensures puts { (formats : Formats) → AreFormats self.now.formats.now formats
-            → PutsPlaces K.Sink out.old writer.old.html out.new writer.new.html
+            → PutsPlaces K.Sink out.old writer.old.page out.new writer.new.page
             (notes_places formats (record { hidden = self.now.hidden; kind = text_kind.Note }) 1 references.now.list
             self.now.texts.now) }
     {
@@ -74,7 +75,7 @@ impl Notes<'_> {
         ensures path { writer.new.path ≡ [] }
         ensures puts { (formats : Formats) (note : List Item) → AreFormats self.now.formats.now formats
             → slice_get self.now.texts.now k ≡ Some note
-            → PutsPlaces K.Sink out.old writer.old.html out.new writer.new.html
+            → PutsPlaces K.Sink out.old writer.old.page out.new writer.new.page
             (note_places formats (record { hidden = self.now.hidden; kind = text_kind.Note }) (k + 1) reference note) }
     {
         if !reference.is_shown {
@@ -90,8 +91,14 @@ impl Notes<'_> {
             },
         };
         let bookmarks = Bookmarks::new(self.alloc);
+        let values = ParagraphValuesList::new(self.alloc);
+        let context = Context {
+            note: k + 1,
+            bookmarks: &bookmarks,
+            values: &values,
+        };
         let references = References::none(self.alloc);
-        let _ = write_text(writer, out, k + 1, &text, &bookmarks, references);
+        let _ = write_text(writer, out, &text, &context, references);
         writer.path.truncate(0);
     }
 }
@@ -100,13 +107,13 @@ impl Notes<'_> {
 fn open_note<K: Sink>(writer: &mut Writer<'_>, out: &mut K, number: usize, label: Option<u32>)
     requires { writer.old.path ≡ [] }
     ensures path { writer.new.path ≡ note_path number }
-    ensures puts { PutsPlaces K.Sink out.old writer.old.html out.new writer.new.html
+    ensures puts { PutsPlaces K.Sink out.old writer.old.page out.new writer.new.page
         (shown (note_path number ++ BackLink number ∷ []) (label_of label) ∷ []) }
 {
     writer.path.push(Element::Notes);
     writer.path.push(Element::Note(number));
     writer.path.push(Element::BackLink(number));
-    writer.html.put(out, &writer.path, Some(label_of(label)));
+    writer.page.put(out, &writer.path, Some(label_of(label)));
     writer.path.truncate(2);
 }
 

@@ -1,14 +1,15 @@
 // A text that is read and written: its paragraphs, one behind the other.
-ghost use Rattle.std.specs.Prelude.{◌≡◌, ℕ, ◌+◌, ◌^◌, ◌<◌, ◌≤◌, ◌++◌, List, length, take, slice_range};
+ghost use Rattle.std.specs.Prelude.{◌≡◌, ℕ, ◌+◌, ◌^◌, ◌<◌, ◌≤◌, ◌++◌, ◌||◌, List, length, take, slice_range};
 ghost use Rattle.std.specs.List.{count_by};
 ghost use Rattle.style_sheet.specs.Chain.{kind_at};
 ghost use Rattle.plain_doc.specs.declared.item.Item.{Item};
 ghost use Rattle.plain_doc.specs.RightDocument.{HoldsAtItems};
 ghost use Rattle.plain_doc.specs.RulesOfTexts.{HasParagraphStyle};
 ghost use Rattle.doc_columns.specs.Walks.{items_in, AreParts, IsWalk};
-ghost use Rattle.doc_view.specs.Course.{HasBeside, HasFormat, has_reference};
+ghost use Rattle.doc_view.specs.Course.{HasBeside, HasFormat, IsCourse, has_reference};
+ghost use Rattle.doc_view.specs.declared.reading.Manner.{Manner};
 ghost use Rattle.doc_view.specs.Page.{AreFormats};
-ghost use Rattle.doc_view.specs.Seen.{Formats, paragraphs_of, references_of, seen_from};
+ghost use Rattle.doc_view.specs.Seen.{Formats, paragraphs_of, references_of, seen_from, with_values};
 ghost use Rattle.doc_places.specs.Places.{count_of, hypertext_of, text_places};
 ghost use Rattle.form_page.specs.Forms.{PutsPlaces};
 ghost use Rattle.doc_html.specs.Writes.{IsReading, Writes, at, links_in};
@@ -19,83 +20,117 @@ use crate::writer::Writer;
 use doc_columns::{alike_from, paragraph_end};
 use doc_outer::Sink;
 use doc_parts::Bookmarks;
-use doc_places::{Grid, Origin, push_block};
+use doc_places::{Grid, Lists, Look, Origin, label_units, push_block};
 use doc_view::{Bounds, Course, Reference, References, Standing, Stretch, Text, see, style_of};
+use list_numbers::ParagraphValuesList;
 use run_lists::{Cursor, seek};
 use view_paths::MAX_DEPTH;
 
-/// Where the reading of a text is, to how many notes the items in front refer, and where its paragraph is.
+/// Where the reading of a text is, to how many notes the items in front refer, where its paragraph is, and whether
+/// something of the paragraph was written.
 #[derive(Drop)]
 pub(crate) struct Reading {
     pub(crate) course: Course,
     pub(crate) count: usize,
     pub(crate) origin: Origin,
+    pub(crate) begun: bool,
 }
 
-/// Writes the text of the note with this number, from 1, or the main text, inside of the elements that are open. Its
-/// bookmarks are in order. It answers the notes that the text refers to. It is linear in the units and the runs.
+impl Reading {
+    /// At the start of the text of a note with this number, from 1, or of the main text.
+    fn new(references: References, note: usize) -> Reading
+        ensures place { result.course.place ≡ 0 }
+        ensures walk { result.course.walk ≡ record { chps = record { run = 0; begin = 0 }; besides = record { run = 0; begin = 0 } } }
+        ensures references { result.course.references ≡ references }
+        ensures count { result.count ≡ 0 }
+        ensures course { (manner : Manner) (items : List Item) → count_by (has_reference manner) items ≤ references.room
+            → IsCourse manner items result.course }
+    {
+        Reading {
+            course: Course::new(references),
+            count: 0,
+            origin: Origin::new(note, 0),
+            begun: false,
+        }
+    }
+}
+
+/// What else is known of a text: the number of its note, from 1, or 0 of the main text, its bookmarks, and the values of its
+/// paragraphs.
+#[derive(Drop)]
+pub(crate) struct Context<'a> {
+    pub(crate) note: usize,
+    pub(crate) bookmarks: &'a Bookmarks,
+    pub(crate) values: &'a ParagraphValuesList,
+}
+
+/// Writes a text inside of the elements that are open. Its bookmarks are in order. It answers the notes that the text
+/// refers to. It is linear in the units and the runs.
 pub(crate) fn write_text<K: Sink>(
     writer: &mut Writer<'_>,
     out: &mut K,
-    note: usize,
     text: &Text<'_>,
-    bookmarks: &Bookmarks,
+    context: &Context<'_>,
     references: References,
 ) -> References
     requires parts { AreParts text.now.parts }
     requires normal { kind_at text.now.formats.now 0 ≡ 1 }
     requires styles { HoldsAtItems (items_in text.now.parts) (λ i item. HasParagraphStyle text.now.formats.now item) }
     requires room { count_by (has_reference text.now.manner) (items_in text.now.parts) ≤ references.room }
-    requires depth { length writer.old.path + 13 ≤ MAX_DEPTH }
+    requires depth { length writer.old.path + 21 ≤ MAX_DEPTH }
     ensures path { writer.new.path ≡ writer.old.path }
     ensures puts { (formats : Formats) → AreFormats text.now.formats.now formats
-        → PutsPlaces K.Sink out.old writer.old.html out.new writer.new.html
-        (text_places (hypertext_of bookmarks.now note (items_in text.now.parts)) writer.old.path (paragraphs_of formats text.now.manner (items_in text.now.parts))) }
+        → PutsPlaces K.Sink out.old writer.old.page out.new writer.new.page
+        (text_places (hypertext_of context.now.bookmarks.now context.now.note (items_in text.now.parts)) writer.old.path
+        (with_values context.now.values.now (paragraphs_of formats text.now.manner (items_in text.now.parts)))) }
     ensures references { (formats : Formats) → AreFormats text.now.formats.now formats → result.list
-        ≡ references.list ++ references_of (paragraphs_of formats text.now.manner (items_in text.now.parts)) }
+        ≡ references.list ++ references_of (with_values context.now.values.now
+        (paragraphs_of formats text.now.manner (items_in text.now.parts))) }
 {
     let len = text.parts.units.len();
     let depth = writer.path.len();
-    let course = Course::new(references);
-    let first = Origin::new(note, 0);
-    let mut reading = Reading {
-        course,
-        count: 0,
-        origin: first,
-    };
+    let mut reading = Reading::new(references, context.note);
     let mut marks = Cursor::new();
     let mut grid = Grid::new();
     let mut known = None;
+    let mut lists = Lists::none();
     let mut next = 0;
     while reading.course.place < len {
         let end = paragraph_end(text.parts.besides, &mut marks, reading.course.place, len);
         let last = seek(text.parts.besides, &mut marks, end - 1);
         let standing = Standing::of(text.parts.units[end - 1], &last.mark);
+        let own = context.values.get(grid.number);
+        let in_table = standing.is_in_table();
+        let look = Look::of(own, in_table, end - reading.course.place >= 2);
+        let head = is_head(&text.parts, marks, end, standing, known);
+        let in_head = grid.in_head(head);
+        push_block(&mut writer.path, grid, in_table, in_head, &look, &lists);
         let bounds = Bounds {
             end,
             istd: style_of(&last.mark),
         };
-        let head = is_head(&text.parts, marks, end, standing, known);
-        let in_head = grid.in_head(head);
-        push_block(&mut writer.path, grid, standing.is_in_table(), in_head);
-        let origin = Origin::new(note, reading.course.place);
+        let origin = Origin::new(context.note, reading.course.place);
         reading.origin = origin;
-        next = write_anchors(writer, out, bookmarks, next, end);
-        write_paragraph(writer, out, &mut reading, text, bounds);
+        reading.begun = false;
+        next = write_anchors(writer, out, context.bookmarks, next, end);
+        let label = label_units(look.item, own);
+        write_paragraph(writer, out, &mut reading, text, bounds, label);
         writer.path.truncate(depth);
+        lists = lists.behind(look.item, grid.number, reading.begun);
         grid = grid.behind(standing);
         known = known_behind(standing, head);
     }
     reading.course.references
 }
 
-/// Writes the items of a paragraph, and goes to its end.
+/// Writes the items of a paragraph behind its label, and goes to its end.
 fn write_paragraph<K: Sink>(
     writer: &mut Writer<'_>,
     out: &mut K,
     reading: &mut Reading,
     text: &Text<'_>,
     bounds: Bounds,
+    label: &[u16],
 )
     requires parts { AreParts text.now.parts }
     requires walk { IsWalk text.now.parts reading.old.course.walk reading.old.course.place }
@@ -111,7 +146,7 @@ fn write_paragraph<K: Sink>(
     ensures origin { reading.new.origin ≡ reading.old.origin }
     ensures writes { (formats : Formats) → AreFormats text.now.formats.now formats → Writes K.Sink
         (at out.old writer.old reading.old) (at out.new writer.new reading.new)
-        (links_in reading.old.origin (items_in text.now.parts)) writer.old.path
+        (links_in reading.old.origin (items_in text.now.parts)) writer.old.path label.now
         (seen_from formats text.now.manner bounds.istd (take reading.old.course.place (items_in text.now.parts))
         (slice_range (items_in text.now.parts) reading.old.course.place bounds.end)) }
 {
@@ -122,17 +157,18 @@ fn write_paragraph<K: Sink>(
             format: text.formats.format(bounds.istd, alike.chp),
             beside: alike.beside,
         };
-        write_stretch(writer, out, reading, text, &stretch);
+        write_stretch(writer, out, reading, text, &stretch, label);
     }
 }
 
-/// Writes items that are alike, and goes behind them.
+/// Writes items that are alike, the first that is shown behind the label, and goes behind them.
 fn write_stretch<K: Sink>(
     writer: &mut Writer<'_>,
     out: &mut K,
     reading: &mut Reading,
     text: &Text<'_>,
     stretch: &Stretch<'_>,
+    label: &[u16],
 )
     requires parts { AreParts text.now.parts }
     requires reading { IsReading text.now.manner (items_in text.now.parts) reading.old }
@@ -149,22 +185,23 @@ fn write_stretch<K: Sink>(
         → HasFormat formats istd (items_in text.now.parts) reading.old.course.place stretch.now.until stretch.now.format
         → Writes K.Sink
         (at out.old writer.old reading.old) (at out.new writer.new reading.new)
-        (links_in reading.old.origin (items_in text.now.parts)) writer.old.path
+        (links_in reading.old.origin (items_in text.now.parts)) writer.old.path label.now
         (seen_from formats text.now.manner istd (take reading.old.course.place (items_in text.now.parts))
         (slice_range (items_in text.now.parts) reading.old.course.place stretch.now.until)) }
 {
     while reading.course.place < stretch.until {
-        write_item(writer, out, reading, text, stretch);
+        write_item(writer, out, reading, text, stretch, label);
     }
 }
 
-/// Writes the item of the place, and goes behind it.
+/// Writes the item of the place, behind the label where it is the first that is shown, and goes behind it.
 fn write_item<K: Sink>(
     writer: &mut Writer<'_>,
     out: &mut K,
     reading: &mut Reading,
     text: &Text<'_>,
     stretch: &Stretch<'_>,
+    label: &[u16],
 )
     requires parts { AreParts text.now.parts }
     requires reading { IsReading text.now.manner (items_in text.now.parts) reading.old }
@@ -181,7 +218,7 @@ fn write_item<K: Sink>(
         → HasFormat formats istd (items_in text.now.parts) reading.old.course.place stretch.now.until stretch.now.format
         → Writes K.Sink
         (at out.old writer.old reading.old) (at out.new writer.new reading.new)
-        (links_in reading.old.origin (items_in text.now.parts)) writer.old.path
+        (links_in reading.old.origin (items_in text.now.parts)) writer.old.path label.now
         (seen_from formats text.now.manner istd (take reading.old.course.place (items_in text.now.parts))
         (slice_range (items_in text.now.parts) reading.old.course.place (reading.old.course.place + 1))) }
 {
@@ -193,10 +230,19 @@ fn write_item<K: Sink>(
         unit,
         stretch.beside,
     );
+    writer.begin(out, seen.is_shown, reading.begun, label);
     let link = reading.origin.link(&reading.course.fields);
     writer.write(out, link, reading.count, &seen);
+    reading.begun = begun_behind(reading.begun, seen.is_shown);
     reading.course.pass(unit, stretch.beside, seen.reference);
     reading.count = count_behind(reading.count, seen.reference);
+}
+
+/// Whether something was written behind an item that is shown or not.
+fn begun_behind(begun: bool, is_shown: bool) -> bool
+    ensures { result ≡ (begun || is_shown) }
+{
+    begun || is_shown
 }
 
 /// How many references there are behind one more, or none.

@@ -4,35 +4,37 @@ ghost use Rattle.doc_outer.specs.Counts.{Rose};
 ghost use Rattle.doc_outer.specs.Written.{Appends, AppendsPrefix};
 ghost use Rattle.style_sheet.specs.Chain.{HasSoundBases};
 ghost use Rattle.plain_doc.specs.Sound.{IsSound};
+ghost use Rattle.list_numbers.specs.ParagraphValues.{AreParagraphValuesOf};
 ghost use Rattle.page_out.specs.Printed.{Prints};
 ghost use Rattle.form_page.specs.Forms.{IsFresh, PutsPlaces, form_of, form_text, page_in};
 ghost use Rattle.doc_view.specs.Page.{AreFormats};
 ghost use Rattle.doc_view.specs.Seen.{Formats};
 ghost use Rattle.doc_places.specs.Places.{places_of};
 ghost use Rattle.doc_html.specs.Page.{IsFormPage, IsHtmlPage, IsSafe};
-ghost use Rattle.doc_html.specs.Head.{head_of};
+ghost use Rattle.doc_html.specs.Head.{head_of, title_of};
 
 use crate::head::language_of;
 use crate::notes::Notes;
-use crate::reading::write_text;
+use crate::reading::{Context, write_text};
+use crate::title::title_of;
 use crate::writer::Writer;
 use char_formats::StyleFormats;
-use doc_bits::Memory;
+use doc_bits::{Memory, Units};
 use doc_columns::ColumnDocument;
 use doc_outer::{OutBlock, Sink, SinkFailed};
 use doc_view::{Manner, Options, References, Text, TextKind, ViewFault};
 use form_page::{FormPage, PageForm};
+use list_numbers::{ParagraphValuesList, columns_paragraph_values};
 use std::alloc::Global;
 use view_paths::Path;
 use view_places::Element;
-
-/// The title of a page.
-const TITLE: [u32; 8] = [0x55, 0x6E, 0x74, 0x69, 0x74, 0x6C, 0x65, 0x64];
 
 /// What the making of a page needs: all its memory.
 #[derive(Drop)]
 struct Needs {
     formats: StyleFormats,
+    values: ParagraphValuesList,
+    title: Units,
     references: References,
     block: OutBlock,
 }
@@ -85,7 +87,7 @@ pub fn write_form<K: Sink>(
     // Without memory nothing is written.
     ensures memory { IsErrOf result ViewFault.Memory → K.written out.new ≡ K.written out.old }
 {
-    let Ok(needs) = needs_of(alloc, document) else {
+    let Ok(needs) = needs_of(alloc, document, options) else {
         return Err(ViewFault::Memory);
     };
     match write_with(alloc, document, form, options, needs, out) {
@@ -95,15 +97,23 @@ pub fn write_form<K: Sink>(
 }
 
 /// Takes all the memory of a page.
-fn needs_of(alloc: Global, document: &ColumnDocument) -> Result<Needs, Memory>
-    requires { HasSoundBases document.now.sheet }
+fn needs_of(alloc: Global, document: &ColumnDocument, options: Options) -> Result<Needs, Memory>
+    requires sound { IsSound document.now }
+    requires bases { HasSoundBases document.now.sheet }
     ensures formats { IfOk result (λ needs. needs.formats ≡ document.now.sheet) }
+    ensures values { IfOk result (λ needs. AreParagraphValuesOf document.now needs.values) }
+    ensures title { IfOk result (λ needs. (formats : Formats) → AreFormats document.now.sheet formats
+        → needs.title ≡ title_of formats options document.now) }
     ensures references { IfOk result (λ needs.
         needs.references ≡ record { list = []; room = length document.now.notes }) }
     ensures block { IfOk result (λ needs. needs.block ≡ []) }
 {
+    let formats = StyleFormats::of(alloc, &document.sheet)?;
+    let title = title_of(alloc, document, &formats, options)?;
     Ok(Needs {
-        formats: StyleFormats::of(alloc, &document.sheet)?,
+        formats,
+        values: columns_paragraph_values(alloc, document)?,
+        title,
         references: References::new(alloc, document.notes.len())?,
         block: OutBlock::new(alloc)?,
     })
@@ -120,6 +130,9 @@ fn write_with<K: Sink>(
 ) -> Result<(), SinkFailed>
     requires sound { IsSound document.now }
     requires formats { needs.formats ≡ document.now.sheet }
+    requires values { AreParagraphValuesOf document.now needs.values }
+    requires title { (formats : Formats) → AreFormats document.now.sheet formats
+        → needs.title ≡ title_of formats options document.now }
     requires references { needs.references ≡ record { list = []; room = length document.now.notes } }
     requires block { needs.block ≡ [] }
     ensures ok { OnOk result ((bytes : List ℕ) × (IsFormPage form options document.now bytes
@@ -130,24 +143,30 @@ fn write_with<K: Sink>(
 {
     let Needs {
         formats,
+        values,
+        title,
         references,
         block,
     } = needs;
-    let html = FormPage::new(form, block, document);
+    let page = FormPage::new(form, block, document);
     let shown = Shown {
         document,
         formats: &formats,
+        values: &values,
+        title: &title,
         options,
     };
-    let written = shown.write(alloc, html, out, references);
+    let written = shown.write(alloc, page, out, references);
     written.finish(out)
 }
 
-/// A document that is shown, the formats of its styles, and what of it is shown.
+/// A document that is shown, the formats of its styles, the values of its paragraphs, its title, and what of it is shown.
 #[derive(Drop)]
 struct Shown<'a> {
     document: &'a ColumnDocument,
     formats: &'a StyleFormats,
+    values: &'a ParagraphValuesList,
+    title: &'a Units,
     options: Options,
 }
 
@@ -156,29 +175,31 @@ impl<'a> Shown<'a> {
     fn write<K: Sink>(
         &self,
         alloc: Global,
-        html: FormPage<'a>,
+        page: FormPage<'a>,
         out: &mut K,
         references: References,
     ) -> FormPage<'a>
         requires sound { IsSound self.now.document.now }
         requires formats { self.now.formats.now ≡ self.now.document.now.sheet }
         requires references { references ≡ record { list = []; room = length self.now.document.now.notes } }
-        requires fresh { IsFresh html [] self.now.document.now }
+        requires title { (formats : Formats) → AreFormats self.now.document.now.sheet formats
+            → self.now.title.now ≡ title_of formats self.now.options self.now.document.now }
+        requires fresh { IsFresh page [] self.now.document.now }
         ensures { (formats : Formats) → AreFormats self.now.document.now.sheet formats
-            → Prints K.Sink out.old (page_in html.entry) out.new (page_in result)
-            (form_text (form_of html.entry) self.now.document.now (head_of self.now.document.now)
-            (places_of formats self.now.options self.now.document.now)) }
+            → Prints K.Sink out.old (page_in page.entry) out.new (page_in result)
+            (form_text (form_of page.entry) self.now.document.now
+            (head_of formats self.now.options self.now.document.now) (places_of formats self.now.values.now self.now.options self.now.document.now)) }
     {
         let mut writer = Writer {
-            html,
+            page,
             path: Path::new(Element::Notes),
         };
         let document = self.document;
         let language = language_of(&document.sheet);
-        writer.html.begin(out, language, &TITLE);
+        writer.page.begin(out, language, self.title.as_slice());
         self.write_places(alloc, &mut writer, out, references);
-        writer.html.end(out);
-        writer.html
+        writer.page.end(out);
+        writer.page
     }
 
     /// Writes the main text and the notes.
@@ -194,8 +215,8 @@ impl<'a> Shown<'a> {
         requires references { references ≡ record { list = []; room = length self.now.document.now.notes } }
         requires path { writer.old.path ≡ [] }
         ensures { (formats : Formats) → AreFormats self.now.document.now.sheet formats
-            → PutsPlaces K.Sink out.old writer.old.html out.new writer.new.html
-            (places_of formats self.now.options self.now.document.now) }
+            → PutsPlaces K.Sink out.old writer.old.page out.new writer.new.page
+            (places_of formats self.now.values.now self.now.options self.now.document.now) }
     {
         let document = self.document;
         let main = Text {
@@ -206,7 +227,12 @@ impl<'a> Shown<'a> {
                 kind: TextKind::Main,
             },
         };
-        let references = write_text(writer, out, 0, &main, &document.bookmarks, references);
+        let context = Context {
+            note: 0,
+            bookmarks: &document.bookmarks,
+            values: self.values,
+        };
+        let references = write_text(writer, out, &main, &context, references);
         let notes = Notes {
             alloc,
             texts: &document.notes,

@@ -8,7 +8,9 @@ pub pages_read : MarkdownPagesAreReadBack
 pages_read options document bytes page = record {
   formats = page.formats;
   are = page.are;
-  text = page_text (places_of page.formats options document);
+  values = page.values;
+  are_values = page.are_values;
+  text = page_text (places_of page.formats page.values options document);
   bytes_are = page.text;
-  reads = page_read (places_of page.formats options document);
+  reads = page_read (places_of page.formats page.values options document);
 }

@@ -1,6 +1,8 @@
 -- What the definitions imply.
 use Rattle.std.specs.Prelude.{◌≡◌, ℕ, List, encode_utf8_all}
 use Rattle.plain_doc.specs.declared.document.Document.{Document}
+use Rattle.list_numbers.specs.declared.paragraph_values.ParagraphValues.{ParagraphValues}
+use Rattle.list_numbers.specs.ParagraphValues.{AreParagraphValuesOf}
 use Rattle.doc_view.specs.declared.view.Options.{Options}
 use Rattle.doc_view.specs.Page.{AreFormats}
 use Rattle.doc_view.specs.Seen.{Formats}
@@ -14,9 +16,11 @@ use Rattle.doc_markdown.specs.Page.{IsMarkdownPage}
 pub record IsReadBack (options : Options) (document : Document) (bytes : List ℕ) : Type 0 where
   pub formats : Formats
   pub are : AreFormats document.sheet formats
+  pub values : List ParagraphValues
+  pub are_values : AreParagraphValuesOf document values
   pub text : List ℕ
   pub bytes_are : bytes ≡ encode_utf8_all text
-  pub reads : read text ≡ all_as_read Start (page_tokens (places_of formats options document))
+  pub reads : read text ≡ all_as_read Start (page_tokens (places_of formats values options document))
 
 abbrev pub MarkdownPagesAreReadBack : Type 0
 MarkdownPagesAreReadBack =

@@ -1,7 +1,7 @@
 -- Places of items one after another, and what they show.
-use Rattle.std.proofs.Common.{◌≡◌, ℕ, ◌+◌, Bool, true, false, ◌||◌, ◌&&◌, List, [], ◌∷◌, ◌++◌, Option, Some, None, refl}
+use Rattle.std.proofs.Common.{◌≡◌, ℕ, ◌+◌, Bool, true, false, ◌||◌, ◌&&◌, List, [], ◌∷◌, ◌++◌, Option, Some, None, refl, true≢false}
 use Rattle.std.proofs.Common.{sym, ap, ◌∙◌}
-use Rattle.std.proofs.Common.{append_assoc, append-nil, arith, length}
+use Rattle.std.proofs.Common.{append_assoc, append-nil, arith, length, map}
 use Rattle.std.specs.Prelude.{if◌then◌else◌}
 use Rattle.std.specs.List.{cons_option, filter_map, flat_map}
 use Rattle.std.proofs.lemmas.List.Elements.{filter_map-append}
@@ -13,13 +13,17 @@ use Rattle.doc_view.specs.declared.references.Reference.{Reference}
 use Rattle.doc_view.specs.declared.reading.Seen.{Seen}
 use Rattle.doc_view.specs.declared.standing.Standing.{Standing}
 use Rattle.doc_view.specs.Layout.{ends_cell, ends_head, is_in_table, keeps_row}
-use Rattle.doc_view.specs.Seen.{Paragraph, glyphs_in, references_in, shown_glyph}
+use Rattle.doc_view.specs.Seen.{Paragraph, glyphs_in, is_here, references_in, shown_glyph, some_shown}
 use Rattle.doc_places.specs.declared.grid.Grid.{Grid}
 use Rattle.doc_places.specs.Grid.{all_heads, cells_of, first_of, grid_after, grid_of}
-use Rattle.doc_places.specs.Places.{Places, block_of, count_of, in_head, item_places, items_places, paragraphs_places, place_of}
-use Rattle.doc_places.specs.Places.{Hypertext, anchor_places, item_count, paragraph_places, text_places}
+use Rattle.doc_places.specs.Places.{Places, block_at, count_of, item_places, items_places, label_places}
+use Rattle.doc_places.specs.Places.{Hypertext, anchor_places, item_count, paragraph_places, paragraphs_places, place_of}
+use Rattle.doc_places.specs.Places.{shown, text_places}
 use Rattle.view_places.specs.declared.element.Link.{Link}
-use Rattle.doc_places.specs.Laws.{EachGlyphHasAPlace}
+use Rattle.doc_places.specs.Laws.{EachGlyphHasAPlace, spoken, spoken_label}
+use Rattle.doc_places.specs.Looks.{units_of_label}
+use Rattle.doc_view.specs.Labels.{label_glyphs}
+use Rattle.view_places.specs.declared.element.Element.TheVariants.{Label}
 
 -- one more reference, or none
 length-cons_option : (reference : Option Reference) (more : List Reference) → length (cons_option reference more) ≡
@@ -60,6 +64,27 @@ pub items_places-none : (links : ℕ → Option Link) (block : List Element) (co
     count place [] ≡ []
 unfolding items_places
 items_places-none links block count place = refl
+
+-- an item that is not shown has no place
+pub hidden_item : (block : List Element) (link : Option Link) (count : ℕ) (seen : Seen) → seen.is_shown ≡ false →
+    item_places block link count seen ≡ []
+hidden_item block link count seen hidden =
+    let none : Places = [] in
+    ap (λ (b : Bool). if b then place_of block link count seen seen.glyph ∷ [] else none) hidden
+
+neither : (a b : Bool) → (a || b) ≡ false → (a ≡ false) × (b ≡ false)
+neither true b e = absurd (true≢false e)
+neither false b e = (refl, e)
+
+-- where nothing is shown there is no place
+pub items_places-hidden : (links : ℕ → Option Link) (block : List Element) (count place : ℕ) (seen : List Seen) →
+    some_shown seen ≡ false → items_places links block count place seen ≡ []
+unfolding items_places
+items_places-hidden links block count place [] hidden = refl
+items_places-hidden links block count place (x ∷ xs) hidden =
+    let both = neither x.is_shown (some_shown xs) hidden in
+    (λ i. hidden_item block (links place) count x both.0 i ++ items_places-hidden links block (count + count_of
+    x.reference) (place + 1) xs both.1 i)
 
 -- where the next paragraph stands
 pub grid_of-cons : (paragraph : Paragraph) (before : List Paragraph) → grid_of (paragraph ∷ before) ≡ grid_after
@@ -107,34 +132,53 @@ glyphs-items links block count place (x ∷ xs) =
     (items_places links block rest (place + 1) xs) ∙ (λ i. glyph-item block (links place) count x i ++ glyphs-items links
     block rest (place + 1) xs i) ∙ option_then (shown_glyph x) (glyphs_in xs)
 
+-- a label shows its units and a space
+glyphs-shown : (path : List Element) (glyphs : List Glyph) → filter_map (λ (place : Place Element Glyph). place.glyph)
+    (map (shown path) glyphs) ≡ glyphs
+glyphs-shown path [] = refl
+glyphs-shown path (glyph ∷ more) = ap (λ (gs : List Glyph). glyph ∷ gs) (glyphs-shown path more)
+
+glyphs-label : (block : List Element) (units : List ℕ) → filter_map (λ (place : Place Element Glyph). place.glyph)
+    (label_places block units) ≡ spoken_label units
+glyphs-label block [] = refl
+glyphs-label block (unit ∷ units) = glyphs-shown (block ++ Label ∷ []) (label_glyphs (unit ∷ units))
+
+glyphs-label_where : (block : List Element) (here : Bool) (units : List ℕ) → filter_map (λ (place : Place Element
+    Glyph). place.glyph) (if here then label_places block units else []) ≡ (if here then spoken_label units else [])
+glyphs-label_where block true units = glyphs-label block units
+glyphs-label_where block false units = refl
+
 no_glyphs-anchors : (block : List Element) (numbers : List ℕ) → filter_map (λ (place : Place Element Glyph).
     place.glyph) (anchor_places block numbers) ≡ []
 no_glyphs-anchors block [] = refl
 no_glyphs-anchors block (number ∷ numbers) = no_glyphs-anchors block numbers
 
-glyphs-paragraph : (hypertext : Hypertext) (block : List Element) (count begin : ℕ) (seen : List Seen) → filter_map (λ
-    (place : Place Element Glyph). place.glyph) (paragraph_places hypertext block count begin seen) ≡ glyphs_in seen
-glyphs-paragraph hypertext block count begin seen =
-    let anchors = anchor_places block (hypertext.anchors begin (begin + length seen)) in
-    filter_map-append (λ (place : Place Element Glyph). place.glyph) anchors (items_places (hypertext.links begin) block
-    count begin seen) ∙ (λ i. no_glyphs-anchors block (hypertext.anchors begin (begin + length seen)) i ++ glyphs-items
-    (hypertext.links begin) block count begin seen i)
+glyphs-paragraph : (hypertext : Hypertext) (block : List Element) (count begin : ℕ) (paragraph : Paragraph) → filter_map
+    (λ (place : Place Element Glyph). place.glyph) (paragraph_places hypertext block count begin paragraph) ≡ spoken
+    paragraph
+glyphs-paragraph hypertext block count begin paragraph =
+    let numbers = hypertext.anchors begin (begin + length paragraph.items) in
+    let label : Places = if is_here paragraph then label_places block (units_of_label paragraph) else [] in
+    let items = items_places (hypertext.links begin) block count begin paragraph.items in
+    filter_map-append (λ (place : Place Element Glyph). place.glyph) (anchor_places block numbers) (label ++ items)
+    ∙ (λ i. no_glyphs-anchors block numbers i ++ filter_map-append (λ (place : Place Element Glyph). place.glyph) label
+    items i)
+    ∙ (λ i. glyphs-label_where block (is_here paragraph) (units_of_label paragraph) i ++ glyphs-items (hypertext.links
+    begin) block count begin paragraph.items i)
 
 glyphs-paragraphs : (hypertext : Hypertext) (outer : List Element) (before : List Paragraph) (count : ℕ) (paragraphs :
     List Paragraph) → filter_map (λ (place : Place Element Glyph). place.glyph) (paragraphs_places hypertext outer
-    before count paragraphs) ≡ flat_map (λ (paragraph : Paragraph). glyphs_in paragraph.items) paragraphs
+    before count paragraphs) ≡ flat_map spoken paragraphs
 unfolding paragraphs_places
 glyphs-paragraphs hypertext outer before count [] = refl
 glyphs-paragraphs hypertext outer before count (paragraph ∷ more) =
-    let block =
-    outer ++ block_of (grid_of before) (is_in_table paragraph.standing) (in_head before (paragraph ∷ more)) in
+    let block = outer ++ block_at before paragraph more in
     let at = item_count before in
     let rest = count + length (references_in paragraph.items) in
     filter_map-append (λ (place : Place Element Glyph). place.glyph) (paragraph_places hypertext block count at
-    paragraph.items)
-    (paragraphs_places hypertext outer (paragraph ∷ before) rest more) ∙ (λ i. glyphs-paragraph hypertext block count
-    at paragraph.items i ++ glyphs-paragraphs hypertext outer (paragraph ∷ before) rest more i) ∙ sym (flat_map-cons (λ
-    (p : Paragraph). glyphs_in p.items) paragraph more)
+    paragraph) (paragraphs_places hypertext outer (paragraph ∷ before) rest more) ∙ (λ i. glyphs-paragraph hypertext
+    block count at paragraph i ++ glyphs-paragraphs hypertext outer (paragraph ∷ before) rest more i) ∙ sym
+    (flat_map-cons spoken paragraph more)
 
 pub text_glyphs : EachGlyphHasAPlace
 text_glyphs hypertext outer paragraphs = glyphs-paragraphs hypertext outer [] 0 paragraphs

@@ -1,3 +1,5 @@
 pub mod Grid
+pub mod Looks
+pub mod Lists
 pub mod Places
 pub mod Laws

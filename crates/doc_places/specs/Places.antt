@@ -1,9 +1,10 @@
 -- The places of a document: each item that is shown has one, in their order, and so has the label of each note.
 use Rattle.std.specs.Prelude.{zero, suc, ◌-◌, nat_le, nat_lt, map, take}
-use Rattle.std.specs.Prelude.{ℕ, ◌+◌, Bool, ◌&&◌, List, [], ◌∷◌, ◌++◌, length, Option, Some, None, if◌then◌else◌, false, true}
+use Rattle.std.specs.Prelude.{ℕ, ◌+◌, Bool, ◌&&◌, List, [], ◌∷◌, ◌++◌, length, Option, Some, None, if◌then◌else◌}
 use Rattle.std.specs.List.{cons_option}
 use Rattle.plain_doc.specs.declared.item.Item.{Item}
 use Rattle.plain_doc.specs.declared.document.Document.{Document}
+use Rattle.list_numbers.specs.declared.paragraph_values.ParagraphValues.{ParagraphValues}
 use Rattle.char_formats.specs.declared.format.CharFormat.{CharFormat}
 use Rattle.char_formats.specs.declared.format.Position.{Position}
 use Rattle.char_formats.specs.declared.format.Position.TheVariants.{Normal, Raised as IsRaised, Lowered as IsLowered}
@@ -11,7 +12,8 @@ use Rattle.view_paths.specs.Paths.{Place}
 use Rattle.view_places.specs.declared.element.Element.{Element}
 use Rattle.view_places.specs.declared.element.Element.TheVariants.{Notes, Note, Table, TableHead, TableBody, Row, Cell}
 use Rattle.view_places.specs.declared.element.Element.TheVariants.{Paragraph as AParagraph, Reference as AReference}
-use Rattle.view_places.specs.declared.element.Element.TheVariants.{BackLink, HeadCell}
+use Rattle.view_places.specs.declared.element.Element.TheVariants.{BackLink, HeadCell, Label}
+use Rattle.view_places.specs.declared.element.Paragraph.{Paragraph as ParagraphForm}
 use Rattle.view_places.specs.declared.element.Element.TheVariants.{Bold, Italic, Underline, Strike, SmallCaps, Caps}
 use Rattle.view_places.specs.declared.element.Element.TheVariants.{Raised, Lowered, Link as ALink, Anchor}
 use Rattle.doc_parts.specs.declared.bookmark_order.Bookmark.{Bookmark}
@@ -26,9 +28,15 @@ use Rattle.doc_view.specs.declared.reading.Seen.{Seen}
 use Rattle.doc_view.specs.declared.view.Options.{Options}
 use Rattle.doc_view.specs.Layout.{is_in_table}
 use Rattle.doc_view.specs.Page.{main_manner, note_manner}
-use Rattle.doc_view.specs.Seen.{Formats, Paragraph, paragraphs_of, references_in, references_of}
+use Rattle.doc_view.specs.Labels.{label_glyphs}
+use Rattle.doc_view.specs.Seen.{Formats, Paragraph, is_here, paragraphs_of, references_in, references_of, with_values}
 use Rattle.doc_places.specs.declared.grid.Grid.{Grid}
 use Rattle.doc_places.specs.Grid.{grid_of, is_head_row}
+use Rattle.doc_places.specs.declared.lists.ListItem.{ListItem}
+use Rattle.doc_places.specs.declared.lists.Lists.{Lists}
+use Rattle.doc_places.specs.declared.looks.Look.{Look}
+use Rattle.doc_places.specs.Looks.{look_in, units_of_label}
+use Rattle.doc_places.specs.Lists.{list_elements, lists_of, with_item}
 
 abbrev pub Places : Type 0
 Places = List (Place Element Glyph)
@@ -128,20 +136,39 @@ cell_of grid in_head =
     if in_head then Table grid.table ∷ TableHead ∷ Row grid.row ∷ HeadCell grid.cell ∷ [] else Table grid.table ∷
     TableBody ∷ Row grid.row ∷ Cell grid.cell ∷ []
 
--- what a paragraph stands in, and the paragraph
-abbrev pub block_of : Grid → Bool → Bool → List Element
-block_of grid in_table in_head =
-    let paragraph = AParagraph (record {
-      number = grid.number;
-      level = 0;
-      right_to_left = false;
-      breaks_page = false;
-    }) in
-    (if in_table then cell_of grid in_head else []) ++ paragraph ∷ []
+-- an item stands in its lists, by those that are open before it
+abbrev pub item_elements : Lists → Option ListItem → ℕ → List Element
+item_elements lists None number = []
+item_elements lists (Some item) number = list_elements (with_item lists item number)
+
+-- the paragraph itself
+abbrev pub paragraph_form : ℕ → Look → ParagraphForm
+paragraph_form number look = record {
+  number = number;
+  level = look.level;
+  right_to_left = look.right_to_left;
+  breaks_page = look.breaks_page;
+}
+
+-- what a paragraph stands in, in a table or not and in its head or not, and the paragraph
+abbrev pub block_of : Grid → Bool → Bool → Look → Lists → List Element
+block_of grid in_table in_head look lists =
+    (if in_table then cell_of grid in_head else item_elements lists look.item grid.number)
+    ++ AParagraph (paragraph_form grid.number look) ∷ []
 
 -- the first of some paragraphs behind others: the first rows of a table that are heads are its head
 abbrev pub in_head : List Paragraph → List Paragraph → Bool
 in_head before here = (grid_of before).heads && is_head_row here
+
+abbrev pub block_at : List Paragraph → Paragraph → List Paragraph → List Element
+block_at before paragraph more =
+    block_of (grid_of before) (is_in_table paragraph.standing) (in_head before (paragraph ∷ more)) (look_in paragraph)
+    (lists_of before)
+
+-- a label, where it has units
+abbrev pub label_places : List Element → List ℕ → Places
+label_places block [] = []
+label_places block (unit ∷ units) = map (shown (block ++ Label ∷ [])) (label_glyphs (unit ∷ units))
 
 -- ---- the anchors of a text
 
@@ -176,19 +203,18 @@ abbrev pub item_count : List Paragraph → ℕ
 item_count [] = 0
 item_count (paragraph ∷ paragraphs) = item_count paragraphs + length paragraph.items
 
--- the places of a paragraph in a block, from a place on
-abbrev pub paragraph_places : Hypertext → List Element → ℕ → ℕ → List Seen → Places
-paragraph_places hypertext block count begin seen =
-    anchor_places block (hypertext.anchors begin (begin + length seen))
-    ++ items_places (hypertext.links begin) block count begin seen
+-- the places of a paragraph in a block, from a place on: its anchors, its label where it is here, and its items
+abbrev pub paragraph_places : Hypertext → List Element → ℕ → ℕ → Paragraph → Places
+paragraph_places hypertext block count begin paragraph =
+    anchor_places block (hypertext.anchors begin (begin + length paragraph.items))
+    ++ ((if is_here paragraph then label_places block (units_of_label paragraph) else [])
+    ++ items_places (hypertext.links begin) block count begin paragraph.items)
 
 -- paragraphs behind others, the nearest first, and behind so many references, inside of elements
 unfoldable pub paragraphs_places : Hypertext → List Element → List Paragraph → ℕ → List Paragraph → Places
 paragraphs_places hypertext outer before count [] = []
 paragraphs_places hypertext outer before count (paragraph ∷ more) =
-    paragraph_places hypertext
-    (outer ++ block_of (grid_of before) (is_in_table paragraph.standing) (in_head before (paragraph ∷ more))) count
-    (item_count before) paragraph.items
+    paragraph_places hypertext (outer ++ block_at before paragraph more) count (item_count before) paragraph
     ++ paragraphs_places hypertext outer (paragraph ∷ before) (count + length (references_in paragraph.items)) more
 
 abbrev pub text_places : Hypertext → List Element → List Paragraph → Places
@@ -218,8 +244,8 @@ notes_places formats manner number (reference ∷ references) (note ∷ notes) =
 
 -- ---- the places of a document: its main text, and then the notes that it refers to
 
-abbrev pub places_of : Formats → Options → Document → Places
-places_of formats options document =
-    let paragraphs = paragraphs_of formats (main_manner options) document.main in
+abbrev pub places_of : Formats → List ParagraphValues → Options → Document → Places
+places_of formats values options document =
+    let paragraphs = with_values values (paragraphs_of formats (main_manner options) document.main) in
     text_places (hypertext_of document.bookmarks 0 document.main) [] paragraphs
     ++ notes_places formats (note_manner options) 1 (references_of paragraphs) document.notes

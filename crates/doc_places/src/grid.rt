@@ -1,10 +1,12 @@
 // Where a paragraph stands.
 ghost use Rattle.std.specs.Prelude.{◌≡◌, ◌+◌, ◌^◌, ◌<◌, ◌≤◌, ◌++◌, ◌&&◌, [], ◌∷◌, length, true, if◌then◌else◌};
 ghost use Rattle.doc_places.specs.Grid.{grid_after};
-ghost use Rattle.doc_places.specs.Places.{block_of, cell_of};
+ghost use Rattle.doc_places.specs.Places.{block_of, cell_of, item_elements};
 ghost use Rattle.doc_view.specs.Layout.{ends_cell};
 ghost use Rattle.view_places.specs.declared.element.Element.TheVariants.{Table, TableBody, TableHead, Row, Cell, HeadCell};
 
+use crate::lists::{ListItem, Lists};
+use crate::looks::Look;
 use doc_view::Standing;
 use view_paths::{MAX_DEPTH, Path};
 use view_places::{Element, Paragraph};
@@ -77,21 +79,59 @@ fn ended(standing: Standing) -> usize
     if standing.ends_cell() { 1 } else { 0 }
 }
 
-/// Puts the elements that a paragraph stands in, in a table or not and in its head or not, and the paragraph, inside of
-/// a path.
-pub fn push_block(path: &mut Path<Element>, grid: Grid, in_table: bool, in_head: bool)
-    requires { length path.old + 5 ≤ MAX_DEPTH }
-    ensures { path.new ≡ path.old ++ block_of grid in_table in_head }
+/// Puts the elements that a paragraph stands in, in a table or not and in its head or not, behind these lists, and the
+/// paragraph, inside of a path.
+pub fn push_block(
+    path: &mut Path<Element>,
+    grid: Grid,
+    in_table: bool,
+    in_head: bool,
+    look: &Look,
+    lists: &Lists,
+)
+    requires { length path.old + 13 ≤ MAX_DEPTH }
+    ensures { path.new ≡ path.old ++ block_of grid in_table in_head look.now lists.now }
+{
+    push_around(path, grid, in_table, in_head, look.item, lists);
+    path.push(Element::Paragraph(Paragraph {
+        number: grid.number,
+        level: look.level,
+        right_to_left: look.right_to_left,
+        breaks_page: look.breaks_page,
+    }));
+}
+
+/// Puts what stands around a paragraph.
+fn push_around(
+    path: &mut Path<Element>,
+    grid: Grid,
+    in_table: bool,
+    in_head: bool,
+    item: Option<ListItem>,
+    lists: &Lists,
+)
+    requires { length path.old + 12 ≤ MAX_DEPTH }
+    ensures is { path.new ≡ path.old
+        ++ (if in_table then cell_of grid in_head else item_elements lists.now item grid.number) }
+    ensures few { length path.new ≤ length path.old + 12 }
 {
     if in_table {
         push_cell(path, grid, in_head);
+    } else {
+        push_item(path, lists, item, grid.number);
     }
-    path.push(Element::Paragraph(Paragraph {
-        number: grid.number,
-        level: 0,
-        right_to_left: false,
-        breaks_page: false,
-    }));
+}
+
+/// Puts the lists of an item, where there is one.
+fn push_item(path: &mut Path<Element>, lists: &Lists, item: Option<ListItem>, number: usize)
+    requires { length path.old + 12 ≤ MAX_DEPTH }
+    ensures is { path.new ≡ path.old ++ item_elements lists.now item number }
+    ensures few { length path.new ≤ length path.old + 12 }
+{
+    match item {
+        None => {}
+        Some(item) => lists.with_item(item, number).push(path),
+    }
 }
 
 /// Puts a table, its head or its body, a row and a cell.

@@ -5,8 +5,12 @@ mod grid;
 mod inline;
 mod laws;
 mod links;
+mod lists;
+mod looks;
 
 pub use grid::{Grid, push_block};
 pub use inline::push_inline;
 pub use laws::each_glyph_has_a_place;
 pub use links::Origin;
+pub use lists::{Frame, ListItem, Lists};
+pub use looks::{Look, label_units};

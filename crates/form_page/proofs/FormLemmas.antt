@@ -15,7 +15,7 @@ use Rattle.markdown_page.specs.Printed.{PutsPlaces as PutsMarkdown}
 use Rattle.form_page.specs.declared.page.PageForm.{PageForm}
 use Rattle.form_page.specs.declared.page.FormPage.{FormPage}
 use Rattle.form_page.specs.declared.page.FormPage.TheVariants.{Html, Markdown}
-use Rattle.form_page.specs.Forms.{Begins, Ends, IsFresh, Places, PutsPlaces, form_of, form_text, page_in}
+use Rattle.form_page.specs.Forms.{Begins, Ends, HasNoHalf, IsFresh, Places, PutsPlaces, form_of, form_text, page_in}
 use Rattle.form_page.proofs.HtmlLemmas.{page_put as html_put}
 
 pub places_none : {K : Type 0} (sink : Ghosts K) (at : K) (page : FormPage) → PutsPlaces sink at page at page []
@@ -43,6 +43,11 @@ pub fresh_right : (page : FormPage) (block : List ℕ) (document : Document) →
 fresh_right (Html html) block document fresh = ap (λ (p : Page). p.failed) fresh.0
 fresh_right (Markdown markdown) block document fresh = ap (λ (p : Page). p.failed) fresh.0
 
+-- no half waits
+pub fresh_half : (page : FormPage) (block : List ℕ) (document : Document) → IsFresh page block document → HasNoHalf page
+fresh_half (Html html) block document fresh = fresh.1.1.0
+fresh_half (Markdown markdown) block document fresh = tt
+
 begun_markdown : {K : Type 0} (sink : Ghosts K) (a b c : K) (p q r : MarkdownPage) (places : Places) →
     b ≡ a → q ≡ p → PutsMarkdown sink b q c r places → PutsMarkdown sink a p c r places
 begun_markdown {K = K} sink a b c p q r places out page puts =
@@ -54,8 +59,7 @@ pub whole_put : {K : Type 0} (sink : Ghosts K) (a b c d : K) (p q r s : FormPage
     (document : Document) (head : Head) (places : Places) → IsFresh p block document → Begins sink a p b q head → PutsPlaces sink b q c r places →
     Ends sink c r d s → Prints sink a (page_in p) d (page_in s) (form_text (form_of p) document head places)
 whole_put sink a b c d (Html p) (Html q) (Html r) (Html s) block document head places fresh begins puts ends =
-    html_put sink a b c d p.page q r s.page document head places begins.0 (begins.1.0 ∙ fresh.1.0) (begins.1.1.0 ∙
-    fresh.1.1.0) (begins.1.1.1 ∙ fresh.1.1.1) puts ends
+    html_put sink a b c d p.page q r s.page document head places begins.0 (begins.1.0 ∙ fresh.1.0) begins.1.1.0 (begins.1.1.1 ∙ fresh.1.1.1) puts ends
 whole_put sink a b c d (Html p) (Html q) (Html r) (Markdown s) block document head places fresh begins puts ends = absurd ends
 whole_put sink a b c d (Html p) (Html q) (Markdown r) s block document head places fresh begins puts ends = absurd puts
 whole_put sink a b c d (Html p) (Markdown q) r s block document head places fresh begins puts ends = absurd begins

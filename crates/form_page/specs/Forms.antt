@@ -1,5 +1,5 @@
 -- A page in one of its forms, while it is printed and whole.
-use Rattle.std.specs.Prelude.{◌≡◌, ℕ, List, [], ◌++◌, false, None}
+use Rattle.std.specs.Prelude.{◌≡◌, ℕ, List, [], ◌++◌, false, None, ⊤}
 use Rattle.doc_outer.specs.declared.sink.Sink.{Ghosts}
 use Rattle.page_out.specs.declared.page.Page.{Page}
 use Rattle.page_out.specs.Printed.{Prints}
@@ -48,11 +48,16 @@ IsFresh (Markdown markdown) block document =
     (markdown.pen.page ≡ record { block = block; failed = false })
     × ((markdown.path ≡ []) × (state_in markdown ≡ start))
 
+-- no half of a character waits
+abbrev pub HasNoHalf : FormPage → Type 0
+HasNoHalf (Html html) = html.half ≡ None
+HasNoHalf (Markdown markdown) = ⊤
+
 -- what stands before the text was printed
 abbrev pub Begins : {K : Type 0} → Ghosts K → K → FormPage → K → FormPage → Head → Type 0
 Begins sink before (Html html) after (Html left) head =
     Prints sink before html.page after left.page (printed (front_tokens head.language ++ (characters head.title ++ style_tokens)))
-    × ((left.path ≡ html.path) × ((left.half ≡ html.half) × (left.document.now ≡ html.document.now)))
+    × ((left.path ≡ html.path) × ((left.half ≡ None) × (left.document.now ≡ html.document.now)))
 Begins sink before (Html html) after (Markdown left) head = ⊥
 Begins sink before (Markdown markdown) after (Html left) head = ⊥
 Begins sink before (Markdown markdown) after (Markdown left) head = (after ≡ before) × (left ≡ markdown)

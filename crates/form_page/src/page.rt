@@ -1,11 +1,10 @@
 // A page in one of its forms.
-ghost use Rattle.std.specs.Prelude.{◌≡◌, ◌∷◌, [], false, true, OnOk, OnErr};
-ghost use Rattle.std.specs.Char.{IsScalar};
-ghost use Rattle.std.specs.List.{All};
+ghost use Rattle.std.specs.Prelude.{◌≡◌, ◌∷◌, [], false, true, None, OnOk, OnErr};
+ghost use Rattle.glyph_units.specs.Units.{units_text};
 ghost use Rattle.doc_outer.specs.Counts.{GoesOn};
 ghost use Rattle.doc_outer.specs.Written.{Appends};
 ghost use Rattle.page_out.specs.Printed.{FailsIn};
-ghost use Rattle.form_page.specs.Forms.{Begins, Ends, IsFresh, PutsPlaces, form_of, page_in};
+ghost use Rattle.form_page.specs.Forms.{Begins, Ends, HasNoHalf, IsFresh, PutsPlaces, form_of, page_in};
 
 use doc_columns::ColumnDocument;
 use doc_outer::{OutBlock, Sink, SinkFailed};
@@ -40,10 +39,12 @@ impl<'a> FormPage<'a> {
         }
     }
 
-    /// Puts what stands before the text of a page with this language, by its identifier of [MS-LCID], and this title.
-    pub fn begin<K: Sink>(&mut self, out: &mut K, language: Option<u16>, title: &[u32])
-        requires { All IsScalar title.now }
-        ensures { Begins K.Sink out.old self.old out.new self.new (record { language = language; title = title.now }) }
+    /// Puts what stands before the text of a page with this language, by its identifier of [MS-LCID], and this title, in
+    /// units of UTF-16.
+    pub fn begin<K: Sink>(&mut self, out: &mut K, language: Option<u16>, title: &[u16])
+        requires { HasNoHalf self.old }
+        ensures { Begins K.Sink out.old self.old out.new self.new
+            (record { language = language; title = units_text None title.now }) }
     {
         match self {
             FormPage::Html(page) => page.begin(out, language, title),

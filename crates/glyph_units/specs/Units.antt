@@ -38,3 +38,8 @@ unit_text (Some first) unit =
 abbrev pub unit_half : Option ℕ → ℕ → Option ℕ
 unit_half None unit = first_half unit
 unit_half (Some first) unit = if is_pair first unit then None else first_half unit
+
+-- units one behind the other, where a half waits before them or none
+abbrev pub units_text : Option ℕ → List ℕ → List ℕ
+units_text half [] = half_text half
+units_text half (unit ∷ units) = unit_text half unit ++ units_text (unit_half half unit) units

@@ -438,14 +438,6 @@ pub printed-decimal : (n : ℕ) → printed (characters (decimal n)) ≡ decimal
 unfolding digits
 printed-decimal n = printed-plain (decimal n) (plain-digits_onto 64 n [] refl)
 
--- ---- a text character by character
-
-pub characters-next : (text : List ℕ) (i : ℕ) → i < length text → characters (take (i + 1) text) ≡ characters (take i
-    text) ++
-    (Character (slice_index text i) ∷ [])
-characters-next text i within =
-    ap characters (take_more text i 0 within) ∙ map-append {B = Token} Character (take i text) (slice_index text i ∷ [])
-
 -- ---- glyphs
 
 pub other_glyph : (half : Option ℕ) (g : Glyph) → unit_in g ≡ None → glyph_tokens half g ≡ characters (half_text half)
@@ -494,3 +486,43 @@ unit_glyph_half half Object unit is = absurd (cc (is))
 pub printed-characters : (text : List ℕ) → printed (characters text) ≡ escaped_text text
 printed-characters [] = refl
 printed-characters (code ∷ text) = ap (λ (more : List ℕ). escaped code ++ more) (printed-characters text)
+
+-- ---- units one by one
+
+characters-append : (xs ys : List ℕ) → characters (xs ++ ys) ≡ characters xs ++ characters ys
+characters-append xs ys = map-append {B = Token} Character xs ys
+
+characters_then : {K : Type 0} (sink : Ghosts K) (a b c : K) (p q r : Page) (xs ys : List ℕ) →
+    Prints sink a p b q (printed (characters xs)) → Prints sink b q c r (printed (characters ys)) →
+    Prints sink a p c r (printed (characters (xs ++ ys)))
+characters_then sink a b c p q r xs ys one other =
+    put_as sink a c p r (printed (characters xs ++ characters ys)) (printed (characters (xs ++ ys)))
+    (ap printed (sym (characters-append xs ys)))
+    (tokens_then sink a b c p q r (characters xs) (characters ys) one other)
+
+-- what was put of a text, where some of it is left
+pub record UnitsAt {K : Type 0} (sink : Ghosts K) (a : K) (p : Page) (b : K) (q : Page) (whole rest : List ℕ) : Type 0 where
+  pub text : List ℕ
+  pub puts : Prints sink a p b q (printed (characters text))
+  pub left : text ++ rest ≡ whole
+
+pub units_start : {K : Type 0} (sink : Ghosts K) (a : K) (p : Page) (whole : List ℕ) → UnitsAt sink a p a p whole whole
+units_start sink a p whole = record { text = []; puts = put_none sink a p; left = refl }
+
+-- some more of it
+pub units_on : {K : Type 0} (sink : Ghosts K) (a b c : K) (p q r : Page) (whole rest more left : List ℕ) →
+    rest ≡ more ++ left → UnitsAt sink a p b q whole rest → Prints sink b q c r (printed (characters more)) →
+    UnitsAt sink a p c r whole left
+units_on sink a b c p q r whole rest more left is at put = record {
+  text = at.text ++ more;
+  puts = characters_then sink a b c p q r at.text more at.puts put;
+  left = append_assoc at.text more left ∙ ap (λ (xs : List ℕ). at.text ++ xs) (sym is) ∙ at.left;
+}
+
+-- the last of it
+pub units_put : {K : Type 0} (sink : Ghosts K) (a b c : K) (p q r : Page) (whole rest : List ℕ) →
+    UnitsAt sink a p b q whole rest → Prints sink b q c r (printed (characters rest)) →
+    Prints sink a p c r (printed (characters whole))
+units_put sink a b c p q r whole rest at put =
+    put_as sink a c p r (printed (characters (at.text ++ rest))) (printed (characters whole))
+    (ap (λ (text : List ℕ). printed (characters text)) at.left) (characters_then sink a b c p q r at.text rest at.puts put)

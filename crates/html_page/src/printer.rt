@@ -1,7 +1,5 @@
 // A page in HTML that is printed place by place.
 ghost use Rattle.std.specs.Prelude.{◌≡◌, ◌≤◌, ◌++◌, [], ◌∷◌, length, take, drop, map, false, true, Some, None, OnOk, OnErr};
-ghost use Rattle.std.specs.Char.{IsScalar};
-ghost use Rattle.std.specs.List.{All};
 ghost use Rattle.doc_outer.specs.Counts.{GoesOn};
 ghost use Rattle.doc_outer.specs.Written.{Appends};
 ghost use Rattle.page_out.specs.Printed.{FailsIn, Prints};
@@ -12,10 +10,10 @@ ghost use Rattle.view_places.specs.Same.{same};
 ghost use Rattle.html_page.specs.Pages.{back_tokens, characters, close_tokens, front_tokens, glyph_half, glyph_tokens};
 ghost use Rattle.html_page.specs.Pages.{half_of, open_tokens, style_tokens, tokens_of};
 ghost use Rattle.html_page.specs.Printed.{PutsEvents, PutsPlaces};
-ghost use Rattle.glyph_units.specs.Units.{first_half, first_text, half_text, unit_half, unit_text};
+ghost use Rattle.glyph_units.specs.Units.{first_half, first_text, half_text, unit_half, unit_text, units_text};
 
 use crate::tokens::{
-    push_back, push_character, push_close, push_front, push_open, push_other, push_style, push_text,
+    push_back, push_character, push_close, push_front, push_open, push_other, push_style,
 };
 use doc_columns::ColumnDocument;
 use doc_outer::{OutBlock, Sink, SinkFailed};
@@ -51,17 +49,18 @@ impl<'a> HtmlPage<'a> {
         }
     }
 
-    /// Puts what stands before the text of a page with this language, by its identifier of [MS-LCID], and this title.
-    pub fn begin<K: Sink>(&mut self, out: &mut K, language: Option<u16>, title: &[u32])
-        requires { All IsScalar title.now }
+    /// Puts what stands before the text of a page with this language, by its identifier of [MS-LCID], and this title, in
+    /// units of UTF-16.
+    pub fn begin<K: Sink>(&mut self, out: &mut K, language: Option<u16>, title: &[u16])
+        requires { self.old.half ≡ None }
         ensures prints { Prints K.Sink out.old self.old.page out.new self.new.page
-            (printed (front_tokens language ++ (characters title.now ++ style_tokens))) }
+            (printed (front_tokens language ++ (characters (units_text None title.now) ++ style_tokens))) }
         ensures path { self.new.path ≡ self.old.path }
-        ensures half { self.new.half ≡ self.old.half }
+        ensures half { self.new.half ≡ None }
         ensures document { self.new.document.now ≡ self.old.document.now }
     {
         push_front(&mut self.page, out, language);
-        push_text(&mut self.page, out, title);
+        self.put_units(out, title);
         push_style(&mut self.page, out);
     }
 
@@ -189,6 +188,20 @@ impl<'a> HtmlPage<'a> {
                 push_other(&mut self.page, out, glyph);
             }
         }
+    }
+
+    /// Puts units, and the half that waits behind them.
+    fn put_units<K: Sink>(&mut self, out: &mut K, units: &[u16])
+        ensures prints { Prints K.Sink out.old self.old.page out.new self.new.page
+            (printed (characters (units_text self.old.half units.now))) }
+        ensures path { self.new.path ≡ self.old.path }
+        ensures half { self.new.half ≡ None }
+        ensures document { self.new.document.now ≡ self.old.document.now }
+    {
+        for unit in units {
+            self.put_unit(out, *unit);
+        }
+        self.put_half(out);
     }
 
     /// Puts a unit, or lets it wait.

@@ -1,12 +1,11 @@
 // The tokens of a page, as they are printed.
 ghost use Rattle.std.specs.Prelude.{◌≡◌, [], ◌∷◌, if◌then◌else◌};
 ghost use Rattle.std.specs.Char.{IsScalar};
-ghost use Rattle.std.specs.List.{All};
 ghost use Rattle.std.specs.Str.{IsAscii};
 ghost use Rattle.page_out.specs.Printed.{Prints};
 ghost use Rattle.html_text.specs.Tokens.{printed, Character};
 ghost use Rattle.view_places.specs.declared.glyph.Glyph.TheVariants.{NoteMark, Object, PageBreak, Picture};
-ghost use Rattle.html_page.specs.Pages.{back_tokens, characters, close_tokens, end, front_tokens, open_tokens};
+ghost use Rattle.html_page.specs.Pages.{back_tokens, close_tokens, end, front_tokens, open_tokens};
 ghost use Rattle.html_page.specs.Pages.{meta_tokens, other_tokens, style_tokens};
 
 use crate::attributes::push_attributes;
@@ -58,16 +57,6 @@ pub(crate) fn push_back<K: Sink>(page: &mut Page, out: &mut K)
     ensures { Prints K.Sink out.old page.old out.new page.new (printed back_tokens) }
 {
     page.push_ascii(out, b"</body>\n</html>\n");
-}
-
-/// Puts a text.
-pub(crate) fn push_text<K: Sink>(page: &mut Page, out: &mut K, text: &[u32])
-    requires { All IsScalar text.now }
-    ensures { Prints K.Sink out.old page.old out.new page.new (printed (characters text.now)) }
-{
-    for code in text {
-        push_character(page, out, *code);
-    }
 }
 
 /// Puts a character.

@@ -25,8 +25,8 @@ use Rattle.markdown_page.specs.declared.marks.TagName.TheVariants as tag
 use Rattle.markdown_page.specs.declared.context.Seam.{Seam}
 use Rattle.markdown_page.specs.declared.context.Context.{Context}
 use Rattle.markdown_page.specs.declared.pieces.Piece.{Piece}
-use Rattle.markdown_page.specs.declared.pieces.Piece.TheVariants.{Nothing, Write, Insert, Space, Number, Rule, Picture}
-use Rattle.markdown_page.specs.declared.pieces.Piece.TheVariants.{Object}
+use Rattle.markdown_page.specs.declared.pieces.Piece.TheVariants.{Nothing, Write, Insert, Space, Number, Levels, Rule}
+use Rattle.markdown_page.specs.declared.pieces.Piece.TheVariants.{Picture, Object}
 use Rattle.markdown_page.specs.declared.pieces.Piece.TheVariants.{Tab as ATab}
 use Rattle.markdown_page.specs.declared.pieces.Pieces.{Pieces}
 use Rattle.markdown_page.specs.Contexts.{character_seam, is_parted}
@@ -34,7 +34,7 @@ use Rattle.markdown_page.specs.Marks.{mark_text, tag_text}
 use Rattle.markdown_page.specs.Pages.{Events, State, behind_event, character_tokens, event_tokens, glyph_tokens}
 use Rattle.markdown_page.specs.Pages.{closing_tokens, half_tokens, page_tokens, start, state_of, text_tokens, tokens_of}
 use Rattle.markdown_page.specs.Pages.{turn_pieces, without_half}
-use Rattle.markdown_page.specs.Pieces.{characters, columns_text, given, markup, other_pieces, piece_tokens, pieces_tokens, rule_text}
+use Rattle.markdown_page.specs.Pieces.{characters, given, markup, marks_text, other_pieces, piece_tokens, pieces_tokens, rule_text}
 use Rattle.markdown_page.specs.Shape.{Places, all_shaped}
 use Rattle.markdown_page.specs.Laws.{PagesAreReadBack}
 
@@ -109,6 +109,7 @@ safe_mark mark.RuleColumn = refl
 safe_mark mark.LineEnd = refl
 safe_mark mark.BlockEnd = refl
 safe_mark mark.Indent = refl
+safe_mark mark.Level = refl
 safe_mark mark.Item = refl
 safe_mark mark.Heading1 = refl
 safe_mark mark.Heading2 = refl
@@ -146,16 +147,16 @@ safe_decimal : (n : ℕ) → list_all is_safe_code (decimal n) ≡ true
 unfolding digits
 safe_decimal n = safe-digits_onto 64 n [] refl
 
-safe_columns : (n : ℕ) → list_all is_safe_code (columns_text n) ≡ true
-safe_columns zero = refl
-safe_columns (suc n) =
-    list_all-append is_safe_code (columns_text n) (mark_text mark.RuleColumn)
-    ∙ both (list_all is_safe_code (columns_text n)) true (safe_columns n) refl
+safe_marks : (m : Mark) (n : ℕ) → list_all is_safe_code (marks_text m n) ≡ true
+safe_marks m zero = refl
+safe_marks m (suc n) =
+    list_all-append is_safe_code (marks_text m n) (mark_text m)
+    ∙ both (list_all is_safe_code (marks_text m n)) (list_all is_safe_code (mark_text m)) (safe_marks m n) (safe_mark m)
 
 safe_rule : (n : ℕ) → list_all is_safe_code (rule_text n) ≡ true
 safe_rule n =
-    list_all-append is_safe_code (columns_text n) (mark_text mark.LineEnd)
-    ∙ both (list_all is_safe_code (columns_text n)) true (safe_columns n) refl
+    list_all-append is_safe_code (marks_text mark.RuleColumn n) (mark_text mark.LineEnd)
+    ∙ both (list_all is_safe_code (marks_text mark.RuleColumn n)) true (safe_marks mark.RuleColumn n) refl
 
 safe-piece : (piece : Piece) → AreSafe (piece_tokens piece)
 safe-piece Nothing = refl
@@ -165,6 +166,7 @@ safe-piece (Insert tag) =
 safe-piece Space = refl
 safe-piece ATab = refl
 safe-piece (Number number) = safe-markup (decimal number) (safe_decimal number)
+safe-piece (Levels levels) = safe-markup (marks_text mark.Level levels) (safe_marks mark.Level levels)
 safe-piece (Rule columns) = safe-markup (rule_text columns) (safe_rule columns)
 safe-piece Picture = refl
 safe-piece Object = refl

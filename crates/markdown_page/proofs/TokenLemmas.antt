@@ -15,8 +15,8 @@ use Rattle.markdown_text.specs.Tokens.{Token, Character, Markup, Tag, after_toke
 use Rattle.markdown_text.proofs.ReadLemmas.{after_tokens-append, after_tokens-markup, printed_from-append}
 use Rattle.markdown_text.proofs.ReadLemmas.{printed_from-markup}
 use Rattle.markdown_page.specs.declared.pen.Pen.{Pen}
-use Rattle.markdown_page.specs.Pieces.{characters, columns_text, markup}
-use Rattle.markdown_page.specs.declared.marks.Mark.TheVariants as mark
+use Rattle.markdown_page.specs.Pieces.{characters, markup, marks_text}
+use Rattle.markdown_page.specs.declared.marks.Mark.{Mark}
 use Rattle.markdown_page.specs.declared.context.Seam.{Seam}
 use Rattle.markdown_page.specs.Contexts.{character_seam}
 use Rattle.markdown_page.specs.Marks.{mark_text}
@@ -127,14 +127,14 @@ characters_next text i within =
     sym (ap characters (take_more text i 0 within)
     ∙ map-append {B = Token} Character (take i text) (slice_index text i ∷ []))
 
--- one column more
-pub columns_next : {K : Type 0} (sink : Ghosts K) (a b : K) (p q : Pen) (done : ℕ) →
-    PutsTokens sink a p b q (markup (columns_text done ++ mark_text mark.RuleColumn)) →
-    PutsTokens sink a p b q (markup (columns_text (done + 1)))
-columns_next sink a b p q done puts =
+-- a mark once more
+pub marks_next : {K : Type 0} (sink : Ghosts K) (a b : K) (p q : Pen) (mark : Mark) (done : ℕ) →
+    PutsTokens sink a p b q (markup (marks_text mark done ++ mark_text mark)) →
+    PutsTokens sink a p b q (markup (marks_text mark (done + 1)))
+marks_next sink a b p q mark done puts =
     let next : suc done ≡ done + 1 = omega arith in
-    tokens_as sink a b p q (markup (columns_text (suc done))) (markup (columns_text (done + 1)))
-    (ap (λ (columns : ℕ). markup (columns_text columns)) next) puts
+    tokens_as sink a b p q (markup (marks_text mark (suc done))) (markup (marks_text mark (done + 1)))
+    (ap (λ (count : ℕ). markup (marks_text mark count)) next) puts
 
 -- a text in two
 pub text_tokens-append : (seam : Seam) (one other : List ℕ) → text_tokens seam (one ++ other) ≡ text_tokens seam one ++

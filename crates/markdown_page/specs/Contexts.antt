@@ -1,6 +1,6 @@
 -- What stands before a place of a page, besides the line: behind characters, and behind elements that are opened and
 -- closed.
-use Rattle.std.specs.Prelude.{ℕ, ◌+◌, ◌==◌, nat_le, nat_lt, Bool, true, false, not, ◌&&◌, ◌||◌, Option, None}
+use Rattle.std.specs.Prelude.{ℕ, ◌+◌, ◌-◌, ◌==◌, nat_le, nat_lt, Bool, true, false, not, ◌&&◌, ◌||◌, Option, None}
 use Rattle.std.specs.Prelude.{List, [], ◌∷◌, if◌then◌else◌}
 use Rattle.view_places.specs.declared.element.Element.{Element}
 use Rattle.view_places.specs.declared.element.Element.TheVariants.{Notes, Note, Table, TableHead, TableBody, Row, Cell}
@@ -14,7 +14,7 @@ use Rattle.markdown_page.specs.declared.context.Seam.TheVariants.{Other, Word, C
 use Rattle.markdown_page.specs.declared.context.CellLine.{CellLine}
 use Rattle.markdown_page.specs.declared.context.CellLine.TheVariants.{Outside, First, Next}
 use Rattle.markdown_page.specs.declared.context.Context.{Context}
-use Rattle.markdown_page.specs.declared.context.TheConstants.{MOST_COLUMNS}
+use Rattle.markdown_page.specs.declared.context.TheConstants.{MOST_COLUMNS, MOST_LEVELS}
 
 -- ---- characters
 
@@ -59,6 +59,13 @@ row_opened context = record context { seam = Other; cells = 0 }
 abbrev pub cell_opened : Context → Context
 cell_opened context = record context { seam = Other; cells = more_cells context.cells; cell = First }
 
+-- one more item, as far as they are counted
+abbrev pub more_levels : ℕ → ℕ
+more_levels levels = if nat_lt levels MOST_LEVELS then levels + 1 else levels
+
+abbrev pub item_opened : Context → Context
+item_opened context = record context { seam = Other; begun = true; levels = more_levels context.levels }
+
 abbrev pub line_begun : Context → Bool → Context
 line_begun context has_marker = record context { seam = Other; begun = context.begun || has_marker }
 
@@ -72,7 +79,7 @@ opened context (Row first) = row_opened context
 opened context (Cell number) = cell_opened context
 opened context (HeadCell number) = cell_opened context
 opened context (AList list) = cut context
-opened context (Item number) = line_begun context true
+opened context (Item number) = item_opened context
 opened context (Paragraph paragraph) = line_begun context (not (paragraph.level == 0))
 opened context Label = cut context
 opened context (Reference number) = cut context
@@ -102,7 +109,7 @@ abbrev pub cell_closed : Context → Context
 cell_closed context = record context { seam = Other; cell = Outside }
 
 abbrev pub item_closed : Context → Context
-item_closed context = record context { seam = Other; begun = false }
+item_closed context = record context { seam = Other; begun = false; levels = context.levels - 1 }
 
 abbrev pub paragraph_closed_in : CellLine → Context → Context
 paragraph_closed_in Outside context = record context { seam = Other; begun = false }

@@ -5,7 +5,7 @@ use Rattle.markdown_page.specs.declared.marks.Mark.TheVariants.{Strong, Emphasis
 use Rattle.markdown_page.specs.declared.marks.Mark.TheVariants.{NoteEnd, FirstCell, NextCell, RowEnd, RuleFront}
 use Rattle.markdown_page.specs.declared.marks.Mark.TheVariants.{RuleColumn, LineEnd, BlockEnd, Indent, Item}
 use Rattle.markdown_page.specs.declared.marks.Mark.TheVariants.{Heading1, Heading2, Heading3, Heading4, Heading5}
-use Rattle.markdown_page.specs.declared.marks.Mark.TheVariants.{Heading6}
+use Rattle.markdown_page.specs.declared.marks.Mark.TheVariants.{Heading6, Level}
 use Rattle.markdown_page.specs.declared.marks.TagName.{TagName}
 use Rattle.markdown_page.specs.declared.marks.TagName.TheVariants.{Underline, UnderlineEnd, Raised, RaisedEnd, Lowered}
 use Rattle.markdown_page.specs.declared.marks.TagName.TheVariants.{LoweredEnd, LineBreak, Comment}
@@ -25,6 +25,7 @@ mark_text RuleColumn = codes " --- |"
 mark_text LineEnd = codes "\n"
 mark_text BlockEnd = codes "\n\n"
 mark_text Indent = codes "    "
+mark_text Level = codes "  "
 mark_text Item = codes "- "
 mark_text Heading1 = codes "# "
 mark_text Heading2 = codes "## "

@@ -52,6 +52,7 @@ fresh = record {
   seam = Other;
   in_note = false;
   begun = false;
+  levels = 0;
   cell = Outside;
   cells = 0;
   columns = 0;

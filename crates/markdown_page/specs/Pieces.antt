@@ -1,5 +1,5 @@
 -- What a page writes where elements are opened and closed, and for what is no character.
-use Rattle.std.specs.Prelude.{ℕ, zero, suc, ◌==◌, nat_lt, Bool, true, false, not, ◌||◌, List, [], ◌∷◌, ◌++◌, map, codes, if◌then◌else◌}
+use Rattle.std.specs.Prelude.{ℕ, zero, suc, ◌==◌, nat_lt, Bool, true, false, not, ◌&&◌, ◌||◌, List, [], ◌∷◌, ◌++◌, map, codes, if◌then◌else◌}
 use Rattle.std.specs.Fmt.{decimal}
 use Rattle.markdown_text.specs.declared.line.LineState.{LineState}
 use Rattle.markdown_text.specs.declared.line.LineState.TheVariants.{Start, Digits, Within, Bracket}
@@ -24,8 +24,8 @@ use Rattle.markdown_page.specs.declared.context.CellLine.{CellLine}
 use Rattle.markdown_page.specs.declared.context.CellLine.TheVariants.{Outside, First, Next}
 use Rattle.markdown_page.specs.declared.context.Context.{Context}
 use Rattle.markdown_page.specs.declared.pieces.Piece.{Piece}
-use Rattle.markdown_page.specs.declared.pieces.Piece.TheVariants.{Nothing, Write, Insert, Space, Number, Rule, Picture}
-use Rattle.markdown_page.specs.declared.pieces.Piece.TheVariants.{Object}
+use Rattle.markdown_page.specs.declared.pieces.Piece.TheVariants.{Nothing, Write, Insert, Space, Number, Levels, Rule}
+use Rattle.markdown_page.specs.declared.pieces.Piece.TheVariants.{Picture, Object}
 use Rattle.markdown_page.specs.declared.pieces.Piece.TheVariants.{Tab as ATab}
 use Rattle.markdown_page.specs.declared.pieces.Pieces.{Pieces}
 use Rattle.markdown_page.specs.Marks.{heading_mark, mark_text, tag_text}
@@ -40,13 +40,14 @@ characters text = map Character text
 abbrev pub markup : List ℕ → List Token
 markup text = map Markup text
 
--- the columns of a line below heads
-abbrev pub columns_text : ℕ → List ℕ
-columns_text zero = []
-columns_text (suc columns) = columns_text columns ++ mark_text mark.RuleColumn
+-- a mark so many times
+abbrev pub marks_text : Mark → ℕ → List ℕ
+marks_text mark zero = []
+marks_text mark (suc count) = marks_text mark count ++ mark_text mark
 
+-- the line below heads of so many columns
 abbrev pub rule_text : ℕ → List ℕ
-rule_text columns = mark_text mark.RuleFront ++ (columns_text columns ++ mark_text mark.LineEnd)
+rule_text columns = mark_text mark.RuleFront ++ (marks_text mark.RuleColumn columns ++ mark_text mark.LineEnd)
 
 abbrev pub piece_tokens : Piece → List Token
 piece_tokens Nothing = []
@@ -55,6 +56,7 @@ piece_tokens (Insert tag) = ATag (tag_text tag) ∷ []
 piece_tokens Space = Character 32 ∷ []
 piece_tokens ATab = Character 9 ∷ []
 piece_tokens (Number number) = markup (decimal number)
+piece_tokens (Levels levels) = markup (marks_text mark.Level levels)
 piece_tokens (Rule columns) = markup (rule_text columns)
 piece_tokens Picture = characters (codes "[picture]")
 piece_tokens Object = characters (codes "[object]")
@@ -83,6 +85,10 @@ given there piece = if there then piece else Nothing
 -- a line of a note that has no marker is indented
 abbrev pub indent : Context → Piece
 indent context = given context.in_note (given (not context.begun) (Write mark.Indent))
+
+-- an item stands behind the markers of those that it stands in, where its line has none of theirs
+abbrev pub item_front : Context → Pieces
+item_front context = three (indent context) (given (not context.begun) (Levels context.levels)) (Write mark.Item)
 
 -- an emphasis that begins within a word, or right behind another one
 abbrev pub comment : Seam → Piece
@@ -118,7 +124,7 @@ opening context (Row first) = one (indent context)
 opening context (Cell number) = one (cell_front context)
 opening context (HeadCell number) = one (cell_front context)
 opening context (AList list) = none
-opening context (Item number) = two (indent context) (Write mark.Item)
+opening context (Item number) = item_front context
 opening context (Paragraph paragraph) = paragraph_front context.cell context paragraph.level
 opening context Label = none
 opening context (Reference number) = none
@@ -152,10 +158,13 @@ row_end context =
 abbrev pub block_end : Bool → Pieces
 block_end begun = one (given begun (Write mark.BlockEnd))
 
-abbrev pub paragraph_end : CellLine → LineState → Bool → Pieces
-paragraph_end Outside line begun = block_end (begun || not (is_start line))
-paragraph_end First line begun = none
-paragraph_end Next line begun = none
+-- a marker without a text has a space behind it, so that it is one
+abbrev pub paragraph_end : CellLine → LineState → Context → Pieces
+paragraph_end Outside line context =
+    two (given (context.begun && is_start line) Space)
+    (given ((context.begun || context.in_note) || not (is_start line)) (Write mark.BlockEnd))
+paragraph_end First line context = none
+paragraph_end Next line context = none
 
 abbrev pub closing : LineState → Context → Element → Pieces
 closing line context Notes = none
@@ -168,7 +177,7 @@ closing line context (Cell number) = none
 closing line context (HeadCell number) = none
 closing line context (AList list) = none
 closing line context (Item number) = block_end context.begun
-closing line context (Paragraph paragraph) = paragraph_end context.cell line (context.begun || context.in_note)
+closing line context (Paragraph paragraph) = paragraph_end context.cell line context
 closing line context Label = none
 closing line context (Reference number) = numbered number mark.ReferenceEnd
 closing line context (BackLink number) = none

@@ -1,7 +1,8 @@
 // What stands before a place of a page, besides the line.
 ghost use Rattle.std.specs.Prelude.{◌≡◌, false, None};
 ghost use Rattle.markdown_page.specs.Contexts.{cell_closed, cell_opened, character_seam, closed, cut, emphasis_closed};
-ghost use Rattle.markdown_page.specs.Contexts.{is_parted, is_word, item_closed, line_begun, more_cells, note_closed};
+ghost use Rattle.markdown_page.specs.Contexts.{is_parted, is_word, item_closed, item_opened, line_begun, more_cells};
+ghost use Rattle.markdown_page.specs.Contexts.{more_levels, note_closed};
 ghost use Rattle.markdown_page.specs.Contexts.{note_opened, opened, paragraph_closed_in, row_closed, row_opened};
 ghost use Rattle.markdown_page.specs.Contexts.{table_opened};
 ghost use Rattle.markdown_page.specs.Pages.{fresh};
@@ -40,6 +41,8 @@ pub struct Context {
     pub in_note: bool,
     /// A line has begun with the marker of a note, an item or a heading.
     pub begun: bool,
+    /// How many items are open.
+    pub levels: usize,
     pub cell: CellLine,
     /// How many cells of the row there were.
     pub cells: usize,
@@ -57,6 +60,7 @@ impl Context {
             seam: Seam::Other,
             in_note: false,
             begun: false,
+            levels: 0,
             cell: CellLine::Outside,
             cells: 0,
             columns: 0,
@@ -66,6 +70,9 @@ impl Context {
 
 /// The most columns of a table that are told apart.
 pub(crate) const MOST_COLUMNS: usize = 255;
+
+/// The most items, one in another, that are told apart.
+pub(crate) const MOST_LEVELS: usize = 255;
 
 impl Context {
     /// What is written now is no character of a word.
@@ -87,7 +94,7 @@ impl Context {
             Element::Table(_) => self.table_opened(),
             Element::Row(_) => self.row_opened(),
             Element::Cell(_) | Element::HeadCell(_) => self.cell_opened(),
-            Element::Item(_) => self.line_begun(true),
+            Element::Item(_) => self.item_opened(),
             Element::Paragraph(paragraph) => self.line_begun(paragraph.level != 0),
             Element::Link(_) | Element::Anchor(_) => self,
             Element::Notes
@@ -178,7 +185,18 @@ impl Context {
         }
     }
 
-    /// Where a paragraph or an item begins, with a marker or without one.
+    fn item_opened(self) -> Context
+        ensures { result ≡ item_opened self }
+    {
+        Context {
+            seam: Seam::Other,
+            begun: true,
+            levels: more_levels(self.levels),
+            ..self
+        }
+    }
+
+    /// Where a paragraph begins, with a marker or without one.
     fn line_begun(self, has_marker: bool) -> Context
         ensures { result ≡ line_begun self has_marker }
     {
@@ -231,6 +249,7 @@ impl Context {
         Context {
             seam: Seam::Other,
             begun: false,
+            levels: self.levels.saturating_sub(1),
             ..self
         }
     }
@@ -239,7 +258,11 @@ impl Context {
         ensures { result ≡ paragraph_closed_in self.cell self }
     {
         match self.cell {
-            CellLine::Outside => self.item_closed(),
+            CellLine::Outside => Context {
+                seam: Seam::Other,
+                begun: false,
+                ..self
+            },
             CellLine::First => Context {
                 seam: Seam::Other,
                 cell: CellLine::Next,
@@ -267,6 +290,17 @@ fn more_cells(cells: usize) -> usize
         cells + 1
     } else {
         cells
+    }
+}
+
+/// One more item, as far as they are counted.
+fn more_levels(levels: usize) -> usize
+    ensures { result ≡ more_levels levels }
+{
+    if levels < MOST_LEVELS {
+        levels + 1
+    } else {
+        levels
     }
 }
 

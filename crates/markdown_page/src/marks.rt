@@ -23,6 +23,8 @@ pub enum Mark {
     BlockEnd,
     /// Before a line inside of a note.
     Indent,
+    /// Before an item, for each item that it stands in.
+    Level,
     Item,
     Heading1,
     Heading2,
@@ -66,6 +68,7 @@ pub(crate) fn mark_text(mark: Mark) -> &'static [u8]
         Mark::LineEnd => b"\n",
         Mark::BlockEnd => b"\n\n",
         Mark::Indent => b"    ",
+        Mark::Level => b"  ",
         Mark::Item => b"- ",
         Mark::Heading1 => b"# ",
         Mark::Heading2 => b"## ",

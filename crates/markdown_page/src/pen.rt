@@ -8,7 +8,7 @@ ghost use Rattle.markdown_text.specs.Lines.{is_special};
 ghost use Rattle.markdown_text.specs.Tokens.{Character, escaped, escaped_by};
 ghost use Rattle.page_out.specs.Printed.{Prints};
 ghost use Rattle.markdown_page.specs.declared.pieces.Piece.TheVariants.{Insert, Write};
-ghost use Rattle.markdown_page.specs.Pieces.{characters, columns_text, markup, piece_tokens, pieces_tokens, rule_text};
+ghost use Rattle.markdown_page.specs.Pieces.{characters, markup, marks_text, piece_tokens, pieces_tokens, rule_text};
 ghost use Rattle.markdown_page.specs.Printed.{PutsTokens};
 
 use crate::marks::{Mark, TagName, mark_text, tag_text};
@@ -121,17 +121,17 @@ impl Pen {
         ensures { PutsTokens K.Sink out.old self.old out.new self.new (markup (rule_text columns)) }
     {
         self.put_mark(out, Mark::RuleFront);
-        self.put_columns(out, columns);
+        self.put_marks(out, Mark::RuleColumn, columns);
         self.put_mark(out, Mark::LineEnd);
     }
 
-    /// Puts the columns of that line.
-    fn put_columns<K: Sink>(&mut self, out: &mut K, columns: usize)
-        ensures { PutsTokens K.Sink out.old self.old out.new self.new (markup (columns_text columns)) }
+    /// Puts a mark so many times.
+    fn put_marks<K: Sink>(&mut self, out: &mut K, mark: Mark, count: usize)
+        ensures { PutsTokens K.Sink out.old self.old out.new self.new (markup (marks_text mark count)) }
     {
         let mut done = 0;
-        while done < columns {
-            self.put_mark(out, Mark::RuleColumn);
+        while done < count {
+            self.put_mark(out, mark);
             done += 1;
         }
     }
@@ -164,6 +164,7 @@ impl Pen {
             Piece::Space => self.put_character(out, 0x20),
             Piece::Tab => self.put_character(out, 0x09),
             Piece::Number(number) => self.put_number(out, number as u64),
+            Piece::Levels(levels) => self.put_marks(out, Mark::Level, levels),
             Piece::Rule(columns) => self.put_rule(out, columns),
             Piece::Picture => self.put_sign(out, b"[picture]"),
             Piece::Object => self.put_sign(out, b"[object]"),

@@ -1,9 +1,9 @@
 // What a page writes where elements are opened and closed, and for what is no character.
-ghost use Rattle.std.specs.Prelude.{◌≡◌, ◌||◌};
+ghost use Rattle.std.specs.Prelude.{◌≡◌};
 ghost use Rattle.markdown_page.specs.Contexts.{column_limit};
 ghost use Rattle.markdown_page.specs.Pieces.{block_end, break, cell_front, closing, comment, emphasis, given, indent};
-ghost use Rattle.markdown_page.specs.Pieces.{is_start, none, numbered, one, opening, other_pieces, paragraph_end};
-ghost use Rattle.markdown_page.specs.Pieces.{paragraph_front, row_end, three, two};
+ghost use Rattle.markdown_page.specs.Pieces.{is_start, item_front, none, numbered, one, opening, other_pieces};
+ghost use Rattle.markdown_page.specs.Pieces.{paragraph_end, paragraph_front, row_end, three, two};
 
 use crate::context::{CellLine, Context, MOST_COLUMNS, Seam};
 use crate::marks::{Mark, TagName, heading_mark};
@@ -21,6 +21,8 @@ pub enum Piece {
     Tab,
     /// A number, as markup.
     Number(usize),
+    /// What stands before an item in so many others.
+    Levels(usize),
     /// The line below the heads of so many columns.
     Rule(usize),
     /// What stands for a picture.
@@ -87,7 +89,7 @@ pub(crate) fn opening(context: &Context, element: Element) -> Pieces
         Element::Note(number) => Pieces::numbered(number, Mark::NoteEnd),
         Element::Row(_) => Pieces::one(indent(context)),
         Element::Cell(_) | Element::HeadCell(_) => Pieces::one(cell_front(context)),
-        Element::Item(_) => Pieces::two(indent(context), Piece::Write(Mark::Item)),
+        Element::Item(_) => item_front(context),
         Element::Paragraph(paragraph) => paragraph_front(context, paragraph.level),
         Element::Bold => emphasis(context, Mark::Strong),
         Element::Italic => emphasis(context, Mark::Emphasis),
@@ -118,6 +120,17 @@ fn indent(context: &Context) -> Piece
         context.in_note,
         given(!context.begun, Piece::Write(Mark::Indent)),
     )
+}
+
+/// The start of an item.
+fn item_front(context: &Context) -> Pieces
+    ensures { result ≡ item_front context.now }
+{
+    Pieces {
+        first: indent(context),
+        second: given(!context.begun, Piece::Levels(context.levels)),
+        third: Piece::Write(Mark::Item),
+    }
 }
 
 /// What parts an emphasis from a word that it begins in, and from another one right before it.
@@ -228,12 +241,18 @@ fn block_end(begun: bool) -> Pieces
     Pieces::one(given(begun, Piece::Write(Mark::BlockEnd)))
 }
 
-/// The end of a paragraph.
+/// The end of a paragraph, behind a space where its line has a marker alone.
 fn paragraph_end(context: &Context, line: LineState) -> Pieces
-    ensures { result ≡ paragraph_end context.now.cell line (context.now.begun || context.now.in_note) }
+    ensures { result ≡ paragraph_end context.now.cell line context.now }
 {
     match context.cell {
-        CellLine::Outside => block_end(context.begun || context.in_note || !is_start(line)),
+        CellLine::Outside => Pieces::two(
+            given(context.begun && is_start(line), Piece::Space),
+            given(
+                context.begun || context.in_note || !is_start(line),
+                Piece::Write(Mark::BlockEnd),
+            ),
+        ),
         CellLine::First | CellLine::Next => Pieces::none(),
     }
 }

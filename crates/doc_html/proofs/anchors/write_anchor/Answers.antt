@@ -15,5 +15,5 @@ returns-clause-path g c =
 
 pub returns-clause-puts : goal.returns-clause-puts
 returns-clause-puts g c =
-    subst (λ (path : List Element). PutsPlaces g.K.Sink c.args.out.now c.args.writer.now.html c.put.new.out
+    subst (λ (path : List Element). PutsPlaces g.K.Sink c.args.out.now c.args.writer.now.page c.put.new.out
     c.put.new.self (bare path ∷ [])) c.push.ensures c.put.ensures

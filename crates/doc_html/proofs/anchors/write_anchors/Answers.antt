@@ -19,9 +19,9 @@ loop-writer-init g c =
       high = c.requires.next;
       path = refl;
       puts =
-          subst (λ (n : ℕ). PutsPlaces g.K.Sink c.args.out.now c.args.writer.now.html c.args.out.now
-          c.args.writer.now.html (anchor_places c.args.writer.now.path (numbers c.args.next n))) none (places_none
-          g.K.Sink c.args.out.now c.args.writer.now.html);
+          subst (λ (n : ℕ). PutsPlaces g.K.Sink c.args.out.now c.args.writer.now.page c.args.out.now
+          c.args.writer.now.page (anchor_places c.args.writer.now.path (numbers c.args.next n))) none (places_none
+          g.K.Sink c.args.out.now c.args.writer.now.page);
     }
 
 pub overflow_add-number : goal.overflow_add-number
@@ -44,19 +44,19 @@ loop-writer-preserved g c =
     let more : next + (old.number - next) ≡ old.number = omega (arith, low) in
     let count : (old.number - next) + 1 ≡ (old.number + 1) - next = omega (arith, low) in
     let one : Places = bare (path ++ Anchor old.number ∷ []) ∷ [] in
-    let here : PutsPlaces g.K.Sink old.out old.writer.html put.new.out put.new.writer.html one =
-    subst (λ (p : List Element). PutsPlaces g.K.Sink old.out old.writer.html put.new.out put.new.writer.html (bare (p ++
+    let here : PutsPlaces g.K.Sink old.out old.writer.page put.new.out put.new.writer.page one =
+    subst (λ (p : List Element). PutsPlaces g.K.Sink old.out old.writer.page put.new.out put.new.writer.page (bare (p ++
     Anchor old.number ∷ []) ∷ [])) old.invariant.path put.ensures.puts in
     record {
       low = omega (arith, low);
       high = omega (arith, less);
       path = put.ensures.path ∙ old.invariant.path;
       puts =
-          subst (λ (places : Places). PutsPlaces g.K.Sink c.args.out.now c.args.writer.now.html put.new.out
-          put.new.writer.html places) (ap (λ (n : ℕ). anchor_places path (numbers next (old.number - next)) ++ (bare
+          subst (λ (places : Places). PutsPlaces g.K.Sink c.args.out.now c.args.writer.now.page put.new.out
+          put.new.writer.page places) (ap (λ (n : ℕ). anchor_places path (numbers next (old.number - next)) ++ (bare
           (path ++ Anchor n ∷ []) ∷ [])) (sym more) ∙ sym (anchors_more path next (old.number - next)) ∙ ap (λ (n : ℕ).
           anchor_places path (numbers next n)) count) (places_then g.K.Sink c.args.out.now old.out put.new.out
-          c.args.writer.now.html old.writer.html put.new.writer.html (anchor_places path (numbers next (old.number -
+          c.args.writer.now.page old.writer.page put.new.writer.page (anchor_places path (numbers next (old.number -
           next))) one old.invariant.puts here);
     }
 
@@ -73,6 +73,6 @@ returns-clause-puts g c =
     let more = ltb-false c.loop-writer.number (lead c.args.bookmarks.now c.args.end) (sym c.begins_before.ensures.is ∙
     c.loop-writer-test.false) in
     let last : c.loop-writer.number ≡ lead c.args.bookmarks.now c.args.end = omega (arith, high, more) in
-    subst (λ (n : ℕ). PutsPlaces g.K.Sink c.args.out.now c.args.writer.now.html c.loop-writer.out
-    c.loop-writer.writer.html (anchor_places c.args.writer.now.path (numbers c.args.next (n - c.args.next)))) last
+    subst (λ (n : ℕ). PutsPlaces g.K.Sink c.args.out.now c.args.writer.now.page c.loop-writer.out
+    c.loop-writer.writer.page (anchor_places c.args.writer.now.path (numbers c.args.next (n - c.args.next)))) last
     c.loop-writer.invariant.puts

@@ -9,7 +9,7 @@ invariant-loop-writer g l = record {
   low : l.next ≤ l.number;
   high : l.number ≤ lead l.bookmarks l.end;
   path : l.writer.path ≡ l.fn.writer.path;
-  puts : PutsPlaces g.K.Sink l.fn.out l.fn.writer.html l.out l.writer.html
+  puts : PutsPlaces g.K.Sink l.fn.out l.fn.writer.page l.out l.writer.page
       (anchor_places l.fn.writer.path (numbers l.next (l.number - l.next)));
 }
 

@@ -1,12 +1,14 @@
 -- The item of the place.
-use Rattle.std.proofs.Common.{◌≡◌, ◌∙◌, ◌+◌, ℕ, sym, ap, subst, arith}
+use Rattle.std.proofs.Common.{◌≡◌, ◌∙◌, ◌+◌, ◌||◌, ℕ, Bool, List, sym, ap, subst, arith}
 use Rattle.std.specs.Prelude.{slice_index}
 use Rattle.doc_columns.specs.Walks.{items_in}
 use Rattle.doc_view.specs.declared.text.Course.{Course}
 use Rattle.doc_view.specs.Course.{IsCourse}
 use Rattle.doc_view.proofs.CourseLemmas.{item_course, item_room, item_there, few_numbered, seen_is}
 use Rattle.doc_view.proofs.RangeLemmas.{seen_range}
-use Rattle.doc_places.specs.Places.{count_of}
+use Rattle.view_places.specs.declared.element.Element.{Element}
+use Rattle.form_page.specs.Forms.{PutsPlaces}
+use Rattle.doc_places.specs.Places.{count_of, item_places}
 use Rattle.doc_html.specs.Writes.{At, IsReading, Writes, at, links_in}
 use Rattle.doc_html.proofs.WriteLemmas.{count_few, item_written}
 use Rattle.doc_html.proofs.reading.write_item.Goals as goal
@@ -71,27 +73,46 @@ returns-clause-writes g c = λ formats istd has.
     let same =
     seen_is manner format course.front one.0 unit beside c.see-seen.result one.1.1
     (c.requires.beside course.place one.0 (omega arith) ahead one.1.0) c.see-seen.ensures in
+    let label = c.args.label.now in
+    let link = c.link-link.result in
+    let put : PutsPlaces g.K.Sink c.begin.new.out c.begin.new.self.page c.write.new.out c.write.new.self.page
+    (item_places writer.path link reading.count c.see-seen.result) =
+    subst (λ (path : List Element). PutsPlaces g.K.Sink c.begin.new.out c.begin.new.self.page c.write.new.out
+    c.write.new.self.page (item_places path link reading.count c.see-seen.result)) c.begin.ensures.path
+    c.write.ensures.puts in
     let written =
-    item_written g.K.Sink c.args.out.now c.write.new.out writer.html c.write.new.self.html reading.count reading.origin
-    c.link-link.result writer.path manner
+    item_written g.K.Sink c.args.out.now c.begin.new.out c.write.new.out writer.page c.begin.new.self.page
+    c.write.new.self.page reading.begun reading.count reading.origin link writer.path label manner
     (items_in parts) course format one.0 c.see-seen.result formats istd c.requires.reading.course one.1.0 same
-    (has course.place one.0 (omega arith) ahead one.1.0) c.link-link.ensures c.write.ensures.puts in
+    (has course.place one.0 (omega arith) ahead one.1.0) c.link-link.ensures c.begin.ensures.puts put in
     let links = links_in reading.origin (items_in parts) in
-    subst (λ (n : ℕ). Writes g.K.Sink (at c.args.out.now writer reading) (record {
+    subst (λ (begun : Bool). Writes g.K.Sink (at c.args.out.now writer reading) (record {
       out = c.write.new.out;
-      html = c.write.new.self.html;
+      page = c.write.new.self.page;
+      begun = begun;
+      count = c.count_behind-reading.result;
+      place = c.pass.new.self.place;
+      references =
+          c.pass.new.self.references.list;
+    }) links writer.path label (seen_range formats manner istd (items_in parts) course.place (course.place + 1))) (sym
+    c.begun_behind-reading.ensures)
+    (subst (λ (n : ℕ). Writes g.K.Sink (at c.args.out.now writer reading) (record {
+      out = c.write.new.out;
+      page = c.write.new.self.page;
+      begun = reading.begun || c.see-seen.result.is_shown;
       count = n;
       place = c.pass.new.self.place;
       references =
           c.pass.new.self.references.list;
-    }) links writer.path (seen_range formats manner istd (items_in parts) course.place (course.place + 1))) (sym
+    }) links writer.path label (seen_range formats manner istd (items_in parts) course.place (course.place + 1))) (sym
     c.count_behind-reading.ensures)
     (subst (λ (x : Course). Writes g.K.Sink (at c.args.out.now writer reading) (record {
       out = c.write.new.out;
-      html = c.write.new.self.html;
+      page = c.write.new.self.page;
+      begun = reading.begun || c.see-seen.result.is_shown;
       count = reading.count + count_of c.see-seen.result.reference;
       place = x.place;
       references = x.references.list;
-    }) links writer.path (seen_range formats manner istd (items_in parts) course.place (course.place + 1))) (sym
+    }) links writer.path label (seen_range formats manner istd (items_in parts) course.place (course.place + 1))) (sym
     c.pass.ensures)
-    written)
+    written))

@@ -20,7 +20,7 @@ loop-reading-init g c = record {
   origin = refl;
   writes = λ formats are.
       writes_start g.K.Sink (at c.args.out.now c.args.writer.now c.args.reading.now) (links_in
-      c.args.reading.now.origin (items_in c.args.text.now.parts)) c.args.writer.now.path formats
+      c.args.reading.now.origin (items_in c.args.text.now.parts)) c.args.writer.now.path c.args.label.now formats
       c.args.text.now.manner c.args.bounds.istd (items_in c.args.text.now.parts) c.args.reading.now.course.place;
 }
 
@@ -58,6 +58,7 @@ loop-reading-preserved g c =
     let least = c.min.ensures in
     let ahead : at_place ≤ to = omega (arith, some, more, place, least) in
     let block = c.args.writer.now.path in
+    let label = c.args.label.now in
     let links = links_in c.args.reading.now.origin items in
     let a = at c.args.out.now c.args.writer.now c.args.reading.now in
     let b = at old.out old.writer old.reading in
@@ -72,12 +73,12 @@ loop-reading-preserved g c =
       path = next.ensures.path ∙ old.invariant.path;
       origin = next.ensures.origin ∙ old.invariant.origin;
       writes = λ formats are.
-          writes_further g.K.Sink a b d links block formats manner istd items first at_place to low ahead
+          writes_further g.K.Sink a b d links block label formats manner istd items first at_place to low ahead
           (old.invariant.writes formats are)
-          (writes_to g.K.Sink b d links block formats manner istd items at_place c.min.result to (sym place)
-          (writes_in g.K.Sink b d links old.writer.path block (seen_range formats manner istd items at_place c.min.result)
+          (writes_to g.K.Sink b d links block label formats manner istd items at_place c.min.result to (sym place)
+          (writes_in g.K.Sink b d links old.writer.path block label (seen_range formats manner istd items at_place c.min.result)
           old.invariant.path
-          (writes_from g.K.Sink b d old.reading.origin c.args.reading.now.origin items old.writer.path (seen_range
+          (writes_from g.K.Sink b d old.reading.origin c.args.reading.now.origin items old.writer.path label (seen_range
           formats manner istd items at_place c.min.result) old.invariant.origin (next.ensures.writes formats istd
           (λ k item le until here. ap (formats istd) (alike.ensures.chps k item le (omega (arith, until, least)) here)
           ∙ format_one c.args.text.now.formats.now istd alike.result.chp.now (formats istd alike.result.chp.now)
@@ -92,7 +93,7 @@ returns-clause-writes g c = λ formats are.
     writes_to g.K.Sink (at c.args.out.now c.args.writer.now c.args.reading.now) (at c.loop-reading.out
     c.loop-reading.writer
     c.loop-reading.reading) (links_in c.args.reading.now.origin (items_in c.args.text.now.parts))
-    c.args.writer.now.path formats c.args.text.now.manner c.args.bounds.istd
+    c.args.writer.now.path c.args.label.now formats c.args.text.now.manner c.args.bounds.istd
     (items_in c.args.text.now.parts) c.args.reading.now.course.place c.loop-reading.reading.course.place
     c.args.bounds.end all
     (c.loop-reading.invariant.writes formats are)

@@ -18,7 +18,7 @@ invariant-loop-reading g l = record {
   origin : l.reading.origin ≡ l.fn.reading.origin;
   writes : (formats : Formats) → AreFormats l.fn.text.formats.now formats → Writes g.K.Sink
       (at l.fn.out l.fn.writer l.fn.reading) (at l.out l.writer l.reading)
-      (links_in l.fn.reading.origin (items_in l.fn.text.parts)) l.fn.writer.path
+      (links_in l.fn.reading.origin (items_in l.fn.text.parts)) l.fn.writer.path l.label
       (seen_range formats l.fn.text.manner l.bounds.istd (items_in l.fn.text.parts) l.fn.reading.course.place
       l.reading.course.place);
 }

@@ -17,7 +17,7 @@ loop-reading-init g c = record {
   origin = refl;
   writes = λ formats istd has.
       writes_start g.K.Sink (at c.args.out.now c.args.writer.now c.args.reading.now) (links_in
-      c.args.reading.now.origin (items_in c.args.text.now.parts)) c.args.writer.now.path formats
+      c.args.reading.now.origin (items_in c.args.text.now.parts)) c.args.writer.now.path c.args.label.now formats
       c.args.text.now.manner istd (items_in c.args.text.now.parts) c.args.reading.now.course.place;
 }
 
@@ -45,6 +45,7 @@ loop-reading-preserved g c =
     let items = items_in c.args.text.now.parts in
     let manner = c.args.text.now.manner in
     let block = c.args.writer.now.path in
+    let label = c.args.label.now in
     let links = links_in c.args.reading.now.origin items in
     let a = at c.args.out.now c.args.writer.now c.args.reading.now in
     let b = at old.out old.writer old.reading in
@@ -57,13 +58,13 @@ loop-reading-preserved g c =
       path = item.ensures.path ∙ old.invariant.path;
       origin = item.ensures.origin ∙ old.invariant.origin;
       writes = λ formats istd has.
-          writes_to g.K.Sink a d links block formats manner istd items first (at_place + 1) item.new.reading.course.place
+          writes_to g.K.Sink a d links block label formats manner istd items first (at_place + 1) item.new.reading.course.place
           (sym place)
-          (writes_further g.K.Sink a b d links block formats manner istd items first at_place (at_place + 1) low (omega arith)
+          (writes_further g.K.Sink a b d links block label formats manner istd items first at_place (at_place + 1) low (omega arith)
           (old.invariant.writes formats istd has)
-          (writes_in g.K.Sink b d links old.writer.path block (seen_range formats manner istd items at_place (at_place + 1))
+          (writes_in g.K.Sink b d links old.writer.path block label (seen_range formats manner istd items at_place (at_place + 1))
           old.invariant.path
-          (writes_from g.K.Sink b d old.reading.origin c.args.reading.now.origin items old.writer.path (seen_range
+          (writes_from g.K.Sink b d old.reading.origin c.args.reading.now.origin items old.writer.path label (seen_range
           formats manner istd items at_place (at_place + 1)) old.invariant.origin (item.ensures.writes formats istd
           (λ k x le until here. has k x (omega (arith, low, le)) until here)))));
     }
@@ -79,7 +80,7 @@ returns-clause-writes g c = λ formats istd has.
     writes_to g.K.Sink (at c.args.out.now c.args.writer.now c.args.reading.now) (at c.loop-reading.out
     c.loop-reading.writer
     c.loop-reading.reading) (links_in c.args.reading.now.origin (items_in c.args.text.now.parts))
-    c.args.writer.now.path formats c.args.text.now.manner istd (items_in c.args.text.now.parts)
+    c.args.writer.now.path c.args.label.now formats c.args.text.now.manner istd (items_in c.args.text.now.parts)
     c.args.reading.now.course.place c.loop-reading.reading.course.place c.args.stretch.now.until all
     (c.loop-reading.invariant.writes formats istd has)
 

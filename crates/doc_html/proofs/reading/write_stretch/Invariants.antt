@@ -19,7 +19,7 @@ invariant-loop-reading g l = record {
   writes : (formats : Formats) (istd : ℕ) → HasFormat formats istd (items_in l.fn.text.parts) l.fn.reading.course.place
       l.fn.stretch.until l.fn.stretch.format → Writes g.K.Sink
       (at l.fn.out l.fn.writer l.fn.reading) (at l.out l.writer l.reading)
-      (links_in l.fn.reading.origin (items_in l.fn.text.parts)) l.fn.writer.path
+      (links_in l.fn.reading.origin (items_in l.fn.text.parts)) l.fn.writer.path l.label
       (seen_range formats l.fn.text.manner istd (items_in l.fn.text.parts) l.fn.reading.course.place
       l.reading.course.place);
 }

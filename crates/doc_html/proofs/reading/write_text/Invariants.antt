@@ -1,9 +1,9 @@
-use Rattle.std.proofs.Common.{◌≡◌, ◌≤◌, ◌-◌, length, Bool, Some}
+use Rattle.std.proofs.Common.{◌≡◌, ◌≤◌, ◌-◌, length, drop, Bool, Some}
 use Rattle.run_lists.specs.Places.{IsAt}
 use Rattle.doc_columns.specs.Walks.{items_in, IsWalk}
 use Rattle.doc_view.specs.declared.reading.Manner.{Manner}
 use Rattle.doc_view.specs.Page.{AreFormats}
-use Rattle.doc_view.specs.Seen.{Formats, paragraphs_of}
+use Rattle.doc_view.specs.Seen.{Formats, paragraphs_of, with_values}
 use Rattle.doc_places.specs.Grid.{is_head_row}
 use Rattle.doc_places.specs.Places.{hypertext_of, lead}
 use Rattle.doc_html.specs.Writes.{IsReading, paragraphs_left}
@@ -21,13 +21,15 @@ invariant-loop-reading g l = record {
   path : l.writer.path ≡ l.fn.writer.path;
   number : l.grid.number ≤ l.reading.course.place;
   cell : l.grid.cell ≤ l.grid.number;
-  next : l.next ≡ lead l.bookmarks l.reading.course.place;
+  next : l.next ≡ lead l.context.bookmarks.now l.reading.course.place;
   known : (formats : Formats) (manner : Manner) (head : Bool) → l.known ≡ Some head → head ≡ is_head_row
       (paragraphs_left formats manner (items_in l.text.parts) l.reading.course.place);
-  text : (formats : Formats) → AreFormats l.text.formats.now formats → TextAt g.K.Sink l.fn.out l.fn.writer.html l.out
-      l.writer.html (hypertext_of l.bookmarks l.note (items_in l.text.parts)) l.fn.writer.path (paragraphs_of formats l.text.manner (items_in l.text.parts))
-      (paragraphs_left formats l.text.manner (items_in l.text.parts) l.reading.course.place)
-      l.grid l.reading.count l.reading.course.place l.fn.references.list l.reading.course.references.list;
+  text : (formats : Formats) → AreFormats l.text.formats.now formats → TextAt g.K.Sink l.fn.out l.fn.writer.page l.out
+      l.writer.page (hypertext_of l.context.bookmarks.now l.context.note (items_in l.text.parts)) l.fn.writer.path
+      (with_values l.context.values.now (paragraphs_of formats l.text.manner (items_in l.text.parts)))
+      (with_values (drop l.grid.number l.context.values.now)
+      (paragraphs_left formats l.text.manner (items_in l.text.parts) l.reading.course.place))
+      l.grid l.lists l.reading.count l.reading.course.place l.fn.references.list l.reading.course.references.list;
 }
 
 abbrev pub decreases-loop-reading : goal.decreases-loop-reading

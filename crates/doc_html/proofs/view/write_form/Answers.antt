@@ -1,5 +1,5 @@
 use Rattle.plain_doc.proofs.RightLemmas.{sound_is_right}
 use Rattle.doc_html.proofs.view.write_form.Goals as goal
 
-pub needs_of-requires : goal.needs_of-requires
-needs_of-requires g c = (sound_is_right c.args.document.now c.requires).bases
+pub needs_of-requires-clause-bases : goal.needs_of-requires-clause-bases
+needs_of-requires-clause-bases g c = (sound_is_right c.args.document.now c.requires).bases

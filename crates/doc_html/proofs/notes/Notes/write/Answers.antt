@@ -10,7 +10,7 @@ pub loop-k-init : goal.loop-k-init
 loop-k-init g c = record {
   path = c.requires.path;
   notes = λ formats are.
-      notes_start g.K.Sink c.args.out.now c.args.writer.now.html formats (record {
+      notes_start g.K.Sink c.args.out.now c.args.writer.now.page formats (record {
         hidden = c.args.self.now.hidden;
         kind = text_kind.Note;
       }) c.args.references.now.list c.args.self.now.texts.now;
@@ -25,7 +25,7 @@ loop-k-preserved g c = record {
       let old = c.loop-k in
       let put = c.write_note in
       let note = there_is notes old.k (omega arith) in
-      note_on g.K.Sink c.args.out.now c.args.writer.now.html old.out old.writer.html put.new.out put.new.writer.html
+      note_on g.K.Sink c.args.out.now c.args.writer.now.page old.out old.writer.page put.new.out put.new.writer.page
       formats
       (record { hidden = c.args.self.now.hidden; kind = text_kind.Note }) references notes old.k c.get.result note.0
       (old.invariant.notes formats are) c.get.ensures note.1 (put.ensures.puts formats note.0 are note.1);
@@ -45,6 +45,6 @@ returns-clause-puts g c = λ formats are.
       | inr more ↦ inr (omega
           (arith, more))
     ] in
-    notes_written g.K.Sink c.args.out.now c.args.writer.now.html old.out old.writer.html formats
+    notes_written g.K.Sink c.args.out.now c.args.writer.now.page old.out old.writer.page formats
     (record { hidden = c.args.self.now.hidden; kind = text_kind.Note }) (old.k + 1) references notes old.k ended
     (old.invariant.notes formats are)

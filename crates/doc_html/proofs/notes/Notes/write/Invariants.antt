@@ -9,7 +9,7 @@ use Rattle.doc_html.proofs.notes.Notes.write.Given as goal
 abbrev pub invariant-loop-k : goal.invariant-loop-k
 invariant-loop-k g l = record {
   path : l.writer.path ≡ [];
-  notes : (formats : Formats) → AreFormats l.self.formats.now formats → NotesAt g.K.Sink l.fn.out l.fn.writer.html l.out
-      l.writer.html formats (record { hidden = l.self.hidden; kind = text_kind.Note }) (l.k + 1) l.references.list
+  notes : (formats : Formats) → AreFormats l.self.formats.now formats → NotesAt g.K.Sink l.fn.out l.fn.writer.page l.out
+      l.writer.page formats (record { hidden = l.self.hidden; kind = text_kind.Note }) (l.k + 1) l.references.list
       (drop l.k l.references.list) l.self.texts.now (drop l.k l.self.texts.now);
 }

@@ -5,7 +5,9 @@ use Rattle.doc_parts.specs.declared.bookmark_order.Bookmark.{Bookmark}
 use Rattle.plain_doc.specs.declared.item.Item.{Item}
 use Rattle.view_places.specs.declared.element.Element.{Element}
 use Rattle.doc_view.specs.declared.reading.Manner.{Manner}
-use Rattle.doc_view.specs.Seen.{paragraphs_of}
+use Rattle.list_numbers.specs.declared.paragraph_values.ParagraphValues.{ParagraphValues}
+use Rattle.doc_view.specs.Seen.{Paragraph, paragraphs_of, with_values}
+use Rattle.doc_view.proofs.TextLemmas.{no_values}
 use Rattle.doc_view.proofs.NoteLemmas.{none_met}
 use Rattle.doc_places.specs.Places.{hypertext_of, note_path, text_places}
 use Rattle.form_page.specs.Forms.{PutsPlaces}
@@ -19,11 +21,11 @@ write_text-requires-clause-room g c =
 
 pub write_text-requires-clause-depth : goal.write_text-requires-clause-depth
 write_text-requires-clause-depth g c =
-    subst (λ (path : List Element). length path + 13 ≤ 24) (sym c.open_note.ensures.path) (omega arith)
+    subst (λ (path : List Element). length path + 21 ≤ 24) (sym c.open_note.ensures.path) (omega arith)
 
 pub returns-then-not-reference-clause-puts : goal.returns-then-not-reference-clause-puts
 returns-then-not-reference-clause-puts g c = λ formats note are there.
-    note_hidden g.K.Sink c.args.out.now c.args.writer.now.html formats (record {
+    note_hidden g.K.Sink c.args.out.now c.args.writer.now.page formats (record {
       hidden = c.args.self.now.hidden;
       kind = text_kind.Note;
     }) (c.args.k + 1) c.args.reference note (is_hidden c.args.reference.is_shown c.if-not-reference.true)
@@ -33,17 +35,22 @@ returns-clause-puts g c = λ formats note are there.
     let manner : Manner = record { hidden = c.args.self.now.hidden; kind = text_kind.Note } in
     let text = c.write_text in
     let label = c.open_note in
+    let plain : (all : List Paragraph) → with_values c.new-values.result all ≡ all = λ all.
+    ap (λ (values : List ParagraphValues). with_values values all) c.new-values.ensures ∙ no_values all in
     let same : items_in c.parts.result ≡ note = c.parts.ensures.items ∙ same_Some c.get.result.now note
     (sym c.get.ensures ∙ there) in
-    note_shown g.K.Sink c.args.out.now label.new.out text.new.out c.args.writer.now.html label.new.writer.html
-    text.new.writer.html formats manner (c.args.k + 1) c.args.reference note (is_not_hidden c.args.reference.is_shown c.if-not-reference.false) label.ensures.puts
-    (subst (λ (items : List Item). PutsPlaces g.K.Sink label.new.out label.new.writer.html text.new.out
-    text.new.writer.html
+    note_shown g.K.Sink c.args.out.now label.new.out text.new.out c.args.writer.now.page label.new.writer.page
+    text.new.writer.page formats manner (c.args.k + 1) c.args.reference note (is_not_hidden c.args.reference.is_shown c.if-not-reference.false) label.ensures.puts
+    (subst (λ (items : List Item). PutsPlaces g.K.Sink label.new.out label.new.writer.page text.new.out
+    text.new.writer.page
     (text_places (hypertext_of [] (c.args.k + 1) items) (note_path (c.args.k + 1)) (paragraphs_of formats manner items))) same
-    (subst (λ (path : List Element). PutsPlaces g.K.Sink label.new.out label.new.writer.html text.new.out
-    text.new.writer.html
+    (subst (λ (path : List Element). PutsPlaces g.K.Sink label.new.out label.new.writer.page text.new.out
+    text.new.writer.page
     (text_places (hypertext_of [] (c.args.k + 1) (items_in c.parts.result)) path (paragraphs_of formats manner (items_in
     c.parts.result)))) label.ensures.path (subst (λ (bookmarks : List Bookmark). PutsPlaces g.K.Sink label.new.out
-    label.new.writer.html text.new.out text.new.writer.html (text_places (hypertext_of bookmarks (c.args.k + 1)
+    label.new.writer.page text.new.out text.new.writer.page (text_places (hypertext_of bookmarks (c.args.k + 1)
     (items_in c.parts.result)) label.new.writer.path (paragraphs_of formats manner (items_in c.parts.result))))
-    c.new-bookmarks.ensures (text.ensures.puts formats are))))
+    c.new-bookmarks.ensures (subst (λ (all : List Paragraph). PutsPlaces g.K.Sink label.new.out label.new.writer.page
+    text.new.out text.new.writer.page (text_places (hypertext_of c.new-bookmarks.result (c.args.k + 1) (items_in
+    c.parts.result)) label.new.writer.path all)) (plain (paragraphs_of formats manner (items_in c.parts.result)))
+    (text.ensures.puts formats are)))))

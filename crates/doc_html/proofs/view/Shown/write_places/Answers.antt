@@ -16,7 +16,7 @@ use Rattle.form_page.proofs.FormLemmas.{places_then}
 use Rattle.doc_view.specs.declared.reading.Manner.{Manner}
 use Rattle.doc_view.specs.Kept.{KeptReferences}
 use Rattle.doc_view.specs.Page.{AreFormats}
-use Rattle.doc_view.specs.Seen.{paragraphs_of, references_of}
+use Rattle.doc_view.specs.Seen.{Paragraph, paragraphs_of, references_of, with_values}
 use Rattle.doc_view.proofs.PageLemmas.{sound_normal, sound_styles}
 use Rattle.doc_places.specs.Places.{hypertext_of, notes_places, text_places}
 use Rattle.doc_view.specs.declared.reading.TextKind.TheVariants as text_kind
@@ -37,7 +37,7 @@ write_text-references-requires-clause-styles g c =
 
 pub write_text-references-requires-clause-depth : goal.write_text-references-requires-clause-depth
 write_text-references-requires-clause-depth g c =
-    subst (λ (path : List Element). length path + 13 ≤ 24) (sym c.requires.path) (omega arith)
+    subst (λ (path : List Element). length path + 21 ≤ 24) (sym c.requires.path) (omega arith)
 
 pub write-requires-clause-normal : goal.write-requires-clause-normal
 write-requires-clause-normal g c =
@@ -64,25 +64,24 @@ returns g c = λ formats are.
     let same_notes : c.document.inside.notes ≡ document.notes = ap (λ (d : Document). d.notes) c.document.view_is in
     let same_bookmarks : c.document.inside.bookmarks ≡ document.bookmarks = ap (λ (d : Document). d.bookmarks)
     c.document.view_is in
-    let met : main.result.list ≡ references_of (paragraphs_of formats main_manner document.main) =
+    let values = c.args.self.now.values.now in
+    let all : List Item → List Paragraph = λ items. with_values values (paragraphs_of formats main_manner items) in
+    let met : main.result.list ≡ references_of (all document.main) =
     main.ensures.references formats right
-    ∙ ap (λ (r : KeptReferences). r.list ++ references_of (paragraphs_of formats main_manner (items_in c.parts.result)))
-    c.requires.references
-    ∙ ap (λ (items : List Item). references_of (paragraphs_of formats main_manner items)) same in
-    let before = c.args.writer.now.html in
-    let text : PutsPlaces g.K.Sink c.args.out.now before main.new.out main.new.writer.html (text_places (hypertext_of document.bookmarks 0 document.main) [] (paragraphs_of formats
-    main_manner document.main)) =
-    subst (λ (places : Places). PutsPlaces g.K.Sink c.args.out.now before main.new.out main.new.writer.html places) (λ
-    i. text_places
-    (hypertext_of (same_bookmarks i) 0 (same i)) (c.requires.path i) (paragraphs_of formats main_manner (same i))) (main.ensures.puts formats right) in
-    let notes : PutsPlaces g.K.Sink main.new.out main.new.writer.html c.write.new.out c.write.new.writer.html
-    (notes_places formats
-    note_manner 1 (references_of (paragraphs_of formats main_manner document.main)) document.notes) =
-    subst (λ (places : Places). PutsPlaces g.K.Sink main.new.out main.new.writer.html c.write.new.out
-    c.write.new.writer.html
+    ∙ ap (λ (r : KeptReferences). r.list ++ references_of (all (items_in c.parts.result))) c.requires.references
+    ∙ ap (λ (items : List Item). references_of (all items)) same in
+    let before = c.args.writer.now.page in
+    let hypertext = hypertext_of document.bookmarks 0 document.main in
+    let text : PutsPlaces g.K.Sink c.args.out.now before main.new.out main.new.writer.page (text_places hypertext [] (all
+    document.main)) =
+    subst (λ (places : Places). PutsPlaces g.K.Sink c.args.out.now before main.new.out main.new.writer.page places) (λ
+    i. text_places (hypertext_of (same_bookmarks i) 0 (same i)) (c.requires.path i) (all (same i)))
+    (main.ensures.puts formats right) in
+    let notes : PutsPlaces g.K.Sink main.new.out main.new.writer.page c.write.new.out c.write.new.writer.page
+    (notes_places formats note_manner 1 (references_of (all document.main)) document.notes) =
+    subst (λ (places : Places). PutsPlaces g.K.Sink main.new.out main.new.writer.page c.write.new.out
+    c.write.new.writer.page
     places) (λ i. notes_places formats note_manner 1 (met i) (same_notes i)) (c.write.ensures.puts formats right) in
-    places_then g.K.Sink c.args.out.now main.new.out c.write.new.out before main.new.writer.html c.write.new.writer.html
-    (text_places (hypertext_of document.bookmarks 0 document.main) [] (paragraphs_of formats
-    main_manner document.main)) (notes_places formats note_manner 1
-    (references_of
-    (paragraphs_of formats main_manner document.main)) document.notes) text notes
+    places_then g.K.Sink c.args.out.now main.new.out c.write.new.out before main.new.writer.page c.write.new.writer.page
+    (text_places hypertext [] (all document.main)) (notes_places formats note_manner 1 (references_of (all
+    document.main)) document.notes) text notes

@@ -16,6 +16,6 @@ returns-clause-path g c =
 
 pub returns-clause-puts : goal.returns-clause-puts
 returns-clause-puts g c =
-    subst (λ (path : List Element). PutsPlaces g.K.Sink c.args.out.now c.args.self.now.html c.put.new.out
+    subst (λ (path : List Element). PutsPlaces g.K.Sink c.args.out.now c.args.self.now.page c.put.new.out
     c.put.new.self (shown
     path c.args.glyph ∷ [])) c.push_inline.ensures c.put.ensures
