@@ -9,19 +9,12 @@ use Rattle.doc_outer.proofs.WrittenLemmas.{Appends-nil}
 use Rattle.std.proofs.lemmas.Option.{none-some}
 use Rattle.std.specs.Prelude.{◌↔◌, None, Option, Some}
 use Rattle.doc_bits.specs.Number.{AreBytes}
-use Rattle.doc_bits.specs.Places.{Place, IsFirstPlace}
-use Rattle.doc_bits.specs.Rules.{Hold}
 use Rattle.doc_outer.specs.Held.{Files}
-use Rattle.plain_doc.specs.declared.document.Document.{Document}
-use Rattle.doc_read.specs.Holds.{HoldsDocument, all_rules}
-use Rattle.run_stages.specs.Judged.{IsRefused, Judges}
 use Rattle.run_stages.specs.Leaves.{HasCause}
-use Rattle.run_stages.specs.Lines.{rule_line}
 use Rattle.run_stages.specs.Outcomes.{Outcome, says}
 use Rattle.run_stages.specs.Reading.{IsFound}
-use Rattle.run_stages.specs.Stages.{BreaksLengthRule, IsMissing, IsOverlong, IsReadWhole, IsShelfFault, ReadsFile}
-use Rattle.docview_run.specs.declared.view.View.{View}
-use Rattle.docview_run.specs.Endings.{IsPageIn, RunEnds, Shows, ShowsPage, printed}
+use Rattle.run_stages.specs.Stages.{BreaksLengthRule, IsMissing, IsOverlong, IsReadWhole, IsShelfFault, Reads}
+use Rattle.docview_run.specs.Endings.{IsOfFile, RunEnds, Shows, printed}
 use Rattle.docview_run.specs.Requests.{Request}
 
 -- there was no memory
@@ -35,7 +28,7 @@ memory_ends ends sink out = record {
 
 -- a status at which nothing is printed
 abbrev pub IsTold : ℕ → Type 0
-IsTold status = ((status ≡ 1) ⊎ (status ≡ 2)) ⊎ ((status ≡ 3) ⊎ (status ≡ 4))
+IsTold status = ((status ≡ 1) ⊎ (status ≡ 2)) ⊎ (((status ≡ 3) ⊎ (status ≡ 4)) ⊎ ((status ≡ 15) ⊎ (status ≡ 16)))
 
 text_of_status : Outcome → ℕ → List ℕ
 text_of_status outcome status = if status == 0 then outcome.text else []
@@ -44,14 +37,18 @@ told_nothing : (outcome : Outcome) (status : ℕ) → outcome.status ≡ status 
 unfolding text_of_status
 told_nothing outcome status is (inl (inl e)) = ap (text_of_status outcome) (is ∙ e)
 told_nothing outcome status is (inl (inr e)) = ap (text_of_status outcome) (is ∙ e)
-told_nothing outcome status is (inr (inl e)) = ap (text_of_status outcome) (is ∙ e)
-told_nothing outcome status is (inr (inr e)) = ap (text_of_status outcome) (is ∙ e)
+told_nothing outcome status is (inr (inl (inl e))) = ap (text_of_status outcome) (is ∙ e)
+told_nothing outcome status is (inr (inl (inr e))) = ap (text_of_status outcome) (is ∙ e)
+told_nothing outcome status is (inr (inr (inl e))) = ap (text_of_status outcome) (is ∙ e)
+told_nothing outcome status is (inr (inr (inr e))) = ap (text_of_status outcome) (is ∙ e)
 
 not_five : (status : ℕ) → IsTold status → status ≢ 5
 not_five status (inl (inl e)) = λ five. absurd (omega (arith, e, five))
 not_five status (inl (inr e)) = λ five. absurd (omega (arith, e, five))
-not_five status (inr (inl e)) = λ five. absurd (omega (arith, e, five))
-not_five status (inr (inr e)) = λ five. absurd (omega (arith, e, five))
+not_five status (inr (inl (inl e))) = λ five. absurd (omega (arith, e, five))
+not_five status (inr (inl (inr e))) = λ five. absurd (omega (arith, e, five))
+not_five status (inr (inr (inl e))) = λ five. absurd (omega (arith, e, five))
+not_five status (inr (inr (inr e))) = λ five. absurd (omega (arith, e, five))
 
 -- an outcome of which nothing is printed
 pub told_ends : {K : Type 0} (ends : Outcome → Type 0) (sink : Ghosts K) (out : K) (outcome : Outcome) (status : ℕ) →
@@ -115,19 +112,19 @@ status_of : Outcome → ℕ
 status_of outcome = outcome.status
 
 -- reading ended the run
-pub stopped_ends : {K : Type 0} (sink : Ghosts K) (out : K) (name : List ℕ) (held : Option Files) (view : View)
-    (ending : Outcome) →
+pub stopped_ends : {K : Type 0} (sink : Ghosts K) (out : K) (name : List ℕ) (held : Option Files)
+    (next : List ℕ → Outcome → Type 0) (ending : Outcome) →
     IsMissing name held ending ⊎ (IsShelfFault ending ⊎ IsOverlong name held (BreaksLengthRule name) ending) →
-    RunEnds (λ outcome. ReadsFile name held all_rules (ShowsPage view) outcome) sink out out ending.status
+    RunEnds (Reads name held (BreaksLengthRule name) next) sink out out ending.status
 unfolding status_of
-stopped_ends sink out name held view ending (inl missing) =
-    told_ends (λ outcome. ReadsFile name held all_rules (ShowsPage view) outcome) sink out ending ending.status refl
-    (inr (inl (ap status_of missing.ends))) (inl missing)
-stopped_ends sink out name held view ending (inr (inl fault)) =
-    told_ends (λ outcome. ReadsFile name held all_rules (ShowsPage view) outcome) sink out ending ending.status refl
-    (inr (inr (ap status_of fault))) (inr (inl fault))
-stopped_ends sink out name held view ending (inr (inr long)) =
-    told_ends (λ outcome. ReadsFile name held all_rules (ShowsPage view) outcome) sink out ending ending.status refl
+stopped_ends sink out name held next ending (inl missing) =
+    told_ends (Reads name held (BreaksLengthRule name) next) sink out ending ending.status refl
+    (inr (inl (inl (ap status_of missing.ends)))) (inl missing)
+stopped_ends sink out name held next ending (inr (inl fault)) =
+    told_ends (Reads name held (BreaksLengthRule name) next) sink out ending ending.status refl
+    (inr (inl (inr (ap status_of fault)))) (inr (inl fault))
+stopped_ends sink out name held next ending (inr (inr long)) =
+    told_ends (Reads name held (BreaksLengthRule name) next) sink out ending ending.status refl
     (inl (inl (ap status_of long.ends))) (inr (inr (inl long)))
 
 pub stopped_status : (name : List ℕ) (held : Option Files) (ending : Outcome) →
@@ -143,75 +140,35 @@ stopped_status name held ending (inr (inr long)) =
 
 -- the file was read whole
 pub file_ends : {K : Type 0} (sink : Ghosts K) (out after : K) (name : List ℕ) (held : Option Files)
-    (view : View) (bytes : List ℕ) (status : ℕ) → IsFound name held bytes → AreBytes bytes →
-    RunEnds (λ outcome. Judges (all_rules bytes) name (ShowsPage view bytes) outcome) sink out after status →
-    RunEnds (λ outcome. ReadsFile name held all_rules (ShowsPage view) outcome) sink out after status
-file_ends sink out after name held view bytes status found are =
-    ends_weaker (λ outcome. Judges (all_rules bytes) name (ShowsPage view bytes) outcome)
-    (λ outcome. ReadsFile name held all_rules (ShowsPage view) outcome) sink out after status
-    (λ outcome judged. inr (inr (inr (record {
+    (next : List ℕ → Outcome → Type 0) (bytes : List ℕ) (status : ℕ) → IsFound name held bytes → AreBytes bytes →
+    RunEnds (next bytes) sink out after status →
+    RunEnds (Reads name held (BreaksLengthRule name) next) sink out after status
+file_ends sink out after name held next bytes status found are =
+    ends_weaker (next bytes) (Reads name held (BreaksLengthRule name) next) sink out after status
+    (λ outcome shown. inr (inr (inr (record {
       bytes = bytes;
       told = found.told;
       are = are;
       short = found.short;
-      goes_on = judged;
+      goes_on = shown;
     }))))
 
--- statuses of a file that was read
-abbrev pub IsOfFile : ℕ → Type 0
-IsOfFile status = ((status ≡ 0) ⊎ (status ≡ 1)) ⊎ ((status ≡ 5) ⊎ (status ≡ 6))
-
 pub file_caused : (status a b c d : ℕ) → IsOfFile status → HasCause status a b c d
-file_caused status a b c d (inl (inl e)) =
-    record { missing = λ is. absurd (omega (arith, e, is)); shelf_fault = λ is. absurd (omega (arith, e, is)) }
-file_caused status a b c d (inl (inr e)) =
-    record { missing = λ is. absurd (omega (arith, e, is)); shelf_fault = λ is. absurd (omega (arith, e, is)) }
-file_caused status a b c d (inr (inl e)) =
-    record { missing = λ is. absurd (omega (arith, e, is)); shelf_fault = λ is. absurd (omega (arith, e, is)) }
-file_caused status a b c d (inr (inr e)) =
-    record { missing = λ is. absurd (omega (arith, e, is)); shelf_fault = λ is. absurd (omega (arith, e, is)) }
+file_caused status a b c d (inl low) =
+    record { missing = λ is. absurd (omega (arith, low, is)); shelf_fault = λ is. absurd (omega (arith, low, is)) }
+file_caused status a b c d (inr high) =
+    record { missing = λ is. absurd (omega (arith, high, is)); shelf_fault = λ is. absurd (omega (arith, high, is)) }
 
 pub file_asked : (status : ℕ) → IsOfFile status → status ≢ 2
-file_asked status (inl (inl e)) = λ two. absurd (omega (arith, e, two))
-file_asked status (inl (inr e)) = λ two. absurd (omega (arith, e, two))
-file_asked status (inr (inl e)) = λ two. absurd (omega (arith, e, two))
-file_asked status (inr (inr e)) = λ two. absurd (omega (arith, e, two))
-
--- a document was opened
-pub opened_ends : {K : Type 0} (sink : Ghosts K) (out after : K) (name file : List ℕ) (view : View)
-    (document : Document) (status : ℕ) → Hold (all_rules file) → HoldsDocument file document →
-    RunEnds (λ outcome. (bytes : List ℕ) × (IsPageIn view.form view.options document bytes × (outcome ≡ says 0 bytes))) sink out after
-    status →
-    RunEnds (λ outcome. Judges (all_rules file) name (ShowsPage view file) outcome) sink out after status
-opened_ends sink out after name file view document status holds is =
-    ends_weaker (λ outcome. (bytes : List ℕ) × (IsPageIn view.form view.options document bytes × (outcome ≡ says 0 bytes)))
-    (λ outcome. Judges (all_rules file) name (ShowsPage view file) outcome) sink out after status
-    (λ outcome shown. inr (
-      holds,
-      record {
-        document = document;
-        holds = is;
-        bytes = shown.0;
-        are = shown.1.0;
-        ends = shown.1.1;
-      },
-    ))
-
--- a rule is broken
-pub refused_ends : {K : Type 0} (sink : Ghosts K) (out : K) (name file : List ℕ) (view : View) (rule : ℕ)
-    (place : Place) → IsFirstPlace (all_rules file) rule place →
-    RunEnds (λ outcome. Judges (all_rules file) name (ShowsPage view file) outcome) sink out out 1
-refused_ends sink out name file view rule place first =
-    told_ends (λ outcome. Judges (all_rules file) name (ShowsPage view file) outcome) sink out
-    (says 1 (rule_line name rule place)) 1 refl (inl (inl refl))
-    (inl (record { rule = rule; place = place; first = first; ends = refl }))
+file_asked status (inl low) = λ two. absurd (omega (arith, low, two))
+file_asked status (inr high) = λ two. absurd (omega (arith, high, two))
 
 -- ---- words
 
 -- a text that was printed
 pub printed_after : (status : ℕ) → (status ≡ 0) ⊎ (status ≡ 5) → IsOfFile status
-printed_after status (inl e) = inl (inl e)
-printed_after status (inr e) = inr (inl e)
+printed_after status (inl e) = inl (omega (arith, e))
+printed_after status (inr e) = inr (omega (arith, e))
 
 -- words that ask for something do not end with their own status
 pub usage_apart : (status : ℕ) (asked : Option Request) (request : Request) → asked ≡ Some request → status ≢ 2 →

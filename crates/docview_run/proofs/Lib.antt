@@ -1,1 +1,6 @@
 pub mod EndLemmas
+pub mod PropertyLemmas
+pub mod ViewLemmas
+pub mod OneLemmas
+pub mod CompleteLemmas
+pub mod SafeLemmas

@@ -1,13 +1,12 @@
 -- How a run of docview may end.
-use Rattle.std.specs.Prelude.{◌≡◌, ◌≢◌, ℕ, ◌==◌, List, [], Option, Some, None, codes, if◌then◌else◌}
+use Rattle.std.specs.Prelude.{◌≡◌, ◌≢◌, ◌⊎◌, ◌<◌, ℕ, ◌==◌, List, [], Option, Some, None, codes, if◌then◌else◌}
 use Rattle.doc_outer.specs.Counts.{Rose}
 use Rattle.doc_outer.specs.Held.{Files}
 use Rattle.doc_outer.specs.Written.{Appends, AppendsPrefix}
 use Rattle.doc_outer.specs.declared.sink.Sink.{Ghosts}
 use Rattle.plain_doc.specs.declared.document.Document.{Document}
-use Rattle.doc_read.specs.Holds.{HoldsDocument, all_rules}
 use Rattle.run_stages.specs.Outcomes.{Outcome, says}
-use Rattle.run_stages.specs.Stages.{ReadsFile}
+use Rattle.run_stages.specs.Stages.{BreaksLengthRule, Reads}
 use Rattle.doc_view.specs.declared.view.Options.{Options}
 use Rattle.doc_view.specs.Page.{IsPage}
 use Rattle.doc_html.specs.Page.{IsHtmlPage}
@@ -16,7 +15,9 @@ use Rattle.docview_run.specs.declared.view.Form.{Form}
 use Rattle.docview_run.specs.declared.view.Form.TheVariants.{Text, Html, Markdown}
 use Rattle.docview_run.specs.declared.view.View.{View}
 use Rattle.docview_run.specs.declared.run.TheConstants.{HELP, VERSION}
-use Rattle.docview_run.specs.Requests.{Request, help, version, page, requested}
+use Rattle.docview_run.specs.Requests.{Request, help, version, page, properties, requested}
+use Rattle.docview_run.specs.FileProperties.{ShowsProperties}
+use Rattle.docview_run.specs.Viewed.{IsNotViewed, IsViewed}
 
 -- the page of a document in a form
 abbrev pub IsPageIn : Form → Options → Document → List ℕ → Type 0
@@ -24,25 +25,42 @@ IsPageIn Text options document bytes = IsPage options document bytes
 IsPageIn Html options document bytes = IsHtmlPage options document bytes
 IsPageIn Markdown options document bytes = IsMarkdownPage options document bytes
 
--- the page of the document that a file holds
+-- the page of a document is printed
+abbrev pub PrintsPage : View → Document → Outcome → Type 0
+PrintsPage view document outcome =
+    (bytes : List ℕ) × (IsPageIn view.form view.options document bytes × (outcome ≡ says 0 bytes))
+
+-- the page of the document of a file
 pub record ShowsPage (view : View) (file : List ℕ) (outcome : Outcome) : Type 0 where
   pub document : Document
-  pub holds : HoldsDocument file document
+  pub viewed : IsViewed view.strict file document
   pub bytes : List ℕ
   pub are : IsPageIn view.form view.options document bytes
   pub ends : outcome ≡ says 0 bytes
+
+-- a file is shown, or it has no document
+abbrev pub ShowsFile : View → (name file : List ℕ) → Outcome → Type 0
+ShowsFile view name file outcome = IsNotViewed view.strict file name outcome ⊎ ShowsPage view file outcome
+
+-- a name is read whole, and its file shown
+abbrev pub ShowsName : View → (name : List ℕ) → Option Files → Outcome → Type 0
+ShowsName view name held outcome = Reads name held (BreaksLengthRule name) (ShowsFile view name) outcome
 
 -- what a request comes to
 abbrev pub Shows : Option Files → Option Request → Outcome → Type 0
 Shows held None outcome = outcome ≡ says 2 []
 Shows held (Some help) outcome = outcome ≡ says 0 HELP.now
 Shows held (Some version) outcome = outcome ≡ says 0 VERSION.now
-Shows held (Some (page form options file)) outcome =
-    ReadsFile file held all_rules (ShowsPage (record { form = form; options = options })) outcome
+Shows held (Some (page view file)) outcome = ShowsName view file held outcome
+Shows held (Some (properties form file)) outcome = ShowsProperties file held outcome
 
 -- what a run over these words and this shelf may come to
 abbrev pub IsEnding : List (List ℕ) → Option Files → Outcome → Type 0
 IsEnding words held outcome = Shows held (requested words) outcome
+
+-- a status of a run that has read its file: none of those for words and for what happens outside before
+abbrev pub IsOfFile : ℕ → Type 0
+IsOfFile status = (status < 2) ⊎ (4 < status)
 
 -- what goes to the standard output: nothing but the page
 abbrev pub printed : Outcome → List ℕ

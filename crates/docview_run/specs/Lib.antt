@@ -1,2 +1,6 @@
 pub mod Requests
+pub mod Viewed
+pub mod FileProperties
 pub mod Endings
+pub mod Laws
+pub mod Safe

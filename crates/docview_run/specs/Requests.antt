@@ -1,86 +1,123 @@
 -- What words ask for.
-use Rattle.std.specs.Prelude.{ℕ, Bool, true, false, not, ◌&&◌, List, [], ◌∷◌, Option, Some, None, codes, if◌then◌else◌, ◌==◌}
+use Rattle.std.specs.Prelude.{ℕ, Bool, true, false, not, ◌&&◌, ◌==◌, List, [], ◌∷◌, drop, Option, Some, None, codes}
+use Rattle.std.specs.Prelude.{if◌then◌else◌}
 use Rattle.std.specs.Str.{bytes_eq}
-use Rattle.doc_view.specs.declared.view.Options.{Options}
-use Rattle.docview_run.specs.declared.view.Form.{Form}
+use Rattle.property_text.specs.declared.page.PropertyForm.{PropertyForm}
+use Rattle.property_text.specs.declared.page.PropertyForm.TheVariants.{Lines, Json}
 use Rattle.docview_run.specs.declared.view.Form.TheVariants.{Text, Html, Markdown}
+use Rattle.docview_run.specs.declared.view.View.{View}
 use Rattle.docview_run.specs.declared.words.Asked.{Asked}
 use Rattle.docview_run.specs.declared.words.Asked.TheVariants as variant
 
--- how the program is called, which it is, or the page of a file in a form, by options
+-- how the program is called, which it is, the page of a file, or its properties
 pub data Request : Type 0 where
   help : Request
   version : Request
-  page : Form → Options → List ℕ → Request
+  page : View → List ℕ → Request
+  properties : PropertyForm → List ℕ → Request
 
 abbrev pub request_of : Asked → Request
 request_of variant.Help = help
 request_of variant.Version = version
-request_of (variant.Page view file) = page view.form view.options file.now
+request_of (variant.Page view file) = page view file.now
+request_of (variant.Properties form file) = properties form file.now
 
 abbrev pub begins_with_hyphen : List ℕ → Bool
 begins_with_hyphen [] = false
 begins_with_hyphen (first ∷ more) = first == 45
 
 -- the page of a file; a hyphen names the standard input, and no other word that begins with one names a file
-abbrev pub named : Form → Options → List ℕ → Option Request
-named form options file =
-    if bytes_eq file (codes "-") then Some (page form options (codes "/dev/stdin")) else
-    if begins_with_hyphen file then None else Some (page form options file)
+abbrev pub named : View → List ℕ → Option Request
+named view file =
+    if bytes_eq file (codes "-") then Some (page view (codes "/dev/stdin")) else
+    if begins_with_hyphen file then None else Some (page view file)
 
 -- its page in the form that a word names
-abbrev pub in_form : Options → List ℕ → List ℕ → Option Request
-in_form options form file =
-    if bytes_eq form (codes "text") then named Text options file else
-    if bytes_eq form (codes "markdown") then named Markdown options file else
-    if bytes_eq form (codes "html") then named Html options file else None
+abbrev pub in_form : View → List ℕ → List ℕ → Option Request
+in_form view form file =
+    if bytes_eq form (codes "text") then named (record view { form = Text }) file else
+    if bytes_eq form (codes "markdown") then named (record view { form = Markdown }) file else
+    if bytes_eq form (codes "html") then named (record view { form = Html }) file else None
 
 -- a file alone, or a form and a file
-abbrev pub viewed : Options → List (List ℕ) → Option Request
-viewed options [] = None
-viewed options (file ∷ []) = named Text options file
-viewed options (form ∷ file ∷ []) = in_form options form file
-viewed options (form ∷ file ∷ next ∷ more) = None
+abbrev pub viewed : View → List (List ℕ) → Option Request
+viewed view [] = None
+viewed view (file ∷ []) = named view file
+viewed view (form ∷ file ∷ []) = in_form view form file
+viewed view (form ∷ file ∷ next ∷ more) = None
 
-abbrev pub no_options : Options
-no_options = record { hidden = false; headers = false }
+-- what is shown without options: the text of what is seen, of any file that has a document
+abbrev pub plain_view : View
+plain_view = record { form = Text; options = record { hidden = false; headers = false }; strict = false }
 
--- options, and the words behind them
+-- what options ask for, and the words behind them
 pub record Behind : Type 0 where
-  pub options : Options
+  pub view : View
   pub words : List (List ℕ)
 
-abbrev pub is_hidden : Options → List ℕ → Bool
-is_hidden options word = not options.hidden && bytes_eq word (codes "--hidden")
+abbrev pub is_hidden : View → List ℕ → Bool
+is_hidden view word = not view.options.hidden && bytes_eq word (codes "--hidden")
 
-abbrev pub is_headers : Options → List ℕ → Bool
-is_headers options word = not options.headers && bytes_eq word (codes "--headers")
+abbrev pub is_headers : View → List ℕ → Bool
+is_headers view word = not view.options.headers && bytes_eq word (codes "--headers")
+
+abbrev pub is_strict : View → List ℕ → Bool
+is_strict view word = not view.strict && bytes_eq word (codes "--strict")
+
+abbrev pub with_hidden : View → View
+with_hidden view = record view { options = record view.options { hidden = true } }
+
+abbrev pub with_headers : View → View
+with_headers view = record view { options = record view.options { headers = true } }
 
 -- one option more, where the first word is one that was not there
-abbrev pub behind_option : Options → List (List ℕ) → Behind
-behind_option options [] = record { options = options; words = [] }
-behind_option options (word ∷ words) =
-    if is_hidden options word then record { options = record options { hidden = true }; words = words } else
-    if is_headers options word then record { options = record options { headers = true }; words = words } else
-    record { options = options; words = word ∷ words }
+abbrev pub behind_option : View → List (List ℕ) → Behind
+behind_option view [] = record { view = view; words = [] }
+behind_option view (word ∷ words) =
+    if is_hidden view word then record { view = with_hidden view; words = words } else
+    if is_headers view word then record { view = with_headers view; words = words } else
+    if is_strict view word then record { view = record view { strict = true }; words = words } else
+    record { view = view; words = word ∷ words }
 
 -- options stand first, each once
 abbrev pub viewed_behind : Behind → Option Request
-viewed_behind at = viewed at.options at.words
+viewed_behind at = viewed at.view at.words
 
 abbrev pub next_behind : Behind → Behind
-next_behind at = behind_option at.options at.words
+next_behind at = behind_option at.view at.words
 
 abbrev pub viewed_by : List (List ℕ) → Option Request
-viewed_by words = viewed_behind (next_behind (behind_option no_options words))
+viewed_by words = viewed_behind (next_behind (next_behind (behind_option plain_view words)))
+
+-- the properties of a file
+abbrev pub properties_named : PropertyForm → List ℕ → Option Request
+properties_named form file =
+    if bytes_eq file (codes "-") then Some (properties form (codes "/dev/stdin")) else
+    if begins_with_hyphen file then None else Some (properties form file)
+
+-- behind the word for them: a file alone, or the option for JSON and a file
+abbrev pub properties_by : List (List ℕ) → Option Request
+properties_by [] = None
+properties_by (file ∷ []) = properties_named Lines file
+properties_by (option ∷ file ∷ []) = if bytes_eq option (codes "--json") then properties_named Json file else None
+properties_by (option ∷ file ∷ next ∷ more) = None
+
+-- the first word asks for properties
+abbrev pub asks_for_properties : List (List ℕ) → Bool
+asks_for_properties [] = false
+asks_for_properties (word ∷ words) = bytes_eq word (codes "meta")
+
+-- the properties of a file, or its page
+abbrev pub requested_many : List (List ℕ) → Option Request
+requested_many words = if asks_for_properties words then properties_by (drop 1 words) else viewed_by words
 
 abbrev pub requested_alone : List ℕ → Option Request
 requested_alone word =
     if bytes_eq word (codes "--help") then Some help else
-    if bytes_eq word (codes "--version") then Some version else named Text no_options word
+    if bytes_eq word (codes "--version") then Some version else named plain_view word
 
 -- what words ask for, where they ask for something
 abbrev pub requested : List (List ℕ) → Option Request
 requested [] = None
 requested (word ∷ []) = requested_alone word
-requested (word ∷ next ∷ more) = viewed_by (word ∷ next ∷ more)
+requested (word ∷ next ∷ more) = requested_many (word ∷ next ∷ more)

@@ -1,21 +1,23 @@
 // One run: the page of a document goes to the standard output, or why there is none to the standard error.
-ghost use Rattle.std.specs.Prelude.{◌≡◌, ◌≢◌, ◌↔◌, ◌⊎◌, ℕ, List, map, None, OnOk, IsErrOf};
+ghost use Rattle.std.specs.Prelude.{◌≡◌, ◌≢◌, ◌↔◌, ◌⊎◌, ℕ, List, map, None, Some, OnOk, IsErrOf};
 ghost use Rattle.std.specs.String.{string_bytes};
 ghost use Rattle.doc_bits.specs.Number.{AreBytes};
 ghost use Rattle.plain_doc.specs.Sound.{IsSound};
-ghost use Rattle.doc_read.specs.Holds.{HoldsDocument, all_rules};
-ghost use Rattle.run_stages.specs.Judged.{Judges, IsRefused};
 ghost use Rattle.run_stages.specs.Leaves.{IsCaused, IsOnlyRead};
-ghost use Rattle.run_stages.specs.Outcomes.{Outcome, says};
-ghost use Rattle.run_stages.specs.Stages.{ReadsFile};
-ghost use Rattle.docview_run.specs.Endings.{IsEnding, IsPageIn, RunEnds, ShowsPage};
-ghost use Rattle.docview_run.specs.Requests.{requested};
+ghost use Rattle.run_stages.specs.Outcomes.{says};
+ghost use Rattle.docview_run.specs.Endings.{IsEnding, IsOfFile, IsPageIn, PrintsPage, RunEnds, ShowsFile};
+ghost use Rattle.docview_run.specs.Endings.{ShowsName};
+ghost use Rattle.docview_run.specs.Requests.{page, requested};
+ghost use Rattle.docview_run.specs.Safe.{IsSafePage};
+ghost use Rattle.docview_run.specs.declared.view.View.{View as ViewOf};
 ghost use Rattle.doc_outer.specs.Counts.{Rose};
 ghost use Rattle.doc_outer.specs.Written.{Appends, AppendsPrefix};
 
+use crate::file_properties::show_properties;
+use crate::lifting::show_lifted;
 use crate::words::{Asked, asked_by};
 use crate::{Form, View};
-use doc_bits::{Memory, Text, Where};
+use doc_bits::{Memory, Where};
 use doc_columns::ColumnDocument;
 use doc_html::write_html;
 use doc_load::ReadFault;
@@ -34,15 +36,15 @@ pub const PROGRAM: &str = "docview";
 
 /// How the program is called.
 pub const HELP: &str =
-    "usage: docview [--hidden] [--headers] [text | markdown | html] FILE\n\nPrints the text of a Word 97 document as people read it, in UTF-8, as text, or as a page in Markdown or in HTML. FILE - is the standard input.\n  --hidden   hidden text too\n  --headers  headers and footers too, in text\n  --help     this text\n  --version  the version\n";
+    "usage: docview [--hidden] [--headers] [--strict] [text | markdown | html] FILE\n       docview meta [--json] FILE\n\nPrints the text of a document of Word 97 to 2007 as people read it, in UTF-8, as text, or as a page in Markdown or in HTML. With meta it prints the properties of a file. FILE - is the standard input.\n  --hidden   hidden text too\n  --headers  headers and footers too, in text\n  --strict   only files that docbin accepts\n  --json     properties as JSON\n  --help     this text\n  --version  the version\n";
 
 pub const VERSION: &str = "docview 1.0.0\n";
 
 const USAGE: &str =
-    "usage: docview [--hidden] [--headers] [text | markdown | html] FILE | --help | --version\n";
+    "usage: docview [--hidden] [--headers] [--strict] [text | markdown | html] FILE | meta [--json] FILE | --help | --version\n";
 
-/// Runs the words over the files of a shelf, and answers the status. The page goes to `out`, and where there is none, the
-/// reason to `reasons`, whose faults change nothing.
+/// Runs the words over the files of a shelf, and answers the status. The page goes to `out`, and to `reasons`, whose
+/// faults change nothing, why there is none, or what of a file is left out of it.
 pub fn docview_run<S: Shelf, K: Sink, E: Sink>(
     alloc: Global,
     words: &[String],
@@ -56,6 +58,12 @@ pub fn docview_run<S: Shelf, K: Sink, E: Sink>(
     // A run ends as its words and the shelf decide, by its status: with the page printed where that is 0; where the sink
     // failed it has taken a prefix of the page; without memory nothing is printed.
     ensures ends { RunEnds (IsEnding (map string_bytes words.now) (S.held shelf.old)) K.Sink out.old out.new result }
+
+    // A page is safe, whatever document it is of: in text it has no control, in HTML and in Markdown the stated readers read
+    // it as the tokens that it was printed of.
+    ensures safe { result ≡ 0 → (view : ViewOf) (name : List ℕ)
+        → requested (map string_bytes words.now) ≡ Some (page view name)
+        → (bytes : List ℕ) × (IsSafePage view bytes × Appends (K.written out.old) (K.written out.new) bytes) }
 
     // The status of words that ask for nothing is theirs alone.
     ensures usage { result ≡ 2 ↔ requested (map string_bytes words.now) ≡ None }
@@ -71,11 +79,14 @@ pub fn docview_run<S: Shelf, K: Sink, E: Sink>(
         Some(Asked::Help) => print(out, HELP),
         Some(Asked::Version) => print(out, VERSION),
         Some(Asked::Page { view, file }) => show_name(alloc, shelf, file, view, out, reasons),
+        Some(Asked::Properties { form, file }) => {
+            show_properties(alloc, shelf, file, form, out, reasons)
+        }
     }
 }
 
 /// Prints a text.
-fn print<K: Sink>(out: &mut K, text: &str) -> u8
+pub(crate) fn print<K: Sink>(out: &mut K, text: &str) -> u8
     ensures ends { RunEnds (λ outcome. outcome ≡ says 0 text.now) K.Sink out.old out.new result }
     ensures status { (result ≡ 0) ⊎ (result ≡ 5) }
 {
@@ -95,8 +106,7 @@ fn show_name<S: Shelf, K: Sink, E: Sink>(
     reasons: &mut E,
 ) -> u8
     ensures read { IsOnlyRead S.Shelf shelf.old shelf.new }
-    ensures ends { RunEnds (λ outcome. ReadsFile name.now (S.held shelf.old) all_rules (ShowsPage view) outcome)
-        K.Sink out.old out.new result }
+    ensures ends { RunEnds (ShowsName view name.now (S.held shelf.old)) K.Sink out.old out.new result }
     ensures cause { IsCaused S.Shelf shelf.old shelf.new result }
     ensures asked { result ≢ 2 }
 {
@@ -110,7 +120,7 @@ fn show_name<S: Shelf, K: Sink, E: Sink>(
     }
 }
 
-/// Shows the document of a file.
+/// Shows the document of a file. One that breaks a rule is lifted out of it, but for a strict view.
 fn show_file<K: Sink, E: Sink>(
     alloc: Global,
     name: &str,
@@ -119,10 +129,9 @@ fn show_file<K: Sink, E: Sink>(
     out: &mut K,
     reasons: &mut E,
 ) -> u8
-    ensures ends { RunEnds (λ outcome. Judges (all_rules file.now) name.now (ShowsPage view file.now) outcome)
-        K.Sink out.old out.new result }
+    ensures ends { RunEnds (ShowsFile view name.now file.now) K.Sink out.old out.new result }
     ensures bytes { AreBytes file.now }
-    ensures after { ((result ≡ 0) ⊎ (result ≡ 1)) ⊎ ((result ≡ 5) ⊎ (result ≡ 6)) }
+    ensures after { IsOfFile result }
 {
     match open(alloc, file) {
         Ok(opened) => {
@@ -130,6 +139,7 @@ fn show_file<K: Sink, E: Sink>(
             drop(opened);
             status
         }
+        Err(ReadFault::Memory) => STATUS_MEMORY,
         Err(
             ReadFault::Refused {
                 rule,
@@ -137,25 +147,28 @@ fn show_file<K: Sink, E: Sink>(
                 offset,
             },
         ) => {
+            if !view.strict {
+                return show_lifted(alloc, name, file, view, out, reasons);
+            }
             let why = why_refused(rule, file);
-            match refusal(alloc, name, rule, (place, offset), why) {
-                Ok(reason) => {
-                    tell(reasons, reason.as_str());
-                    STATUS_REFUSED
-                }
+            match tell_refusal(alloc, name, rule, (place, offset), why, reasons) {
+                Ok(()) => STATUS_REFUSED,
                 Err(_) => STATUS_MEMORY,
             }
         }
-        Err(ReadFault::Memory) => STATUS_MEMORY,
     }
 }
 
 /// Writes the page of a document.
-fn show_document<K: Sink>(alloc: Global, document: &ColumnDocument, view: View, out: &mut K) -> u8
+pub(crate) fn show_document<K: Sink>(
+    alloc: Global,
+    document: &ColumnDocument,
+    view: View,
+    out: &mut K,
+) -> u8
     requires { IsSound document.now }
-    ensures ends { RunEnds (λ outcome. (bytes : List ℕ) × (IsPageIn view.form view.options document.now bytes × (outcome ≡ says 0 bytes)))
-        K.Sink out.old out.new result }
-    ensures after { ((result ≡ 0) ⊎ (result ≡ 1)) ⊎ ((result ≡ 5) ⊎ (result ≡ 6)) }
+    ensures ends { RunEnds (PrintsPage view document.now) K.Sink out.old out.new result }
+    ensures after { IsOfFile result }
 {
     match write_view(alloc, document, view, out) {
         Ok(()) => STATUS_DONE,
@@ -187,24 +200,28 @@ fn write_view<K: Sink>(
     }
 }
 
-/// Why a file is not shown.
-fn refusal(
+/// Tells why a file is not shown.
+pub(crate) fn tell_refusal<E: Sink>(
     alloc: Global,
     name: &str,
     rule: u8,
     place: (Where, u32),
     why: &str,
-) -> Result<Text, Memory> {
+    reasons: &mut E,
+) -> Result<(), Memory> {
     let part = part_name(alloc, place.0)?;
     let part = part.as_str();
     let offset = place.1;
     let reason = format!(in alloc; "not shown: rule {rule} {part} {offset} ({why})")?;
-    reason_of_name(alloc, name, reason.as_str())
+    let reason = reason_of_name(alloc, name, reason.as_str())?;
+    tell(reasons, ["", reason.as_str(), "\n"]);
+    Ok(())
 }
 
-/// Tells a reason, as far as the sink takes it.
-fn tell<E: Sink>(reasons: &mut E, reason: &str) {
-    for part in [PROGRAM, ": ", reason, "\n"] {
+/// Tells a line, of three parts, as far as the sink takes it.
+pub(crate) fn tell<E: Sink>(reasons: &mut E, parts: [&str; 3]) {
+    let [front, line, end] = parts;
+    for part in [PROGRAM, ": ", front, line, end] {
         if write_all(reasons, part.as_bytes()).is_err() {
             return;
         }

@@ -9,9 +9,11 @@ pub enum Form {
     Markdown,
 }
 
-/// A form of a page, and what of the document is in it.
+/// A form of a page, what of the document is in it, and whether files that break a rule are shown.
 #[derive(Clone, Copy)]
 pub struct View {
     pub form: Form,
     pub options: Options,
+    /// Only files that break no rule are shown.
+    pub strict: bool,
 }

@@ -1,11 +1,14 @@
 // What the words of a run ask for.
-ghost use Rattle.std.specs.Prelude.{◌≡◌, [], ◌∷◌, true, false, MatchOption, None, Some, map};
+ghost use Rattle.std.specs.Prelude.{◌≡◌, ◌≤◌, [], ◌∷◌, true, false, MatchOption, None, Some, length, map};
 ghost use Rattle.std.specs.String.{string_bytes};
 ghost use Rattle.docview_run.specs.Requests.{begins_with_hyphen, behind_option, in_form, is_headers, is_hidden};
-ghost use Rattle.docview_run.specs.Requests.{named, no_options, request_of, requested, viewed, viewed_by};
+ghost use Rattle.docview_run.specs.Requests.{is_strict, named, plain_view, request_of, requested, viewed, viewed_by};
+ghost use Rattle.docview_run.specs.Requests.{asks_for_properties, properties_by, properties_named, requested_many};
+ghost use Rattle.docview_run.specs.Requests.{with_headers, with_hidden};
 
 use crate::{Form, View};
 use doc_view::Options;
+use property_text::PropertyForm;
 
 /// The standard input, as `-` names it.
 const STANDARD_INPUT: &str = "/dev/stdin";
@@ -19,12 +22,14 @@ pub enum Asked<'a> {
     Version,
     /// The page of the document of a file.
     Page { view: View, file: &'a str },
+    /// The properties of a file.
+    Properties { form: PropertyForm, file: &'a str },
 }
 
-/// Options, and the words behind them.
+/// What options ask for, and the words behind them.
 #[derive(Clone, Copy)]
 struct Behind<'a> {
-    options: Options,
+    view: View,
     words: &'a [String],
 }
 
@@ -37,8 +42,67 @@ pub(crate) fn asked_by(words: &[String]) -> Option<Asked<'_>>
     match words {
         [] => None,
         [word] => asked_alone(word.as_str()),
-        [_, _, ..] => asked_behind(words),
+        [_, _, ..] => asked_many(words),
     }
+}
+
+/// What several words ask for: the properties of a file, or its page.
+fn asked_many(words: &[String]) -> Option<Asked<'_>>
+    requires { 1 ≤ length words.now }
+    ensures { MatchOption result
+        (requested_many (map string_bytes words.now) ≡ None)
+        (λ asked. requested_many (map string_bytes words.now) ≡ Some (request_of asked)) }
+{
+    if asks_for_properties(words) {
+        return asked_properties(&words[1..]);
+    }
+    asked_behind(words)
+}
+
+/// Whether the first word asks for properties.
+fn asks_for_properties(words: &[String]) -> bool
+    ensures { result ≡ asks_for_properties (map string_bytes words.now) }
+{
+    match words {
+        [first, ..] => first.as_str() == "meta",
+        [] => false,
+    }
+}
+
+/// The properties that words behind `meta` ask for: of a file alone, or as JSON.
+fn asked_properties(words: &[String]) -> Option<Asked<'_>>
+    ensures { MatchOption result
+        (properties_by (map string_bytes words.now) ≡ None)
+        (λ asked. properties_by (map string_bytes words.now) ≡ Some (request_of asked)) }
+{
+    match words {
+        [file] => properties_of(PropertyForm::Lines, file.as_str()),
+        [option, file] => {
+            if option.as_str() == "--json" {
+                return properties_of(PropertyForm::Json, file.as_str());
+            }
+            None
+        }
+        _ => None,
+    }
+}
+
+/// The properties of a file. A word that begins with a hyphen names none.
+fn properties_of(form: PropertyForm, file: &str) -> Option<Asked<'_>>
+    ensures { MatchOption result
+        (properties_named form file.now ≡ None)
+        (λ asked. properties_named form file.now ≡ Some (request_of asked)) }
+{
+    if file == "-" {
+        return Some(Asked::Properties {
+            form,
+            file: STANDARD_INPUT,
+        });
+    }
+    if begins_with_hyphen(file) {
+        return None;
+    }
+    Some(Asked::Properties { form, file })
 }
 
 /// What one word asks for.
@@ -53,7 +117,7 @@ fn asked_alone(word: &str) -> Option<Asked<'_>>
     if word == "--version" {
         return Some(Asked::Version);
     }
-    asked_of(Form::Text, no_options(), word)
+    asked_of(plain_view(), word)
 }
 
 /// What words ask for behind their options.
@@ -62,101 +126,157 @@ fn asked_behind(words: &[String]) -> Option<Asked<'_>>
         (viewed_by (map string_bytes words.now) ≡ None)
         (λ asked. viewed_by (map string_bytes words.now) ≡ Some (request_of asked)) }
 {
-    let first = behind_option(no_options(), words);
-    let second = behind_option(first.options, first.words);
-    asked_view(second.options, second.words)
+    let first = behind_option(plain_view(), words);
+    let second = behind_option(first.view, first.words);
+    let third = behind_option(second.view, second.words);
+    asked_view(third.view, third.words)
 }
 
-fn no_options() -> Options
-    ensures { result ≡ no_options }
+/// What is shown without options.
+fn plain_view() -> View
+    ensures { result ≡ plain_view }
 {
-    Options {
-        hidden: false,
-        headers: false,
+    View {
+        form: Form::Text,
+        options: Options {
+            hidden: false,
+            headers: false,
+        },
+        strict: false,
     }
 }
 
 /// One option more, where the first word is one that was not there.
-fn behind_option(options: Options, words: &[String]) -> Behind<'_>
-    ensures options { result.options ≡ (behind_option options (map string_bytes words.now)).options }
-    ensures words { map string_bytes result.words.now ≡ (behind_option options (map string_bytes words.now)).words }
+fn behind_option(view: View, words: &[String]) -> Behind<'_>
+    ensures view { result.view ≡ (behind_option view (map string_bytes words.now)).view }
+    ensures words { map string_bytes result.words.now ≡ (behind_option view (map string_bytes words.now)).words }
 {
     let [word, ..] = words else {
-        return Behind { options, words };
+        return Behind { view, words };
     };
-    if is_hidden(options, word.as_str()) {
+    let word = word.as_str();
+    if is_hidden(view, word) {
         return Behind {
-            options: Options {
-                hidden: true,
-                headers: options.headers,
+            view: with_hidden(view),
+            words: &words[1..],
+        };
+    }
+    if is_headers(view, word) {
+        return Behind {
+            view: with_headers(view),
+            words: &words[1..],
+        };
+    }
+    if is_strict(view, word) {
+        return Behind {
+            view: View {
+                form: view.form,
+                options: view.options,
+                strict: true,
             },
             words: &words[1..],
         };
     }
-    if is_headers(options, word.as_str()) {
-        return Behind {
-            options: Options {
-                hidden: options.hidden,
-                headers: true,
-            },
-            words: &words[1..],
-        };
-    }
-    Behind { options, words }
+    Behind { view, words }
 }
 
 /// Whether a word is the option for hidden text, which was not there.
-fn is_hidden(options: Options, word: &str) -> bool
-    ensures { result ≡ is_hidden options word.now }
+fn is_hidden(view: View, word: &str) -> bool
+    ensures { result ≡ is_hidden view word.now }
 {
-    !options.hidden && word == "--hidden"
+    !view.options.hidden && word == "--hidden"
 }
 
 /// Whether a word is the option for header texts, which was not there.
-fn is_headers(options: Options, word: &str) -> bool
-    ensures { result ≡ is_headers options word.now }
+fn is_headers(view: View, word: &str) -> bool
+    ensures { result ≡ is_headers view word.now }
 {
-    !options.headers && word == "--headers"
+    !view.options.headers && word == "--headers"
+}
+
+/// Whether a word is the option for files that break no rule, which was not there.
+fn is_strict(view: View, word: &str) -> bool
+    ensures { result ≡ is_strict view word.now }
+{
+    !view.strict && word == "--strict"
+}
+
+/// The same with hidden text.
+fn with_hidden(view: View) -> View
+    ensures { result ≡ with_hidden view }
+{
+    View {
+        form: view.form,
+        options: Options {
+            hidden: true,
+            headers: view.options.headers,
+        },
+        strict: view.strict,
+    }
+}
+
+/// The same with header texts.
+fn with_headers(view: View) -> View
+    ensures { result ≡ with_headers view }
+{
+    View {
+        form: view.form,
+        options: Options {
+            hidden: view.options.hidden,
+            headers: true,
+        },
+        strict: view.strict,
+    }
 }
 
 /// The page that words behind options ask for: of a file alone, or in a form.
-fn asked_view(options: Options, words: &[String]) -> Option<Asked<'_>>
+fn asked_view(view: View, words: &[String]) -> Option<Asked<'_>>
     ensures { MatchOption result
-        (viewed options (map string_bytes words.now) ≡ None)
-        (λ asked. viewed options (map string_bytes words.now) ≡ Some (request_of asked)) }
+        (viewed view (map string_bytes words.now) ≡ None)
+        (λ asked. viewed view (map string_bytes words.now) ≡ Some (request_of asked)) }
 {
     match words {
-        [file] => asked_of(Form::Text, options, file.as_str()),
-        [form, file] => asked_in_form(options, form.as_str(), file.as_str()),
+        [file] => asked_of(view, file.as_str()),
+        [form, file] => asked_in_form(view, form.as_str(), file.as_str()),
         _ => None,
     }
 }
 
 /// The page of a file in the form that a word names.
-fn asked_in_form<'a>(options: Options, form: &str, file: &'a str) -> Option<Asked<'a>>
+fn asked_in_form<'a>(view: View, form: &str, file: &'a str) -> Option<Asked<'a>>
     ensures { MatchOption result
-        (in_form options form.now file.now ≡ None)
-        (λ asked. in_form options form.now file.now ≡ Some (request_of asked)) }
+        (in_form view form.now file.now ≡ None)
+        (λ asked. in_form view form.now file.now ≡ Some (request_of asked)) }
 {
     if form == "text" {
-        return asked_of(Form::Text, options, file);
+        return asked_of(with_form(view, Form::Text), file);
     }
     if form == "markdown" {
-        return asked_of(Form::Markdown, options, file);
+        return asked_of(with_form(view, Form::Markdown), file);
     }
     if form == "html" {
-        return asked_of(Form::Html, options, file);
+        return asked_of(with_form(view, Form::Html), file);
     }
     None
 }
 
-/// The page of a file. A word that begins with a hyphen names none.
-fn asked_of(form: Form, options: Options, file: &str) -> Option<Asked<'_>>
-    ensures { MatchOption result
-        (named form options file.now ≡ None)
-        (λ asked. named form options file.now ≡ Some (request_of asked)) }
+/// The same in another form.
+fn with_form(view: View, form: Form) -> View
+    ensures { result ≡ record view { form = form } }
 {
-    let view = View { form, options };
+    View {
+        form,
+        options: view.options,
+        strict: view.strict,
+    }
+}
+
+/// The page of a file. A word that begins with a hyphen names none.
+fn asked_of(view: View, file: &str) -> Option<Asked<'_>>
+    ensures { MatchOption result
+        (named view file.now ≡ None)
+        (λ asked. named view file.now ≡ Some (request_of asked)) }
+{
     if file == "-" {
         return Some(Asked::Page {
             view,

@@ -1,7 +1,8 @@
 use Rattle.std.proofs.Common.{map, refl}
 use Rattle.std.specs.String.{string_bytes}
-use Rattle.docview_run.specs.Requests.{help, page, requested, version}
+use Rattle.docview_run.specs.Requests.{help, page, properties, requested, version}
 use Rattle.docview_run.proofs.EndLemmas.{asked_ends, file_asked, file_caused, printed_after, usage_apart, usage_ends}
+use Rattle.docview_run.proofs.SafeLemmas.{run_safe}
 use Rattle.docview_run.proofs.run.docview_run.Goals as goal
 
 pub returns-in-None-clause-ends : goal.returns-in-None-clause-ends
@@ -54,10 +55,50 @@ pub returns-in-Some-Page-clause-ends : goal.returns-in-Some-Page-clause-ends
 returns-in-Some-Page-clause-ends g c =
     let asked = rw c.in-Some-Page.field-0-is at c.in-Some-Page.ensures in
     asked_ends g.K.Sink c.args.out.now c.show_name.new.out (g.S.Shelf.held c.args.shelf.now)
-    (requested (map string_bytes c.args.words.now)) (page c.in-Some-Page.view.form c.in-Some-Page.view.options c.in-Some-Page.file.now) c.show_name.result asked c.show_name.ensures.ends
+    (requested (map string_bytes c.args.words.now)) (page c.in-Some-Page.view c.in-Some-Page.file.now) c.show_name.result asked c.show_name.ensures.ends
 
 pub returns-in-Some-Page-clause-usage : goal.returns-in-Some-Page-clause-usage
 returns-in-Some-Page-clause-usage g c =
     let asked = rw c.in-Some-Page.field-0-is at c.in-Some-Page.ensures in
-    usage_apart c.show_name.result (requested (map string_bytes c.args.words.now)) (page c.in-Some-Page.view.form c.in-Some-Page.view.options c.in-Some-Page.file.now) asked
+    usage_apart c.show_name.result (requested (map string_bytes c.args.words.now)) (page c.in-Some-Page.view c.in-Some-Page.file.now) asked
     c.show_name.ensures.asked
+
+pub returns-in-Some-Properties-clause-ends : goal.returns-in-Some-Properties-clause-ends
+returns-in-Some-Properties-clause-ends g c =
+    let asked = rw c.in-Some-Properties.field-0-is at c.in-Some-Properties.ensures in
+    asked_ends g.K.Sink c.args.out.now c.show_properties.new.out (g.S.Shelf.held c.args.shelf.now)
+    (requested (map string_bytes c.args.words.now))
+    (properties c.in-Some-Properties.form c.in-Some-Properties.file.now) c.show_properties.result asked
+    c.show_properties.ensures.ends
+
+pub returns-in-Some-Properties-clause-usage : goal.returns-in-Some-Properties-clause-usage
+returns-in-Some-Properties-clause-usage g c =
+    let asked = rw c.in-Some-Properties.field-0-is at c.in-Some-Properties.ensures in
+    usage_apart c.show_properties.result (requested (map string_bytes c.args.words.now))
+    (properties c.in-Some-Properties.form c.in-Some-Properties.file.now) asked
+    c.show_properties.ensures.asked
+
+pub returns-in-None-clause-safe : goal.returns-in-None-clause-safe
+returns-in-None-clause-safe g c =
+    run_safe g.K.Sink c.args.out.now c.args.out.now (map string_bytes c.args.words.now)
+    (g.S.Shelf.held c.args.shelf.now) 2 (returns-in-None-clause-ends g c)
+
+pub returns-in-Some-Help-clause-safe : goal.returns-in-Some-Help-clause-safe
+returns-in-Some-Help-clause-safe g c =
+    run_safe g.K.Sink c.args.out.now c.print.new.out (map string_bytes c.args.words.now)
+    (g.S.Shelf.held c.args.shelf.now) c.print.result (returns-in-Some-Help-clause-ends g c)
+
+pub returns-in-Some-Version-clause-safe : goal.returns-in-Some-Version-clause-safe
+returns-in-Some-Version-clause-safe g c =
+    run_safe g.K.Sink c.args.out.now c.print-in-Some-Version.new.out (map string_bytes c.args.words.now)
+    (g.S.Shelf.held c.args.shelf.now) c.print-in-Some-Version.result (returns-in-Some-Version-clause-ends g c)
+
+pub returns-in-Some-Page-clause-safe : goal.returns-in-Some-Page-clause-safe
+returns-in-Some-Page-clause-safe g c =
+    run_safe g.K.Sink c.args.out.now c.show_name.new.out (map string_bytes c.args.words.now)
+    (g.S.Shelf.held c.args.shelf.now) c.show_name.result (returns-in-Some-Page-clause-ends g c)
+
+pub returns-in-Some-Properties-clause-safe : goal.returns-in-Some-Properties-clause-safe
+returns-in-Some-Properties-clause-safe g c =
+    run_safe g.K.Sink c.args.out.now c.show_properties.new.out (map string_bytes c.args.words.now)
+    (g.S.Shelf.held c.args.shelf.now) c.show_properties.result (returns-in-Some-Properties-clause-ends g c)

@@ -1,10 +1,7 @@
 use Rattle.std.proofs.Common.{◌≡◌, ◌∙◌, ℕ, List, sym, subst}
-use Rattle.doc_read.specs.Holds.{all_rules}
 use Rattle.run_stages.specs.Leaves.{IsCaused}
-use Rattle.run_stages.specs.Outcomes.{Outcome}
 use Rattle.run_stages.specs.Reading.{IsFound}
-use Rattle.run_stages.specs.Stages.{ReadsFile}
-use Rattle.docview_run.specs.Endings.{RunEnds, ShowsPage}
+use Rattle.docview_run.specs.Endings.{RunEnds, ShowsFile, ShowsName}
 use Rattle.docview_run.proofs.EndLemmas.{file_asked, file_caused, file_ends, stopped_ends, stopped_status}
 use Rattle.docview_run.proofs.run.show_name.Goals as goal
 
@@ -13,7 +10,7 @@ returns-in-Ok-Go-clause-ends g c =
     let name = c.args.name.now in
     let held = g.S.Shelf.held c.args.shelf.now in
     let taken = rw c.in-Ok-Go.field-0-is at c.in-Ok-Go.ensures.is in
-    file_ends g.K.Sink c.args.out.now c.show_file.new.out name held c.args.view c.as_slice.result.now
+    file_ends g.K.Sink c.args.out.now c.show_file.new.out name held (ShowsFile c.args.view name) c.as_slice.result.now
     c.show_file.result
     (subst (λ (bytes : List ℕ). IsFound name held bytes) (sym c.as_slice.ensures) taken) c.show_file.ensures.bytes
     c.show_file.ensures.ends
@@ -34,9 +31,9 @@ returns-in-Ok-Stop-clause-ends g c =
     let name = c.args.name.now in
     let held = g.S.Shelf.held c.args.shelf.now in
     let stopped = rw c.in-Ok-Stop.field-0-is at c.in-Ok-Stop.ensures.is in
-    subst (λ (status : ℕ). RunEnds (λ (outcome : Outcome). ReadsFile name held all_rules (ShowsPage c.args.view) outcome)
-    g.K.Sink c.args.out.now c.args.out.now status) (sym c.status.ensures)
-    (stopped_ends g.K.Sink c.args.out.now name held c.args.view c.in-Ok-Stop.ending stopped)
+    subst (λ (status : ℕ). RunEnds (ShowsName c.args.view name held) g.K.Sink c.args.out.now c.args.out.now status)
+    (sym c.status.ensures)
+    (stopped_ends g.K.Sink c.args.out.now name held (ShowsFile c.args.view name) c.in-Ok-Stop.ending stopped)
 
 pub returns-in-Ok-Stop-clause-cause : goal.returns-in-Ok-Stop-clause-cause
 returns-in-Ok-Stop-clause-cause g c =

@@ -1,0 +1,108 @@
+-- Words and told files have one outcome.
+use Rattle.std.proofs.Common.{◌≡◌, ◌≢◌, ◌∙◌, inl, inr, sym, ap, subst, ℕ, List, Bool, true, false, true≢false}
+use Rattle.std.proofs.Common.{Option, Some, None, refl}
+use Rattle.doc_bits.specs.Number.{AreBytes}
+use Rattle.doc_bits.specs.Places.{Upto}
+use Rattle.doc_bits.proofs.RuleLemmas.{hold_or_first}
+use Rattle.doc_outer.specs.Held.{Files}
+use Rattle.plain_doc.specs.declared.document.Document.{Document}
+use Rattle.doc_read.specs.Holds.{all_rules}
+use Rattle.doc_read.proofs.OneDocument.{all_single}
+use Rattle.doc_view.specs.declared.view.Options.{Options}
+use Rattle.doc_view.proofs.LawLemmas.{pages_one}
+use Rattle.doc_html.proofs.PageLemmas.{form_pages_one}
+use Rattle.form_page.specs.declared.page.PageForm.TheVariants as form
+use Rattle.run_stages.specs.Outcomes.{Outcome, says}
+use Rattle.run_stages.specs.Stages.{BreaksLengthRule, Reads}
+use Rattle.run_stages.proofs.JudgedLemmas.{refused_one}
+use Rattle.run_stages.proofs.SaidLemmas.{reads_one}
+use Rattle.doc_fit.specs.Rules.{fit_rules}
+use Rattle.doc_fit.proofs.MeaningLemmas.{fit_single}
+use Rattle.doc_fit.proofs.OneLemmas.{refused_one as fit_refused_one}
+use Rattle.docview_run.specs.declared.view.Form.{Form}
+use Rattle.docview_run.specs.declared.view.Form.TheVariants.{Text, Html, Markdown}
+use Rattle.docview_run.specs.declared.view.View.{View}
+use Rattle.docview_run.specs.Requests.{Request, help, version, page, properties, requested}
+use Rattle.docview_run.specs.Viewed.{IsNotViewed, IsViewed}
+use Rattle.docview_run.specs.Endings.{IsPageIn, Shows, ShowsFile, ShowsName, ShowsPage}
+use Rattle.docview_run.specs.Laws.{AsksForProperties, ViewIsOne}
+use Rattle.docview_run.proofs.ViewLemmas.{viewed_one}
+
+pages_same : (form : Form) (options : Options) (document : Document) (one other : List ℕ) →
+    IsPageIn form options document one → IsPageIn form options document other → one ≡ other
+pages_same Text options document one other a b = pages_one options document one other a b
+pages_same Html options document one other a b = form_pages_one form.Html options document one other a b
+pages_same Markdown options document one other a b = form_pages_one form.Markdown options document one other a b
+
+not_viewed_one : (strict : Bool) (file name : List ℕ) (a b : Outcome) → AreBytes file →
+    IsNotViewed strict file name a → IsNotViewed strict file name b → a ≡ b
+not_viewed_one strict file name a b bytes (inl (is, x)) (inl (also, y)) =
+    refused_one (all_rules file) name a b (all_single file) x y
+not_viewed_one strict file name a b bytes (inl (is, x)) (inr (other, y)) = absurd (true≢false (sym is ∙ other))
+not_viewed_one strict file name a b bytes (inr (other, x)) (inl (is, y)) = absurd (true≢false (sym is ∙ other))
+not_viewed_one strict file name a b bytes (inr (is, x)) (inr (also, y)) =
+    fit_refused_one file name a b bytes x.ends y.ends
+
+-- a file that is not shown has no document
+pub viewed_or_not : (strict : Bool) (file name : List ℕ) (outcome : Outcome) (document : Document) → AreBytes file →
+    IsNotViewed strict file name outcome → IsViewed strict file document → ⊥
+viewed_or_not strict file name outcome document bytes (inl (is, x)) (inl held) =
+    hold_or_first Upto (all_rules file) x.rule x.place (all_single file) held.accepted x.first
+viewed_or_not strict file name outcome document bytes (inl (is, x)) (inr (other, lifted)) =
+    true≢false (sym is ∙ other)
+viewed_or_not strict file name outcome document bytes (inr (is, x)) (inl held) = x.refused held.accepted
+viewed_or_not strict file name outcome document bytes (inr (is, x)) (inr (also, lifted)) =
+    let refused = x.ends in
+    hold_or_first Upto (fit_rules file) refused.rule refused.place (fit_single file bytes) lifted.rules refused.first
+
+shown_one : (view : View) (file : List ℕ) (a b : Outcome) → AreBytes file → ShowsPage view file a →
+    ShowsPage view file b → a ≡ b
+shown_one view file a b bytes x y =
+    let document : x.document ≡ y.document =
+    viewed_one view.strict view.strict file x.document y.document bytes x.viewed y.viewed in
+    let page : x.bytes ≡ y.bytes =
+    pages_same view.form view.options y.document x.bytes y.bytes
+    (subst (λ (d : Document). IsPageIn view.form view.options d x.bytes) document x.are) y.are in
+    x.ends ∙ (ap (λ (b : List ℕ). says 0 b) page ∙ sym y.ends)
+
+file_one : (view : View) (name file : List ℕ) (a b : Outcome) → AreBytes file → ShowsFile view name file a →
+    ShowsFile view name file b → a ≡ b
+file_one view name file a b bytes (inl x) (inl y) = not_viewed_one view.strict file name a b bytes x y
+file_one view name file a b bytes (inl x) (inr y) =
+    absurd (viewed_or_not view.strict file name a y.document bytes x y.viewed)
+file_one view name file a b bytes (inr x) (inl y) =
+    absurd (viewed_or_not view.strict file name b x.document bytes y x.viewed)
+file_one view name file a b bytes (inr x) (inr y) = shown_one view file a b bytes x y
+
+-- what is shown is a file of bytes
+abbrev pub ShowsBytes : View → (name file : List ℕ) → Outcome → Type 0
+ShowsBytes view name file outcome = AreBytes file × ShowsFile view name file outcome
+
+pub read_bytes : (view : View) (name : List ℕ) (held : Option Files) (outcome : Outcome) →
+    ShowsName view name held outcome → Reads name held (BreaksLengthRule name) (ShowsBytes view name) outcome
+read_bytes view name held outcome (inl x) = inl x
+read_bytes view name held outcome (inr (inl x)) = inr (inl x)
+read_bytes view name held outcome (inr (inr (inl x))) = inr (inr (inl x))
+read_bytes view name held outcome (inr (inr (inr x))) =
+    inr (inr (inr (record {
+      bytes = x.bytes;
+      told = x.told;
+      are = x.are;
+      short = x.short;
+      goes_on = (x.are, x.goes_on);
+    })))
+
+ends_one : (files : Files) (request : Option Request) (a b : Outcome) → Shows (Some files) request a →
+    Shows (Some files) request b → a.status ≢ 4 → b.status ≢ 4 →
+    ¬ (AsksForProperties request) → a ≡ b
+ends_one files None a b x y ca cb other = x ∙ sym y
+ends_one files (Some help) a b x y ca cb other = x ∙ sym y
+ends_one files (Some version) a b x y ca cb other = x ∙ sym y
+ends_one files (Some (page view name)) a b x y ca cb other =
+    reads_one (a ≡ b) name files (BreaksLengthRule name) (ShowsBytes view name) a b ca cb (λ e. e) (λ s t. s ∙ sym t)
+    (λ bytes there s t. file_one view name bytes a b s.0 s.1 t.1) (read_bytes view name (Some files) a x)
+    (read_bytes view name (Some files) b y)
+ends_one files (Some (properties shape name)) a b x y ca cb other = absurd (other (shape, (name, refl)))
+
+pub view_one : ViewIsOne
+view_one words files a b x y ca cb other = ends_one files (requested words) a b x y ca cb other

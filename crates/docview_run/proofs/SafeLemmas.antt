@@ -1,0 +1,102 @@
+-- Each page that a run prints is safe.
+use Rattle.std.proofs.Common.{◌≡◌, ◌≢◌, ◌⊎◌, ◌∙◌, inl, inr, refl, sym, ap, subst, ℕ, List, [], ◌≤◌, Option, Some, arith}
+use Rattle.std.specs.Prelude.{if◌then◌else◌, ◌==◌}
+use Rattle.doc_outer.specs.Held.{Files}
+use Rattle.doc_outer.specs.Written.{Appends}
+use Rattle.doc_outer.specs.declared.sink.Sink.{Ghosts}
+use Rattle.plain_doc.specs.declared.document.Document.{Document}
+use Rattle.run_stages.specs.Outcomes.{Outcome, says}
+use Rattle.run_stages.specs.Stages.{BreaksLengthRule, Reads}
+use Rattle.doc_bits.specs.Places.{Place}
+use Rattle.doc_fit.specs.Refusals.{EndsAt}
+use Rattle.doc_view.specs.declared.view.Options.{Options}
+use Rattle.doc_view.proofs.ControlLemmas.{page_plain}
+use Rattle.doc_html.proofs.PageLemmas.{html_pages_read}
+use Rattle.doc_markdown.proofs.ReadLemmas.{pages_read}
+use Rattle.docview_run.specs.declared.view.Form.{Form}
+use Rattle.docview_run.specs.declared.view.Form.TheVariants.{Text, Html, Markdown}
+use Rattle.docview_run.specs.declared.view.View.{View}
+use Rattle.docview_run.specs.Requests.{Request, page, requested}
+use Rattle.docview_run.specs.Viewed.{IsNotViewed}
+use Rattle.docview_run.specs.Endings.{IsEnding, IsPageIn, RunEnds, Shows, ShowsFile, ShowsName, printed}
+use Rattle.docview_run.specs.Safe.{IsSafeIn, IsSafePage, PrintedPagesAreSafe}
+
+safe_in : (form : Form) (options : Options) (document : Document) (bytes : List ℕ) →
+    IsPageIn form options document bytes → IsSafeIn form options document bytes
+safe_in Text options document bytes is =
+    let plain = page_plain options document bytes is in
+    record { text = plain.0; bytes_are = plain.1.0; plain = plain.1.1 }
+safe_in Html options document bytes is = html_pages_read options document bytes is
+safe_in Markdown options document bytes is = pages_read options document bytes is
+
+status_of : Outcome → ℕ
+status_of outcome = outcome.status
+
+-- an outcome of another status
+other_status : (outcome : Outcome) (status : ℕ) (text : List ℕ) → outcome ≡ says status text → 1 ≤ status →
+    outcome.status ≡ 0 → ⊥
+unfolding status_of
+other_status outcome status text is some done =
+    let same : outcome.status ≡ status = ap status_of is in absurd (omega (arith, same, some, done))
+
+refused_status : (file name : List ℕ) (rule : ℕ) (place : Place) (outcome : Outcome) →
+    EndsAt file name rule place outcome → outcome.status ≡ 0 → ⊥
+refused_status file name rule place outcome (inl other) done =
+    other_status outcome 15 _ other.1.ends (omega arith) done
+refused_status file name rule place outcome (inr (inl encrypted)) done =
+    other_status outcome 16 _ encrypted.1 (omega arith) done
+refused_status file name rule place outcome (inr (inr broken)) done =
+    other_status outcome 1 _ broken.1 (omega arith) done
+
+not_viewed : (view : View) (name file : List ℕ) (outcome : Outcome) → IsNotViewed view.strict file name outcome →
+    outcome.status ≡ 0 → ⊥
+not_viewed view name file outcome (inl (is, x)) done = other_status outcome 1 _ x.ends (omega arith) done
+not_viewed view name file outcome (inr (is, x)) done =
+    let refused = x.ends in refused_status file name refused.rule refused.place outcome refused.ends done
+
+file_safe : (view : View) (name file : List ℕ) (outcome : Outcome) → ShowsFile view name file outcome →
+    outcome.status ≡ 0 → IsSafePage view outcome.text
+file_safe view name file outcome (inl not) done = absurd (not_viewed view name file outcome not done)
+file_safe view name file outcome (inr shown) done = record {
+  document = shown.document;
+  safe =
+      subst (λ (bytes : List ℕ). IsSafeIn view.form view.options shown.document bytes)
+      (sym (ap (λ (o : Outcome). o.text) shown.ends))
+      (safe_in view.form view.options shown.document shown.bytes shown.are);
+}
+
+name_safe : (view : View) (name : List ℕ) (held : Option Files) (outcome : Outcome) → ShowsName view name held outcome →
+    outcome.status ≡ 0 → IsSafePage view outcome.text
+name_safe view name held outcome (inl missing) done =
+    absurd (other_status outcome 3 _ missing.ends (omega arith) done)
+name_safe view name held outcome (inr (inl fault)) done = absurd (other_status outcome 4 _ fault (omega arith) done)
+name_safe view name held outcome (inr (inr (inl long))) done =
+    absurd (other_status outcome 1 _ long.ends (omega arith) done)
+name_safe view name held outcome (inr (inr (inr read))) done =
+    file_safe view name read.bytes outcome read.goes_on done
+
+pub printed_safe : PrintedPagesAreSafe
+printed_safe words held view name outcome asked ends done =
+    name_safe view name held outcome (subst (λ (r : Option Request). Shows held r outcome) asked ends) done
+
+-- what was printed at status 0 is the text
+all_printed : (outcome : Outcome) → outcome.status ≡ 0 → printed outcome ≡ outcome.text
+all_printed outcome done =
+    let none : List ℕ = [] in ap (λ (n : ℕ). if n == 0 then outcome.text else none) done
+
+-- so a run that ended with its page has printed a safe one
+pub run_safe : {K : Type 0} (sink : Ghosts K) (a b : K) (words : List (List ℕ)) (held : Option Files) (status : ℕ) →
+    RunEnds (IsEnding words held) sink a b status → status ≡ 0 → (view : View) (name : List ℕ) →
+    requested words ≡ Some (page view name) →
+    (bytes : List ℕ) × (IsSafePage view bytes × Appends (sink.written a) (sink.written b) bytes)
+run_safe sink a b words held status ends done view name asked =
+    let end = ends.ending (λ five. absurd (omega (arith, done, five))) (λ six. absurd (omega (arith, done, six))) in
+    let outcome = end.0 in
+    let zero_is : outcome.status ≡ 0 = end.1.0 ∙ done in (
+      outcome.text,
+      (
+        printed_safe words held view name outcome asked end.1.1.0 zero_is,
+        subst (λ (text : List ℕ). Appends (sink.written a) (sink.written b) text) (all_printed outcome zero_is)
+            end.1.1.1,
+      ),
+    )

@@ -1,0 +1,41 @@
+-- What the definitions of a run imply.
+use Rattle.std.specs.Prelude.{◌≡◌, ◌≢◌, ◌⊎◌, Bool, false, ℕ, List, Option, Some}
+use Rattle.doc_bits.specs.Number.{AreBytes}
+use Rattle.doc_bits.specs.Rules.{Hold}
+use Rattle.doc_outer.specs.Held.{Files, file_at}
+use Rattle.plain_doc.specs.declared.document.Document.{Document}
+use Rattle.doc_read.specs.Holds.{IsAccepted}
+use Rattle.doc_fit.specs.Rules.{fit_rules}
+use Rattle.property_text.specs.declared.page.PropertyForm.{PropertyForm}
+use Rattle.run_stages.specs.Outcomes.{Outcome}
+use Rattle.docview_run.specs.declared.view.View.{View}
+use Rattle.docview_run.specs.Requests.{Request, page, properties, requested}
+use Rattle.docview_run.specs.Viewed.{IsViewed}
+use Rattle.docview_run.specs.Endings.{IsEnding}
+
+-- a file has one document that is shown, and a strict view shows the same or none
+abbrev pub ViewedDocumentIsOne : Type 0
+ViewedDocumentIsOne = (strict other : Bool) (file : List ℕ) (a b : Document) → AreBytes file → IsViewed strict file a →
+    IsViewed other file b → a ≡ b
+
+-- properties are asked for, of whose text no clause speaks
+abbrev pub AsksForProperties : Option Request → Type 0
+AsksForProperties request = (form : PropertyForm) × ((name : List ℕ) × (request ≡ Some (properties form name)))
+
+-- where what names hold is told, a run has one outcome, unless the shelf fails or properties are asked for
+abbrev pub ViewIsOne : Type 0
+ViewIsOne = (words : List (List ℕ)) (files : Files) (one other : Outcome) → IsEnding words (Some files) one →
+    IsEnding words (Some files) other → one.status ≢ 4 → other.status ≢ 4 →
+    ¬ (AsksForProperties (requested words)) → one ≡ other
+
+-- the name holds a file that breaks no rule, or, but for a strict view, none of those that are left
+pub record CanView (strict : Bool) (files : Files) (name : List ℕ) : Type 0 where
+  pub bytes : List ℕ
+  pub there : file_at files name ≡ Some bytes
+  pub right : IsAccepted bytes ⊎ ((strict ≡ false) × Hold (fit_rules bytes))
+
+-- such a file is shown, unless the shelf fails
+abbrev pub FilesAreShown : Type 0
+FilesAreShown = (words : List (List ℕ)) (view : View) (name : List ℕ) (files : Files) (outcome : Outcome) →
+    requested words ≡ Some (page view name) → CanView view.strict files name → IsEnding words (Some files) outcome →
+    outcome.status ≢ 4 → outcome.status ≡ 0

@@ -1,0 +1,106 @@
+// The page of a file that breaks a rule: its document is lifted out of it, and what is left out is told.
+ghost use Rattle.std.specs.Prelude.{◌≡◌, false};
+ghost use Rattle.plain_doc.specs.Sound.{IsSound};
+ghost use Rattle.doc_read.specs.Holds.{IsAccepted};
+ghost use Rattle.docview_run.specs.Endings.{IsOfFile, PrintsPage, RunEnds, ShowsFile};
+
+use crate::View;
+use crate::run::{show_document, tell, tell_refusal};
+use doc_bits::{Memory, Text};
+use doc_fit::{OpenedAny, open_any, status_of_rule, why_not_opened};
+use doc_load::ReadFault;
+use doc_mends::{Mend, push_mends};
+use doc_outer::Sink;
+use loss_report::LossLines;
+use run_stages::{STATUS_DONE, STATUS_MEMORY, reason_of_name};
+use std::alloc::Global;
+
+/// Shows the document that is lifted out of a file which breaks a rule.
+pub(crate) fn show_lifted<K: Sink, E: Sink>(
+    alloc: Global,
+    name: &str,
+    file: &[u8],
+    view: View,
+    out: &mut K,
+    reasons: &mut E,
+) -> u8
+    requires refused { ¬ (IsAccepted file.now) }
+    requires lifts { view.strict ≡ false }
+    ensures ends { RunEnds (ShowsFile view name.now file.now) K.Sink out.old out.new result }
+    ensures after { IsOfFile result }
+{
+    match open_any(alloc, file) {
+        Ok(opened) => {
+            let status = show_opened(alloc, name, &opened, view, out, reasons);
+            drop(opened);
+            status
+        }
+        Err(ReadFault::Memory) => STATUS_MEMORY,
+        Err(
+            ReadFault::Refused {
+                rule,
+                place,
+                offset,
+            },
+        ) => {
+            let why = why_not_opened(rule, file);
+            match tell_refusal(alloc, name, rule, (place, offset), why, reasons) {
+                Ok(()) => status_of_rule(rule),
+                Err(_) => STATUS_MEMORY,
+            }
+        }
+    }
+}
+
+/// Shows what was opened, and tells what is left out of it.
+fn show_opened<K: Sink, E: Sink>(
+    alloc: Global,
+    name: &str,
+    opened: &OpenedAny,
+    view: View,
+    out: &mut K,
+    reasons: &mut E,
+) -> u8
+    requires { IsSound opened.now.lifted.document }
+    ensures ends { RunEnds (PrintsPage view opened.now.lifted.document) K.Sink out.old out.new result }
+    ensures after { IsOfFile result }
+{
+    let Ok(left_out) = reason_of_name(alloc, name, "left out: ") else {
+        return STATUS_MEMORY;
+    };
+    let Ok(mended) = reason_of_name(alloc, name, "mended: ") else {
+        return STATUS_MEMORY;
+    };
+    let Ok(mends) = mend_lines(alloc, &opened.mends) else {
+        return STATUS_MEMORY;
+    };
+    let status = show_document(alloc, &opened.lifted.document, view, out);
+    if status == STATUS_DONE {
+        tell_losses(reasons, left_out.as_str(), &opened.losses);
+        tell_lines(reasons, mended.as_str(), mends.as_str());
+    }
+    status
+}
+
+/// The lines of mends, in one text.
+fn mend_lines(alloc: Global, mends: &[Mend]) -> Result<Text, Memory> {
+    let mut lines = Text::new(alloc);
+    push_mends(alloc, &mut lines, mends)?;
+    Ok(lines)
+}
+
+/// Tells what is left out, a line each.
+fn tell_losses<E: Sink>(reasons: &mut E, front: &str, losses: &LossLines) {
+    for i in 0..losses.len() {
+        tell(reasons, [front, losses.line(i), ""]);
+    }
+}
+
+/// Tells each line of a text.
+fn tell_lines<E: Sink>(reasons: &mut E, front: &str, lines: &str) {
+    let mut rest = lines;
+    'turns: while let Some((line, more)) = rest.split_once('\n') {
+        tell(reasons, [front, line, "\n"]);
+        rest = more;
+    }
+}
