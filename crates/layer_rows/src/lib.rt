@@ -30,6 +30,8 @@ mod outside;
 #[cfg(test)]
 mod pages;
 #[cfg(test)]
+mod pictures;
+#[cfg(test)]
 mod piece_blocks;
 #[cfg(test)]
 mod puts;
