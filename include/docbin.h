@@ -1,6 +1,6 @@
 /* docbin: documents of Word 97, by the library libdocbin_c.a. Each call takes bytes and gives bytes; no file is read or written.
 
-   A call serves one command of the program `docbin` (the last three: of `docfit` and `docview`) and answers its status, the text that the command
+   A call serves one command of the program `docbin` (the last four: of `docfit` and `docview`) and answers its status, the text that the command
    prints, and the bytes that it puts.
    The caller lends room for both. `text_len` and `bytes_len` tell how much there is; the rooms hold as much of it as they can, and behind that
    what stood there. So a call with rooms of length 0 asks for the lengths, and a call whose rooms were too small is made once more.
@@ -107,10 +107,11 @@ enum docview_options {
   DOCVIEW_HEADERS = 2 /* header texts */
 };
 
-/* The document as people read it (docs/VIEW.md), as text or as a page in HTML: the runs of `docview text first` and `docview html first`, with
-   options of `enum docview_options` in one number, or 0. Where the status is not 0 the text is the line on why:
+/* The document of a file of Word 97 to 2007 as people read it (docs/VIEW.md), as text, as Markdown or as a page in HTML: the runs of
+   `docview text first` and so on, with options of `enum docview_options` in one number, or 0. Where the status is not 0 the text is the line on why:
    `docview: first: not shown: rule 1 File 356 (..)`. */
 docbin_answer docview_text(const uint8_t *file, size_t file_len, uint32_t options, uint8_t *text, size_t text_room);
+docbin_answer docview_markdown(const uint8_t *file, size_t file_len, uint32_t options, uint8_t *text, size_t text_room);
 docbin_answer docview_html(const uint8_t *file, size_t file_len, uint32_t options, uint8_t *text, size_t text_room);
 
 #ifdef __cplusplus

@@ -91,7 +91,7 @@ static uint8_t *fib_of(bytes *file) {
 }
 
 /* Each call of docbin.h, by its number; the last ones are refused. */
-#define CALLS 20
+#define CALLS 21
 static docbin_answer call(int number) {
   const char *script = "[{\"do\":\"insert\",\"story\":\"main\",\"at\":0,\"text\":\"a\"},{\"do\":\"save\",\"mode\":\"fast\"}]";
   const uint8_t *name = (const uint8_t *)"New";
@@ -112,15 +112,16 @@ static docbin_answer call(int number) {
     case 13: return docbin_join(hello.at, hello.len, letter.at, letter.len, text, ROOM, made, ROOM);
     case 14: return docbin_fit(later.at, later.len, text, ROOM, made, ROOM);
     case 15: return docview_text(letter.at, letter.len, DOCVIEW_HIDDEN | DOCVIEW_HEADERS, text, ROOM);
-    case 16: return docview_html(letter.at, letter.len, 0, text, ROOM);
-    case 17: return docbin_text(json.at, json.len, text, ROOM);
-    case 18: return docbin_fit(json.at, json.len, text, ROOM, made, ROOM);
+    case 16: return docview_html(later.at, later.len, 0, text, ROOM);
+    case 17: return docview_markdown(letter.at, letter.len, 0, text, ROOM);
+    case 18: return docbin_text(json.at, json.len, text, ROOM);
+    case 19: return docbin_fit(json.at, json.len, text, ROOM, made, ROOM);
     default: return docview_text(json.at, json.len, 0, text, ROOM);
   }
 }
 
 /* Each call with no bytes for all that it is given, and no room: a file of no bytes breaks rule 1, a script of none is no JSON. */
-#define NO_BYTES 17
+#define NO_BYTES 18
 
 static docbin_answer empty_call(int number) {
   switch (number) {
@@ -140,6 +141,7 @@ static docbin_answer empty_call(int number) {
     case 13: return docbin_fit(NULL, 0, NULL, 0, NULL, 0);
     case 14: return docview_text(NULL, 0, 0, NULL, 0);
     case 15: return docview_html(NULL, 0, 0, NULL, 0);
+    case 16: return docview_markdown(NULL, 0, 0, NULL, 0);
     default: return docbin_import(NULL, 0, NULL, 0, NULL, 0);
   }
 }
@@ -225,8 +227,12 @@ int main(int count, char **words) {
   keep(&other, docbin_fit(later.at, later.len, text, ROOM, made, ROOM));
   says(docbin_equal(letter.at, letter.len, other.at, other.len, text, ROOM), 0, "equal\n");
   says(docview_text(letter.at, letter.len, 0, text, ROOM), 0, "Offer\nDear Ann,\tsee\tbelow[1].\n\n[1] Net price.\n");
+  says(docview_text(later.at, later.len, 0, text, ROOM), 0, "Offer\nDear Ann,\tsee\tbelow[1].\n\n[1] Net price.\n");
   got = docview_html(letter.at, letter.len, DOCVIEW_HIDDEN, text, ROOM);
   has(got.status == 0 && got.bytes_len == 0 && !memcmp(text, "<!DOCTYPE html>", 15), "a page in HTML");
+
+  got = docview_markdown(letter.at, letter.len, DOCVIEW_HIDDEN, text, ROOM);
+  has(got.status == 0 && got.text_len > 0, "a page in Markdown");
 
   /* No input, and no room: NULL, of each call. */
   for (int number = 0; number < NO_BYTES; number++) no_bytes(number);
@@ -251,7 +257,7 @@ int main(int count, char **words) {
   other = hello;
   fib_of(&other)[11] |= 1;
   says(docbin_fit(other.at, other.len, text, ROOM, made, ROOM), 16, "first: encrypted\n");
-  has(docview_text(other.at, other.len, 0, text, ROOM).status == 1 && !memcmp(text, "docview: first: not shown: rule 19 WordDocument 10 (", 52), "no page");
+  has(docview_text(other.at, other.len, 0, text, ROOM).status == 16 && !memcmp(text, "docview: first: not shown: rule 19 WordDocument 10 (", 52), "no page");
   for (size_t at = 512; at + 28 < titled.len; at += 64)
     if (!memcmp(titled.at + at, "\xfe\xff\0\0", 4)) titled.at[at + 24] = 2;
   says(docbin_title(titled.at, titled.len, text, ROOM), 14, "first: summary wrong at 24\n");

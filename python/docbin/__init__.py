@@ -47,7 +47,7 @@ from .refusals import refused as _refused
 __version__ = "1.0.0"
 __all__ = [
     "text", "streams", "check", "show", "props", "outline", "title", "equal", "full", "retitle", "edit", "export", "import_json", "join", "fit", "plain",
-    "html", "folder", "FULL", "FAST", "Document", "Heading", "Note", "Paragraph", "Properties", "Run", "Stream", "Style", "Summary", "Table", "Feature",
+    "markdown", "html", "folder", "FULL", "FAST", "Document", "Heading", "Note", "Paragraph", "Properties", "Run", "Stream", "Style", "Summary", "Table", "Feature",
     "Fitted", "Refused", "RuleBroken", "WrongScript", "EditRefused", "SaveRefused", "GuardRefused", "NoSummary", "NotWord97", "Encrypted",
 ]
 
@@ -221,6 +221,11 @@ def fit(data: BytesLike) -> Fitted:
 def plain(data: BytesLike, hidden: bool = False, headers: bool = False) -> str:
     """The document as people read it (docs/VIEW.md), with hidden text, header texts, or without them. `text` gives the main text as it stands."""
     return _text("plain", _bytes(data), flags=_flags(hidden=hidden, headers=headers))
+
+
+def markdown(data: BytesLike, hidden: bool = False, headers: bool = False) -> str:
+    """The same as Markdown (CommonMark with tables, strikethrough and footnotes)."""
+    return _text("markdown", _bytes(data), flags=_flags(hidden=hidden, headers=headers))
 
 
 def html(data: BytesLike, hidden: bool = False, headers: bool = False) -> str:

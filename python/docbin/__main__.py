@@ -4,7 +4,7 @@
     props FILE POSITION                              the same
     equal FILE FILE                                  `equal` or `different`
     full export import FILE OUT, retitle FILE TEXT OUT, edit FILE SCRIPT OUT, join FILE FILE OUT
-    fit FILE OUT; plain html FILE                    what docfit and docview print
+    fit FILE OUT; plain markdown html FILE           what docfit and docview print
 
 Statuses are those of docbin (docs/COMMANDS.md), of docfit (docs/FIT.md) and docview (docs/VIEW.md)."""
 import os

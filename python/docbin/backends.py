@@ -27,6 +27,7 @@ CALLS = {it: Call(f"docbin_{it}", "docbin", (it,), it in PUTTING) for it in
          ("text", "streams", "check", "show", "props", "outline", "title", "equal", *PUTTING)}
 CALLS["fit"] = Call("docbin_fit", "docfit", (), True)
 CALLS["plain"] = Call("docview_text", "docview", ("text",))
+CALLS["markdown"] = Call("docview_markdown", "docview", ("markdown",))
 CALLS["html"] = Call("docview_html", "docview", ("html",))
 # The options of docview, in the order of the flags of its calls.
 VIEW_OPTIONS = ("--hidden", "--headers")

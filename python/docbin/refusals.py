@@ -52,7 +52,7 @@ class NoSummary(Refused):
 
 
 class NotWord97(Refused):
-    """A file is not of Word 97 to 2007: the wIdent and nFib of its FIB."""
+    """A file is not of Word 97 to 2007: the wIdent and nFib of its FIB, where the line names them (that of `fit` does)."""
 
     def __init__(self, status: int, line: str):
         super().__init__(status, line)
@@ -72,6 +72,6 @@ def refused(status: int, line: str) -> Exception:
     """The exception of a status and its line."""
     if status == 6:
         return MemoryError("docbin")
-    if re.search(LAST, line):
+    if status not in (15, 16) and re.search(LAST, line):
         return RuleBroken(status, line)
     return KINDS.get(status, Refused)(status, line)

@@ -169,9 +169,13 @@ class Calls:
         self.assertEqual(len(docbin.html(made, hidden=True)) - len(docbin.html(made)), 9)
         self.assertGreater(len(docbin.plain(letter, headers=True)), len(docbin.plain(letter)))
         self.assertGreater(len(docbin.plain(letter, hidden=True, headers=True)), len(docbin.plain(letter)))
-        for call in (docbin.plain, docbin.html):
-            got = self.raised(docbin.RuleBroken, call, changed(letter, b11=1))
-            self.assertEqual((got.status, got.rule, got.place, got.offset), (1, 19, "WordDocument", 10))
+        self.assertIn("Dear **Ann**,", docbin.markdown(letter))
+        for call in (docbin.plain, docbin.markdown, docbin.html):
+            self.assertEqual(call(changed(letter, b2=0xD9, b8=24)), call(letter))
+            got = self.raised(docbin.RuleBroken, call, changed(letter, b32=13))
+            self.assertEqual((got.status, got.rule, got.place, got.offset), (1, 21, "WordDocument", 32))
+            self.assertEqual(self.raised(docbin.Encrypted, call, changed(letter, b11=1)).status, 16)
+            self.assertEqual(self.raised(docbin.NotWord97, call, changed(letter, b0=0xDC)).status, 15)
             self.raised(TypeError, call, letter, 1)
 
     def test_the_package_as_a_program(self):
@@ -192,7 +196,7 @@ class Calls:
             self.assertEqual(ran("check", locked), (1, f"{locked}: rule 19 WordDocument 10\n", ""))
             self.assertEqual(ran("fit", locked, out), (16, f"{locked}: encrypted\n", ""))
             status, printed, said = ran("plain", locked)
-            self.assertEqual((status, printed, said.partition(" (")[0]), (1, "", f"docview: {locked}: not shown: rule 19 WordDocument 10"))
+            self.assertEqual((status, printed, said.partition(" (")[0]), (16, "", f"docview: {locked}: not shown: rule 19 WordDocument 10"))
             self.assertEqual(ran("plain")[:2], (2, ""))
 
     def saved_fast(self, times):

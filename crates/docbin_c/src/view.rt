@@ -58,6 +58,20 @@ pub extern "C" fn docview_html(
     hand_shown(shown_in(alloc, "html", options, file), text)
 }
 
+/// The document of a file as Markdown, with the same options.
+#[unsafe(no_mangle)]
+pub extern "C" fn docview_markdown(
+    alloc: Global,
+    file: &[u8],
+    options: u32,
+    text: &mut [u8],
+) -> DocbinAnswer
+    ensures { AnswersView (view_words options (codes "markdown")) (file_alone file.now)
+        result (room text.old text.new) }
+{
+    hand_shown(shown_in(alloc, "markdown", options, file), text)
+}
+
 /// What docview shows of a file in a form.
 fn shown_in(alloc: Global, form: &str, options: u32, file: &[u8]) -> Result<Shown, Memory>
     ensures { IfOk result (IsShown (view_words options form.now) (file_alone file.now)) }
