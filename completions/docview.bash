@@ -2,8 +2,8 @@
 _docview() {
   local word="${COMP_WORDS[COMP_CWORD]}"
   case "$word" in
-    -*) mapfile -t COMPREPLY < <(compgen -W "--hidden --headers --help --version" -- "$word") ;;
-    *) mapfile -t COMPREPLY < <(compgen -W "text markdown html" -- "$word"; compgen -f -- "$word") ;;
+    -*) mapfile -t COMPREPLY < <(compgen -W "--hidden --headers --strict --json --help --version" -- "$word") ;;
+    *) mapfile -t COMPREPLY < <(compgen -W "text markdown html meta" -- "$word"; compgen -f -- "$word") ;;
   esac
 }
 complete -o filenames -F _docview docview

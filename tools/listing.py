@@ -20,13 +20,14 @@ CELL, FIELD_BEGIN, FIELD_END = "\x07", "\x13", "\x15"
 ROW_END = "2417=01"
 
 
-def program():
-    """The program: that of the environment's DOCBIN, else the built one, else the one that is installed."""
-    named = os.environ.get("DOCBIN")
-    places = [named] if named else [f"{TOP}/crates/docbin/out/docbin", shutil.which("docbin")]
+def program(name="docbin"):
+    """A program: that of the environment's DOCBIN or DOCVIEW, else the built one, else the one that is installed."""
+    variable = name.upper()
+    named = os.environ.get(variable)
+    places = [named] if named else [f"{TOP}/crates/{name}/out/{name}", shutil.which(name)]
     found = next((it for it in places if it and os.access(it, os.X_OK)), None)
     if not found:
-        raise Ended("docbin is not built: run ./build, or name it by the environment's DOCBIN", 70)
+        raise Ended(f"{name} is not built: run ./build, or name it by the environment's {variable}", 70)
     return found
 
 

@@ -1,24 +1,17 @@
 """Property sets of a summary as [MS-OLEPS] has them, and the stream that a document without one gets."""
 import struct
 import uuid
-from datetime import datetime, timedelta
 
 NAME = "\x05SummaryInformation"
 FORMAT_ID = uuid.UUID("f29f85e0-4ff9-1068-ab91-08002b27b3d9").bytes_le
 HEAD, SET_HEAD = 48, 8
-# The numbers of the properties, and the types of values.
-PROPERTIES = {
-    "title": 2, "subject": 3, "author": 4, "keywords": 5, "comments": 6, "template": 7, "last-author": 8, "revision": 9, "edited": 10, "printed": 11,
-    "created": 12, "saved": 13, "pages": 14, "words": 15, "characters": 16, "application": 18, "security": 19,
-}
-NAMES = {number: name for name, number in PROPERTIES.items()}
-TEXTS = ("title", "subject", "author", "keywords", "comments", "template", "last-author", "revision", "application")
-DICTIONARY, CODE_PAGE, LOCALE = 0, 1, 0x80000000
-I2, I4, LPSTR, LPWSTR, FILETIME = 2, 3, 30, 31, 64
+# The numbers of the properties that are set here, and the types of values.
+PROPERTIES = {"title": 2, "subject": 3, "author": 4, "keywords": 5, "comments": 6, "template": 7, "last-author": 8, "revision": 9, "application": 18}
+CODE_PAGE = 1
+I2, LPSTR, LPWSTR = 2, 30, 31
 UTF_16, UTF_8 = (1200, 1201), 65001
 # Python's names of code pages that are not cpN.
 CODECS = {1200: "utf-16-le", 1201: "utf-16-be", UTF_8: "utf-8", 10000: "mac-roman", 20127: "ascii", 28591: "latin-1"}
-EPOCH = datetime(1601, 1, 1)
 
 
 class WrongSummary(Exception):
@@ -74,21 +67,6 @@ class Summary:
         if kind == LPWSTR:
             return value[8 : 8 + 2 * count].decode("utf-16-le", "replace").partition("\0")[0]
         return value[8 : 8 + count].decode(self.codec(), "replace").partition("\0")[0]
-
-    def shown(self, number):
-        """A property as a text: a text itself, a number, a date as ISO 8601 has it; or None."""
-        value = self.values[number]
-        kind = struct.unpack_from("<I", value)[0]
-        if kind == I4 and len(value) >= 8:
-            return str(struct.unpack_from("<i", value, 4)[0])
-        if kind == I2 and len(value) >= 6:
-            return str(struct.unpack_from("<h", value, 4)[0])
-        if kind == FILETIME and len(value) >= 12:
-            ticks = struct.unpack_from("<Q", value, 4)[0]
-            if number == PROPERTIES["edited"]:
-                return f"{ticks // 600_000_000} minutes"
-            return (EPOCH + timedelta(microseconds=ticks // 10)).isoformat(timespec="seconds") + "Z" if ticks < 1 << 61 else None
-        return self.text(number)
 
     def set(self, name, text):
         """Gives a property a text. Where the code page has not all of its letters, all texts are written in UTF-8."""

@@ -30,7 +30,7 @@ class Calls(OverPages):
         self.assertEqual(self.run_tool("--check"), (0, "", ""))
 
     def test_a_clause_and_a_call_that_are_not_there(self):
-        self.changed("docs/CLAIMS.md", "By `read_whole` (`whole`, `len`)", "By `read_whale` (`whole`, `lent`)")
+        self.changed("docs/CLAIMS.md", "`read_whole` (`whole`, `len`)", "`read_whale` (`whole`, `lent`)")
         status, _, said = self.run_tool("--check")
         self.assertEqual(status, 1)
         self.assertIn("doc_outer: read_whale is no call of this crate", said)

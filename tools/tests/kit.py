@@ -10,7 +10,7 @@ SAME, OTHER = "rattle-kit-1b logic 0123456789abcdef", "rattle-kit-2a logic fedcb
 NOTE = f"this kit is {SAME}, the proofs were last run with {LAST}\n"
 NOTE_OTHER = f"this kit is {OTHER}, the proofs were last run with {LAST}: another logic"
 # What the scripts call of the system, so that a kit of this machine is not found.
-SYSTEM = ("awk", "bash", "cat", "chmod", "cp", "dirname", "env", "find", "grep", "mkdir", "printf", "python3", "readlink", "sed", "sh")
+SYSTEM = ("awk", "bash", "cat", "chmod", "cp", "dirname", "env", "find", "grep", "mkdir", "printf", "python3", "readlink", "sed", "sh", "sleep")
 STUB = """#!/bin/sh
 case $1 in
   version) echo "$STUB_LINE" ;;
@@ -22,7 +22,7 @@ case $1 in
        printf 'checked: ended status=0\\nrun=ended status=0 runners=1 proved=no\\n' >&2 ;;
   all) echo "== docbin"; echo "logic=proved" ;;
   run) mkdir -p out; printf '#!/bin/sh\\necho built\\n' > out/docbin; chmod +x out/docbin ;;
-  ci) echo "rt: docbin proved"; mkdir -p crates/docbin/out; printf '#!/bin/sh\\necho built\\n' > crates/docbin/out/docbin
+  ci) for it in crates/*; do (cd "$it"; sleep 2; :); echo "rt: ${it#crates/} proved"; done; mkdir -p crates/docbin/out; printf '#!/bin/sh\\necho built\\n' > crates/docbin/out/docbin
       chmod +x crates/docbin/out/docbin ;;
 esac
 """
@@ -81,6 +81,18 @@ class Kits(Tool):
         self.assertIn("by the logic fedcba9876543210", printed)
         self.assertEqual(self.with_kit(OTHER, "test")[2], f"test: {NOTE_OTHER}\n")
         self.assertEqual(self.with_kit(OTHER, "tools/kit"), (0, f"{OTHER}\n", f"tools/kit: {NOTE_OTHER}\n"))
+
+    def test_crates_that_end_while_they_are_looked_at(self):
+        os.makedirs(self.path("kit/release/bin"))
+        os.makedirs(self.path("kit/rattle-kept"))
+        os.rename(self.path("bin/rt"), self.path("kit/release/bin/rt"))
+        os.symlink(self.path("kit/release/bin/rt"), self.path("bin/rt"))
+        os.makedirs(self.path("crates/low/src"))
+        self.write("crates.txt", b"low:\ndocbin: low\n")
+        status, printed, said = self.with_kit(LAST, "build")
+        self.assertEqual((status, said), (0, ""), printed)
+        self.assertRegex(printed, r" 1 of 2  docbin proved; about \d+ minutes left\n")
+        self.assertIn(" 2 of 2  low proved\n", printed)
 
     def rows_killed(self, times):
         """What ./test says of the rows of a crate whose program is killed so many times, and its last line."""

@@ -10,7 +10,7 @@ import unittest
 from importlib.machinery import SourceFileLoader
 from importlib.util import module_from_spec, spec_from_loader
 
-from tool import PROGRAM, TOP, Tool, needs_program
+from tool import PROGRAM, TOP, Tool, needs_program, needs_viewer
 
 NEEDED = ("dpkg-deb", "objcopy", "readelf")
 needs_commands = unittest.skipUnless(all(map(shutil.which, NEEDED)), f"one of {', '.join(NEEDED)} is not there")
@@ -107,16 +107,20 @@ class Tools(Tool):
         self.assertEqual(self.said("explain", "hello.doc"), (0, "hello.doc: accepted\n", ""))
 
     @needs_program
+    @needs_viewer
     def test_properties_in_any_letters(self):
-        self.assertEqual(self.said("meta", "hello.doc")[::2], (13, "hello.doc: no summary\n"))
+        self.assertEqual(self.said("meta", "hello.doc"), (0, "", ""))
         self.assertEqual(self.said("meta", "hello.doc", "title=Größe Ω", "author=李", "out.doc"), (0, "", ""))
-        self.assertEqual(self.said("meta", "out.doc"), (0, "title Größe Ω\nauthor 李\n", ""))
+        self.assertEqual(self.said("meta", "out.doc"), (0, "summary.codepage: 65001\ntitle: Größe Ω\nauthor: 李\n", ""))
         self.assertEqual(self.said("meta", "out.doc", "author=", "subject=x", "out.doc"), (0, "", ""))
-        self.assertEqual(self.said("meta", "--json", "out.doc"), (0, '{"title": "Größe Ω", "subject": "x"}\n', ""))
+        self.assertEqual(self.said("meta", "--json", "out.doc"), (0, '{"summary.codepage": 65001, "title": "Größe Ω", "subject": "x"}\n', ""))
         self.assertEqual(self.docbin("check", "out.doc")[0], 0)
         self.assertEqual(self.said("meta", "out.doc", "size=3", "new.doc")[0], 2)
         self.assertFalse(os.path.exists(self.path("new.doc")))
-        self.assertEqual(self.said("meta", "letter.json")[0], 1)
+        status, printed, error = self.said("meta", "letter.json")
+        self.assertEqual((status, printed), (1, ""))
+        self.assertTrue(error.startswith("docview: letter.json: not shown: rule "), error)
+        self.assertEqual(self.said("meta", "none.doc")[0], 3)
 
     @needs_program
     def test_a_script_is_made_far_from_the_repository(self):

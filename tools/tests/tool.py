@@ -7,7 +7,9 @@ import unittest
 
 TOP = os.path.dirname(os.path.dirname(os.path.dirname(os.path.realpath(__file__))))
 PROGRAM = os.environ.get("DOCBIN", f"{TOP}/crates/docbin/out/docbin")
+VIEWER = os.environ.get("DOCVIEW", f"{TOP}/crates/docview/out/docview")
 needs_program = unittest.skipUnless(os.access(PROGRAM, os.X_OK), "the program is not built")
+needs_viewer = unittest.skipUnless(os.access(VIEWER, os.X_OK), "docview is not built")
 
 
 class Tool(unittest.TestCase):
@@ -33,7 +35,7 @@ class Tool(unittest.TestCase):
             file.write(data)
 
     def run_words(self, words, **how):
-        how = {"cwd": self.folder, "stdin": subprocess.DEVNULL, "env": {**os.environ, "DOCBIN": PROGRAM}, **how}
+        how = {"cwd": self.folder, "stdin": subprocess.DEVNULL, "env": {**os.environ, "DOCBIN": PROGRAM, "DOCVIEW": VIEWER}, **how}
         ran = subprocess.run(words, stdout=subprocess.PIPE, stderr=subprocess.PIPE, timeout=300, check=False, **how)
         return ran.returncode, ran.stdout.decode(errors="replace"), ran.stderr.decode(errors="replace")
 
