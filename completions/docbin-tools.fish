@@ -1,6 +1,6 @@
 # fish completion for docbin-tools: the commands, then their options and the names of files.
 complete -c docbin-tools -n __fish_is_first_arg -f -a script -d 'make a script of edits from plain lines, or make the lines on a document'
-complete -c docbin-tools -n __fish_is_first_arg -f -a positions -d 'print where the parts of a document stand'
+complete -c docbin-tools -n __fish_is_first_arg -f -a positions -d 'print where the parts of a document are'
 complete -c docbin-tools -n __fish_is_first_arg -f -a many -d 'run a command of docbin on many files'
 complete -c docbin-tools -n __fish_is_first_arg -f -a explain -d 'say what a refusal means and what to do, and which key of a script is wrong'
 complete -c docbin-tools -n __fish_is_first_arg -f -a meta -d 'print title, author and other properties of a document, or set them'

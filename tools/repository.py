@@ -1,5 +1,6 @@
 """What the scripts know of this repository: its crates, its programs, the kit, the machine that it is on, the words of a tool."""
 import argparse
+import glob
 import os
 import re
 import shutil
@@ -11,6 +12,9 @@ from typing import NamedTuple
 TOP = os.path.dirname(os.path.dirname(os.path.realpath(__file__)))
 # The programs: a folder of crates each, and a script at the top that runs it. One that crates.txt does not have is not there yet.
 PROGRAMS = ("docbin", "docview", "docfit")
+# The pages and examples that are installed, below share/doc/docbin and in the folders that they have here.
+INSTALLED = ("*.md", "docs/*", "examples/*", "examples/c/*")
+LINK = re.compile(r"(?<!!)\[([^\]\n]*)\]\(([^)\s]+)\)")
 # Minutes of a crate that docs/FIGURES.md does not have yet.
 UNKNOWN_MINUTES = 2.0
 # Status where the work cannot be begun or ended, which no run of the program has.
@@ -93,6 +97,22 @@ def reckoned(top=TOP):
     uses, minutes = crates(top), proof_minutes(top)
     names = stands_on(programs(uses), uses)
     return [len(names), *(round(it) for it in (processor_minutes(names, minutes), *(clock_minutes(names, uses, minutes, it) for it in (2, 4))))]
+
+
+def installed_pages(top=TOP):
+    """The names of the pages and examples that are installed."""
+    return sorted(os.path.relpath(it, top) for pattern in INSTALLED for it in glob.glob(f"{top}/{pattern}") if os.path.isfile(it))
+
+
+def linked_file(name, target):
+    """The file that a link of a page leads to, and its heading, or nothing for none."""
+    path, _, place = target.partition("#")
+    return os.path.normpath(os.path.join(os.path.dirname(name), path)) if path else name, place
+
+
+def installed_page(name, text):
+    """A page as it is installed: a link to a crate, which is not installed with it, is its words alone."""
+    return LINK.sub(lambda found: found[1] if linked_file(name, found[2])[0].startswith("crates/") else found[0], text)
 
 
 class Kit(NamedTuple):

@@ -28,7 +28,7 @@ class Pages(Tool):
         for it in ("pages", "repository.py"):
             shutil.copy(f"{TOP}/tools/{it}", self.path(f"repository/tools/{it}"))
         self.write("repository/README.md", PAGE.encode())
-        self.write("repository/docs/TWO.md", b"# Two\n\n## A heading\n\nSee [One](../README.md#one).\n")
+        self.write("repository/docs/TWO.md", b"# Two\n\nFor tests.\n\n## A heading\n\nSee [One](../README.md#one).\n")
 
     def pages(self, *words):
         return self.run_words([self.path("repository/tools/pages"), *words])
@@ -50,5 +50,8 @@ class Pages(Tool):
     def test_links_that_lead_nowhere(self):
         self.write("repository/docs/TWO.md", b"# Two\n\nSee [One](../README.md#two) and [three](THREE.md).\n")
         said = self.pages("docs/TWO.md")[2]
+        self.assertIn("docs/TWO.md:3: the first line does not say for whom the page is", said)
         self.assertIn("docs/TWO.md:3: a link to ../README.md#two, a heading that is not there", said)
         self.assertIn("docs/TWO.md:3: a link to THREE.md, which is not there", said)
+        self.write("repository/docs/TWO.md", b"# Two\n\nSee [the tool](../tools/pages).\n")
+        self.assertIn("docs/TWO.md:3: a link to ../tools/pages, which is not installed with the page", self.pages("docs/TWO.md")[2])

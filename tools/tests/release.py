@@ -57,6 +57,16 @@ class Packages(Tool):
         loaded = package().loaded
         self.assertEqual(loaded(self.read("prefix/bin/docview")), loaded(self.read("programs/docview")))
 
+    def test_links_of_installed_pages_lead_to_installed_files(self):
+        made = package()
+        files = {it.name: it.data for it in made.page_files()}
+        self.assertIn("share/doc/docbin/docs/COMMANDS.md", files)
+        for name, data in files.items():
+            if name.endswith(".md"):
+                for _, target in made.repository.LINK.findall(re.sub(r"`[^`\n]*`", "", data.decode())):
+                    if not re.match("https?:|mailto:", target):
+                        self.assertIn(made.repository.linked_file(name, target)[0], files, name)
+
     def test_a_program_that_is_not_there(self):
         os.unlink(self.path("programs/docfit"))
         status, _, error = self.tool("--programs", "programs", "out", env=self.env)
