@@ -41,9 +41,10 @@ _FORMS = {
     "sheet": r"(?P<bytes>\d+)",
     "base": r"(?P<style>\d+)",
     "mark": rf"{_PLACE} (?P<at>\d+): style (?P<style>\d+)",
+    "row": rf"{_PLACE} (?P<at>\d+): (?P<cells>\d+) cells",
     "end": _PLACE,
 }
-_NUMBERS, _SHOWN = ("pair", "bytes", "units", "page", "at", "count", "begin", "end", "style"), ("name", "text")
+_NUMBERS, _SHOWN = ("pair", "bytes", "units", "page", "at", "count", "begin", "end", "style", "cells"), ("name", "text")
 
 
 def unshown(text: str) -> str:

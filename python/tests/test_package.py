@@ -137,7 +137,7 @@ class Calls:
         report = ("fit: 8 bytes, left out 12, mended 1\nstream 1Table\nstorage Object Pool\npart 50 DggInfo 1234\n"
                   "story comments 7 | a\\u005cb \u00e4\\u000d\nautotext page 24\nreference endnotes note 3 57\ncode style-char 0801 87\n"
                   "repeat par d634 12\ndeleted head 6 1 2\nbookmark a b 3 4\nsheet 12\nsomething new\ndeleted main 120 135: struck\n"
-                  "base 7\nmark head 6 0: style 65535\nreference comments main 9: cut\nend note 0\n")
+                  "base 7\nmark head 6 0: style 65535\nrow main 8: 3 cells\nreference comments main 9: cut\nend note 0\n")
         got = fitting.fitted(b"", report)
         self.assertEqual(got.left_out, [docbin.Feature(kind, fields) for kind, fields in (
             ("stream", {"name": "1Table"}), ("storage", {"name": "Object Pool"}), ("part", {"pair": 50, "name": "DggInfo", "bytes": 1234}),
@@ -147,7 +147,8 @@ class Calls:
             ("bookmark", {"name": "a b", "begin": 3, "end": 4}), ("sheet", {"bytes": 12}), ("something", {"words": "new"}))])
         self.assertEqual(got.mended, [docbin.Feature(kind, fields) for kind, fields in (
             ("deleted", {"place": "main", "begin": 120, "end": 135, "made": "struck"}), ("base", {"style": 7}),
-            ("mark", {"place": "head 6", "at": 0, "style": 65535}), ("reference", {"story": "comments", "place": "main", "at": 9, "made": "cut"}),
+            ("mark", {"place": "head 6", "at": 0, "style": 65535}), ("row", {"place": "main", "at": 8, "cells": 3}),
+            ("reference", {"story": "comments", "place": "main", "at": 9, "made": "cut"}),
             ("end", {"place": "note 0"}))])
 
     def test_each_line_that_the_page_shows_has_a_form(self):

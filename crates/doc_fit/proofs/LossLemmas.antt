@@ -10,7 +10,7 @@ use Rattle.doc_lift.specs.LiftedFiles.{IsLifted}
 use Rattle.loss_report.specs.Features.{Inventory}
 use Rattle.text_losses.specs.declared.features.TextFeature.{TextFeature}
 use Rattle.text_losses.specs.Lines.{feature_line}
-use Rattle.doc_fit.specs.Losses.{HasInventory, AreFitLines, AreLossLines, AreTextLosses, fit_lines, meant_losses}
+use Rattle.doc_fit.specs.Losses.{HasInventory, AreFitLines, AreLossLines, AreTextLosses, fit_lines, other_losses}
 
 -- the lines of two lists of features are those of both
 pub lines_joined : (front : List (List ℕ)) (lists texts : List TextFeature) →
@@ -34,25 +34,33 @@ lifted_inventory file lifted is = record {
   units = is.units;
 }
 
+-- the streams are those that the text names
+pub wd_same : (file : List ℕ) (lifted : Lifted) (lines : List (List ℕ)) → (is : IsLifted file lifted) →
+    (are : AreLossLines lifted lines) → are.wd ≡ is.text.wd
+wd_same file lifted lines is are =
+    named_one file lifted.outer.container wd_name are.wd is.text.wd is.has_contents are.named is.has_text.has_wd
+
+pub table_same : (file : List ℕ) (lifted : Lifted) (lines : List (List ℕ)) → (is : IsLifted file lifted) →
+    (are : AreLossLines lifted lines) → are.table ≡ is.text.table
+table_same file lifted lines is are =
+    let there : HasNamed lifted.outer.container.streams (table_stream_name is.text.wd) are.table =
+    subst (λ (w : List ℕ). HasNamed lifted.outer.container.streams (table_stream_name w) are.table)
+    (wd_same file lifted lines is are) are.named_table in
+    named_one file lifted.outer.container (table_stream_name is.text.wd) are.table is.text.table is.has_contents there
+    is.has_text.has_table
+
 -- the lines that are printed are those of the text that the streams name
 pub lines_fit : (file : List ℕ) (lifted : Lifted) (lines : List (List ℕ)) → (is : IsLifted file lifted) →
-    AreLossLines lifted lines → AreFitLines is.text (inventory_of lifted is.text.wd) lifted.document lines
+    AreLossLines lifted lines → AreFitLines is.text (inventory_of lifted is.text.wd) lines
 lines_fit file lifted lines is are =
-    let wd : are.wd ≡ is.text.wd =
-    named_one file lifted.outer.container wd_name are.wd is.text.wd is.has_contents are.named is.has_text.has_wd in
-    let there : HasNamed lifted.outer.container.streams (table_stream_name is.text.wd) are.table =
-    subst (λ (w : List ℕ). HasNamed lifted.outer.container.streams (table_stream_name w) are.table) wd
-    are.named_table in
-    let table : are.table ≡ is.text.table =
-    named_one file lifted.outer.container (table_stream_name is.text.wd) are.table is.text.table is.has_contents there
-    is.has_text.has_table in
+    let wd = wd_same file lifted lines is are in
+    let table = table_same file lifted lines is are in
     record {
       texts = are.texts;
       texts_are = subst (λ (t : List ℕ). AreTextLosses is.text.wd t are.texts) table
           (subst (λ (w : List ℕ). AreTextLosses w are.table are.texts) wd are.texts_are);
       are = are.are
-          ∙ (ap (λ (w : List ℕ). fit_lines (inventory_of lifted w) (are.texts ++ meant_losses w are.table
-          lifted.document)) wd
-          ∙ ap (λ (t : List ℕ). fit_lines (inventory_of lifted is.text.wd) (are.texts ++ meant_losses is.text.wd t
-          lifted.document)) table);
+          ∙ (ap (λ (w : List ℕ). fit_lines (inventory_of lifted w) (are.texts ++ other_losses w are.table)) wd
+          ∙ ap (λ (t : List ℕ). fit_lines (inventory_of lifted is.text.wd) (are.texts ++ other_losses is.text.wd t))
+          table);
     }

@@ -1,5 +1,5 @@
 -- A file that breaks none of the rules that are left means one document.
-use Rattle.std.proofs.Common.{◌≡◌, ◌<◌, ◌^◌, sym, subst, ℕ, List, length}
+use Rattle.std.proofs.Common.{◌≡◌, ◌<◌, ◌^◌, sym, subst, ℕ, List, length, ap}
 use Rattle.doc_bits.specs.declared.places.Where.TheVariants.{Wd}
 use Rattle.doc_bits.specs.Number.{AreBytes}
 use Rattle.doc_bits.specs.Rules.{Hold, IsSingle}
@@ -21,6 +21,9 @@ use Rattle.doc_load.proofs.NameLemmas.{named_one}
 use Rattle.doc_load.proofs.RightPlaces.{hold_out}
 use Rattle.doc_meaning.specs.Meaning.{MeansDocument}
 use Rattle.doc_meaning.proofs.MeaningLemmas.{meaning_is_one}
+use Rattle.doc_read.specs.Holds.{FileParts}
+use Rattle.doc_read.proofs.PartsOfOneFile.{file_parts_one}
+use Rattle.doc_losses.specs.References.{Names, names_of}
 use Rattle.doc_mends.specs.Mending.{IsMended}
 use Rattle.doc_mends.proofs.OneLemmas.{one_way}
 use Rattle.doc_lift.specs.LiftedRules.{lifted_wd, lifted_table_rules}
@@ -84,8 +87,12 @@ pub mended_one : (file : List ℕ) (one other : Document) → AreBytes file → 
     (a : HasMended file one) → (b : HasMended file other) → AreOneMended file one other a b
 mended_one file one other bytes rules a b =
     let meant : a.meant ≡ b.meant = meant_one file a.meant b.meant bytes rules a.means b.means in
-    let same = one_way b.meant one other a.mends b.mends
-    (subst (λ (d : Document). IsMended d one a.mends) meant a.mended_is) b.mended_is in
+    let names = λ (p : FileParts). names_of p.text.wd p.text.table in
+    let parts : names a.means.parts ≡ names b.means.parts =
+    ap names (file_parts_one file a.means.parts b.means.parts a.means.has_parts b.means.has_parts) in
+    let same = one_way (names b.means.parts) b.meant one other a.mends b.mends
+    (subst (λ (d : Document). IsMended (names b.means.parts) d one a.mends) meant
+    (subst (λ (n : Names). IsMended n a.meant one a.mends) parts a.mended_is)) b.mended_is in
     record { document = same.0; meant = meant; mends = same.1 }
 
 pub lifts_one : (file : List ℕ) (one other : Document) → AreBytes file → LiftsTo file one → LiftsTo file other →

@@ -7,7 +7,6 @@ use Rattle.doc_bits.proofs.RuleLemmas.{first_agrees}
 use Rattle.cfb_streams.specs.Contents.{Contents, HasNamed}
 use Rattle.cfb_streams.specs.Names.{wd_name}
 use Rattle.cfb_streams.proofs.UniqueLemmas.{contents_unique, storages_unique}
-use Rattle.plain_doc.specs.declared.document.Document.{Document}
 use Rattle.doc_load.specs.Units.{text_units}
 use Rattle.doc_load.specs.FileRules.{FileText, HasText}
 use Rattle.doc_load.proofs.NameLemmas.{named_one}
@@ -19,7 +18,7 @@ use Rattle.run_stages.specs.Outcomes.{Outcome, says}
 use Rattle.doc_fit.specs.Lines.{not_word_line}
 use Rattle.doc_fit.specs.Rules.{fit_rules}
 use Rattle.doc_fit.specs.Refusals.{HasMainStream, EndsAt, IsAnotherRule, IsFitRefused}
-use Rattle.doc_fit.specs.Losses.{HasInventory, AreFitLines, list_parts, fit_lines, meant_losses}
+use Rattle.doc_fit.specs.Losses.{HasInventory, AreFitLines, list_parts, fit_lines, other_losses}
 use Rattle.doc_fit.proofs.MeaningLemmas.{fit_single}
 
 -- ---- refusals
@@ -112,11 +111,11 @@ text_same file a b x y =
     let there : HasText b.outer.container x.text = subst (λ c. HasText c x.text) contents x.has_text in
     text_one file b.outer.container x.text y.text y.has_contents there y.has_text
 
-pub lines_one : (text : FileText) (inventory : Inventory) (meant : Document) (a b : List (List ℕ)) →
-    AreFitLines text inventory meant a → AreFitLines text inventory meant b → a ≡ b
-lines_one text inventory meant a b x y =
+pub lines_one : (text : FileText) (inventory : Inventory) (a b : List (List ℕ)) → AreFitLines text inventory a →
+    AreFitLines text inventory b → a ≡ b
+lines_one text inventory a b x y =
     let texts : x.texts ≡ y.texts =
     losses_one (list_parts text.wd text.table) x.texts y.texts x.texts_are y.texts_are in
     x.are
-    ∙ (ap (λ (t : List TextFeature). fit_lines inventory (t ++ meant_losses text.wd text.table meant)) texts
+    ∙ (ap (λ (t : List TextFeature). fit_lines inventory (t ++ other_losses text.wd text.table)) texts
     ∙ sym y.are)

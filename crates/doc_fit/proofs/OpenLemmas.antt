@@ -1,6 +1,10 @@
 -- What is lifted and sound is opened, and what is not is refused by the first rule of all.
-use Rattle.std.proofs.Common.{ℕ, List}
-use Rattle.plain_doc.specs.declared.document.Document.{Document}
+use Rattle.std.proofs.Common.{◌≡◌, ◌∙◌, ap, subst, ℕ, List}
+use Rattle.cfb_streams.specs.Contents.{Contents}
+use Rattle.cfb_streams.proofs.UniqueLemmas.{contents_unique}
+use Rattle.doc_load.specs.FileRules.{FileText, HasText}
+use Rattle.doc_load.proofs.TextLemmas.{text_one}
+use Rattle.doc_losses.specs.References.{Names, names_of}
 use Rattle.plain_doc.specs.Marks.{HasFormedBookmarks}
 use Rattle.doc_bits.specs.Rules.{Hold, given}
 use Rattle.plain_doc.specs.Sound.{document_rules}
@@ -13,16 +17,48 @@ use Rattle.doc_mends.specs.declared.mends.Mend.{Mend}
 use Rattle.doc_mends.specs.Mending.{IsMended}
 use Rattle.doc_mends.proofs.BookmarkLemmas.{bookmarks_stay}
 use Rattle.doc_fit.specs.declared.opening.OpenedAny.{OpenedAny}
-use Rattle.doc_fit.specs.Rules.{LiftsTo, fit_rules}
-use Rattle.doc_fit.specs.Losses.{HasLiftedStreams}
+use Rattle.doc_fit.specs.Rules.{HasMended, LiftsTo, fit_rules}
+use Rattle.doc_fit.specs.Losses.{AreLossLines, HasLiftedStreams}
+use Rattle.doc_fit.proofs.LossLemmas.{wd_same, table_same}
 use Rattle.doc_fit.specs.Opened.{IsReported, IsOpenedAny}
 
-lifts_to : (file : List ℕ) (lifted : Lifted) (document : Document) (mends : List Mend) → IsLifted file lifted →
-    IsMended lifted.document document mends → LiftsTo file document
-lifts_to file lifted document mends is mended = record {
-  rules = is.rules;
-  mended = record { meant = lifted.document; means = is.means; mends = mends; mended_is = mended };
+-- the text that the streams name is that of the parts by which the file means its document
+text_meant : (file : List ℕ) (lifted : Lifted) → (is : IsLifted file lifted) → is.text ≡ is.means.parts.text
+text_meant file lifted is =
+    let has = is.means.has_parts in
+    let same : is.means.parts.contents ≡ lifted.outer.container =
+    contents_unique file is.means.parts.contents lifted.outer.container has.has_contents is.has_contents in
+    text_one file lifted.outer.container is.text is.means.parts.text is.has_contents is.has_text
+    (subst (λ (c : Contents). HasText c is.means.parts.text) same has.has_text)
+
+names_meant : (file : List ℕ) (lifted : Lifted) (lines : List (List ℕ)) → (is : IsLifted file lifted) →
+    (are : AreLossLines lifted lines) →
+    names_of are.wd are.table ≡ names_of is.means.parts.text.wd is.means.parts.text.table
+names_meant file lifted lines is are =
+    ap (λ (w : List ℕ). names_of w are.table) (wd_same file lifted lines is are)
+    ∙ (ap (λ (t : List ℕ). names_of is.text.wd t) (table_same file lifted lines is are)
+    ∙ ap (λ (t : FileText). names_of t.wd t.table) (text_meant file lifted is))
+
+pub mended_by : (file : List ℕ) (before after : Lifted) (lines : List (List ℕ)) (mends : List Mend) →
+    (is : IsLifted file before) → IsReported before after lines mends →
+    IsMended (names_of is.means.parts.text.wd is.means.parts.text.table) before.document after.document mends
+mended_by file before after lines mends is reported =
+    subst (λ (n : Names). IsMended n before.document after.document mends)
+    (names_meant file before lines is reported.losses) reported.mended
+
+has_mended : (file : List ℕ) (before after : Lifted) (lines : List (List ℕ)) (mends : List Mend) →
+    IsLifted file before → IsReported before after lines mends → HasMended file after.document
+has_mended file before after lines mends is reported = record {
+  meant = before.document;
+  means = is.means;
+  mends = mends;
+  mended_is = mended_by file before after lines mends is reported;
 }
+
+lifts_to : (file : List ℕ) (before after : Lifted) (lines : List (List ℕ)) (mends : List Mend) →
+    IsLifted file before → IsReported before after lines mends → LiftsTo file after.document
+lifts_to file before after lines mends is reported =
+    record { rules = is.rules; mended = has_mended file before after lines mends is reported }
 
 -- the first rule that the file breaks is the first of all
 pub not_lifted : (file : List ℕ) (fault : ReadFault) → IsReadFault (lifted_rules file) fault →
@@ -37,13 +73,14 @@ pub mended_refused : (file : List ℕ) (before after : Lifted) (lines : List (Li
 mended_refused file before after lines mends fault is reported refused =
     refused-next (lifted_rules file) (given (LiftsTo file) document_rules) fault is.rules
     (refused-given (LiftsTo file) document_rules after.document fault
-    (lifts_to file before after.document mends is reported.mended) refused)
+    (lifts_to file before after lines mends is reported) refused)
 
 -- its bookmarks are formed
 pub mended_formed : (file : List ℕ) (before after : Lifted) (lines : List (List ℕ)) (mends : List Mend) →
     IsLifted file before → IsReported before after lines mends → HasFormedBookmarks after.document
 mended_formed file before after lines mends is reported =
-    bookmarks_stay before.document after.document mends is.formed reported.mended
+    bookmarks_stay (names_of reported.losses.wd reported.losses.table) before.document after.document mends is.formed
+    reported.mended
 
 -- the streams that the report is made of
 pub lifted_streams : (file : List ℕ) (lifted : Lifted) → IsLifted file lifted → HasLiftedStreams lifted
@@ -61,7 +98,7 @@ lifted_streams file lifted is = record {
 pub opened_lifts : (file : List ℕ) (opened : OpenedAny) → IsOpenedAny file opened →
     LiftsTo file opened.lifted.document
 opened_lifts file opened is =
-    lifts_to file is.before opened.lifted.document opened.mends.items is.lifts is.reported.mended
+    lifts_to file is.before opened.lifted opened.losses opened.mends.items is.lifts is.reported
 
 -- none of the rules that are left is broken
 pub opened_holds : (file : List ℕ) (opened : OpenedAny) → IsOpenedAny file opened → Hold (fit_rules file)

@@ -4,7 +4,6 @@ use Rattle.doc_bits.specs.Rules.{Hold}
 use Rattle.cfb_streams.specs.Contents.{HasNamed}
 use Rattle.cfb_streams.specs.Container.{HasContents, ListsStorages}
 use Rattle.cfb_streams.specs.Names.{wd_name}
-use Rattle.plain_doc.specs.declared.document.Document.{Document}
 use Rattle.fib_form.specs.Fib.{table_part}
 use Rattle.fib_form.specs.TableParts.{pair_of}
 use Rattle.fib_form.specs.declared.table_parts.TablePart.TheVariants.{PlcfBteChpx, PlcfBtePapx, Clx}
@@ -46,16 +45,15 @@ AreTextLosses wd table texts = AreCodeLosses (list_parts wd table) texts
 abbrev pub fit_lines : Inventory → List TextFeature → List (List ℕ)
 fit_lines inventory texts = map feature_line (losses inventory) ++ map line_of_feature texts
 
--- what of its texts, its bookmarks and its style sheet is left out, where it means a document
-abbrev pub meant_losses : (wd table : List ℕ) → Document → List TextFeature
-meant_losses wd table meant = document_losses (record { wd = wd; table = table; document = meant })
+-- what of its bookmarks and its style sheet is left out
+abbrev pub other_losses : (wd table : List ℕ) → List TextFeature
+other_losses wd table = document_losses (record { wd = wd; table = table })
 
--- these are the lines of a text that means a document
-pub record AreFitLines (text : FileText) (inventory : Inventory) (meant : Document) (lines : List (List ℕ)) :
-    Type 0 where
+-- these are the lines of a text
+pub record AreFitLines (text : FileText) (inventory : Inventory) (lines : List (List ℕ)) : Type 0 where
   pub texts : List TextFeature
   pub texts_are : AreTextLosses text.wd text.table texts
-  pub are : lines ≡ fit_lines inventory (texts ++ meant_losses text.wd text.table meant)
+  pub are : lines ≡ fit_lines inventory (texts ++ other_losses text.wd text.table)
 
 -- what is lifted out of a file has the streams that the report is made of
 pub record HasLiftedStreams (lifted : Lifted) : Type 0 where
@@ -78,4 +76,4 @@ pub record AreLossLines (lifted : Lifted) (lines : List (List ℕ)) : Type 0 whe
   pub are :
       lines
       ≡ fit_lines (record { outer = lifted.outer; wd = wd; units = lifted.units.items })
-      (texts ++ meant_losses wd table lifted.document)
+      (texts ++ other_losses wd table)

@@ -4,17 +4,18 @@ use Rattle.doc_bits.specs.Rules.{Rules, ◌then◌, given, Hold}
 use Rattle.doc_bits.specs.Places.{Place}
 use Rattle.plain_doc.specs.declared.document.Document.{Document}
 use Rattle.plain_doc.specs.Sound.{document_rules}
+use Rattle.doc_losses.specs.References.{names_of}
 use Rattle.doc_mends.specs.declared.mends.Mend.{Mend}
 use Rattle.doc_mends.specs.Mending.{IsMended}
 use Rattle.doc_meaning.specs.Meaning.{MeansDocument}
 use Rattle.doc_lift.specs.LiftedFiles.{lifted_rules}
 
--- the document is the mended one of what the file means
+-- the document is the mended one of what the file means; its tables name the marks of stories that are left out
 pub record HasMended (file : List ℕ) (document : Document) : Type 0 where
   pub meant : Document
   pub means : MeansDocument file meant
   pub mends : List Mend
-  pub mended_is : IsMended meant document mends
+  pub mended_is : IsMended (names_of means.parts.text.wd means.parts.text.table) meant document mends
 
 -- and the file breaks none of the rules 1 to 57 that are left
 pub record LiftsTo (file : List ℕ) (document : Document) : Type 0 where

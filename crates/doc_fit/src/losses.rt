@@ -1,27 +1,36 @@
-// The lines of what is left out of a file.
+// The lines of what is left out of a file, and the marks of stories that are left out.
 ghost use Rattle.std.specs.Prelude.{IfOk};
-ghost use Rattle.doc_fit.specs.Losses.{AreLossLines, HasLiftedStreams};
+ghost use Rattle.doc_fit.specs.Losses.{HasLiftedStreams};
+ghost use Rattle.doc_fit.specs.Opened.{IsFoundIn};
 
 use crate::list_losses::{add_features, text_losses_of};
 use crate::streams::{fib_of, main_stream, table_stream};
 use doc_bits::Memory;
 use doc_lift::Lifted;
-use doc_losses::doc_losses;
+use doc_losses::{Marks, doc_losses};
 use loss_report::{LossLines, report};
 use std::alloc::Global;
 
-/// The lines of what is left out of a file, one a feature. Its document is the one before mends.
-pub(crate) fn losses_of(alloc: Global, lifted: &Lifted) -> Result<LossLines, Memory>
+/// What is found in the streams of a file.
+#[derive(Drop)]
+pub(crate) struct Found {
+    pub(crate) losses: LossLines,
+    pub(crate) marks: Marks,
+}
+
+/// The lines of what is left out of a file, one a feature, and the marks of stories that are left out.
+pub(crate) fn found_in(alloc: Global, lifted: &Lifted) -> Result<Found, Memory>
     requires { HasLiftedStreams lifted.now }
-    ensures { IfOk result (λ lines. AreLossLines lifted.now lines) }
+    ensures { IfOk result (IsFoundIn lifted.now) }
 {
     let wd = main_stream(&lifted.outer);
     let fib = fib_of(wd);
     let table = table_stream(&lifted.outer, &fib);
-    let mut lines = report(alloc, &lifted.outer, &fib, &lifted.units)?;
+    let mut losses = report(alloc, &lifted.outer, &fib, &lifted.units)?;
     let lists = text_losses_of(alloc, wd, &fib, table)?;
-    let texts = doc_losses(alloc, &fib, table, &lifted.document)?;
-    add_features(alloc, &mut lines, &lists)?;
-    add_features(alloc, &mut lines, &texts)?;
-    Ok(lines)
+    let others = doc_losses(alloc, &fib, table)?;
+    add_features(alloc, &mut losses, &lists)?;
+    add_features(alloc, &mut losses, &others)?;
+    let marks = Marks::read(alloc, &fib, table)?;
+    Ok(Found { losses, marks })
 }

@@ -1,5 +1,6 @@
 // A file of any program is opened: its document is lifted out of it, mended and judged, and what is left out is named.
 ghost use Rattle.std.specs.Prelude.{◌≡◌, IfOk, MatchResult};
+ghost use Rattle.plain_doc.specs.Marks.{HasFormedBookmarks};
 ghost use Rattle.plain_doc.specs.Sound.{IsSound};
 ghost use Rattle.doc_load.specs.Faults.{IsReadFault};
 ghost use Rattle.doc_lift.specs.LiftedFiles.{IsLifted};
@@ -7,7 +8,7 @@ ghost use Rattle.doc_fit.specs.Losses.{HasLiftedStreams};
 ghost use Rattle.doc_fit.specs.Opened.{IsOpenedAny, IsReported};
 ghost use Rattle.doc_fit.specs.Rules.{fit_rules};
 
-use crate::losses::losses_of;
+use crate::losses::found_in;
 use doc_bits::Memory;
 use doc_lift::{Lifted, ReadFault, lift};
 use doc_mends::{Mend, mend};
@@ -83,11 +84,13 @@ fn judge_lifted(alloc: Global, file: &[u8], lifted: &mut Lifted) -> Result<Repor
 
 /// Mends what was lifted, and tells of it.
 fn mend_lifted(alloc: Global, lifted: &mut Lifted) -> Result<Report, Memory>
-    requires { HasLiftedStreams lifted.old }
+    requires streams { HasLiftedStreams lifted.old }
+    requires formed { HasFormedBookmarks lifted.old.document }
     ensures { IfOk result (λ report. IsReported lifted.old lifted.new report.losses report.mends.items) }
 {
-    let losses = losses_of(alloc, lifted)?;
-    let mends = mend(alloc, &mut lifted.document)?;
+    let found = found_in(alloc, lifted)?;
+    let mends = mend(alloc, &mut lifted.document, &found.marks)?;
+    let losses = found.losses;
     Ok(Report { losses, mends })
 }
 

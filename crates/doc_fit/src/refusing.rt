@@ -26,6 +26,15 @@ const RULE_ENCRYPTED: u8 = 19;
 
 const RULE_FORM: u8 = 21;
 
+/// The rules on the codes of Prcs, characters, paragraphs and styles.
+const RULE_PRC_CODES: u8 = 31;
+
+const RULE_CHARACTER_CODES: u8 = 43;
+
+const RULE_PARAGRAPH_CODES: u8 = 48;
+
+const RULE_STYLE_CODES: u8 = 51;
+
 /// Where the FIB has its nFib.
 const N_FIB: usize = 2;
 
@@ -35,6 +44,9 @@ const OTHER_PROGRAM: &str =
 const ENCRYPTED: &str = "encrypted: remove the password";
 
 const OTHER_FORM: &str = "damaged: the FIB is that of no program";
+
+const CODES_NOT_SKIPPED: &str =
+    "a list of settings that is cut short, or one whose codes are not skipped where it stands: save it anew in the program that made it";
 
 /// [MS-DOC] FibBase: wIdent and nFib, which tell the program that wrote a file.
 #[derive(Clone, Copy)]
@@ -104,6 +116,9 @@ pub fn why_not_opened(rule: u8, file: &[u8]) -> &'static str {
         RULE_IDENT | RULE_VERSION => OTHER_PROGRAM,
         RULE_ENCRYPTED => ENCRYPTED,
         RULE_FORM => OTHER_FORM,
+        RULE_PRC_CODES | RULE_CHARACTER_CODES | RULE_PARAGRAPH_CODES | RULE_STYLE_CODES => {
+            CODES_NOT_SKIPPED
+        }
         _ => why_refused(rule, file),
     }
 }

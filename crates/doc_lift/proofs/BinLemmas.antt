@@ -1,5 +1,5 @@
 -- The rules on the bin tables hold of a file of which the rules that are left hold.
-use Rattle.std.proofs.Common.{◌≡◌, ◌∙◌, sym, ap, subst, ℕ, List, arith}
+use Rattle.std.proofs.Common.{◌≡◌, ◌∙◌, refl, sym, ap, subst, ℕ, List}
 use Rattle.doc_bits.specs.declared.places.Where.TheVariants.{Table}
 use Rattle.doc_bits.specs.Rules.{Hold, rule}
 use Rattle.doc_bits.specs.Places.{rules_in}
@@ -11,8 +11,11 @@ use Rattle.fib_form.specs.declared.table_parts.TablePart.TheVariants.{PlcfBteChp
 use Rattle.fib_versions.specs.Early.{early_pairs, early_fields}
 use Rattle.doc_load.specs.Source.{DocSource, part_place, part_bytes}
 use Rattle.doc_load.specs.BinRules.{BreaksBinTable, rules_of_bins}
-use Rattle.doc_meaning.specs.Lifted.{IsOther}
-use Rattle.doc_lift.specs.LiftedRules.{lifted_wd, lifted_table_rules}
+use Rattle.doc_meaning.specs.Lifted.{IsReadPart}
+use Rattle.doc_meaning.specs.Apart.{ReadsClx}
+use Rattle.doc_meaning.proofs.ApartLemmas.{apart_part}
+use Rattle.doc_meaning.proofs.ListLemmas.{read_of}
+use Rattle.doc_lift.specs.LiftedRules.{lifted_wd, lifted_table_rules, read_table_rules}
 use Rattle.doc_lift.proofs.SkipLemmas.{read_part}
 
 -- the rule on a bin table reads its bytes and its place alone
@@ -28,29 +31,33 @@ record HasPartOf (wd table : List ℕ) (source : DocSource) (part : TablePart) :
   place : part_place source part ≡ (fib_pair wd (pair_of part)).0
   bytes : part_bytes source part ≡ table_part wd table (pair_of part)
 
-source_part : (wd table : List ℕ) (part : TablePart) → IsOther part →
-    fib_fields (lifted_wd wd) ≡ early_fields wd (early_pairs wd) → (hold : Hold (lifted_table_rules wd table)) →
-    HasPartOf wd table hold.1.0 part
-source_part wd table part other fields hold =
+source_part : (wd table read : List ℕ) (part : TablePart) → IsReadPart part →
+    fib_fields (lifted_wd wd) ≡ early_fields wd (early_pairs wd) → ReadsClx (early_pairs wd) table read →
+    (hold : Hold (read_table_rules wd read)) → HasPartOf wd table hold.1.0 part
+source_part wd table read part reads fields clx hold =
     let is = hold.1.1.0 in
-    let reads = read_part wd table is.units is.text is.read part fields is.front is.read_is other in
+    let found = read_part wd read is.units is.text is.read part fields is.front is.read_is reads.no_sheet in
     record {
-      place = ap (λ (s : DocSource). part_place s part) is.source_is ∙ reads.place;
-      bytes = ap (λ (s : DocSource). part_bytes s part) is.source_is ∙ reads.bytes;
+      place = ap (λ (s : DocSource). part_place s part) is.source_is ∙ found.place;
+      bytes = ap (λ (s : DocSource). part_bytes s part) is.source_is
+          ∙ (found.bytes ∙ apart_part wd table read part clx reads.no_clx);
     }
 
 -- so they hold of every source of the two streams
 pub lifted_bins : (wd table : List ℕ) (old : DocSource) → fib_fields (lifted_wd wd) ≡ early_fields wd (early_pairs wd) →
     old.wd ≡ wd → old.table ≡ table → Hold (lifted_table_rules wd table) → Hold (rules_of_bins old)
 lifted_bins wd table old fields wd_is table_is hold =
-    let source = hold.1.0 in
+    let read = hold.0 in
+    let clx = hold.1.0 in
+    let held = hold.1.1 in
+    let source = held.1.0 in
     let place : (part : TablePart) → part_place old part ≡ (fib_pair wd (pair_of part)).0 =
     λ part. ap (λ (w : List ℕ). (fib_pair w (pair_of part)).0) wd_is in
     let bytes : (part : TablePart) → part_bytes old part ≡ table_part wd table (pair_of part) =
     λ part. λ i. table_part (wd_is i) (table_is i) (pair_of part) in
-    let chars = source_part wd table PlcfBteChpx (λ e. absurd (omega (arith, e))) fields hold in
-    let pars = source_part wd table PlcfBtePapx (λ e. absurd (omega (arith, e))) fields hold in
-    let bins = hold.1.1.1.0.1 in (
+    let chars = source_part wd table read PlcfBteChpx (read_of PlcfBteChpx refl) fields clx held in
+    let pars = source_part wd table read PlcfBtePapx (read_of PlcfBtePapx refl) fields clx held in
+    let bins = held.1.1.1.0.1 in (
       same_bin 37 (part_bytes source PlcfBteChpx) (part_bytes old PlcfBteChpx) (part_place source PlcfBteChpx)
           (part_place old PlcfBteChpx) (chars.bytes ∙ sym (bytes PlcfBteChpx)) (chars.place ∙ sym (place PlcfBteChpx))
           bins.0,

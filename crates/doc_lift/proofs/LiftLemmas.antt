@@ -21,7 +21,6 @@ use Rattle.doc_load.specs.FileRules.{FileText, IsFrontOf, source_of, rules_of_pi
 use Rattle.cfb_sectors.proofs.OpeningLemmas.{whole_length}
 use Rattle.cfb_directory.specs.Reach.{BreaksName}
 use Rattle.cfb_streams.specs.Container.{outer_rules, HasContents}
-use Rattle.cfb_streams.specs.Names.{wd_name}
 use Rattle.cfb_streams.proofs.SingleLemmas.{directory_unique}
 use Rattle.doc_read.specs.CarriedParts.{AreWithinBounds, LeavesRoom}
 use Rattle.doc_read.specs.Opened.{IsReadOf}
@@ -29,6 +28,8 @@ use Rattle.doc_read.proofs.ContentsBounds.{bounded}
 use Rattle.doc_read.proofs.FewLemmas.{leaves_room}
 use Rattle.doc_read.proofs.FormedBookmarks.{parts-formed}
 use Rattle.doc_meaning.specs.Meaning.{MeansFrom}
+use Rattle.doc_meaning.specs.Apart.{IsReadTable}
+use Rattle.doc_meaning.proofs.ApartLemmas.{clx_table_len}
 use Rattle.doc_meaning.proofs.EarlyLemmas.{early_count}
 use Rattle.doc_meaning.proofs.FrontLemmas.{HasFront, whole_text, front_text}
 use Rattle.doc_meaning.proofs.LoadedLemmas.{loaded_is_meant}
@@ -65,23 +66,38 @@ front_short wd early fields =
     let own : text_length (fib_fields wd).ccps ≤ all_text_length wd = omega arith in
     omega (arith, same, own)
 
+-- a stream of the root has 32-bit places
+pub stream_small : (contents : Contents) (name bytes : List ℕ) → AreWithinBounds contents →
+    HasNamed contents.streams name bytes → length bytes < 2 ^ 32
+stream_small contents name bytes bounds named =
+    let short = bounds.short named.index named.stream named.here in
+    omega (arith, ap length named.same, short)
+
+-- the table stream that is read has 32-bit places
+pub read_small : (contents : Contents) (wd table : List ℕ) → AreWithinBounds contents → IsReadTable contents wd table →
+    length table < 2 ^ 32
+read_small contents wd table bounds reads =
+    let small = stream_small contents (table_stream_name wd) reads.own bounds reads.has_table in
+    omega (arith, small, clx_table_len (early_pairs wd) reads.own table reads.clx)
+
 pub front_room : (contents : Contents) (wd table : List ℕ) (text_len : ℕ) (text : FileText) (units : List ℕ)
-    (read : FileText) → AreWithinBounds contents → HasFront contents wd table text_len →
+    (read : FileText) → AreWithinBounds contents → IsReadTable contents wd table → HasFront wd table text_len →
     IsFrontOf (lifted_wd wd) table text units → IsReadFor wd table units text read → LeavesRoom contents read.table
-front_room contents wd table text_len text units read bounds has front is =
-    let room = leaves_room contents (whole_text wd table front.all) bounds
-    (front_text contents wd table text_len text units has front) in
+front_room contents wd table text_len text units read bounds reads has front is =
+    let room = leaves_room contents (whole_text wd reads.own front.all) bounds
+    (front_text contents wd table text_len text units reads has front) in
     let len = read_table_len wd table units text read front is in
-    record { few = room.few; short = omega (arith, len, room.short) }
+    let own = clx_table_len (early_pairs wd) reads.own table reads.clx in
+    record { few = room.few; short = omega (arith, len, own, room.short) }
 
 pub front_meant : (contents : Contents) (wd table : List ℕ) (text_len : ℕ) (text : FileText) (units : List ℕ)
-    (read : FileText) (document : Document) → HasFront contents wd table text_len →
+    (read : FileText) (document : Document) → IsReadTable contents wd table → HasFront wd table text_len →
     IsFrontOf (lifted_wd wd) table text units → IsReadFor wd table units text read →
     Hold (part_rules (source_of read)) → IsReadOf contents read document → MeansFrom contents document
-front_meant contents wd table text_len text units read document has front is hold from =
-    loaded_is_meant contents (whole_text wd table front.all) read from.lists document
-    (front_text contents wd table text_len text units has front)
-    (read_loaded_for contents wd table text_len text units read has front is) hold from.has_lists from.document_is
+front_meant contents wd table text_len text units read document reads has front is hold from =
+    loaded_is_meant contents (whole_text wd reads.own front.all) table read from.lists document
+    (front_text contents wd table text_len text units reads has front) reads.clx
+    (read_loaded_for wd table text_len text units read has front is) hold from.has_lists from.document_is
 
 pub read_formed : (contents : Contents) (text : FileText) (document : Document) →
     Hold (part_rules (source_of text)) → IsReadOf contents text document → HasFormedBookmarks document
@@ -92,13 +108,6 @@ read_formed contents text document hold read =
       lists = read.lists;
       sections = read.document_is.sections;
     }) document hold read.has_lists read.document_is.document_is
-
--- a stream of the root has 32-bit places
-pub stream_small : (contents : Contents) (name bytes : List ℕ) → AreWithinBounds contents →
-    HasNamed contents.streams name bytes → length bytes < 2 ^ 32
-stream_small contents name bytes bounds named =
-    let short = bounds.short named.index named.stream named.here in
-    omega (arith, ap length named.same, short)
 
 -- what is lifted, under the rules of the layer above
 pub lifted_under : (rules below : Rules Place) (contents : Contents) (lifted : LiftedText) → Hold rules →
@@ -131,13 +140,10 @@ pub early_same : (wd fib : List ℕ) (early : FibFields) → fib ≡ wd → earl
 early_same wd fib early same is = is ∙ ap (λ (w : List ℕ). early_fields w (early_pairs w)) same
 
 -- so its front can be loaded
-pub has_front : (contents : Contents) (wd table lifted : List ℕ) → IsWrittenFront wd lifted →
-    HasNamed contents.streams wd_name wd → HasNamed contents.streams (table_stream_name wd) table →
-    Hold (rules_of_pieces lifted table (all_text_length wd)) → HasFront contents wd table (all_text_length wd)
-has_front contents wd table lifted front has_wd has_table hold = record {
+pub has_front : (wd table lifted : List ℕ) → IsWrittenFront wd lifted →
+    Hold (rules_of_pieces lifted table (all_text_length wd)) → HasFront wd table (all_text_length wd)
+has_front wd table lifted front hold = record {
   fields = sym (ap fib_fields front.bytes) ∙ front.fields;
-  has_wd = has_wd;
-  has_table = has_table;
   hold = subst (λ w. Hold (rules_of_pieces w table (all_text_length wd))) front.bytes hold;
 }
 

@@ -20,6 +20,9 @@ use Rattle.doc_load.proofs.FileLemmas.{ascends_in, part_single, part_ascends, pi
 use Rattle.doc_load.proofs.NameLemmas.{named_one}
 use Rattle.doc_load.proofs.RefusalLemmas.{single_in}
 use Rattle.doc_lift.specs.LiftedRules.{IsSkippedText, IsReadFor, IsLiftedSource, lifted_wd, lifted_table_rules}
+use Rattle.doc_lift.specs.LiftedRules.{read_table_rules}
+use Rattle.fib_versions.specs.Early.{early_pairs}
+use Rattle.doc_meaning.proofs.ApartLemmas.{clx_table_one}
 use Rattle.doc_lift.specs.LiftedRules.{lifted_wd_rules}
 use Rattle.doc_lift.specs.LiftedFiles.{lifted_rules}
 use Rattle.doc_lift.proofs.SkipLemmas.{AreOneStreams, streams_one, pieces_one, units_one}
@@ -84,11 +87,14 @@ source_one wd table one other a b =
     ∙ (read_one wd table b.units a.units b.text a.text b.read a.read b.front a.front b.read_is a.read_is units
     ∙ sym b.source_is)
 
-table_single : (wd table : List ℕ) → IsSingle (lifted_table_rules wd table)
-table_single wd table = (
+read_single : (wd table : List ℕ) → IsSingle (read_table_rules wd table)
+read_single wd table = (
   pieces_single (lifted_wd wd) table (all_text_length wd),
   ((λ a b ha hb. source_one wd table a b ha hb), λ source h. part_single source),
 )
+
+table_single : (wd table : List ℕ) → IsSingle (lifted_table_rules wd table)
+table_single wd table = (clx_table_one (early_pairs wd) table, λ read h. read_single wd read)
 
 wd_single : (file : List ℕ) (contents : Contents) (wd : List ℕ) → HasContents file contents →
     IsSingle (lifted_wd_rules contents wd)
@@ -179,14 +185,17 @@ outer_ascends file =
       ),
     )
 
-table_ascends : (wd table : List ℕ) → Ascends (lifted_table_rules wd table) 26 58
-table_ascends wd table = (
+read_ascends : (wd table : List ℕ) → Ascends (read_table_rules wd table) 26 58
+read_ascends wd table = (
   33,
   (
     pieces_ascend (lifted_wd wd) table (all_text_length wd),
     (lit≤ tt, lit≤ tt, (lit≤ tt, λ source h. part_ascends source)),
   ),
 )
+
+table_ascends : (wd table : List ℕ) → Ascends (lifted_table_rules wd table) 26 58
+table_ascends wd table = (lit≤ tt, λ read h. read_ascends wd read)
 
 wd_ascends : (contents : Contents) (wd : List ℕ) → Ascends (lifted_wd_rules contents wd) 16 58
 wd_ascends contents wd = (

@@ -9,7 +9,6 @@ use Rattle.doc_bits.specs.Places.{Place, Upto}
 use Rattle.doc_bits.proofs.RuleLemmas.{hold_or_first}
 use Rattle.doc_bits.proofs.ListLemmas.{get-map, slice_get-take, length-range}
 use Rattle.prl_skips.proofs.RangeLemmas.{put_length}
-use Rattle.cfb_streams.specs.Contents.{Contents}
 use Rattle.fib_form.specs.Fib.{form_size, fib_pair, table_part}
 use Rattle.fib_form.specs.FibFields.{FibFields, fib_fields, text_length}
 use Rattle.fib_form.specs.FibBytes.{written_fib}
@@ -152,10 +151,10 @@ some_one : (x y : ℕ) → Some x ≡ Some y → x ≡ y
 some_one x y same = cc same
 
 -- a skipped text is loaded in place of the one that the streams name
-pub skipped_loaded : (contents : Contents) (wd table : List ℕ) (text_len : ℕ) (text : FileText) (units : List ℕ)
-    (read : FileText) → HasFront contents wd table text_len → (front : IsFrontOf (lifted_wd wd) table text units) →
+pub skipped_loaded : (wd table : List ℕ) (text_len : ℕ) (text : FileText) (units : List ℕ)
+    (read : FileText) → HasFront wd table text_len → (front : IsFrontOf (lifted_wd wd) table text units) →
     IsSkippedText wd table units read → IsLoadedFor (whole_text wd table front.all) read
-skipped_loaded contents wd table text_len text units read has front is =
+skipped_loaded wd table text_len text units read has front is =
     let streams = is.streams in
     let early = early_fields wd (early_pairs wd) in
     let clx : clx_of read.wd read.table ≡ clx_of (lifted_wd wd) table =
@@ -170,7 +169,7 @@ skipped_loaded contents wd table text_len text units read has front is =
     let few : text_count (source_of read) ≤ count = omega arith in
     let units_are : map (unit_at read.wd) flat ≡ map (unit_at wd) flat =
     sym (ap (text_units read.wd) all) ∙ (sym is.front.units_are
-    ∙ front_units contents wd table text_len text units has front) in
+    ∙ front_units wd table text_len text units has front) in
     record {
       pages = streams.pages;
       kept_pages = inl streams.skips;
@@ -192,14 +191,14 @@ skipped_loaded contents wd table text_len text units read has front is =
       sepxs = is.sepxs;
     }
 
-pub read_loaded_for : (contents : Contents) (wd table : List ℕ) (text_len : ℕ) (text : FileText) (units : List ℕ)
-    (read : FileText) → HasFront contents wd table text_len → (front : IsFrontOf (lifted_wd wd) table text units) →
+pub read_loaded_for : (wd table : List ℕ) (text_len : ℕ) (text : FileText) (units : List ℕ)
+    (read : FileText) → HasFront wd table text_len → (front : IsFrontOf (lifted_wd wd) table text units) →
     IsReadFor wd table units text read → IsLoadedFor (whole_text wd table front.all) read
-read_loaded_for contents wd table text_len text units read has front (inl skips) =
-    skipped_loaded contents wd table text_len text units read has front skips
-read_loaded_for contents wd table text_len text units read has front (inr plain) =
+read_loaded_for wd table text_len text units read has front (inl skips) =
+    skipped_loaded wd table text_len text units read has front skips
+read_loaded_for wd table text_len text units read has front (inr plain) =
     subst (IsLoadedFor (whole_text wd table front.all)) (sym plain.1)
-    (front_loaded contents wd table text_len text units has front)
+    (front_loaded wd table text_len text units has front)
 
 pub read_table_len : (wd table units : List ℕ) (text read : FileText) → IsFrontOf (lifted_wd wd) table text units →
     IsReadFor wd table units text read → length read.table ≡ length table

@@ -1,6 +1,6 @@
 -- The rules of the streams of a file of any program, 15 to 57: those of doc_load's `contents_rules`, of which 22 and 24
--- are gone, and 16 to 18, 21, 23 and 28 are weaker. The rules 33 to 57 are asked of the streams in which the codes that
--- are not read are skipped. Their places are those of the file.
+-- are gone, and 16 to 18, 21, 23 and 28 are weaker. The rules 27 to 32 are asked of the Clx, and 33 to 57 of the
+-- streams, in which the codes that are not read are skipped. Their places are those of the file.
 use Rattle.std.specs.Prelude.{◌≡◌, ◌⊎◌, ℕ, List, ◌++◌, drop}
 use Rattle.doc_bits.specs.declared.places.Where.TheVariants.{File, Wd}
 use Rattle.doc_bits.specs.Rules.{Rules, rule, ◌then◌, given, Hold}
@@ -19,6 +19,7 @@ use Rattle.doc_load.specs.Source.{DocSource}
 use Rattle.doc_load.specs.PartRules.{part_rules}
 use Rattle.doc_load.specs.FileRules.{FileText, HasNoStream, IsFrontOf, source_of, table_stream_name, rules_of_pieces}
 use Rattle.doc_meaning.specs.Skipped.{bins_of, sections_of, SkipsTable, KeepsSepxs}
+use Rattle.doc_meaning.specs.Apart.{ReadsClx}
 
 -- WordDocument with a FIB of the early form in front, which has the same counts and the pairs of the same parts
 abbrev pub lifted_wd : List ℕ → List ℕ
@@ -56,10 +57,14 @@ pub record IsLiftedSource (wd table : List ℕ) (source : DocSource) : Type 0 wh
   pub read_is : IsReadFor wd table units text read
   pub source_is : source ≡ source_of read
 
--- rules 26 to 57. The pieces have the CPs of all stories
-abbrev pub lifted_table_rules : List ℕ → List ℕ → Rules Place
-lifted_table_rules wd table =
+-- rules 26 to 57 of a table stream. The pieces have the CPs of all stories
+abbrev pub read_table_rules : List ℕ → List ℕ → Rules Place
+read_table_rules wd table =
     rules_of_pieces (lifted_wd wd) table (all_text_length wd) then given (IsLiftedSource wd table) part_rules
+
+-- the same of that in which the codes in the Prcs that are not read are skipped
+abbrev pub lifted_table_rules : List ℕ → List ℕ → Rules Place
+lifted_table_rules wd table = given (ReadsClx (early_pairs wd) table) (read_table_rules wd)
 
 -- rules 16 to 57
 abbrev pub lifted_wd_rules : Contents → List ℕ → Rules Place

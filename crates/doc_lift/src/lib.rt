@@ -2,6 +2,7 @@
 //! that are left that it breaks.
 #![tactic(auto)]
 
+mod clx_skipping;
 mod laws;
 mod lifting;
 mod skipping;

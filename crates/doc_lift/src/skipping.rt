@@ -77,7 +77,7 @@ pub(crate) fn skipped_streams(
 }
 
 /// A copy of a stream.
-fn copied(alloc: Global, bytes: &[u8]) -> Result<Vec<u8>, Memory>
+pub(crate) fn copied(alloc: Global, bytes: &[u8]) -> Result<Vec<u8>, Memory>
     ensures { IfOk result (λ copy. copy.items ≡ bytes.now) }
 {
     let mut copy = Vec::with_capacity(alloc, bytes.len())?;

@@ -1,6 +1,7 @@
 // The document of the streams of a text. A copy of WordDocument gets a FIB of the early form, and the reader of
-// doc_read reads the front of the text by it. The codes that are not read are skipped in copies of the streams, where
-// no unit of the text and no Sepx changes by it; all other streams are read as they stand.
+// doc_read reads the front of the text by it. The codes that are not read are skipped in copies of the streams: those
+// of Prcs where the Clx stands apart, and then those of pages and styles where no unit of the text and no Sepx changes
+// by it; all other streams are read as they stand.
 ghost use Rattle.std.specs.Prelude.{◌≡◌, ◌↔◌, ◌<◌, ◌^◌, IsTrue, length, IfOk, MatchOption, MatchResult};
 ghost use Rattle.doc_bits.specs.Rules.{Hold};
 ghost use Rattle.cfb_streams.specs.Contents.{HasNamed};
@@ -10,9 +11,11 @@ ghost use Rattle.doc_load.specs.Faults.{IsReadFault};
 ghost use Rattle.doc_load.specs.FileRules.{FileText, table_stream_name};
 ghost use Rattle.doc_read.specs.CarriedParts.{AreWithinBounds};
 ghost use Rattle.doc_meaning.specs.Skipped.{KeepsSepxs};
-ghost use Rattle.doc_lift.specs.LiftedRules.{SkipsStreams, IsSkippedText, lifted_table_rules};
+ghost use Rattle.doc_meaning.specs.Apart.{IsReadTable};
+ghost use Rattle.doc_lift.specs.LiftedRules.{SkipsStreams, IsSkippedText, lifted_table_rules, read_table_rules};
 ghost use Rattle.doc_lift.specs.LiftedTexts.{IsLiftedBy};
 
+use crate::clx_skipping::clx_skipped;
 use crate::skipping::{SkippedStreams, early_fib, keeps_sepxs, skipped_streams, with_fib};
 use cfb_streams::Container;
 use doc_bits::Memory;
@@ -48,6 +51,27 @@ pub(crate) fn lift_text(
     ensures { MatchResult result
         (IsLiftedBy (lifted_table_rules wd.now table.now) container.now)
         (IsReadFault (lifted_table_rules wd.now table.now)) }
+{
+    let early = early_fib(fib);
+    let read = clx_skipped(alloc, &early, table)?;
+    lift_read(alloc, container, fib, wd, &read)
+}
+
+/// Lifts the document of `WordDocument` and of the table stream that is read.
+fn lift_read(
+    alloc: Global,
+    container: &Container,
+    fib: &AnyFib<'_>,
+    wd: &[u8],
+    table: &[u8],
+) -> Result<LiftedText, ReadFault>
+    requires bounds { AreWithinBounds container.now }
+    requires reads { IsReadTable container.now wd.now table.now }
+    requires version { Hold (version_rules wd.now) }
+    requires same { fib.now ≡ wd.now }
+    ensures { MatchResult result
+        (IsLiftedBy (read_table_rules wd.now table.now) container.now)
+        (IsReadFault (read_table_rules wd.now table.now)) }
 {
     let early = early_fib(fib);
     let lifted = with_fib(alloc, wd, &early)?;

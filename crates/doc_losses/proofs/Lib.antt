@@ -4,3 +4,5 @@ pub mod ListingLemmas
 pub mod ReferenceLemmas
 pub mod BookmarkLemmas
 pub mod LossLemmas
+pub mod NothingLemmas
+pub mod NoneLemmas

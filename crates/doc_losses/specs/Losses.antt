@@ -1,32 +1,27 @@
--- What of a file is left out by its texts, its bookmarks and its style sheet: each of these features that this profile
--- has no meaning for, and no other.
-use Rattle.std.specs.Prelude.{ℕ, Bool, false, ◌&&◌, not, List, ◌++◌, map, filter, nat_le}
+-- What of a file is left out by its bookmarks and its style sheet: each of these features that this profile has no
+-- meaning for, and no other. References to stories that are left out are cut, and named as mends.
+use Rattle.std.specs.Prelude.{ℕ, Bool, false, ◌&&◌, not, List, ◌++◌, filter, nat_le}
 use Rattle.fib_form.specs.Fib.{fib_ccp_text, table_part}
 use Rattle.fib_form.specs.TableParts.{pair_of}
 use Rattle.fib_form.specs.declared.table_parts.TablePart.TheVariants.{Stshf}
-use Rattle.plain_doc.specs.declared.document.Document.{Document}
 use Rattle.text_losses.specs.declared.features.TextFeature.{TextFeature}
 use Rattle.text_losses.specs.declared.features.TextFeature.TheVariants as has
-use Rattle.doc_losses.specs.References.{references, names_of}
 use Rattle.doc_losses.specs.Bookmarks.{file_bookmark_parts, bookmark_features}
 use Rattle.doc_losses.specs.Sheets.{sheet_features}
 
--- WordDocument, the table stream, and the document that they mean
+-- WordDocument and the table stream
 pub record DocInventory : Type 0 where
   pub wd : List ℕ
   pub table : List ℕ
-  pub document : Document
 
--- the features of a file, but those by the codes of its lists
+-- the features of a file by them
 abbrev pub features : DocInventory → List TextFeature
 features inventory =
-    map has.Reference (references (names_of inventory.wd inventory.table) inventory.document)
-    ++ (bookmark_features (file_bookmark_parts inventory.wd inventory.table)
-    ++ sheet_features (table_part inventory.wd inventory.table (pair_of Stshf)))
+    bookmark_features (file_bookmark_parts inventory.wd inventory.table)
+    ++ sheet_features (table_part inventory.wd inventory.table (pair_of Stshf))
 
 -- this profile has a meaning for it: a bookmark of a main text of this length is read
 abbrev pub is_kept : ℕ → TextFeature → Bool
-is_kept main_len (has.Reference reference) = false
 is_kept main_len (has.Skipped kind code count) = false
 is_kept main_len (has.Repeated kind code count) = false
 is_kept main_len (has.Deleted story from to) = false

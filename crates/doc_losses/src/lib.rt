@@ -1,4 +1,5 @@
-//! What of a file is left out by its texts, its bookmarks and its style sheet, feature by feature.
+//! What of a file is left out by its bookmarks and its style sheet, feature by feature, and its references to stories that
+//! are left out.
 #![tactic(auto)]
 
 mod bookmarks;

@@ -1,6 +1,6 @@
 -- The document of a text that reads the same is what the streams mean.
 use Rattle.std.specs.Prelude.{slice_index}
-use Rattle.std.proofs.Common.{◌≡◌, ◌∙◌, ◌+◌, ◌-◌, ◌<◌, ◌≤◌, ap, subst, ℕ, List, length, arith}
+use Rattle.std.proofs.Common.{◌≡◌, ◌∙◌, refl, ◌+◌, ◌-◌, ◌<◌, ◌≤◌, ap, subst, ℕ, List, length, arith}
 use Rattle.std.proofs.lemmas.Option.{slice_get_within}
 use Rattle.prop_map.specs.Settings.{Settings}
 use Rattle.cfb_streams.specs.Contents.{Contents}
@@ -21,7 +21,7 @@ use Rattle.doc_read.proofs.ExistItems.{parts_of}
 use Rattle.doc_read.proofs.GivenPlaces.{RightText}
 use Rattle.doc_meaning.specs.Lifted.{ReadsTheSame}
 use Rattle.doc_meaning.specs.Meaning.{MeansFrom}
-use Rattle.doc_meaning.proofs.ListLemmas.{lists_same}
+use Rattle.doc_meaning.proofs.ListLemmas.{lists_same, read_of}
 use Rattle.doc_meaning.proofs.ItemLemmas.{begin_same, item_same, maps_same}
 
 -- a stretch of the three stories
@@ -56,12 +56,12 @@ carried_same : (contents : Contents) (old new : FileText) (levels : List ℕ) (c
     ReadsTheSame old new → HoldsCarried contents (source_of new) levels carried →
     HoldsCarried contents (source_of old) levels carried
 carried_same contents old new levels carried same holds = record {
-  fonts = holds.fonts ∙ same.parts SttbfFfn (λ e. absurd (omega (arith, e)));
-  dop = holds.dop ∙ same.parts Dop (λ e. absurd (omega (arith, e)));
-  assoc = holds.assoc ∙ same.parts SttbfAssoc (λ e. absurd (omega (arith, e)));
-  lst = holds.lst ∙ same.parts PlfLst (λ e. absurd (omega (arith, e)));
+  fonts = holds.fonts ∙ same.parts SttbfFfn (read_of SttbfFfn refl);
+  dop = holds.dop ∙ same.parts Dop (read_of Dop refl);
+  assoc = holds.assoc ∙ same.parts SttbfAssoc (read_of SttbfAssoc refl);
+  lst = holds.lst ∙ same.parts PlfLst (read_of PlfLst refl);
   levels_are = holds.levels_are;
-  lfo = holds.lfo ∙ same.parts PlfLfo (λ e. absurd (omega (arith, e)));
+  lfo = holds.lfo ∙ same.parts PlfLfo (read_of PlfLfo refl);
   clsid = holds.clsid;
   lid = holds.lid ∙ ap (λ kept. kept.lid) same.kept;
   lid_fe = holds.lid_fe ∙ ap (λ kept. kept.lid_fe) same.kept;

@@ -9,8 +9,7 @@ use Rattle.std.proofs.lemmas.List.Elements.{All-head, All-tail, All-weaker}
 use Rattle.doc_bits.specs.Number.{u16_at}
 use Rattle.doc_bits.specs.Rules.{Hold}
 use Rattle.doc_bits.proofs.ListLemmas.{slice_get-take, slice_get_before}
-use Rattle.cfb_streams.specs.Contents.{Contents, HasNamed}
-use Rattle.cfb_streams.specs.Names.{wd_name}
+use Rattle.cfb_streams.specs.Contents.{Contents}
 use Rattle.fib_form.specs.Fib.{fib_size, form_size}
 use Rattle.fib_form.specs.FibFields.{FibFields, fib_fields, text_length}
 use Rattle.fib_form.specs.declared.form.Form.TheVariants.{Early}
@@ -23,18 +22,17 @@ use Rattle.piece_table.specs.ClxRules.{text_bounds}
 use Rattle.doc_load.specs.Units.{unit_at, text_units}
 use Rattle.doc_load.specs.FormatRules.{text_count}
 use Rattle.doc_load.specs.FileRules.{FileText, HasText, IsFrontOf, source_of, clx_of, rules_of_pieces}
-use Rattle.doc_load.specs.FileRules.{table_stream_name}
 use Rattle.doc_load.proofs.StandLemmas.{StandsBy, place_stands, places_stand}
 use Rattle.doc_meaning.specs.Skipped.{sections_of, fc_sepx, KeepsSepx}
 use Rattle.doc_meaning.specs.Loaded.{IsLoadedFor}
+use Rattle.doc_meaning.specs.Apart.{IsReadTable}
+use Rattle.doc_meaning.proofs.ApartLemmas.{apart_pieces}
 use Rattle.doc_meaning.proofs.EarlyLemmas.{early_behind, pair_same}
 use Rattle.doc_meaning.proofs.BehindLemmas.{range_behind, byte_behind, number_behind}
 
--- the streams of a text, and as many CPs of its pieces as all stories have
-pub record HasFront (contents : Contents) (wd table : List ℕ) (text_len : ℕ) : Type 0 where
+-- a FIB of the early form is read back, and the pieces have as many CPs as all stories have
+pub record HasFront (wd table : List ℕ) (text_len : ℕ) : Type 0 where
   pub fields : fib_fields (early_wd wd (early_pairs wd)) ≡ early_fields wd (early_pairs wd)
-  pub has_wd : HasNamed contents.streams wd_name wd
-  pub has_table : HasNamed contents.streams (table_stream_name wd) table
   pub hold : Hold (rules_of_pieces (early_wd wd (early_pairs wd)) table text_len)
 
 -- the text that the streams name
@@ -76,10 +74,10 @@ sepx_behind old new fc same = λ after within.
           ∙ ap (λ n. slice_range old (fc + 2) (fc + 2 + n)) count,
     )
 
-pub front_loaded : (contents : Contents) (wd table : List ℕ) (text_len : ℕ) (text : FileText) (units : List ℕ) →
-    HasFront contents wd table text_len → (front : IsFrontOf (early_wd wd (early_pairs wd)) table text units) →
+pub front_loaded : (wd table : List ℕ) (text_len : ℕ) (text : FileText) (units : List ℕ) →
+    HasFront wd table text_len → (front : IsFrontOf (early_wd wd (early_pairs wd)) table text units) →
     IsLoadedFor (whole_text wd table front.all) text
-front_loaded contents wd table text_len text units has front =
+front_loaded wd table text_len text units has front =
     let early = early_wd wd (early_pairs wd) in
     let flat = flat_pieces front.all in
     let count = text_length (fib_fields early).ccps in
@@ -110,16 +108,18 @@ front_loaded contents wd table text_len text units has front =
 
 -- the streams have the text of all pieces
 pub front_text : (contents : Contents) (wd table : List ℕ) (text_len : ℕ) (text : FileText) (units : List ℕ) →
-    HasFront contents wd table text_len → (front : IsFrontOf (early_wd wd (early_pairs wd)) table text units) →
-    HasText contents (whole_text wd table front.all)
-front_text contents wd table text_len text units has front =
+    (reads : IsReadTable contents wd table) → HasFront wd table text_len →
+    (front : IsFrontOf (early_wd wd (early_pairs wd)) table text units) →
+    HasText contents (whole_text wd reads.own front.all)
+front_text contents wd table text_len text units reads has front =
     let pair = pair_same wd (early_wd wd (early_pairs wd)) Clx has.fields in
     let same : clx_of (early_wd wd (early_pairs wd)) table ≡ clx_of wd table =
     λ i. slice_range table (pair i).0 ((pair i).0 + (pair i).1) in
     record {
-      has_wd = has.has_wd;
-      has_table = has.has_table;
-      has_pieces = subst (λ bytes. IsClx bytes front.all) same front.has_pieces;
+      has_wd = reads.has_wd;
+      has_table = reads.has_table;
+      has_pieces = apart_pieces wd reads.own table front.all reads.clx
+          (subst (λ bytes. IsClx bytes front.all) same front.has_pieces);
     }
 
 -- what two functions say alike of each entry
@@ -131,10 +131,10 @@ mapped_same f g (x ∷ xs) all =
     λ i. first i ∷ rest i
 
 -- the units of all CPs are those of the input's own stream
-pub front_units : (contents : Contents) (wd table : List ℕ) (text_len : ℕ) (text : FileText) (units : List ℕ) →
-    HasFront contents wd table text_len → (front : IsFrontOf (early_wd wd (early_pairs wd)) table text units) →
+pub front_units : (wd table : List ℕ) (text_len : ℕ) (text : FileText) (units : List ℕ) →
+    HasFront wd table text_len → (front : IsFrontOf (early_wd wd (early_pairs wd)) table text units) →
     units ≡ text_units wd front.all
-front_units contents wd table text_len text units has front =
+front_units wd table text_len text units has front =
     let early = early_wd wd (early_pairs wd) in
     let bounds = text_bounds (fib_size early) (length early) in
     let behind = early_behind wd in

@@ -1,6 +1,7 @@
 pub mod BehindLemmas
 pub mod EarlyLemmas
 pub mod TableLemmas
+pub mod ApartLemmas
 pub mod ListLemmas
 pub mod ItemLemmas
 pub mod DocumentLemmas

@@ -33,6 +33,7 @@ use Rattle.doc_meaning.specs.Loaded.{KeepsPages, KeepsTable, IsLoadedFor, Loaded
 use Rattle.doc_meaning.proofs.BehindLemmas.{range_behind, length_behind}
 use Rattle.doc_meaning.proofs.EarlyLemmas.{pair_same, story_same}
 use Rattle.doc_meaning.proofs.TableLemmas.{other_part, sheet_before, StandBehindPart, levels_stand}
+use Rattle.doc_meaning.proofs.ApartLemmas.{reads_apart}
 use Rattle.doc_meaning.proofs.DocumentLemmas.{means_same}
 
 -- ---- parts
@@ -163,7 +164,7 @@ loaded_reads old new loaded = record {
   counts = λ story. story_same (source_of old) (source_of new) story loaded.fields;
   kept = ap (λ (f : FibFields). f.kept) loaded.fields;
   pairs = λ part. pair_same old.wd new.wd part loaded.fields;
-  parts = λ part other. part_kept old new part loaded other;
+  parts = λ part read. part_kept old new part loaded read.no_sheet;
   sheet = λ sheet has. sheet_kept old new sheet loaded has;
   levels = λ bytes has. levels_kept old new bytes loaded has;
   places = loaded.places;
@@ -173,6 +174,6 @@ loaded_reads old new loaded = record {
 }
 
 pub loaded_is_meant : LoadedIsMeant
-loaded_is_meant contents old new lists document has_text loaded hold has from =
+loaded_is_meant contents old table new lists document has_text clx loaded hold has from =
     means_same contents old (record { text = new; lists = lists; hold = hold; has = has }) document has_text
-    (loaded_reads old new loaded) from
+    (reads_apart old table new clx (loaded_reads (record old { table = table }) new loaded)) from

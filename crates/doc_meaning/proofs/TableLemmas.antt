@@ -64,7 +64,7 @@ sheet_there pairs old new skips =
 -- ---- parts
 
 -- a range of no bytes
-no_range : (xs : List ℕ) (from len : ℕ) → len ≡ 0 → slice_range xs from (from + len) ≡ []
+pub no_range : (xs : List ℕ) (from len : ℕ) → len ≡ 0 → slice_range xs from (from + len) ≡ []
 no_range xs from len none =
     let width : from + len - from ≡ 0 = omega (arith, none) in
     ap (λ n. take n (drop from xs)) width
@@ -141,7 +141,7 @@ StandBehindPart table at part len bytes =
     HaveLength table at (length part) len
     × (bytes ≡ slice_range table (at + length part) (at + length part + len))
 
-levels_from : (old new : List ℕ) (place : ℕ) (pair : ℕ × ℕ) (len : ℕ) (bytes : List ℕ) →
+pub levels_from : (old new : List ℕ) (place : ℕ) (pair : ℕ × ℕ) (len : ℕ) (bytes : List ℕ) →
     drop place new ≡ drop place old → StandsFrom place pair →
     StandBehindPart new pair.0 (slice_range old pair.0 (pair.0 + pair.1)) len bytes →
     StandBehindPart old pair.0 (slice_range old pair.0 (pair.0 + pair.1)) len bytes

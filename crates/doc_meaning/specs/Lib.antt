@@ -1,4 +1,5 @@
 pub mod Meaning
 pub mod Skipped
+pub mod Apart
 pub mod Lifted
 pub mod Loaded

@@ -6,7 +6,7 @@ use Rattle.fib_form.specs.FibFields.{fib_fields}
 use Rattle.fib_form.specs.TableParts.{pair_of}
 use Rattle.fib_form.specs.declared.stories.StoryKind.{StoryKind}
 use Rattle.fib_form.specs.declared.table_parts.TablePart.{TablePart}
-use Rattle.fib_form.specs.declared.table_parts.TablePart.TheVariants.{Stshf}
+use Rattle.fib_form.specs.declared.table_parts.TablePart.TheVariants.{Stshf, Clx}
 use Rattle.fkp_pages.specs.declared.kind.PageKind.{PageKind}
 use Rattle.fkp_pages.specs.Properties.{HasListAt}
 use Rattle.page_copies.specs.Pages.{bin_of}
@@ -53,11 +53,17 @@ KeepsSections old new = (sections : List Sed) (k : ℕ) → HasSections (source_
 abbrev pub IsOther : TablePart → Type 0
 IsOther part = pair_of part ≢ pair_of Stshf
 
+-- and not the Clx, of which the pieces alone are read
+pub record IsReadPart (part : TablePart) : Type 0 where
+  pub no_sheet : IsOther part
+  pub no_clx : pair_of part ≢ pair_of Clx
+
 pub record ReadsTheSame (old new : FileText) : Type 0 where
   pub counts : (story : StoryKind) → story_length (source_of new) story ≡ story_length (source_of old) story
   pub kept : (fib_fields new.wd).kept ≡ (fib_fields old.wd).kept
   pub pairs : (part : TablePart) → fib_pair new.wd (pair_of part) ≡ fib_pair old.wd (pair_of part)
-  pub parts : (part : TablePart) → IsOther part → part_bytes (source_of new) part ≡ part_bytes (source_of old) part
+  pub parts : (part : TablePart) → IsReadPart part →
+      part_bytes (source_of new) part ≡ part_bytes (source_of old) part
   pub sheet : (sheet : Sheet) → HasSheet (source_of new) sheet → HasSheet (source_of old) sheet
   pub levels : (bytes : List ℕ) → HasLevels (source_of new) bytes → HasLevels (source_of old) bytes
   pub places : KeepsPlaces old.pieces new.pieces (text_count (source_of new))

@@ -15,6 +15,7 @@ use Rattle.doc_load.specs.FileRules.{FileText, HasText, source_of}
 use Rattle.doc_read.specs.Holds.{IsDocumentFrom}
 use Rattle.doc_meaning.specs.Meaning.{MeansFrom}
 use Rattle.doc_meaning.specs.Skipped.{bins_of, sections_of, SkipsFirst, KeepsSepxs}
+use Rattle.doc_meaning.specs.Apart.{ReadsClx}
 use Rattle.doc_meaning.specs.Lifted.{KeepsPlaces, KeepsUnits}
 
 -- a stream with skipped pages, or as it is
@@ -35,9 +36,12 @@ pub record IsLoadedFor (old new : FileText) : Type 0 where
   pub units : KeepsUnits old new (text_count (source_of new))
   pub sepxs : KeepsSepxs (sections_of old.wd old.table) old.wd new.wd
 
--- where the rules on the parts hold of it, the document of it is what the streams mean
+-- where the rules on the parts hold of it, the document of it is what the streams mean. The codes of the Prcs of the
+-- table stream may be skipped first
 abbrev pub LoadedIsMeant : Type 0
 LoadedIsMeant =
-    (contents : Contents) (old new : FileText) (lists : PartLists) (document : Document) → HasText contents old →
-    IsLoadedFor old new → Hold (part_rules (source_of new)) → HasPartLists (source_of new) lists →
+    (contents : Contents) (old : FileText) (table : List ℕ) (new : FileText) (lists : PartLists)
+    (document : Document) → HasText contents old → ReadsClx (early_pairs old.wd) old.table table →
+    IsLoadedFor (record old { table = table }) new → Hold (part_rules (source_of new)) →
+    HasPartLists (source_of new) lists →
     IsDocumentFrom contents new lists document → MeansFrom contents document

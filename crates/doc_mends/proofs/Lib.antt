@@ -3,7 +3,16 @@ pub mod BaseLemmas
 pub mod TextLemmas
 pub mod NormalLemmas
 pub mod EndLemmas
-pub mod NothingLemmas
+pub mod CutLemmas
+pub mod HeadLemmas
+pub mod UncutLemmas
 pub mod OneLemmas
 pub mod SoundLemmas
 pub mod BookmarkLemmas
+pub mod RowLemmas
+pub mod CodeLemmas
+pub mod TableLemmas
+pub mod FitRowLemmas
+pub mod WholeRowLemmas
+pub mod WholeLemmas
+pub mod LaterRowLemmas

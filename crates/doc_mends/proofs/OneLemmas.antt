@@ -8,11 +8,12 @@ use Rattle.style_sheet.specs.Sheet.{Sheet}
 use Rattle.style_sheet.specs.Chain.{HasNoChain}
 use Rattle.plain_doc.specs.declared.document.Document.{Document}
 use Rattle.doc_mends.specs.declared.mends.Mend.{Mend}
-use Rattle.doc_mends.specs.declared.mends.Mend.TheVariants.{DropBase, NormalMark, EndText}
+use Rattle.doc_mends.specs.declared.mends.Mend.TheVariants.{DropBase}
 use Rattle.doc_mends.specs.Bases.{other_bases, bases_dropped, AreEndless, IsDropOf, DropsBases}
-use Rattle.doc_mends.specs.NormalMarks.{with_normal_marks, wrong_marks}
-use Rattle.doc_mends.specs.Ends.{with_ends, open_stories}
-use Rattle.doc_mends.specs.Mending.{MendsAreOne}
+use Rattle.doc_mends.specs.Cuts.{references_cut}
+use Rattle.doc_mends.specs.Ends.{with_ends}
+use Rattle.doc_losses.specs.References.{Names}
+use Rattle.doc_mends.specs.Mending.{mended_in_place, mends_in_place, mends_of_texts, MendsAreOne}
 
 -- ---- ascending lists of the same numbers are one
 
@@ -108,14 +109,16 @@ drops_one meant one other mends others a b =
 
 -- ---- all mends
 
-abbrev pub later_mends : Document → List Mend
-later_mends based = map NormalMark (wrong_marks based) ++ map EndText (open_stories (with_normal_marks based))
+abbrev pub mends_after : Names → Document → List Mend
+mends_after names based = mends_in_place based ++ mends_of_texts names (mended_in_place based)
 
 pub one_way : MendsAreOne
-one_way meant one other mends others a b =
+one_way names meant one other mends others a b =
     let same = drops_one meant a.based b.based a.bases b.bases a.drops b.drops in (
-      a.document_is ∙ (ap (λ (d : Document). with_ends (with_normal_marks d)) same.0 ∙ sym b.document_is),
+      a.document_is
+          ∙ (ap (λ (d : Document). with_ends (references_cut names (mended_in_place d))) same.0
+          ∙ sym b.document_is),
       a.mends_are
-          ∙ (ap (λ (l : List Mend). l ++ later_mends a.based) same.1
-          ∙ (ap (λ (d : Document). b.bases ++ later_mends d) same.0 ∙ sym b.mends_are)),
+          ∙ (ap (λ (l : List Mend). l ++ mends_after names a.based) same.1
+          ∙ (ap (λ (d : Document). b.bases ++ mends_after names d) same.0 ∙ sym b.mends_are)),
     )

@@ -25,8 +25,11 @@ use Rattle.plain_doc.specs.RulesOfTexts.{EndsRight, IsHead, HasParagraphStyle}
 use Rattle.plain_doc.specs.RightDocument.{HoldsAtItems, IsRightDocument}
 use Rattle.plain_doc.proofs.RightLemmas.{sound_is_right}
 use Rattle.doc_mends.specs.declared.mends.WrongMark.{WrongMark}
+use Rattle.doc_mends.specs.declared.mends.BrokenRow.{BrokenRow}
 use Rattle.doc_mends.specs.declared.mends.Mend.{Mend}
-use Rattle.doc_mends.specs.declared.mends.Mend.TheVariants.{DropBase, NormalMark, EndText}
+use Rattle.text_losses.specs.declared.features.Reference.{Reference}
+use Rattle.doc_losses.specs.References.{Names, references}
+use Rattle.doc_mends.specs.declared.mends.Mend.TheVariants.{DropBase, NormalMark, PlainRow, CutReference, EndText}
 use Rattle.doc_mends.specs.Sides.{side_name}
 use Rattle.doc_mends.specs.Bases.{is_other_kind, has_other_base, other_bases, bases_dropped, AreEndless, IsDropOf}
 use Rattle.doc_mends.specs.Bases.{DropsBases}
@@ -34,12 +37,18 @@ use Rattle.doc_mends.specs.NormalMarks.{with_normal_marks, wrong_mark, wrong_mar
 use Rattle.doc_mends.specs.NormalMarks.{texts_wrong_marks, wrong_marks}
 use Rattle.doc_mends.specs.Ends.{is_ending, is_ended, is_heads, last_item, with_end, with_ends, open_text, open_texts}
 use Rattle.doc_mends.specs.Ends.{open_stories}
-use Rattle.doc_mends.specs.Mending.{SoundHasNoMends}
-use Rattle.doc_mends.proofs.NothingLemmas.{none_kept, nothing_listed, nothing_joined}
+use Rattle.doc_mends.specs.BrokenRows.{broken_rows}
+use Rattle.doc_mends.specs.PlainRows.{with_plain_rows}
+use Rattle.doc_mends.specs.Cuts.{references_cut}
+use Rattle.doc_mends.specs.Mending.{mended_in_place, mends_in_place, mends_of_texts, SoundHasNoMends}
+use Rattle.doc_losses.proofs.NothingLemmas.{none_kept, nothing_listed, nothing_joined}
 use Rattle.doc_mends.proofs.TextLemmas.{same_map}
 use Rattle.doc_mends.proofs.NormalLemmas.{right_document}
+use Rattle.doc_mends.proofs.TableLemmas.{document_stays}
+use Rattle.doc_mends.proofs.FitRowLemmas.{no_broken_rows}
 use Rattle.doc_mends.proofs.EndLemmas.{stays_ended}
-use Rattle.doc_mends.proofs.OneLemmas.{later_mends}
+use Rattle.doc_mends.proofs.OneLemmas.{mends_after}
+use Rattle.doc_mends.proofs.UncutLemmas.{uncut}
 
 -- ---- bases
 
@@ -216,19 +225,40 @@ no_open_stories document right =
 
 -- ---- all mends
 
+-- items that are right where they stand are not mended
+in_place : (document : Document) → IsRightDocument document → mended_in_place document ≡ document
+in_place document right =
+    ap with_plain_rows (right_document document (no_wrong_marks document right))
+    ∙ document_stays document (no_broken_rows document right)
+
+none_in_place : (document : Document) → IsRightDocument document → mends_in_place document ≡ []
+none_in_place document right =
+    ap (λ (l : List WrongMark). map NormalMark l ++ map PlainRow (broken_rows (with_normal_marks document)))
+    (no_wrong_marks document right)
+    ∙ (ap (λ (d : Document). map PlainRow (broken_rows d)) (right_document document (no_wrong_marks document right))
+    ∙ ap (λ (l : List BrokenRow). map PlainRow l) (no_broken_rows document right))
+
+none_of_texts : (names : Names) (document : Document) → IsRightDocument document → references names document ≡ [] →
+    references_cut names document ≡ document → mends_of_texts names document ≡ []
+none_of_texts names document right none cut =
+    ap (λ (l : List Reference). map CutReference l ++ map EndText (open_stories (references_cut names document))) none
+    ∙ (ap (λ (d : Document). map EndText (open_stories d)) cut
+    ∙ ap (λ (l : List Story). map EndText l) (no_open_stories document right))
+
 pub no_mends : SoundHasNoMends
-no_mends meant mended mends sound is =
+no_mends names meant mended mends sound none is =
     let right : IsRightDocument meant = sound_is_right meant sound in
     let bases = bases_stay meant is.based is.bases right.bases is.drops in
-    let marks : wrong_marks meant ≡ [] = no_wrong_marks meant right in
-    let normal : with_normal_marks meant ≡ meant = right_document meant marks in
-    let rest : later_mends meant ≡ [] =
-    ap (λ (l : List WrongMark). map NormalMark l ++ map EndText (open_stories (with_normal_marks meant))) marks
-    ∙ (ap (λ (d : Document). map EndText (open_stories d)) normal
-    ∙ ap (λ (l : List Story). map EndText l) (no_open_stories meant right)) in (
+    let same : mended_in_place meant ≡ meant = in_place meant right in
+    let cut : references_cut names meant ≡ meant = uncut names meant sound.bookmarks none in
+    let rest : mends_after names meant ≡ [] =
+    ap (λ (l : List Mend). l ++ mends_of_texts names (mended_in_place meant)) (none_in_place meant right)
+    ∙ (ap (mends_of_texts names) same ∙ none_of_texts names meant right none cut) in (
       is.document_is
-          ∙ (ap (λ (d : Document). with_ends (with_normal_marks d)) bases.0
-          ∙ (ap with_ends normal ∙ ends_stay meant right)),
+          ∙ (ap (λ (d : Document). with_ends (references_cut names (mended_in_place d))) bases.0
+          ∙ (ap (λ (d : Document). with_ends (references_cut names d)) same
+          ∙ (ap with_ends cut ∙ ends_stay meant right))),
       is.mends_are
-          ∙ (ap (λ (l : List Mend). l ++ later_mends is.based) bases.1 ∙ (ap later_mends bases.0 ∙ rest)),
+          ∙ (ap (λ (l : List Mend). l ++ mends_after names is.based) bases.1
+          ∙ (ap (mends_after names) bases.0 ∙ rest)),
     )

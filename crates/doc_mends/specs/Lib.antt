@@ -5,6 +5,11 @@ pub mod Sides
 pub mod Bases
 pub mod NormalMarks
 pub mod Besides
+pub mod BrokenRows
+pub mod OpenRows
+pub mod PlainRows
+pub mod Cuts
 pub mod Ends
 pub mod Lines
 pub mod Mending
+pub mod WholeRows

@@ -2,9 +2,11 @@
 use Rattle.std.specs.Prelude.{ℕ, List, [], ◌∷◌, ◌++◌, codes}
 use Rattle.std.specs.Fmt.{decimal}
 use Rattle.doc_bits.specs.declared.places.Story.{Story}
-use Rattle.text_losses.specs.Lines.{place_text}
+use Rattle.text_losses.specs.declared.features.Reference.{Reference}
+use Rattle.text_losses.specs.Lines.{place_text, reference_text}
 use Rattle.doc_mends.specs.declared.mends.DeletedRange.{DeletedRange}
 use Rattle.doc_mends.specs.declared.mends.WrongMark.{WrongMark}
+use Rattle.doc_mends.specs.declared.mends.BrokenRow.{BrokenRow}
 use Rattle.doc_mends.specs.declared.mends.Mend.{Mend}
 use Rattle.doc_mends.specs.declared.mends.Mend.TheVariants as mends
 
@@ -26,6 +28,17 @@ mark_line mark =
     ++ (place_text mark.story
     ++ (32 ∷ [] ++ (decimal mark.at ++ (codes ": style " ++ (decimal mark.istd ++ 10 ∷ [])))))
 
+-- the row by its first item, and how many cells it has
+abbrev pub row_line : BrokenRow → List ℕ
+row_line row =
+    codes "row "
+    ++ (place_text row.story
+    ++ (32 ∷ [] ++ (decimal row.from ++ (codes ": " ++ (decimal row.cells ++ (codes " cells" ++ 10 ∷ []))))))
+
+-- the mark of a story, and that it is cut
+abbrev pub cut_line : Reference → List ℕ
+cut_line reference = reference_text reference ++ (codes ": cut" ++ 10 ∷ [])
+
 -- the text
 abbrev pub end_line : Story → List ℕ
 end_line story = codes "end " ++ (place_text story ++ 10 ∷ [])
@@ -34,4 +47,6 @@ abbrev pub mend_line : Mend → List ℕ
 mend_line (mends.StrikeDeleted range) = strike_line range
 mend_line (mends.DropBase istd) = base_line istd
 mend_line (mends.NormalMark mark) = mark_line mark
+mend_line (mends.PlainRow row) = row_line row
+mend_line (mends.CutReference reference) = cut_line reference
 mend_line (mends.EndText story) = end_line story

@@ -1,5 +1,6 @@
 // Laws over the definitions alone.
 ghost use Rattle.doc_mends.specs.Mending.{MendsAreOne, MendsKeepBookmarks, SoundHasNoMends};
+ghost use Rattle.doc_mends.specs.WholeRows.{MendedRowsAreWhole};
 
 /// A document is mended in one way.
 pub fn mends_are_one()
@@ -14,4 +15,9 @@ pub fn sound_has_no_mends()
 /// Mends keep bookmarks formed.
 pub fn mends_keep_bookmarks()
     ensures { MendsKeepBookmarks }
+{}
+
+/// No row of a mended document breaks rule 63.
+pub fn mended_rows_are_whole()
+    ensures { MendedRowsAreWhole }
 {}

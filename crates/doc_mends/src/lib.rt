@@ -2,6 +2,7 @@
 #![tactic(auto)]
 
 mod bases;
+mod cutting;
 mod ending;
 mod judging;
 mod laws;
@@ -9,14 +10,19 @@ mod lines;
 mod marking;
 mod mending;
 mod mends;
+mod plain_items;
+mod rows;
 mod sides;
 mod striking;
+mod tables;
 
 pub use bases::drop_bases;
+pub use cutting::cut_references;
 pub use ending::end_texts;
-pub use laws::{mends_are_one, mends_keep_bookmarks, sound_has_no_mends};
+pub use laws::{mended_rows_are_whole, mends_are_one, mends_keep_bookmarks, sound_has_no_mends};
 pub use lines::push_mends;
 pub use marking::normal_marks;
 pub use mending::mend;
-pub use mends::{DeletedRange, Mend, Mended, WrongMark};
+pub use mends::{BrokenRow, DeletedRange, Mend, Mended, WrongMark};
 pub use striking::strike_deleted;
+pub use tables::plain_rows;

@@ -2,12 +2,13 @@
 ghost use Rattle.std.specs.Prelude.{◌≡◌, ◌++◌, IfOk, OnOk};
 ghost use Rattle.std.specs.List.{flat_map};
 ghost use Rattle.doc_mends.specs.Lines.{mend_line as line_of, strike_line as line_of_strike};
-ghost use Rattle.doc_mends.specs.Lines.{base_line as line_of_base, mark_line as line_of_mark, end_line as line_of_end};
+ghost use Rattle.doc_mends.specs.Lines.{base_line as line_of_base, mark_line as line_of_mark};
+ghost use Rattle.doc_mends.specs.Lines.{row_line as line_of_row, cut_line as line_of_cut, end_line as line_of_end};
 
-use crate::mends::{DeletedRange, Mend, WrongMark};
+use crate::mends::{BrokenRow, DeletedRange, Mend, WrongMark};
 use doc_bits::{Memory, Story, Text};
 use std::alloc::Global;
-use text_losses::story_place;
+use text_losses::{Reference, reference_text, story_place};
 
 /// Appends the lines of mends. After want of memory some of them may be there.
 pub fn push_mends(alloc: Global, text: &mut Text, mends: &[Mend]) -> Result<(), Memory>
@@ -35,6 +36,8 @@ fn mend_line(alloc: Global, mend: &Mend) -> Result<Text, Memory>
         Mend::StrikeDeleted(range) => strike_line(alloc, *range),
         Mend::DropBase(istd) => base_line(alloc, *istd),
         Mend::NormalMark(mark) => mark_line(alloc, *mark),
+        Mend::PlainRow(row) => row_line(alloc, *row),
+        Mend::CutReference(reference) => cut_line(alloc, *reference),
         Mend::EndText(story) => end_line(alloc, *story),
     }
 }
@@ -68,6 +71,28 @@ fn mark_line(alloc: Global, mark: WrongMark) -> Result<Text, Memory>
     let at = mark.at;
     let istd = mark.istd;
     let line = format!(in alloc; "mark {place} {at}: style {istd}\n")?;
+    Ok(Text::from_string(line))
+}
+
+/// The line of a row that becomes paragraphs.
+fn row_line(alloc: Global, row: BrokenRow) -> Result<Text, Memory>
+    ensures { IfOk result (λ line. line ≡ line_of_row row) }
+{
+    let place = story_place(alloc, row.story)?;
+    let place = place.as_str();
+    let from = row.from;
+    let cells = row.cells;
+    let line = format!(in alloc; "row {place} {from}: {cells} cells\n")?;
+    Ok(Text::from_string(line))
+}
+
+/// The line of the mark of a story that is cut.
+fn cut_line(alloc: Global, reference: Reference) -> Result<Text, Memory>
+    ensures { IfOk result (λ line. line ≡ line_of_cut reference) }
+{
+    let named = reference_text(alloc, reference)?;
+    let named = named.as_str();
+    let line = format!(in alloc; "{named}: cut\n")?;
     Ok(Text::from_string(line))
 }
 

@@ -1,6 +1,7 @@
 // Mends by name, and what they made of a document.
 use doc_bits::Story;
 use doc_columns::ColumnDocument;
+use text_losses::Reference;
 
 /// A range of a text, from the first item to before the second number, that a reviser deleted.
 #[derive(Clone, Copy)]
@@ -18,6 +19,16 @@ pub struct WrongMark {
     pub istd: u16,
 }
 
+/// A row of a table that breaks rule 63: its first item, how many items it has up to where it breaks the rule, and how
+/// many of them end cells.
+#[derive(Clone, Copy)]
+pub struct BrokenRow {
+    pub story: Story,
+    pub from: usize,
+    pub len: usize,
+    pub cells: usize,
+}
+
 /// A change of a document that is named.
 #[derive(Clone, Copy)]
 pub enum Mend {
@@ -27,6 +38,10 @@ pub enum Mend {
     DropBase(u16),
     /// The mark has style 0.
     NormalMark(WrongMark),
+    /// The row became paragraphs.
+    PlainRow(BrokenRow),
+    /// The mark of a story that is left out is cut.
+    CutReference(Reference),
     /// The text ends with the end of a paragraph.
     EndText(Story),
 }

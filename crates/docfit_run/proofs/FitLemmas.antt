@@ -4,7 +4,7 @@ use Rattle.run_stages.specs.Outcomes.{Outcome}
 use Rattle.doc_fit.specs.declared.opening.OpenedAny.{OpenedAny}
 use Rattle.doc_fit.specs.Opened.{IsOpenedAny}
 use Rattle.doc_fit.proofs.LossLemmas.{inventory_of, lifted_inventory, lines_fit}
-use Rattle.doc_fit.proofs.OpenLemmas.{opened_holds}
+use Rattle.doc_fit.proofs.OpenLemmas.{mended_by, opened_holds}
 use Rattle.docfit_run.specs.Fitted.{IsFitted, IsSaved, JudgesFit}
 
 saves_fit : (out file : List ℕ) (opened : OpenedAny) (outcome : Outcome) → IsOpenedAny file opened →
@@ -17,7 +17,7 @@ saves_fit out file opened outcome is saved =
         meant = is.before.document;
         means = lifts.means;
         mends = opened.mends.items;
-        mended_is = is.reported.mended;
+        mended_is = mended_by file is.before opened.lifted opened.losses opened.mends.items lifts is.reported;
       };
       inventory = inventory_of is.before lifts.text.wd;
       has = lifted_inventory file is.before lifts;

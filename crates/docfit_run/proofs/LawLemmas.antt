@@ -1,13 +1,17 @@
 -- What is put is accepted and holds the document, and the fit of a file that breaks no rule is its full save.
-use Rattle.std.proofs.Common.{◌≡◌, ◌∙◌, sym, ap, subst, inl, inr, ℕ, List, Some}
+use Rattle.std.proofs.Common.{◌≡◌, ◌∙◌, sym, ap, subst, inl, inr, ℕ, List, Some, false}
 use Rattle.std.proofs.lemmas.Option.{none-some, same_Some}
 use Rattle.plain_doc.specs.declared.document.Document.{Document}
 use Rattle.full_save.specs.Layout.{full_save_image}
 use Rattle.fast_save.specs.Laws.{IsSavable, IsHeldInFull}
 use Rattle.fast_save.proofs.FullFileLemmas.{full_saves_hold}
+use Rattle.fast_save.proofs.OpenLemmas.{fib_holds}
+use Rattle.fib_versions.specs.declared.further.Further.{Further}
+use Rattle.doc_losses.specs.References.{names_of}
+use Rattle.doc_losses.proofs.NoneLemmas.{names_none, no_references}
 use Rattle.doc_bits.specs.Rules.{Hold}
 use Rattle.plain_doc.specs.Sound.{IsSound, document_rules}
-use Rattle.doc_read.specs.Holds.{HoldsDocument, IsAccepted, all_rules}
+use Rattle.doc_read.specs.Holds.{FileParts, HasFileParts, HoldsDocument, IsAccepted, all_rules}
 use Rattle.doc_read.proofs.FormedBookmarks.{held_formed}
 use Rattle.doc_meaning.proofs.MeaningLemmas.{held_is_meant, meant_is_held}
 use Rattle.doc_mends.specs.declared.mends.Mend.{Mend}
@@ -33,6 +37,12 @@ full_put out document lines mends outcome put (inl is) here = record {
 }
 full_put out document lines mends outcome put (inr many) here =
     absurd (none-some put (sym (ap (λ (o : Outcome). o.put) many.ends) ∙ here))
+
+-- the tables of a file that breaks none of the rules 1 to 57 name no marks
+unnamed : (file : List ℕ) (document : Document) (parts : FileParts) → HoldsDocument file document →
+    HasFileParts file parts → (story : Further) (cp : ℕ) → names_of parts.text.wd parts.text.table story cp ≡ false
+unnamed file document parts holds has =
+    names_none parts.text.wd parts.text.table (fib_holds file parts holds.rules has)
 
 -- the document that an accepted file holds is sound
 sound_held : (file : List ℕ) (document : Document) → IsAccepted file → HoldsDocument file document → IsSound document
@@ -62,9 +72,11 @@ fits_save_accepted out file outcome document put accepted holds fitted here =
     let full = full_put out fitted.document _ _ outcome put fitted.saved here in
     let mended = fitted.mended in
     let meant : document ≡ mended.meant = meant_is_held file document mended.meant holds mended.means in
+    let names = names_of mended.means.parts.text.wd mended.means.parts.text.table in
     let same : fitted.document ≡ document =
-    (no_mends document fitted.document mended.mends (sound_held file document accepted holds)
-    (subst (λ (d : Document). IsMended d fitted.document mended.mends) (sym meant) mended.mended_is)).0 in
+    (no_mends names document fitted.document mended.mends (sound_held file document accepted holds)
+    (no_references names document (unnamed file document mended.means.parts holds mended.means.has_parts))
+    (subst (λ (d : Document). IsMended names d fitted.document mended.mends) (sym meant) mended.mended_is)).0 in
     full.bytes ∙ ap full_save_image same
 
 pub fits_are_fixed : FitsAreFixed

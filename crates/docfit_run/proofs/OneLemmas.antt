@@ -46,15 +46,12 @@ fitted_one : (out file : List ℕ) (a b : Outcome) → AreBytes file → Hold (f
 fitted_one out file a b bytes hold x y =
     let one : AreOneMended file x.document y.document x.mended y.mended =
     mended_one file x.document y.document bytes hold.0 x.mended y.mended in
-    let meant = y.mended.meant in
     let inventory : x.inventory ≡ y.inventory = inventory_one file x.inventory y.inventory x.has y.has in
     let text : x.has.text ≡ y.has.text = text_same file x.inventory y.inventory x.has y.has in
     saved_one out y.document x.lines y.lines y.mended.mends a b
-    (λ first other. lines_one y.has.text y.inventory meant x.lines y.lines
-    (subst (λ (t : FileText). AreFitLines t y.inventory meant x.lines) text
-    (subst (λ (i : Inventory). AreFitLines x.has.text i meant x.lines) inventory
-    (subst (λ (d : Document). AreFitLines x.has.text x.inventory d x.lines) one.meant (x.lines_are first))))
-    (y.lines_are other))
+    (λ first other. lines_one y.has.text y.inventory x.lines y.lines
+    (subst (λ (t : FileText). AreFitLines t y.inventory x.lines) text
+    (subst (λ (i : Inventory). AreFitLines x.has.text i x.lines) inventory (x.lines_are first))) (y.lines_are other))
     (subst (λ (m : List Mend). IsSaved out y.document x.lines m a) one.mends
     (subst (λ (d : Document). IsSaved out d x.lines x.mended.mends a) one.document x.saved)) y.saved
 

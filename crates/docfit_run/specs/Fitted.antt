@@ -46,7 +46,7 @@ pub record IsFitted (out file : List ℕ) (outcome : Outcome) : Type 0 where
   pub inventory : Inventory
   pub has : HasInventory file inventory
   pub lines : List (List ℕ)
-  pub lines_are : outcome.status ≡ 0 → AreFitLines has.text inventory mended.meant lines
+  pub lines_are : outcome.status ≡ 0 → AreFitLines has.text inventory lines
   pub saved : IsSaved out document lines mended.mends outcome
 
 -- the first of the rules that are left is broken, or the file is fitted

@@ -1,17 +1,22 @@
--- A style sheet is skipped in one way.
+-- A style sheet and the Prcs of a Clx are skipped in one way.
 use Rattle.std.specs.Prelude.{slice_range}
-use Rattle.std.proofs.Common.{◌≡◌, inl, inr, ℕ, ◌+◌, ◌-◌, ◌<◌, ◌≤◌, List, ◌++◌, take, drop, slice_index}
-use Rattle.std.proofs.Common.{sym, ap, ◌∙◌, subst, arith}
+use Rattle.std.proofs.Common.{◌≡◌, inl, inr, ℕ, suc, ◌+◌, ◌-◌, ◌<◌, ◌≤◌, List, [], ◌∷◌, ◌++◌, length, take, drop}
+use Rattle.std.proofs.Common.{slice_index, flat_map, refl, sym, ap, ◌∙◌, subst, arith}
 use Rattle.std.proofs.lemmas.Bool.{cases_lt, cases_eq}
-use Rattle.std.proofs.lemmas.List.{ext_get_or}
+use Rattle.std.proofs.lemmas.List.{ext_get_or, length-append, drop-drop}
+use borrow.Rule.Slice.PartMut.{put_mid}
 use Rattle.prl_skips.proofs.RangeLemmas.{byte_of_range}
-use Rattle.prl_skips.proofs.OneLemmas.{puts_one}
+use Rattle.prl_skips.proofs.OneLemmas.{puts_one, or_one}
 use Rattle.doc_bits.specs.Number.{u16_at}
+use Rattle.piece_table.specs.Clx.{prc_bytes}
+use Rattle.piece_table.proofs.ClxLemmas.{prcs_unique}
 use Rattle.style_sheet.specs.Counted.{counted_end, counted_bytes}
 use Rattle.style_sheet.specs.StyleDefinition.{upx_place}
 use Rattle.style_sheet.specs.Stsh.{cstd, std_base, slot_place}
 use Rattle.part_skips.specs.Sheets.{SkipsBothLists, SkipsStd, IsInNoStyle, SkipsSlots, SkipsSheet, SkipsCounted}
 use Rattle.part_skips.specs.Sheets.{PutsSheet}
+use Rattle.part_skips.specs.Prcs.{AreListsSkipped, SkipsPrcs, PutsPrcs}
+use Rattle.part_skips.proofs.PrcLemmas.{length-prc}
 
 both_one : (base : ℕ) (old a b : List ℕ) → SkipsBothLists base old a → SkipsBothLists base old b → a ≡ b
 both_one base old a b one other =
@@ -79,3 +84,77 @@ puts_sheet_one from to old a b one other =
     let sheet : one.sheet ≡ other.sheet =
     sheet_one (slice_range old from to) one.sheet other.sheet one.skips other.skips in
     one.put ∙ (ap (λ l. take from old ++ (l ++ drop to old)) sheet ∙ sym other.put)
+
+-- ---- Prcs
+
+-- the lists behind the first one
+left_lists : (list made : List ℕ) (lists others : List (List ℕ)) → AreListsSkipped (list ∷ lists) (made ∷ others) →
+    AreListsSkipped lists others
+left_lists list made lists others are = record {
+  count = omega (arith, are.count);
+  each = λ k one other there here. are.each (suc k) one other there here;
+}
+
+lists_one : (lists a b : List (List ℕ)) → AreListsSkipped lists a → AreListsSkipped lists b → a ≡ b
+lists_one [] [] [] one other = refl
+lists_one [] [] (q ∷ b) one other = absurd (omega (arith, other.count))
+lists_one [] (p ∷ a) b one other = absurd (omega (arith, one.count))
+lists_one (list ∷ lists) [] b one other = absurd (omega (arith, one.count))
+lists_one (list ∷ lists) (p ∷ a) [] one other = absurd (omega (arith, other.count))
+lists_one (list ∷ lists) (p ∷ a) (q ∷ b) one other =
+    let first : p ≡ q =
+    or_one list p q (one.each 0 list p refl refl).skips (other.each 0 list q refl refl).skips in
+    let rest : a ≡ b = lists_one lists a b (left_lists list p lists a one) (left_lists list q lists b other) in
+    λ i. first i ∷ rest i
+
+-- Prcs are skipped in one way
+pub prcs_one : (old a b : List ℕ) → SkipsPrcs old a → SkipsPrcs old b → a ≡ b
+prcs_one old a b one other =
+    let same = prcs_unique one.prcs other.prcs one.rest other.rest one.sizes other.sizes (sym one.was ∙ other.was)
+    one.no_more other.no_more in
+    let made : one.made ≡ other.made =
+    lists_one other.prcs one.made other.made (subst (λ l. AreListsSkipped l one.made) same.0 one.skips) other.skips in
+    one.is ∙ ((λ i. flat_map prc_bytes (made i) ++ same.1 i) ∙ sym other.is)
+
+-- as many bytes as before
+lists_length : (lists made : List (List ℕ)) → AreListsSkipped lists made →
+    length (flat_map prc_bytes made) ≡ length (flat_map prc_bytes lists)
+lists_length [] [] are = refl
+lists_length [] (p ∷ made) are = absurd (omega (arith, are.count))
+lists_length (list ∷ lists) [] are = absurd (omega (arith, are.count))
+lists_length (list ∷ lists) (p ∷ made) are =
+    let first = (are.each 0 list p refl refl).len in
+    let heads : length (prc_bytes p) ≡ length (prc_bytes list) =
+    length-prc p ∙ (ap (λ n. 3 + n) first ∙ sym (length-prc list)) in
+    let rest = lists_length lists made (left_lists list p lists made are) in
+    length-append (prc_bytes p) (flat_map prc_bytes made)
+    ∙ ((λ i. heads i + rest i) ∙ sym (length-append (prc_bytes list) (flat_map prc_bytes lists)))
+
+pub prcs_length : (old new : List ℕ) → SkipsPrcs old new → length new ≡ length old
+prcs_length old new skips =
+    omega (
+      arith,
+      ap length skips.is,
+      ap length skips.was,
+      length-append (flat_map prc_bytes skips.made) skips.rest,
+      length-append (flat_map prc_bytes skips.prcs) skips.rest,
+      lists_length skips.prcs skips.made skips.skips,
+    )
+
+-- those of a Clx in a stream
+pub prcs_put : (old clx : List ℕ) (from to : ℕ) → from ≤ to → to ≤ length old →
+    SkipsPrcs (slice_range old from to) clx → PutsPrcs from to old (put_mid from (to - from) old clx)
+prcs_put old clx from to ordered within skips =
+    let end : from + (to - from) ≡ to = omega (arith, ordered) in
+    record {
+      clx = clx;
+      skips = skips;
+      len = prcs_length (slice_range old from to) clx skips;
+      put = ap (λ l. take from old ++ (clx ++ l)) (drop-drop (to - from) from old ∙ ap (λ n. drop n old) end);
+    }
+
+pub puts_prcs_one : (from to : ℕ) (old a b : List ℕ) → PutsPrcs from to old a → PutsPrcs from to old b → a ≡ b
+puts_prcs_one from to old a b one other =
+    let clx : one.clx ≡ other.clx =
+    prcs_one (slice_range old from to) one.clx other.clx one.skips other.skips in
+    one.put ∙ (ap (λ l. take from old ++ (l ++ drop to old)) clx ∙ sym other.put)

@@ -235,7 +235,7 @@ length-head list = let a = length-number_bytes 2 (length list) in omega arith
 prc_split : (list more : List ℕ) → prc_bytes list ++ more ≡ head list ++ (list ++ more)
 prc_split list more = append_assoc (head list) list more
 
-length-prc : (list : List ℕ) → length (prc_bytes list) ≡ 3 + length list
+pub length-prc : (list : List ℕ) → length (prc_bytes list) ≡ 3 + length list
 length-prc list = length-append (head list) list ∙ ap (λ n. n + length list) (length-head list)
 
 -- what is written over a list

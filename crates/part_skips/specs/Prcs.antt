@@ -1,6 +1,6 @@
 -- [MS-DOC] Clx, Prc: a Clx in whose Prcs the codes that are not read are skipped. Each Prc stays where it is, and
 -- keeps its length.
-use Rattle.std.specs.Prelude.{◌≡◌, ◌↔◌, ℕ, List, ◌++◌, length, flat_map, All, Some, slice_get}
+use Rattle.std.specs.Prelude.{◌≡◌, ◌↔◌, ℕ, List, ◌++◌, length, flat_map, All, Some, slice_get, take, drop, slice_range}
 use Rattle.prl_skips.specs.Skips.{SkipsOrStays}
 use Rattle.piece_table.specs.Piece.{TextPiece}
 use Rattle.piece_table.specs.Clx.{IsGrpprl, IsClx, BeginsPrc, prc_bytes}
@@ -26,6 +26,13 @@ pub record SkipsPrcs (old new : List ℕ) : Type 0 where
   pub is : new ≡ flat_map prc_bytes made ++ rest
   pub skips : AreListsSkipped prcs made
   pub no_more : ¬ BeginsPrc rest
+
+-- the Prcs of the Clx that stands in this range of a stream are skipped, and nothing else changes
+pub record PutsPrcs (from to : ℕ) (old new : List ℕ) : Type 0 where
+  pub clx : List ℕ
+  pub skips : SkipsPrcs (slice_range old from to) clx
+  pub len : length clx ≡ length (slice_range old from to)
+  pub put : new ≡ take from old ++ (clx ++ drop to old)
 
 -- it has the same pieces, each with the same modifier
 abbrev pub SkippedPrcsMeanTheSame : Type 0

@@ -8,5 +8,5 @@ mod sheets;
 pub use laws::{
     sheets_are_skipped_alone, skipped_prcs_mean_the_same, skipped_sheets_mean_the_same,
 };
-pub use prcs::skip_prcs;
+pub use prcs::{skip_prcs, skip_prcs_in};
 pub use sheets::{skip_sheet, skip_sheet_in};

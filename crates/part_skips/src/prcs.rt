@@ -1,5 +1,6 @@
 // [MS-DOC] Clx: the lists of its Prcs, skipped in place.
-ghost use Rattle.part_skips.specs.Prcs.{SkipsPrcs};
+ghost use Rattle.std.specs.Prelude.{◌≤◌, length};
+ghost use Rattle.part_skips.specs.Prcs.{SkipsPrcs, PutsPrcs};
 
 use piece_table::{PRC_HEAD, prc_front};
 use prl_skips::skip_list;
@@ -14,4 +15,13 @@ pub fn skip_prcs(clx: &mut [u8])
         skip_list(&mut clx[from..from + len]);
         at = from + len;
     }
+}
+
+/// Skips those of the Clx in a range of a stream. No byte outside of the range changes.
+pub fn skip_prcs_in(stream: &mut [u8], from: usize, to: usize)
+    requires ordered { from ≤ to }
+    requires within { to ≤ length stream.old }
+    ensures { PutsPrcs from to stream.old stream.new }
+{
+    skip_prcs(&mut stream[from..to]);
 }

@@ -41,7 +41,6 @@ reference_text reference =
     ++ (story_word reference.to ++ (32 ∷ [] ++ (place_text reference.story ++ spaced reference.at)))
 
 abbrev pub feature_text : TextFeature → List ℕ
-feature_text (has.Reference reference) = reference_text reference
 feature_text (has.Skipped kind code count) = codes "code " ++ code_text kind code count
 feature_text (has.Repeated kind code count) = codes "repeat " ++ code_text kind code count
 feature_text (has.Deleted story from to) = codes "deleted " ++ (place_text story ++ (spaced from ++ spaced to))

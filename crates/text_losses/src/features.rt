@@ -29,8 +29,6 @@ pub struct Reference {
 /// What a file has beside what this profile has a meaning for. CPs are those of the text that they are of.
 #[derive(Drop)]
 pub enum TextFeature {
-    /// The mark of a story that is left out.
-    Reference(Reference),
     /// A code that does nothing, and how many lists have it.
     Skipped {
         kind: ListKind,

@@ -34,11 +34,6 @@ fn feature_line(alloc: Global, feature: &TextFeature) -> Result<Text, Memory>
     ensures { IfOk result (λ line. line ≡ feature_line feature.now) }
 {
     let line = match feature {
-        TextFeature::Reference(reference) => {
-            let named = reference_text(alloc, *reference)?;
-            let named = named.as_str();
-            format!(in alloc; "{named}\n")?
-        }
         TextFeature::Skipped { kind, code, count } => {
             let codes = codes(alloc, *kind, *code, *count)?;
             let codes = codes.as_str();
@@ -76,7 +71,7 @@ fn codes(alloc: Global, kind: ListKind, code: u16, count: u64) -> Result<Text, M
     Ok(Text::from_string(text))
 }
 
-/// A reference, as a feature and as a mend name it.
+/// A reference, as a mend names it.
 pub fn reference_text(alloc: Global, reference: Reference) -> Result<Text, Memory>
     ensures { IfOk result (λ text. text ≡ text_of_reference reference) }
 {

@@ -1,8 +1,8 @@
 use Rattle.doc_fit.proofs.OpenLemmas.{lifted_streams, mended_formed, mended_refused}
 use Rattle.doc_fit.proofs.opening.judge_lifted.Goals as goal
 
-pub mend_lifted-requires : goal.mend_lifted-requires
-mend_lifted-requires c = lifted_streams c.args.file.now c.args.lifted.now c.requires
+pub mend_lifted-requires-clause-streams : goal.mend_lifted-requires-clause-streams
+mend_lifted-requires-clause-streams c = lifted_streams c.args.file.now c.args.lifted.now c.requires
 
 pub judge_document-requires : goal.judge_document-requires
 judge_document-requires c =

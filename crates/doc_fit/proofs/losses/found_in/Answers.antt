@@ -9,9 +9,10 @@ use Rattle.loss_report.specs.Losses.{losses}
 use Rattle.loss_report.specs.Lines.{feature_line}
 use Rattle.text_losses.specs.Lines.{feature_line as line_of_feature}
 use Rattle.text_losses.specs.declared.features.TextFeature.{TextFeature}
-use Rattle.doc_fit.specs.Losses.{meant_losses}
+use Rattle.doc_losses.specs.Marks.{AreMarksOf}
+use Rattle.doc_fit.specs.Losses.{AreLossLines, other_losses}
 use Rattle.doc_fit.proofs.LossLemmas.{lines_joined}
-use Rattle.doc_fit.proofs.losses.losses_of.Goals as goal
+use Rattle.doc_fit.proofs.losses.found_in.Goals as goal
 
 pub main_stream-wd-requires : goal.main_stream-wd-requires
 main_stream-wd-requires c = record { wd = c.requires.wd; named = c.requires.named }
@@ -55,10 +56,10 @@ returns c =
     let lists = c.deref-2.result.now in
     let texts = c.deref-3.result.now in
     let front = told wd lifted.units.items in
-    let found : texts ≡ meant_losses wd table lifted.document =
+    let found : texts ≡ other_losses wd table =
     c.deref-3.ensures.value
-    ∙ (c.in_ok-texts.ensures ∙ ap (λ (w : List ℕ). meant_losses w table lifted.document) fib) in
-    record {
+    ∙ (c.in_ok-others.ensures ∙ ap (λ (w : List ℕ). other_losses w table) fib) in
+    let lines : AreLossLines lifted c.add_features-2.new.lines = record {
       wd = wd;
       named = c.main_stream-wd.ensures;
       table = table;
@@ -70,10 +71,14 @@ returns c =
           ∙ (ap (λ (l : List (List ℕ)). l ++ map line_of_feature texts)
           (c.in_ok-add_features.ensures
           ∙ (ap (λ (l : List (List ℕ)). l ++ map line_of_feature lists)
-          (c.in_ok-lines.ensures
+          (c.in_ok-losses.ensures
           ∙ (ap (λ (w : List ℕ). told w c.deref.result.now) fib
           ∙ ap (λ (u : List ℕ). told wd u) c.deref.ensures.value))
           ∙ ap (λ (t : List TextFeature). front ++ map line_of_feature t) c.deref-2.ensures.value))
           ∙ (ap (λ (t : List TextFeature). (front ++ map line_of_feature c.in_ok-lists.lists.items) ++ map line_of_feature t)
-          found ∙ lines_joined front c.in_ok-lists.lists.items (meant_losses wd table lifted.document)));
+          found ∙ lines_joined front c.in_ok-lists.lists.items (other_losses wd table)));
+    } in
+    record {
+      losses = lines;
+      marks = subst (λ (w : List ℕ). AreMarksOf w table c.in_ok-marks.marks) fib c.in_ok-marks.ensures;
     }

@@ -1,0 +1,13 @@
+use Rattle.std.proofs.Common.{◌∙◌, ap, List, slice_set}
+use Rattle.plain_doc.specs.declared.item.Item.{Item}
+use Rattle.edit_changes.proofs.MakeLemmas.{changed_back}
+use Rattle.doc_mends.specs.PlainRows.{plain_text}
+use Rattle.doc_mends.proofs.tables.plain_at.Goals as goal
+
+pub returns : goal.returns
+returns c =
+    let made : List Item = c.in_ok-made.made in
+    c.replace.ensures.new
+    ∙ (ap (λ (l : List (List Item)). slice_set l c.args.k made) c.replace-text.ensures.new
+    ∙ changed_back plain_text c.args.texts.now c.args.k c.new.result c.replace-text.result made
+    c.replace-text.ensures.old c.in_ok-made.ensures)
