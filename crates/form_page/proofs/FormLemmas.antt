@@ -68,5 +68,5 @@ whole_put sink a b c d (Markdown p) (Markdown q) (Html r) s block document head 
 whole_put sink a b c d (Markdown p) (Markdown q) (Markdown r) (Html s) block document head places fresh begins puts ends =
     absurd ends
 whole_put sink a b c d (Markdown p) (Markdown q) (Markdown r) (Markdown s) block document head places fresh begins puts ends =
-    markdown_put sink a c d p r s places fresh.1.1 fresh.1.0
+    markdown_put sink a c d p r s document places fresh.1.1 fresh.1.0
     (begun_markdown sink a b c p q r places begins.0 begins.1 puts) ends

@@ -33,7 +33,7 @@ form_of (Markdown markdown) = form.Markdown
 -- the characters of a page in a form, by what is said of it and the places of its text; of one in Markdown nothing is said
 abbrev pub form_text : PageForm → Document → Head → Places → List ℕ
 form_text form.Html document head places = html_text document head places
-form_text form.Markdown document head places = markdown_text places
+form_text form.Markdown document head places = markdown_text document places
 
 -- what of it is on its way
 abbrev pub page_in : FormPage → Page
@@ -46,7 +46,7 @@ IsFresh (Html html) block document =
     (html.page ≡ record { block = block; failed = false }) × ((html.path ≡ []) × ((html.half ≡ None) × (html.document.now ≡ document)))
 IsFresh (Markdown markdown) block document =
     (markdown.pen.page ≡ record { block = block; failed = false })
-    × ((markdown.path ≡ []) × (state_in markdown ≡ start))
+    × ((markdown.path ≡ []) × (state_in markdown ≡ start document))
 
 -- no half of a character waits
 abbrev pub HasNoHalf : FormPage → Type 0

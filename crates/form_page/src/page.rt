@@ -1,5 +1,8 @@
 // A page in one of its forms.
 ghost use Rattle.std.specs.Prelude.{◌≡◌, ◌∷◌, [], false, true, None, OnOk, OnErr};
+ghost use Rattle.std.specs.Char.{IsScalar};
+ghost use Rattle.std.specs.List.{All};
+ghost use Rattle.glyph_units.specs.Glyphs.{unit_places};
 ghost use Rattle.glyph_units.specs.Units.{units_text};
 ghost use Rattle.doc_outer.specs.Counts.{GoesOn};
 ghost use Rattle.doc_outer.specs.Written.{Appends};
@@ -24,7 +27,7 @@ pub enum PageForm {
 #[derive(Drop)]
 pub enum FormPage<'a> {
     Html(HtmlPage<'a>),
-    Markdown(MarkdownPage),
+    Markdown(MarkdownPage<'a>),
 }
 
 impl<'a> FormPage<'a> {
@@ -35,7 +38,7 @@ impl<'a> FormPage<'a> {
     {
         match form {
             PageForm::Html => FormPage::Html(HtmlPage::new(block, document)),
-            PageForm::Markdown => FormPage::Markdown(MarkdownPage::new(block)),
+            PageForm::Markdown => FormPage::Markdown(MarkdownPage::new(block, document)),
         }
     }
 
@@ -59,6 +62,17 @@ impl<'a> FormPage<'a> {
         match self {
             FormPage::Html(page) => page.put(out, to, glyph),
             FormPage::Markdown(page) => page.put(out, to, glyph),
+        }
+    }
+
+    /// Puts units on one path, of which each is a character.
+    pub fn put_run<K: Sink>(&mut self, out: &mut K, to: &Path<Element>, units: &[u16])
+        requires { All IsScalar units.now }
+        ensures { PutsPlaces K.Sink out.old self.old out.new self.new (unit_places to.now units.now) }
+    {
+        match self {
+            FormPage::Html(page) => page.put_run(out, to, units),
+            FormPage::Markdown(page) => page.put_run(out, to, units),
         }
     }
 

@@ -1,5 +1,8 @@
 -- Glyphs that are units.
-use Rattle.std.specs.Prelude.{ℕ, Option, Some, None}
+use Rattle.std.specs.Prelude.{ℕ, List, map, Option, Some, None}
+use Rattle.view_paths.specs.Events.{Event, Leaf}
+use Rattle.view_paths.specs.Paths.{Place}
+use Rattle.view_places.specs.declared.element.Element.{Element}
 use Rattle.view_places.specs.declared.glyph.Glyph.{Glyph}
 use Rattle.view_places.specs.declared.glyph.Glyph.TheVariants.{Unit, Tab, LineBreak, PageBreak, NoteMark, Picture}
 use Rattle.view_places.specs.declared.glyph.Glyph.TheVariants.{Object}
@@ -13,3 +16,14 @@ unit_in PageBreak = None
 unit_in (NoteMark number) = None
 unit_in Picture = None
 unit_in Object = None
+
+-- the places of units on one path
+abbrev pub unit_place : List Element → ℕ → Place Element Glyph
+unit_place path unit = record { path = path; glyph = Some (Unit unit) }
+
+abbrev pub unit_places : List Element → List ℕ → List (Place Element Glyph)
+unit_places path units = map (unit_place path) units
+
+-- what is shown of them
+abbrev pub leaves : List Element → List ℕ → List (Event Element Glyph)
+leaves path units = map (λ unit. Leaf path (Unit unit)) units

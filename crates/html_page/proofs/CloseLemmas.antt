@@ -34,7 +34,7 @@ use Rattle.html_text.specs.Safe.{is_safe}
 use Rattle.html_text.proofs.ReadLemmas.{no_markup}
 use Rattle.plain_doc.specs.declared.document.Document.{Document}
 use Rattle.field_links.specs.Urls.{anchor_name}
-use Rattle.html_page.specs.Links.{bookmark_name, instruction_of, url_in}
+use Rattle.link_targets.specs.Links.{bookmark_name, instruction_of, url_in}
 use Rattle.html_page.specs.Languages.{language_attributes, language_code, language_codes}
 use Rattle.html_page.specs.Tags.{anchor_attributes, link_attributes, plain_attributes}
 

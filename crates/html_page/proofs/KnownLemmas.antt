@@ -31,11 +31,10 @@ use Rattle.html_page.proofs.CloseLemmas.{by_name, page_read}
 use Rattle.std.specs.Prelude.{◌==◌, ◌&&◌, ◌-◌, ◌%◌, ◌⊎◌}
 use Rattle.html_text.specs.Tokens.{escaped_text}
 use Rattle.plain_doc.specs.declared.document.Document.{Document}
-use Rattle.field_links.specs.Instructions.{target_of}
 use Rattle.field_links.specs.Laws.{IsSchemeUrl, IsLocalUrl}
-use Rattle.field_links.specs.Urls.{anchor_name, url_text}
-use Rattle.field_links.proofs.UrlLemmas.{allowed}
-use Rattle.html_page.specs.Links.{bookmark_name, instruction_of, is_plain, url_in}
+use Rattle.field_links.specs.Urls.{anchor_name}
+use Rattle.link_targets.specs.Links.{bookmark_name, instruction_of, url_in}
+use Rattle.link_targets.proofs.UrlLemmas.{known_url}
 use Rattle.html_page.specs.Languages.{language_attributes, language_code}
 use Rattle.html_page.specs.Pages.{meta_tokens}
 use Rattle.html_page.specs.Tags.{anchor_attributes, link_attributes, plain_attributes}
@@ -148,15 +147,6 @@ known_plain Raised = no_attributes
 known_plain Lowered = no_attributes
 known_plain (Link link) = no_attributes
 known_plain (Anchor number) = no_attributes
-
--- each URL of an instruction is allowed
-known_url : (instruction url : List ℕ) → url_in instruction ≡ Some url → IsSchemeUrl url ⊎ IsLocalUrl url
-known_url instruction url is =
-    elim (is_plain instruction) as (λ (b : Bool). (if b then url_text (target_of instruction) else None) ≡ Some url →
-    IsSchemeUrl url ⊎ IsLocalUrl url) [
-      | true ↦ λ e. allowed (target_of instruction) url e
-      | false ↦ λ e. absurd (cc (e))
-    ] is
 
 known_link : (url : Option (List ℕ)) → ((text : List ℕ) → url ≡ Some text → IsSchemeUrl text ⊎ IsLocalUrl text) →
     AreKnownAttributes (link_attributes url)

@@ -2,3 +2,4 @@ pub mod CloseLemmas
 pub mod KnownLemmas
 pub mod BracketLemmas
 pub mod PutLemmas
+pub mod UnitLemmas

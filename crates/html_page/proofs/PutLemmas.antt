@@ -492,7 +492,7 @@ printed-characters (code ∷ text) = ap (λ (more : List ℕ). escaped code ++ m
 characters-append : (xs ys : List ℕ) → characters (xs ++ ys) ≡ characters xs ++ characters ys
 characters-append xs ys = map-append {B = Token} Character xs ys
 
-characters_then : {K : Type 0} (sink : Ghosts K) (a b c : K) (p q r : Page) (xs ys : List ℕ) →
+pub characters_then : {K : Type 0} (sink : Ghosts K) (a b c : K) (p q r : Page) (xs ys : List ℕ) →
     Prints sink a p b q (printed (characters xs)) → Prints sink b q c r (printed (characters ys)) →
     Prints sink a p c r (printed (characters (xs ++ ys)))
 characters_then sink a b c p q r xs ys one other =

@@ -1,4 +1,3 @@
-pub mod Links
 pub mod Tags
 pub mod Languages
 pub mod Pages

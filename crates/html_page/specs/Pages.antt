@@ -1,5 +1,5 @@
 -- The tokens of a page: what its events open, close and show.
-use Rattle.std.specs.Prelude.{ℕ, List, [], ◌∷◌, ◌++◌, map, codes, Option, None, Some, if◌then◌else◌}
+use Rattle.std.specs.Prelude.{ℕ, Bool, ◌==◌, ◌||◌, List, [], ◌∷◌, ◌++◌, map, codes, Option, None, Some, if◌then◌else◌}
 use Rattle.std.specs.Fmt.{decimal}
 use Rattle.plain_doc.specs.declared.document.Document.{Document}
 use Rattle.html_text.specs.Tokens.{Token, Character, Tag, printed}
@@ -24,6 +24,10 @@ Events = List (Event Element Glyph)
 -- a text as characters
 abbrev pub characters : List ℕ → List Token
 characters text = map Character text
+
+-- a character that a reference stands for
+abbrev pub is_referred : ℕ → Bool
+is_referred code = code == 38 || (code == 60 || (code == 62 || code == 34))
 
 abbrev pub start : List ℕ → List (List ℕ) → Token
 start name attributes = Tag (start_text name attributes)

@@ -13,7 +13,7 @@ use Rattle.view_places.specs.declared.element.Element.TheVariants.{HeadCell, Lis
 use Rattle.view_places.specs.declared.element.Element.TheVariants.{Reference, BackLink, Bold, Italic, Underline, Strike}
 use Rattle.view_places.specs.declared.element.Element.TheVariants.{SmallCaps, Caps, Raised, Lowered, Link, Anchor}
 use Rattle.view_places.specs.declared.element.Paragraph.{Paragraph as ParagraphForm}
-use Rattle.html_page.specs.Links.{bookmark_name, instruction_of, url_in}
+use Rattle.link_targets.specs.Links.{bookmark_name, instruction_of, url_in}
 
 -- a heading below the sixth level is one of the sixth, and says its level
 abbrev pub paragraph_name : ℕ → List ℕ

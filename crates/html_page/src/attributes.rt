@@ -9,11 +9,11 @@ ghost use Rattle.html_page.specs.Tags.{paragraph_attributes, plain_attributes};
 ghost use Rattle.html_text.specs.Tokens.{escaped_text};
 ghost use Rattle.page_out.specs.Printed.{Prints};
 
-use crate::links::{bookmark_name, instruction_of, url_in};
 use crate::tokens::push_character;
 use doc_columns::ColumnDocument;
 use doc_outer::Sink;
 use field_links::{LinkText, anchor_of};
+use link_targets::{bookmark_name, instruction_of, url_in};
 use page_out::Page;
 use view_places::{Element, List, Paragraph};
 

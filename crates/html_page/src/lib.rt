@@ -4,10 +4,10 @@
 mod attributes;
 mod language;
 mod laws;
-mod links;
 mod names;
 mod printer;
 mod tokens;
+mod units;
 
 pub use laws::{pages_are_read_back, pages_nest, tags_are_known};
 pub use printer::HtmlPage;

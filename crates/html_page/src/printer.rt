@@ -1,5 +1,7 @@
 // A page in HTML that is printed place by place.
 ghost use Rattle.std.specs.Prelude.{◌≡◌, ◌≤◌, ◌++◌, [], ◌∷◌, length, take, drop, map, false, true, Some, None, OnOk, OnErr};
+ghost use Rattle.std.specs.Char.{IsScalar};
+ghost use Rattle.std.specs.List.{All};
 ghost use Rattle.doc_outer.specs.Counts.{GoesOn};
 ghost use Rattle.doc_outer.specs.Written.{Appends};
 ghost use Rattle.page_out.specs.Printed.{FailsIn, Prints};
@@ -10,11 +12,13 @@ ghost use Rattle.view_places.specs.Same.{same};
 ghost use Rattle.html_page.specs.Pages.{back_tokens, characters, close_tokens, front_tokens, glyph_half, glyph_tokens};
 ghost use Rattle.html_page.specs.Pages.{half_of, open_tokens, style_tokens, tokens_of};
 ghost use Rattle.html_page.specs.Printed.{PutsEvents, PutsPlaces};
+ghost use Rattle.glyph_units.specs.Glyphs.{unit_places};
 ghost use Rattle.glyph_units.specs.Units.{first_half, first_text, half_text, unit_half, unit_text, units_text};
 
 use crate::tokens::{
     push_back, push_character, push_close, push_front, push_open, push_other, push_style,
 };
+use crate::units::push_units;
 use doc_columns::ColumnDocument;
 use doc_outer::{OutBlock, Sink, SinkFailed};
 use glyph_units::{REPLACEMENT, alone, is_high, pair, unit_in};
@@ -73,6 +77,19 @@ impl<'a> HtmlPage<'a> {
             None => {}
             Some(glyph) => self.show(out, glyph),
         }
+    }
+
+    /// Puts units on one path, of which each is a character.
+    pub fn put_run<K: Sink>(&mut self, out: &mut K, to: &Path<Element>, units: &[u16])
+        requires { All IsScalar units.now }
+        ensures { PutsPlaces K.Sink out.old self.old out.new self.new (unit_places to.now units.now) }
+    {
+        if units.is_empty() {
+            return;
+        }
+        self.go(out, to);
+        self.put_half(out);
+        push_units(&mut self.page, out, units);
     }
 
     /// Closes all that is open, and puts what stands behind the text.

@@ -3,3 +3,5 @@ pub mod PutLemmas
 pub mod RightLemmas
 pub mod PageLemmas
 pub mod ShapeLemmas
+pub mod AllowedLemmas
+pub mod RunLemmas

@@ -18,11 +18,12 @@ use Rattle.view_places.specs.declared.glyph.Glyph.{Glyph}
 use Rattle.view_places.specs.Same.{same}
 use Rattle.glyph_units.specs.Glyphs.{unit_in}
 use Rattle.glyph_units.specs.Units.{half_text, replacement}
+use Rattle.plain_doc.specs.declared.document.Document.{Document}
 use Rattle.markdown_page.specs.declared.pen.Pen.{Pen}
 use Rattle.markdown_page.specs.declared.context.Context.{Context}
 use Rattle.markdown_page.specs.declared.printer.MarkdownPage.{MarkdownPage}
 use Rattle.markdown_page.specs.Pages.{Events, State, behind_event, event_context, event_tokens, glyph_shown}
-use Rattle.markdown_page.specs.Pages.{glyph_tokens, half_tokens, state_of, tokens_behind, tokens_of, turn_pieces, turned}
+use Rattle.markdown_page.specs.Pages.{glyph_tokens, half_tokens, state_of, tokens_behind, tokens_of, turn_tokens, turned}
 use Rattle.markdown_page.specs.Pages.{character_tokens, text_seam, text_tokens, without_half}
 use Rattle.markdown_page.specs.declared.context.Seam.{Seam}
 use Rattle.markdown_page.specs.declared.marks.TagName.TheVariants as tag
@@ -76,14 +77,14 @@ as_tokens sink a b page left events to puts = record {
   line = ap (λ (s : State). s.line) puts.state ∙ line-state_of (state_in page) events;
 }
 
-none_put : {K : Type 0} (sink : Ghosts K) (at : K) (page left : MarkdownPage) → left.pen ≡ page.pen →
-    left.context ≡ page.context → PutsEvents sink at page at left [] left.path
+pub none_put : {K : Type 0} (sink : Ghosts K) (at : K) (page left : MarkdownPage) → left.pen ≡ page.pen →
+    left.context ≡ page.context → left.document.now ≡ page.document.now → PutsEvents sink at page at left [] left.path
 unfolding tokens_of state_of
-none_put sink at page left pen context = record {
+none_put sink at page left pen context document = record {
   prints =
       subst (λ (p : Pen). Prints sink at page.pen.page at p.page (printed_from page.pen.line [])) (sym pen)
       (tokens_none sink at page.pen).prints;
-  state = λ i. record { line = (pen i).line; context = context i };
+  state = λ i. record { document = document i; line = (pen i).line; context = context i };
   path = refl;
 }
 
@@ -107,13 +108,14 @@ events_then sink a b c p q r xs ys first second one other =
 
 pub one_event : {K : Type 0} (sink : Ghosts K) (a b : K) (page left : MarkdownPage) (event : Event Element Glyph)
     (path : List Element) → PutsTokens sink a page.pen b left.pen (event_tokens (state_in page) event) →
-    left.context ≡ event_context page.context event → left.path ≡ path → PutsEvents sink a page b left (event ∷ []) path
-one_event sink a b page left event path puts context is = record {
+    left.context ≡ event_context page.context event → left.path ≡ path → left.document.now ≡ page.document.now →
+    PutsEvents sink a page b left (event ∷ []) path
+one_event sink a b page left event path puts context is document = record {
   prints =
       subst (λ (tokens : List Token). Prints sink a page.pen.page b left.pen.page (printed_from page.pen.line tokens))
       (tokens_of-one (state_in page) event) puts.prints;
   state =
-      (λ i. record { line = puts.line i; context = context i }) ∙ state_of-one (state_in page) event;
+      (λ i. record { document = document i; line = puts.line i; context = context i }) ∙ state_of-one (state_in page) event;
   path = is;
 }
 
@@ -128,26 +130,27 @@ puts_as sink a b page left xs ys one other is path puts =
 -- ---- elements that are closed
 
 pub close_done : {K : Type 0} (sink : Ghosts K) (at : K) (page left : MarkdownPage) (count : ℕ) →
-    left.pen ≡ page.pen → left.context ≡ page.context → left.path ≡ page.path → length page.path ≤ count →
+    left.pen ≡ page.pen → left.context ≡ page.context → left.path ≡ page.path → left.document.now ≡ page.document.now →
+    length page.path ≤ count →
     PutsEvents sink at page at left (map Turn (closes (take count page.path) (drop count page.path)))
     (take count page.path)
-close_done sink at page left count pen context path short =
+close_done sink at page left count pen context path document short =
     let no : Events = [] in
     puts_as sink at at page left no (map Turn (closes (take count page.path) (drop count page.path))) left.path
     (take count page.path) (ap (map Turn) (sym (closes-none page.path count short)))
-    (path ∙ sym (take_all count page.path short)) (none_put sink at page left pen context)
+    (path ∙ sym (take_all count page.path short)) (none_put sink at page left pen context document)
 
 pub close_step : {K : Type 0} (sink : Ghosts K) (a b c : K) (page next left : MarkdownPage) (new : List Element)
     (e : Element) (count : ℕ) → page.path ≡ new ++ e ∷ [] → count ≤ length new →
-    PutsTokens sink a page.pen b next.pen (tokens_behind (state_in page) (turn_pieces (Close [] e))) → next.path ≡ new →
+    PutsTokens sink a page.pen b next.pen (turn_tokens (state_in page) (Close [] e)) → next.path ≡ new → next.document.now ≡ page.document.now →
     next.context ≡ turned (Close [] e) (without_half page.context) →
     PutsEvents sink b next c left (map Turn (closes (take count next.path) (drop count next.path)))
     (take count next.path) →
     PutsEvents sink a page c left (map Turn (closes (take count page.path) (drop count page.path)))
     (take count page.path)
-close_step sink a b c page next left new e count is within puts path context rest =
+close_step sink a b c page next left new e count is within puts path document context rest =
     let event : Event Element Glyph = Turn (Close new e) in
-    let first : PutsEvents sink a page b next (event ∷ []) new = one_event sink a b page next event new puts context path in
+    let first : PutsEvents sink a page b next (event ∷ []) new = one_event sink a b page next event new puts context path document in
     let more : Events = map Turn (closes (take count new) (drop count new)) in
     let second : PutsEvents sink b next c left more (take count new) =
     subst (λ (p : List Element). PutsEvents sink b next c left (map Turn (closes (take count p) (drop count p)))
@@ -161,22 +164,23 @@ close_step sink a b c page next left new e count is within puts path context res
 -- ---- elements that are opened
 
 pub open_done : {K : Type 0} (sink : Ghosts K) (at : K) (page left : MarkdownPage) (to : List Element) →
-    left.pen ≡ page.pen → left.context ≡ page.context → left.path ≡ page.path → page.path ≡ to →
+    left.pen ≡ page.pen → left.context ≡ page.context → left.path ≡ page.path → left.document.now ≡ page.document.now →
+    page.path ≡ to →
     PutsEvents sink at page at left (map Turn (opens page.path (drop (length page.path) to))) to
-open_done sink at page left to pen context path is =
+open_done sink at page left to pen context path document is =
     let no : Events = [] in
     puts_as sink at at page left no (map Turn (opens page.path (drop (length page.path) to))) left.path to
-    (ap (map Turn) (sym (opens-none page.path to is))) (path ∙ is) (none_put sink at page left pen context)
+    (ap (map Turn) (sym (opens-none page.path to is))) (path ∙ is) (none_put sink at page left pen context document)
 
 pub open_step : {K : Type 0} (sink : Ghosts K) (a b c : K) (page next left : MarkdownPage) (new to : List Element)
     (e : Element) → new ≡ page.path ++ e ∷ [] → IsFront new to →
-    PutsTokens sink a page.pen b next.pen (tokens_behind (state_in page) (turn_pieces (Open [] e))) → next.path ≡ new →
+    PutsTokens sink a page.pen b next.pen (turn_tokens (state_in page) (Open [] e)) → next.path ≡ new → next.document.now ≡ page.document.now →
     next.context ≡ turned (Open [] e) (without_half page.context) →
     PutsEvents sink b next c left (map Turn (opens next.path (drop (length next.path) to))) to →
     PutsEvents sink a page c left (map Turn (opens page.path (drop (length page.path) to))) to
-open_step sink a b c page next left new to e is front puts path context rest =
+open_step sink a b c page next left new to e is front puts path document context rest =
     let event : Event Element Glyph = Turn (Open page.path e) in
-    let first : PutsEvents sink a page b next (event ∷ []) new = one_event sink a b page next event new puts context path in
+    let first : PutsEvents sink a page b next (event ∷ []) new = one_event sink a b page next event new puts context path document in
     let more : Events = map Turn (opens new (drop (length new) to)) in
     let second : PutsEvents sink b next c left more to =
     subst (λ (p : List Element). PutsEvents sink b next c left (map Turn (opens p (drop (length p) to))) to) path rest
@@ -243,20 +247,21 @@ pub place_shown : {K : Type 0} (sink : Ghosts K) (a b c : K) (page next left : M
     (glyph : Option Glyph) (g : Glyph) → path ≡ shaped_path glyph to → shaped_glyph (inner_kind to) glyph ≡ Some g →
     PutsEvents sink a page b next (turns same page.path path) path →
     PutsTokens sink b next.pen c left.pen (glyph_tokens (state_in next) (unit_in g) g) → left.path ≡ next.path →
+    left.document.now ≡ next.document.now →
     left.context ≡ glyph_shown next.context (unit_in g) → PutsPlaces sink a page c left (place_of to glyph)
-place_shown sink a b c page next left to path glyph g is some puts tokens same_path context =
+place_shown sink a b c page next left to path glyph g is some puts tokens same_path document context =
     let shape = shaped_path glyph to in
     let here : PutsEvents sink a page b next (turns same page.path shape) shape =
     subst (λ (p : List Element). PutsEvents sink a page b next (turns same page.path p) p) is puts in
     let event : Event Element Glyph = Leaf shape g in
     let shown : PutsEvents sink b next c left (event ∷ []) shape =
-    one_event sink b c next left event shape tokens context (same_path ∙ here.path) in
+    one_event sink b c next left event shape tokens context (same_path ∙ here.path) document in
     shaped_put sink a c page left to glyph (Some g) some
     (events_then sink a b c page next left (turns same page.path shape) (event ∷ []) shape shape here shown)
 
 -- places one after another
 pub places_none : {K : Type 0} (sink : Ghosts K) (at : K) (page : MarkdownPage) → PutsPlaces sink at page at page []
-places_none sink at page = none_put sink at page page refl refl
+places_none sink at page = none_put sink at page page refl refl refl
 
 pub places_then : {K : Type 0} (sink : Ghosts K) (a b c : K) (p q r : MarkdownPage) (xs ys : Places) →
     PutsPlaces sink a p b q xs → PutsPlaces sink b q c r ys → PutsPlaces sink a p c r (xs ++ ys)
@@ -290,6 +295,15 @@ behind_put sink a b c page next left pieces chosen half context is put =
     page.pen.line (half_tokens page.context)) (without_half page.context))) half
     (tokens_as sink b c next.pen left (pieces_tokens chosen) (pieces_tokens (pieces (after_tokens page.pen.line
     (half_tokens page.context)) (without_half page.context))) same put)
+
+-- and what stands there of a link
+pub turn_put : {K : Type 0} (sink : Ghosts K) (a b c : K) (page : MarkdownPage) (p left : Pen) (front : List Token)
+    (document : Document) (chosen : Document → List Token) → PutsTokens sink a page.pen b p front →
+    document ≡ page.document.now → PutsTokens sink b p c left (chosen document) →
+    PutsTokens sink a page.pen c left (front ++ chosen page.document.now)
+turn_put sink a b c page p left front document chosen one same other =
+    tokens_then sink a b c page.pen p left front (chosen page.document.now) one
+    (subst (λ (d : Document). PutsTokens sink b p c left (chosen d)) same other)
 
 -- ---- characters
 

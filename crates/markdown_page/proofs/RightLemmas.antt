@@ -7,11 +7,13 @@ use Rattle.std.specs.List.{list_all}
 use Rattle.std.proofs.lemmas.Bool.Decides.{nat_tests}
 use Rattle.std.proofs.lemmas.List.Folds.{list_all-append}
 use Rattle.markdown_text.specs.declared.line.LineState.{LineState}
-use Rattle.markdown_text.specs.declared.line.LineState.TheVariants.{Start}
+use Rattle.markdown_text.specs.declared.line.LineState.TheVariants.{Start, Digits, Within, Bracket, Colon}
 use Rattle.markdown_text.specs.Lines.{is_among}
 use Rattle.markdown_text.specs.Tokens.{Token, Character, Markup, Tag, Destination, after_token, after_tokens, are_right, is_right}
-use Rattle.markdown_text.proofs.ReadLemmas.{read_back}
-use Rattle.view_paths.specs.Events.{Event, Turn, Leaf, events_up_to, turns}
+use Rattle.markdown_text.proofs.ReadLemmas.{are_right-append, read_back}
+use Rattle.plain_doc.specs.declared.document.Document.{Document}
+use Rattle.view_paths.specs.Events.{Event, Turn, Leaf, Open, Close, events_up_to, turns}
+use Rattle.view_paths.specs.Events.{Tag as PathTag}
 use Rattle.view_paths.specs.Paths.{last_path}
 use Rattle.view_places.specs.declared.element.Element.{Element}
 use Rattle.view_places.specs.declared.glyph.Glyph.{Glyph}
@@ -30,6 +32,7 @@ use Rattle.markdown_page.specs.declared.pieces.Piece.TheVariants.{Picture, Objec
 use Rattle.markdown_page.specs.declared.pieces.Piece.TheVariants.{Tab as ATab}
 use Rattle.markdown_page.specs.declared.pieces.Pieces.{Pieces}
 use Rattle.markdown_page.specs.Contexts.{character_seam, is_parted}
+use Rattle.markdown_page.specs.Destinations.{address_at, end_tokens, front_tokens, link_tokens}
 use Rattle.markdown_page.specs.Marks.{mark_text, tag_text}
 use Rattle.markdown_page.specs.Pages.{Events, State, behind_event, character_tokens, event_tokens, glyph_tokens}
 use Rattle.markdown_page.specs.Pages.{closing_tokens, half_tokens, page_tokens, start, state_of, text_tokens, tokens_of}
@@ -43,24 +46,24 @@ use Rattle.markdown_page.specs.Laws.{PagesAreReadBack}
 abbrev is_safe_code : ℕ → Bool
 is_safe_code code = not (is_among (codes "\\&<(") code)
 
-abbrev is_safe : Token → Bool
+abbrev pub is_safe : Token → Bool
 is_safe (Character code) = true
 is_safe (Markup code) = is_safe_code code
 is_safe (Tag inner) = list_all (λ code. not (code == 62)) inner
 is_safe (Destination url) = false
 
-abbrev AreSafe : List Token → Type 0
+abbrev pub AreSafe : List Token → Type 0
 AreSafe tokens = list_all is_safe tokens ≡ true
 
 both : (a b : Bool) → a ≡ true → b ≡ true → (a && b) ≡ true
 both true b one other = other
 both false b one other = absurd (cc (one))
 
-both_first : (a b : Bool) → (a && b) ≡ true → a ≡ true
+pub both_first : (a b : Bool) → (a && b) ≡ true → a ≡ true
 both_first true b e = refl
 both_first false b e = e
 
-both_second : (a b : Bool) → (a && b) ≡ true → b ≡ true
+pub both_second : (a b : Bool) → (a && b) ≡ true → b ≡ true
 both_second true b e = e
 both_second false b e = absurd (cc (e))
 
@@ -171,7 +174,7 @@ safe-piece (Rule columns) = safe-markup (rule_text columns) (safe_rule columns)
 safe-piece Picture = refl
 safe-piece Object = refl
 
-safe-pieces : (pieces : Pieces) → AreSafe (pieces_tokens pieces)
+pub safe-pieces : (pieces : Pieces) → AreSafe (pieces_tokens pieces)
 safe-pieces pieces =
     safe-append (piece_tokens pieces.first) (piece_tokens pieces.second ++ piece_tokens pieces.third)
     (safe-piece pieces.first)
@@ -180,7 +183,19 @@ safe-pieces pieces =
 
 -- ---- events
 
-safe-text : (seam : Seam) (text : List ℕ) → AreSafe (text_tokens seam text)
+-- tokens that are right wherever they stand
+abbrev AreRight : List Token → Type 0
+AreRight tokens = (line : LineState) → are_right line tokens ≡ true
+
+right-safe : (tokens : List Token) → AreSafe tokens → AreRight tokens
+right-safe tokens safe = λ line. all_right line tokens safe
+
+right-append : (xs ys : List Token) → AreRight xs → AreRight ys → AreRight (xs ++ ys)
+right-append xs ys one other = λ line.
+    are_right-append line xs ys
+    ∙ both (are_right line xs) (are_right (after_tokens line xs) ys) (one line) (other (after_tokens line xs))
+
+pub safe-text : (seam : Seam) (text : List ℕ) → AreSafe (text_tokens seam text)
 safe-text seam [] = refl
 safe-text seam (code ∷ text) =
     safe-append (character_tokens seam code) (text_tokens (character_seam code) text)
@@ -188,41 +203,66 @@ safe-text seam (code ∷ text) =
     (safe-piece (given (is_parted seam code) (Insert tag.Comment))) refl)
     (safe-text (character_seam code) text)
 
-safe-behind : (context : Context) (pieces : Pieces) → AreSafe (half_tokens context ++ pieces_tokens pieces)
-safe-behind context pieces =
-    safe-append (half_tokens context) (pieces_tokens pieces) (safe-text context.seam (half_text context.half))
-    (safe-pieces pieces)
+right-text : (seam : Seam) (text : List ℕ) → AreRight (text_tokens seam text)
+right-text seam text = right-safe (text_tokens seam text) (safe-text seam text)
 
-safe-glyph : (state : State) (unit : Option ℕ) (glyph : Glyph) → AreSafe (glyph_tokens state unit glyph)
-safe-glyph state (Some unit) glyph = safe-text state.context.seam (unit_text state.context.half unit)
-safe-glyph state None glyph =
-    safe-behind state.context (other_pieces (after_tokens state.line (half_tokens state.context)) glyph)
+right-behind : (context : Context) (pieces : Pieces) → AreRight (half_tokens context ++ pieces_tokens pieces)
+right-behind context pieces =
+    right-append (half_tokens context) (pieces_tokens pieces) (right-text context.seam (half_text context.half))
+    (right-safe (pieces_tokens pieces) (safe-pieces pieces))
 
-safe-event : (state : State) (event : Event Element Glyph) → AreSafe (event_tokens state event)
-safe-event state (Turn tag) =
-    safe-behind state.context (turn_pieces tag (after_tokens state.line (half_tokens state.context)) (without_half
-    state.context))
-safe-event state (Leaf path glyph) = safe-glyph state (unit_in glyph) glyph
+right-front : (address : Option (List ℕ)) → AreRight (front_tokens address)
+right-front None = λ line. refl
+right-front (Some url) = λ line. refl
 
-safe-events : (state : State) (events : Events) → AreSafe (tokens_of state events)
+-- a destination stands behind a bracket
+right_end : (line : LineState) (url : List ℕ) → are_right line (Markup 93 ∷ Destination url ∷ []) ≡ true
+right_end Start url = refl
+right_end Digits url = refl
+right_end Within url = refl
+right_end Bracket url = refl
+right_end Colon url = refl
+
+right-end : (address : Option (List ℕ)) → AreRight (end_tokens address)
+right-end None = λ line. refl
+right-end (Some url) = λ line. right_end line url
+
+right-link : (document : Document) (tag : PathTag Element) → AreRight (link_tokens document tag)
+right-link document (Open path element) = right-front (address_at document element)
+right-link document (Close path element) = right-end (address_at document element)
+
+right-glyph : (state : State) (unit : Option ℕ) (glyph : Glyph) → AreRight (glyph_tokens state unit glyph)
+right-glyph state (Some unit) glyph = right-text state.context.seam (unit_text state.context.half unit)
+right-glyph state None glyph =
+    right-behind state.context (other_pieces (after_tokens state.line (half_tokens state.context)) glyph)
+
+right-event : (state : State) (event : Event Element Glyph) → AreRight (event_tokens state event)
+right-event state (Turn tag) =
+    let pieces = turn_pieces tag (after_tokens state.line (half_tokens state.context)) (without_half state.context) in
+    right-append (half_tokens state.context ++ pieces_tokens pieces) (link_tokens state.document tag)
+    (right-behind state.context pieces) (right-link state.document tag)
+right-event state (Leaf path glyph) = right-glyph state (unit_in glyph) glyph
+
+right-events : (state : State) (events : Events) → AreRight (tokens_of state events)
 unfolding tokens_of
-safe-events state [] = refl
-safe-events state (event ∷ events) =
-    safe-append (event_tokens state event) (tokens_of (behind_event state event) events) (safe-event state event)
-    (safe-events (behind_event state event) events)
+right-events state [] = λ line. refl
+right-events state (event ∷ events) =
+    right-append (event_tokens state event) (tokens_of (behind_event state event) events) (right-event state event)
+    (right-events (behind_event state event) events)
 
-safe-closing : (state : State) (path : List Element) → AreSafe (closing_tokens state path)
-safe-closing state path =
+right-closing : (state : State) (path : List Element) → AreRight (closing_tokens state path)
+right-closing state path =
     let events : Events = turns same path [] in
     let last = (state_of state events).context in
-    safe-append (tokens_of state events) (half_tokens last) (safe-events state events)
-    (safe-text last.seam (half_text last.half))
+    right-append (tokens_of state events) (half_tokens last) (right-events state events)
+    (right-text last.seam (half_text last.half))
 
 -- a page is read back
 pub page_read : PagesAreReadBack
-page_read places =
+page_read document places =
     let shaped = all_shaped places in
     let events : Events = events_up_to same [] shaped in
-    read_back (page_tokens places) (all_right Start (page_tokens places)
-    (safe-append (tokens_of start events) (closing_tokens (state_of start events) (last_path [] shaped))
-    (safe-events start events) (safe-closing (state_of start events) (last_path [] shaped))))
+    read_back (page_tokens document places)
+    (right-append (tokens_of (start document) events) (closing_tokens (state_of (start document) events) (last_path []
+    shaped)) (right-events (start document) events) (right-closing (state_of (start document) events) (last_path [] shaped))
+    Start)

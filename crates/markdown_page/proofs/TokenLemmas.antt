@@ -11,7 +11,9 @@ use Rattle.page_out.specs.Printed.{Prints}
 use Rattle.page_out.proofs.PrintLemmas.{put_none, put_then, three_put}
 use Rattle.markdown_text.specs.declared.line.LineState.{LineState}
 use Rattle.markdown_text.specs.Lines.{after_character, after_markups, after_tag}
-use Rattle.markdown_text.specs.Tokens.{Token, Character, Markup, Tag, after_tokens, escaped, escaped_by, printed_from}
+use Rattle.markdown_text.specs.declared.line.LineState.TheVariants.{Within}
+use Rattle.markdown_text.specs.Tokens.{Token, Character, Markup, Tag, Destination, after_tokens, destination_text, escaped}
+use Rattle.markdown_text.specs.Tokens.{escaped_by, printed_from}
 use Rattle.markdown_text.proofs.ReadLemmas.{after_tokens-append, after_tokens-markup, printed_from-append}
 use Rattle.markdown_text.proofs.ReadLemmas.{printed_from-markup}
 use Rattle.markdown_page.specs.declared.pen.Pen.{Pen}
@@ -51,7 +53,7 @@ three_tokens sink a b c d p q r s xs ys zs one two three =
     tokens_then sink a b d p q s xs (ys ++ zs) one (tokens_then sink b c d q r s ys zs two three)
 
 -- characters that were put, and where the line is behind them
-tokens_put : {K : Type 0} (sink : Ghosts K) (a b : K) (pen : Pen) (page : Page) (line : LineState) (text : List ℕ)
+pub tokens_put : {K : Type 0} (sink : Ghosts K) (a b : K) (pen : Pen) (page : Page) (line : LineState) (text : List ℕ)
     (tokens : List Token) → text ≡ printed_from pen.line tokens → Prints sink a pen.page b page text →
     line ≡ after_tokens pen.line tokens → PutsTokens sink a pen b (record { page = page; line = line }) tokens
 tokens_put sink a b pen page line text tokens is put behind = record {
@@ -94,6 +96,16 @@ tag_put sink a b c d pen q r page line name one two three is =
     tokens_put sink a d pen page line (60 ∷ (name ++ 62 ∷ [])) (Tag name ∷ [])
     (sym (append-nil (60 ∷ (name ++ 62 ∷ []))))
     (three_put sink a b c d pen.page q r page (60 ∷ []) name (62 ∷ []) one two three) is
+
+pub destination_put : {K : Type 0} (sink : Ghosts K) (a b c d : K) (pen : Pen) (q r page : Page) (line : LineState)
+    (url : List ℕ) → Prints sink a pen.page b q (40 ∷ []) → Prints sink b q c r (destination_text url) →
+    Prints sink c r d page (41 ∷ []) → line ≡ Within →
+    PutsTokens sink a pen d (record { page = page; line = line }) (Destination url ∷ [])
+destination_put sink a b c d pen q r page line url one two three is =
+    let text = destination_text url in
+    tokens_put sink a d pen page line (40 ∷ (text ++ 41 ∷ [])) (Destination url ∷ [])
+    (sym (append-nil (40 ∷ (text ++ 41 ∷ []))))
+    (three_put sink a b c d pen.page q r page (40 ∷ []) text (41 ∷ []) one two three) is
 
 -- a number of one digit, and one of more
 pub digit_put : {K : Type 0} (sink : Ghosts K) (a b : K) (p q : Pen) (number : ℕ) → number < 10 →

@@ -2,6 +2,8 @@ pub mod Marks
 pub mod Contexts
 pub mod Pieces
 pub mod Shape
+pub mod Runs
+pub mod Destinations
 pub mod Pages
 pub mod Printed
 pub mod Laws

@@ -18,6 +18,8 @@ use Rattle.markdown_page.specs.declared.context.Context.{Context}
 use Rattle.markdown_page.specs.declared.marks.TagName.TheVariants as tag
 use Rattle.markdown_page.specs.declared.pieces.Pieces.{Pieces}
 use Rattle.markdown_page.specs.declared.pieces.Piece.TheVariants.{Insert}
+use Rattle.plain_doc.specs.declared.document.Document.{Document}
+use Rattle.markdown_page.specs.Destinations.{link_tokens}
 use Rattle.markdown_page.specs.Contexts.{character_seam, closed, cut, is_parted, opened}
 use Rattle.markdown_page.specs.Pieces.{closing, given, opening, other_pieces, piece_tokens, pieces_tokens}
 use Rattle.markdown_page.specs.Shape.{Places, all_shaped}
@@ -41,8 +43,9 @@ text_seam seam (code ∷ text) = text_seam (character_seam code) text
 
 -- ---- events
 
--- what stands before a place
+-- what stands before a place of a page of a document
 pub record State : Type 0 where
+  pub document : Document
   pub line : LineState
   pub context : Context
 
@@ -58,12 +61,16 @@ fresh = record {
   columns = 0;
 }
 
-abbrev pub start : State
-start = record { line = Start; context = fresh }
+abbrev pub start : Document → State
+start document = record { document = document; line = Start; context = fresh }
 
 -- behind tokens
 abbrev pub behind_tokens : State → List Token → Context → State
-behind_tokens state tokens context = record { line = after_tokens state.line tokens; context = context }
+behind_tokens state tokens context = record {
+  document = state.document;
+  line = after_tokens state.line tokens;
+  context = context;
+}
 
 -- a half that no other one follows is written
 abbrev pub half_tokens : Context → List Token
@@ -91,6 +98,10 @@ abbrev pub turn_pieces : PathTag Element → LineState → Context → Pieces
 turn_pieces (Open path element) line context = opening context element
 turn_pieces (Close path element) line context = closing line context element
 
+-- an element is opened or closed
+abbrev pub turn_tokens : State → PathTag Element → List Token
+turn_tokens state tag = tokens_behind state (turn_pieces tag) ++ link_tokens state.document tag
+
 abbrev pub turned : PathTag Element → Context → Context
 turned (Open path element) context = opened context element
 turned (Close path element) context = closed context element
@@ -104,7 +115,7 @@ glyph_shown context (Some unit) = unit_shown context unit
 glyph_shown context None = cut (without_half context)
 
 abbrev pub event_tokens : State → Event Element Glyph → List Token
-event_tokens state (Turn tag) = tokens_behind state (turn_pieces tag)
+event_tokens state (Turn tag) = turn_tokens state tag
 event_tokens state (Leaf path glyph) = glyph_tokens state (unit_in glyph) glyph
 
 abbrev pub event_context : Context → Event Element Glyph → Context
@@ -131,12 +142,13 @@ abbrev pub closing_tokens : State → List Element → List Token
 closing_tokens state path =
     tokens_of state (turns same path []) ++ half_tokens (state_of state (turns same path [])).context
 
--- a page, by the places of its text
-abbrev pub page_tokens : Places → List Token
-page_tokens places =
+-- a page of a document, by the places of its text
+abbrev pub page_tokens : Document → Places → List Token
+page_tokens document places =
     let events : Events = events_up_to same [] (all_shaped places) in
-    tokens_of start events ++ closing_tokens (state_of start events) (last_path [] (all_shaped places))
+    tokens_of (start document) events
+    ++ closing_tokens (state_of (start document) events) (last_path [] (all_shaped places))
 
 -- the characters of a page
-abbrev pub page_text : Places → List ℕ
-page_text places = printed (page_tokens places)
+abbrev pub page_text : Document → Places → List ℕ
+page_text document places = printed (page_tokens document places)

@@ -2,7 +2,7 @@
 use Rattle.std.specs.Prelude.{ℕ, zero, suc, ◌==◌, nat_lt, Bool, true, false, not, ◌&&◌, ◌||◌, List, [], ◌∷◌, ◌++◌, map, codes, if◌then◌else◌}
 use Rattle.std.specs.Fmt.{decimal}
 use Rattle.markdown_text.specs.declared.line.LineState.{LineState}
-use Rattle.markdown_text.specs.declared.line.LineState.TheVariants.{Start, Digits, Within, Bracket}
+use Rattle.markdown_text.specs.declared.line.LineState.TheVariants.{Start, Digits, Within, Bracket, Colon}
 use Rattle.markdown_text.specs.Tokens.{Token, Character, Markup}
 use Rattle.markdown_text.specs.Tokens.{Tag as ATag}
 use Rattle.view_places.specs.declared.element.Element.{Element}
@@ -147,6 +147,7 @@ is_start Start = true
 is_start Digits = false
 is_start Within = false
 is_start Bracket = false
+is_start Colon = false
 
 -- below the first row the columns of a table
 abbrev pub row_end : Context → Pieces

@@ -19,7 +19,7 @@ pub record PutsTokens {K : Type 0} (sink : Ghosts K) (before : K) (pen : Pen) (a
   pub line : left.line ≡ after_tokens pen.line tokens
 
 abbrev pub state_in : MarkdownPage → State
-state_in page = record { line = page.pen.line; context = page.context }
+state_in page = record { document = page.document.now; line = page.pen.line; context = page.context }
 
 -- events were printed; then this path is open
 pub record PutsEvents {K : Type 0} (sink : Ghosts K) (before : K) (page : MarkdownPage) (after : K)

@@ -2,15 +2,17 @@
 #![tactic(auto)]
 
 mod context;
+mod destinations;
 mod laws;
 mod marks;
 mod pen;
 mod pieces;
 mod printer;
+mod runs;
 mod shape;
 
 pub use context::{CellLine, Context, Seam};
-pub use laws::pages_are_read_back;
+pub use laws::{links_are_allowed, pages_are_read_back};
 pub use marks::{Mark, TagName};
 pub use pen::Pen;
 pub use pieces::{Piece, Pieces};

@@ -1,11 +1,13 @@
 // The tokens of a page, as they are printed.
-ghost use Rattle.std.specs.Prelude.{◌≡◌, ◌+◌, ◌<◌, [], ◌∷◌, false, None, if◌then◌else◌};
+ghost use Rattle.std.specs.Prelude.{◌≡◌, ◌+◌, ◌<◌, [], ◌∷◌, false, true, None, if◌then◌else◌};
+ghost use Rattle.std.specs.List.{All};
+ghost use Rattle.markdown_page.specs.Runs.{IsPlain, is_within};
 ghost use Rattle.std.specs.Char.{IsScalar};
 ghost use Rattle.std.specs.Fmt.{decimal};
 ghost use Rattle.std.specs.Str.{IsAscii};
 ghost use Rattle.markdown_text.specs.declared.line.LineState.TheVariants.{Start};
 ghost use Rattle.markdown_text.specs.Lines.{is_special};
-ghost use Rattle.markdown_text.specs.Tokens.{Character, escaped, escaped_by};
+ghost use Rattle.markdown_text.specs.Tokens.{Character, Destination, Markup, destination_code, destination_text, escaped, escaped_by};
 ghost use Rattle.page_out.specs.Printed.{Prints};
 ghost use Rattle.markdown_page.specs.declared.pieces.Piece.TheVariants.{Insert, Write};
 ghost use Rattle.markdown_page.specs.Pieces.{characters, markup, marks_text, piece_tokens, pieces_tokens, rule_text};
@@ -14,7 +16,8 @@ ghost use Rattle.markdown_page.specs.Printed.{PutsTokens};
 use crate::marks::{Mark, TagName, mark_text, tag_text};
 use crate::pieces::{Piece, Pieces};
 use doc_outer::{OutBlock, Sink};
-use markdown_text::LineState;
+use field_links::LinkText;
+use markdown_text::{LineState, is_escaped_in_destination};
 use page_out::Page;
 
 /// A page on its way to a sink, and where its line is.
@@ -42,6 +45,16 @@ impl Pen {
     {
         self.put_escaped(out, code);
         self.line = self.line.after_character(code);
+    }
+
+    /// Puts units that are written as they are within a line, and leave it so.
+    pub(crate) fn put_plain<K: Sink>(&mut self, out: &mut K, units: &[u16])
+        requires characters { All IsScalar units.now }
+        requires within { is_within self.old.line ≡ true }
+        requires plain { All IsPlain units.now }
+        ensures { PutsTokens K.Sink out.old self.old out.new self.new (characters units.now) }
+    {
+        self.page.push_units(out, units);
     }
 
     /// Puts the characters of a character.
@@ -169,6 +182,52 @@ impl Pen {
             Piece::Picture => self.put_sign(out, b"[picture]"),
             Piece::Object => self.put_sign(out, b"[object]"),
         }
+    }
+
+    /// Puts what stands before the text of a link.
+    pub(crate) fn put_link_front<K: Sink>(&mut self, out: &mut K)
+        ensures { PutsTokens K.Sink out.old self.old out.new self.new (Markup 91 ∷ []) }
+    {
+        self.put_markup(out, b"[");
+    }
+
+    /// Puts what stands behind it.
+    pub(crate) fn put_link_end<K: Sink>(&mut self, out: &mut K, url: LinkText<'_>)
+        ensures { PutsTokens K.Sink out.old self.old out.new self.new (Markup 93 ∷ Destination url.entry ∷ []) }
+    {
+        self.put_markup(out, b"]");
+        self.put_destination(out, url);
+    }
+
+    /// Puts where a link leads.
+    fn put_destination<K: Sink>(&mut self, out: &mut K, url: LinkText<'_>)
+        ensures { PutsTokens K.Sink out.old self.old out.new self.new (Destination url.entry ∷ []) }
+    {
+        self.page.push_ascii(out, b"(");
+        self.put_url(out, url);
+        self.page.push_ascii(out, b")");
+        self.line = LineState::Within;
+    }
+
+    /// Puts the characters of a URL.
+    fn put_url<K: Sink>(&mut self, out: &mut K, url: LinkText<'_>)
+        ensures prints { Prints K.Sink out.old self.old.page out.new self.new.page (destination_text url.entry) }
+        ensures line { self.new.line ≡ self.old.line }
+    {
+        let mut left = url;
+        while let Some(character) = left.next_char() {
+            self.put_url_character(out, character as u32);
+        }
+    }
+
+    /// Puts a character of a URL, behind a reverse solidus where it could end it.
+    fn put_url_character<K: Sink>(&mut self, out: &mut K, code: u32)
+        requires { IsScalar code }
+        ensures prints { Prints K.Sink out.old self.old.page out.new self.new.page (destination_code code) }
+        ensures line { self.new.line ≡ self.old.line }
+    {
+        self.put_solidus(out, is_escaped_in_destination(code));
+        self.page.push_char(out, code);
     }
 
     /// Puts pieces.

@@ -263,7 +263,7 @@ fn is_start(line: LineState) -> bool
 {
     match line {
         LineState::Start => true,
-        LineState::Digits | LineState::Within | LineState::Bracket => false,
+        LineState::Digits | LineState::Within | LineState::Bracket | LineState::Colon => false,
     }
 }
 

@@ -1,7 +1,8 @@
 // Places as Markdown has them.
-ghost use Rattle.std.specs.Prelude.{◌≡◌, ◌+◌, ◌≤◌, ◌++◌, [], filter, length};
+ghost use Rattle.std.specs.Prelude.{◌≡◌, ◌+◌, ◌≤◌, ◌++◌, [], false, filter, length};
 ghost use Rattle.std.specs.List.{cons_option};
 ghost use Rattle.markdown_page.specs.Shape.{inner_kind, is_from_note, is_space, is_to_note, is_white, keeps, kind_of};
+ghost use Rattle.markdown_page.specs.Runs.{has_emphasis, is_emphasis, is_emphasis_in};
 ghost use Rattle.markdown_page.specs.Shape.{shaped_glyph, shaped_path, without_number};
 
 use view_paths::{MAX_DEPTH, Path};
@@ -61,7 +62,7 @@ pub(crate) fn inner_kind(path: &Path<Element>) -> Kind
 }
 
 /// Whether a unit is white space of Unicode.
-fn is_white(unit: u16) -> bool
+pub(crate) fn is_white(unit: u16) -> bool
     ensures { result ≡ is_white unit }
 {
     match unit {
@@ -132,6 +133,37 @@ fn push_kept(path: &mut Path<Element>, element: Option<Element>, inner: Kind, sp
     }
 }
 
+/// Whether white space stands outside of an element of a path.
+pub(crate) fn has_emphasis(path: &Path<Element>) -> bool
+    ensures { result ≡ false → has_emphasis path.now ≡ false }
+{
+    for i in 0..path.len() {
+        if is_emphasis_in(path.get(i)) {
+            return true;
+        }
+    }
+    false
+}
+
+/// Whether it stands outside of an element.
+fn is_emphasis_in(element: Option<Element>) -> bool
+    ensures { result ≡ is_emphasis_in element }
+{
+    match element {
+        None => false,
+        Some(element) => is_emphasis(kind_of(element)),
+    }
+}
+
+fn is_emphasis(kind: Kind) -> bool
+    ensures { result ≡ is_emphasis kind }
+{
+    match kind {
+        Kind::Emphasis => true,
+        Kind::Block | Kind::ToNote | Kind::FromNote | Kind::Tagged | Kind::Unmarked => false,
+    }
+}
+
 /// What is shown there.
 pub(crate) fn shaped_glyph(inner: Kind, glyph: Option<Glyph>) -> Option<Glyph>
     ensures { result ≡ shaped_glyph inner glyph }
@@ -145,7 +177,7 @@ pub(crate) fn shaped_glyph(inner: Kind, glyph: Option<Glyph>) -> Option<Glyph>
     }
 }
 
-fn is_from_note(kind: Kind) -> bool
+pub(crate) fn is_from_note(kind: Kind) -> bool
     ensures { result ≡ is_from_note kind }
 {
     match kind {

@@ -7,7 +7,7 @@ use Rattle.std.proofs.lemmas.Bool.{eqb-true}
 use Rattle.std.specs.Prelude.{Option, None, map}
 use Rattle.std.specs.List.{list_all}
 use Rattle.markdown_text.specs.declared.line.LineState.{LineState}
-use Rattle.markdown_text.specs.declared.line.LineState.TheVariants.{Start, Digits, Within, Bracket}
+use Rattle.markdown_text.specs.declared.line.LineState.TheVariants.{Start, Digits, Within, Bracket, Colon}
 use Rattle.markdown_text.specs.Lines.{is_special, after_character, after_markup, after_markups, after_tag}
 use Rattle.markdown_text.specs.Tokens.{Token, Character, Markup, Tag, Destination, after_token, after_tokens, are_right}
 use Rattle.markdown_text.specs.Tokens.{destination_code, destination_text, escaped, escaped_by, is_bracket}
@@ -58,24 +58,28 @@ feed Start rest = refl
 feed Digits rest = refl
 feed Within rest = refl
 feed Bracket rest = refl
+feed Colon rest = refl
 
 return : (state : LineState) (rest : List ℕ) → IsRead state rest 13
 return Start rest = refl
 return Digits rest = refl
 return Within rest = refl
 return Bracket rest = refl
+return Colon rest = refl
 
 tab : (state : LineState) (rest : List ℕ) → IsRead state rest 9
 tab Start rest = refl
 tab Digits rest = refl
 tab Within rest = refl
 tab Bracket rest = refl
+tab Colon rest = refl
 
 space : (state : LineState) (rest : List ℕ) → IsRead state rest 32
 space Start rest = refl
 space Digits rest = refl
 space Within rest = refl
 space Bracket rest = refl
+space Colon rest = refl
 
 -- behind a reverse solidus
 behind_escape : (state : LineState) (code : ℕ) (rest : List ℕ) → read_from (In_text state) (92 ∷ code ∷ rest) ≡
@@ -84,6 +88,7 @@ behind_escape Start code rest = refl
 behind_escape Digits code rest = refl
 behind_escape Within code rest = refl
 behind_escape Bracket code rest = refl
+behind_escape Colon code rest = refl
 
 -- by itself
 plain : (state : LineState) (code : ℕ) (rest : List ℕ) → is_special state code ≡ false →
@@ -153,6 +158,7 @@ tag_begins Start text = refl
 tag_begins Digits text = refl
 tag_begins Within text = refl
 tag_begins Bracket text = refl
+tag_begins Colon text = refl
 
 -- a character of a destination
 read-code : (so_far : List ℕ) (code : ℕ) (rest : List ℕ) (markup : Bool) → is_destination_markup code ≡ markup →
@@ -178,6 +184,7 @@ destination_begins Start text e = absurd (cc (e))
 destination_begins Digits text e = absurd (cc (e))
 destination_begins Within text e = absurd (cc (e))
 destination_begins Bracket text e = refl
+destination_begins Colon text e = absurd (cc (e))
 
 -- ---- tokens
 

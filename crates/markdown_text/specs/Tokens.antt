@@ -3,7 +3,7 @@ use Rattle.std.specs.Prelude.{ℕ, Bool, true, false, not, ◌&&◌, ◌==◌, L
 use Rattle.std.specs.Prelude.{Option, Some, None}
 use Rattle.std.specs.List.{flat_map, list_all}
 use Rattle.markdown_text.specs.declared.line.LineState.{LineState}
-use Rattle.markdown_text.specs.declared.line.LineState.TheVariants.{Start, Digits, Within, Bracket}
+use Rattle.markdown_text.specs.declared.line.LineState.TheVariants.{Start, Digits, Within, Bracket, Colon}
 use Rattle.markdown_text.specs.Lines.{is_among, is_special, after_character, after_markup, after_tag}
 
 -- a character of the document, a character of markup, what stands between < and >, or the destination of a link
@@ -19,6 +19,7 @@ start_reference Start code = Some (if code == 32 then codes "&#32;" else codes "
 start_reference Digits code = None
 start_reference Within code = None
 start_reference Bracket code = None
+start_reference Colon code = None
 
 -- the reference of the end of a line
 abbrev pub break_reference : ℕ → List ℕ
@@ -80,6 +81,7 @@ is_bracket Start = false
 is_bracket Digits = false
 is_bracket Within = false
 is_bracket Bracket = true
+is_bracket Colon = false
 
 -- markup begins no escape, reference, tag or destination by itself, a tag has no > of its own, and a destination stands
 -- behind a bracket

@@ -2,8 +2,10 @@
 ghost use Rattle.std.specs.Prelude.{◌≡◌, option_map, IfSome};
 ghost use Rattle.std.specs.Str.{IsAscii};
 ghost use Rattle.markdown_text.specs.Lines.{after_character, after_markup, after_markups, after_special, after_tag};
-ghost use Rattle.markdown_text.specs.Lines.{is_always_special, is_special};
+ghost use Rattle.markdown_text.specs.Lines.{after_text, is_always_special, is_digit, is_name, is_special};
 ghost use Rattle.markdown_text.specs.Tokens.{break_reference, is_destination_markup, reference, start_reference};
+
+const COLON: u32 = 0x3A;
 
 /// What stands before a place in its line: it decides which characters are markup there.
 #[derive(Clone, Copy)]
@@ -16,6 +18,8 @@ pub enum LineState {
     Within,
     /// Text that ends with the closing bracket of a link or of a reference to a note.
     Bracket,
+    /// Text that ends with a colon, or with one and a name behind it, which another colon would make a picture of.
+    Colon,
 }
 
 impl LineState {
@@ -55,6 +59,7 @@ impl LineState {
             LineState::Digits => matches!(code, 0x2E | 0x29),
             LineState::Within => false,
             LineState::Bracket => matches!(code, 0x28 | 0x3A),
+            LineState::Colon => code == COLON,
         }
     }
 
@@ -63,14 +68,29 @@ impl LineState {
         ensures { result ≡ after_character self code }
     {
         match self {
-            LineState::Start | LineState::Digits => {
-                if code >= 0x30 && code <= 0x39 {
+            LineState::Start => {
+                if is_digit(code) {
                     LineState::Digits
                 } else {
                     LineState::Within
                 }
             }
-            _ => LineState::Within,
+            LineState::Digits => {
+                if is_digit(code) {
+                    LineState::Digits
+                } else {
+                    after_text(code)
+                }
+            }
+            LineState::Within => after_text(code),
+            LineState::Bracket => LineState::Within,
+            LineState::Colon => {
+                if is_name(code) {
+                    LineState::Colon
+                } else {
+                    LineState::Within
+                }
+            }
         }
     }
 
@@ -90,7 +110,7 @@ impl LineState {
         ensures { result ≡ after_tag self }
     {
         match self {
-            LineState::Bracket => LineState::Within,
+            LineState::Bracket | LineState::Colon => LineState::Within,
             state => state,
         }
     }
@@ -124,8 +144,32 @@ fn is_always_special(code: u32) -> bool
 {
     match code {
         0x0A | 0x0D | 0x5C | 0x60 | 0x2A | 0x5F | 0x5B | 0x5D | 0x3C | 0x3E | 0x26 | 0x7C => true,
-        0x7E | 0x24 | 0x23 | 0x21 => true,
+        0x7E | 0x24 | 0x23 | 0x21 | 0x5E => true,
         _ => false,
+    }
+}
+
+fn is_digit(code: u32) -> bool
+    ensures { result ≡ is_digit code }
+{
+    code >= 0x30 && code <= 0x39
+}
+
+/// Whether a character is one of a name between colons, which some readers take for a picture.
+fn is_name(code: u32) -> bool
+    ensures { result ≡ is_name code }
+{
+    matches!(code, 0x30..=0x39 | 0x41..=0x5A | 0x61..=0x7A | 0x2B | 0x2D)
+}
+
+/// Behind a character within text.
+fn after_text(code: u32) -> LineState
+    ensures { result ≡ after_text code }
+{
+    if code == COLON {
+        LineState::Colon
+    } else {
+        LineState::Within
     }
 }
 

@@ -17,4 +17,5 @@ returns-in-Some g c =
     place_shown g.K.Sink c.args.out.now c.go.new.out c.show.new.out c.args.self.now c.go.new.self c.show.new.self
     c.args.to.now c.shaped_path-shaped.result c.args.glyph c.in-Some.glyph c.shaped_path-shaped.ensures
     (ap (λ (inner : Kind). shaped_glyph inner c.args.glyph) (sym c.inner_kind.ensures) ∙ sym c.shaped_glyph.ensures
-    ∙ c.in-Some.is) c.go.ensures c.show.ensures.puts c.show.ensures.path c.show.ensures.context
+    ∙ c.in-Some.is) c.go.ensures c.show.ensures.puts c.show.ensures.path c.show.ensures.document
+    c.show.ensures.context

@@ -1,6 +1,6 @@
 use Rattle.std.proofs.Common.{◌≡◌, take, true}
-use Rattle.html_page.specs.Links.{is_plain}
-use Rattle.html_page.proofs.links.is_plain.Given as goal
+use Rattle.link_targets.specs.Links.{is_plain}
+use Rattle.link_targets.proofs.links.is_plain.Given as goal
 
 -- none so far begins a field
 abbrev pub invariant-loop-unit : goal.invariant-loop-unit

@@ -1,6 +1,6 @@
 // Where the links of a document lead, and what its bookmarks are called.
 ghost use Rattle.std.specs.Prelude.{◌≡◌, None, Some, MatchOption};
-ghost use Rattle.html_page.specs.Links.{between, bookmark_name, instruction_of, is_plain, units_of, url_in};
+ghost use Rattle.link_targets.specs.Links.{between, bookmark_name, instruction_of, is_plain, units_of, url_in};
 
 use doc_columns::ColumnDocument;
 use field_links::{LinkText, link_of};
@@ -10,7 +10,7 @@ use view_places::Link;
 const FIELD_BEGIN: u16 = 0x13;
 
 /// The instruction of a link.
-pub(crate) fn instruction_of(document: &ColumnDocument, link: Link) -> &[u16]
+pub fn instruction_of(document: &ColumnDocument, link: Link) -> &[u16]
     ensures { result.now ≡ instruction_of document.now link }
 {
     between(units_of(document, link.note), link.begin, link.end)
@@ -42,7 +42,7 @@ fn between(units: &[u16], begin: usize, end: usize) -> &[u16]
 }
 
 /// Where the field of an instruction leads.
-pub(crate) fn url_in(instruction: &[u16]) -> Option<LinkText<'_>>
+pub fn url_in(instruction: &[u16]) -> Option<LinkText<'_>>
     ensures { MatchOption result (url_in instruction.now ≡ None) (λ text. url_in instruction.now ≡ Some text) }
 {
     if is_plain(instruction) {
@@ -65,7 +65,7 @@ fn is_plain(instruction: &[u16]) -> bool
 }
 
 /// The name of the bookmark with this number.
-pub(crate) fn bookmark_name(document: &ColumnDocument, number: usize) -> Option<&[u16]>
+pub fn bookmark_name(document: &ColumnDocument, number: usize) -> Option<&[u16]>
     ensures { MatchOption result (bookmark_name document.now number ≡ None)
         (λ name. bookmark_name document.now number ≡ Some name.now) }
 {
