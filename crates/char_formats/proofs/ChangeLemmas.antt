@@ -7,7 +7,8 @@ use Rattle.effective_props.specs.ValueSteps.{layer_over}
 use Rattle.char_formats.specs.declared.change.Change.{Change}
 use Rattle.char_formats.specs.declared.flag.Flag.{Flag}
 use Rattle.char_formats.specs.declared.format.Position.{Position}
-use Rattle.char_formats.specs.Formats.{is_set, position_of, symbol_of, format_in}
+use Rattle.char_formats.specs.declared.format.Symbol.{Symbol}
+use Rattle.char_formats.specs.Formats.{font_of, is_set, position_of, symbol_of, format_in}
 use Rattle.char_formats.specs.Flags.{code_at, flag_at, does, flag_then, flag_by, flag_after}
 use Rattle.char_formats.specs.Changes.{Act, with_value, instead, IsChangeOf}
 use Rattle.char_formats.proofs.FlagLemmas.{does-then, set-layer_over, plain_code}
@@ -20,6 +21,7 @@ same_act one other change agree h = record {
   flags = λ i low before. ap is_set (sym (agree (code_at i) before)) ∙ h.flags i low before;
   position = λ before. ap position_of (sym (agree 0x2A48 before)) ∙ h.position before;
   symbol = λ before. ap symbol_of (sym (agree 0x6A09 before)) ∙ h.symbol before;
+  font = λ before. ap font_of (sym (agree 0x4A51 before)) ∙ h.font before;
 }
 
 instead-or : {A : Type 0} (next first : Option A) (before : A) → instead (option_or next first) before ≡ instead next
@@ -34,9 +36,9 @@ instead-unwrap (Some after) before = refl
 -- one change after another
 pub change-then : (first next made : Change) (one other : Act) → length made.flags ≡ 12 → ((i : ℕ) → i < 12 → flag_at
     made.flags i ≡ flag_then (flag_at first.flags i) (flag_at next.flags i)) → made.position ≡ option_or next.position
-    first.position → made.symbol ≡ option_or next.symbol first.symbol → IsChangeOf one first → IsChangeOf other next →
-    IsChangeOf (λ code before. other code (one code before)) made
-change-then first next made one other count flags position symbol h k = record {
+    first.position → made.symbol ≡ option_or next.symbol first.symbol → made.font ≡ option_or next.font first.font →
+    IsChangeOf one first → IsChangeOf other next → IsChangeOf (λ code before. other code (one code before)) made
+change-then first next made one other count flags position symbol font h k = record {
   count = count;
   flags = λ i low before.
       k.flags i low (one (code_at i) before) ∙ (ap (does (flag_at next.flags i)) (h.flags i low before)
@@ -50,6 +52,9 @@ change-then first next made one other count flags position symbol h k = record {
       k.symbol (one 0x6A09 before) ∙ (ap (instead next.symbol) (h.symbol before)
       ∙ (sym (instead-or next.symbol first.symbol (symbol_of before))
       ∙ ap (λ o. instead o (symbol_of before)) (sym symbol)));
+  font = λ before.
+      k.font (one 0x4A51 before) ∙ (ap (instead next.font) (h.font before)
+      ∙ (sym (instead-or next.font first.font (font_of before)) ∙ ap (λ o. instead o (font_of before)) (sym font)));
 }
 
 test_turned : (a b : ℕ) → (a == b) ≡ (b == a)
@@ -87,7 +92,7 @@ position_laid act old code value before h =
       | false ↦ h
     ])
 
-symbol_laid : (act : Act) (old : Option (Option ℕ)) (code : ℕ) (value : List ℕ) (before : Option (List ℕ)) → symbol_of
+symbol_laid : (act : Act) (old : Option (Option Symbol)) (code : ℕ) (value : List ℕ) (before : Option (List ℕ)) → symbol_of
     (act 0x6A09 before) ≡ instead old (symbol_of before) → symbol_of (with_value code value act 0x6A09 before) ≡ instead
     (cond (code == 0x6A09) (Some (symbol_of (Some value))) old) (symbol_of before)
 symbol_laid act old code value before h =
@@ -98,12 +103,24 @@ symbol_laid act old code value before h =
       | false ↦ h
     ])
 
+font_laid : (act : Act) (old : Option (Option ℕ)) (code : ℕ) (value : List ℕ) (before : Option (List ℕ)) → font_of
+    (act 0x4A51 before) ≡ instead old (font_of before) → font_of (with_value code value act 0x4A51 before) ≡ instead
+    (cond (code == 0x4A51) (Some (font_of (Some value))) old) (font_of before)
+font_laid act old code value before h =
+    rw (test_turned code 0x4A51) (elim (0x4A51 == code) as (λ b. font_of (cond b (layer_over 0x4A51 (act 0x4A51
+    before) (Some value)) (act 0x4A51 before)) ≡ instead (cond b (Some (font_of (Some value))) old) (font_of
+    before)) [
+      | true ↦ refl
+      | false ↦ h
+    ])
+
 -- a value at a code after a change
 pub change-laid : (old new : Change) (code : ℕ) (value : List ℕ) (act : Act) → length new.flags ≡ 12 → ((i : ℕ) → i < 12
     → flag_at new.flags i ≡ flag_after (flag_at old.flags i) (code_at i) code value) → new.position ≡ cond (code ==
     0x2A48) (Some (position_of (Some value))) old.position → new.symbol ≡ cond (code == 0x6A09) (Some (symbol_of (Some
-    value))) old.symbol → IsChangeOf act old → IsChangeOf (with_value code value act) new
-change-laid old new code value act count flags position symbol h = record {
+    value))) old.symbol → new.font ≡ cond (code == 0x4A51) (Some (font_of (Some value))) old.font → IsChangeOf act old →
+    IsChangeOf (with_value code value act) new
+change-laid old new code value act count flags position symbol font h = record {
   count = count;
   flags = λ i low before.
       flag_laid act (flag_at old.flags i) i code value before low (h.flags i low before)
@@ -114,6 +131,8 @@ change-laid old new code value act count flags position symbol h = record {
   symbol = λ before.
       symbol_laid act old.symbol code value before (h.symbol before)
       ∙ ap (λ o. instead o (symbol_of before)) (sym symbol);
+  font = λ before.
+      font_laid act old.font code value before (h.font before) ∙ ap (λ o. instead o (font_of before)) (sym font);
 }
 
 -- a setting that was off before a change
@@ -142,4 +161,5 @@ format_in-same one other same =
       same 0x080A,
       same 0x0856,
       same 0x6A09,
+      same 0x4A51,
     )

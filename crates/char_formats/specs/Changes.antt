@@ -4,7 +4,7 @@ use Rattle.std.specs.FinMap.{get}
 use Rattle.prop_map.specs.Settings.{Settings}
 use Rattle.effective_props.specs.ValueSteps.{layer_over}
 use Rattle.char_formats.specs.declared.change.Change.{Change}
-use Rattle.char_formats.specs.Formats.{is_set, position_of, symbol_of}
+use Rattle.char_formats.specs.Formats.{font_of, is_set, position_of, symbol_of}
 use Rattle.char_formats.specs.Flags.{code_at, flag_at, does}
 
 -- what is made of the value so far, at each code
@@ -43,3 +43,4 @@ pub record IsChangeOf (act : Act) (change : Change) : Type 0 where
   pub position : (before : Option (List ℕ)) → position_of (act 0x2A48 before) ≡ instead change.position (position_of
       before)
   pub symbol : (before : Option (List ℕ)) → symbol_of (act 0x6A09 before) ≡ instead change.symbol (symbol_of before)
+  pub font : (before : Option (List ℕ)) → font_of (act 0x4A51 before) ≡ instead change.font (font_of before)

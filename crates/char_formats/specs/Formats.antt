@@ -8,6 +8,7 @@ use Rattle.effective_props.specs.Values.{effective_value}
 use Rattle.effective_props.specs.Layers.{AreCharacterLayers}
 use Rattle.char_formats.specs.declared.format.CharFormat.{CharFormat}
 use Rattle.char_formats.specs.declared.format.Position.{Position}
+use Rattle.char_formats.specs.declared.format.Symbol.{Symbol}
 use Rattle.char_formats.specs.declared.format.Position.TheVariants.{Normal, Raised, Lowered}
 
 -- a value is there, and it is not the one byte 00
@@ -22,12 +23,19 @@ position_of (Some value) = if is_byte value 1 then Raised else if is_byte value 
 
 -- [MS-DOC] CSymbolOperand: the font, and the code of the character
 -- Profile: a value of another length names no character
-abbrev pub symbol_of : Option (List ℕ) → Option ℕ
+abbrev pub symbol_of : Option (List ℕ) → Option Symbol
 symbol_of None = None
-symbol_of (Some value) = if length value == 4 then Some (u16_at value 2) else None
+symbol_of (Some value) =
+    if length value == 4 then Some (record { font = u16_at value 0; code = u16_at value 2 }) else None
+
+-- [MS-DOC] sprmCRgFtc2: the font, by its number in SttbfFfn
+-- Profile: a value of another length names none
+abbrev pub font_of : Option (List ℕ) → Option ℕ
+font_of None = None
+font_of (Some value) = if length value == 2 then Some (u16_at value 0) else None
 
 -- [MS-DOC] sprmCFBold, sprmCFItalic, sprmCKul, sprmCFStrike and sprmCFDStrike, sprmCFSmallCaps, sprmCFCaps, sprmCIss,
--- sprmCFVanish, sprmCFSpec, sprmCFData, sprmCFOle2 and sprmCFObj, sprmCSymbol
+-- sprmCFVanish, sprmCFSpec, sprmCFData, sprmCFOle2 and sprmCFObj, sprmCSymbol, sprmCRgFtc2
 unfoldable pub format_in : (ℕ → Option (List ℕ)) → CharFormat
 format_in values = record {
   bold = is_set (values 0x0835);
@@ -42,6 +50,7 @@ format_in values = record {
   of_field = is_set (values 0x0806);
   object = is_set (values 0x080A) || is_set (values 0x0856);
   symbol = symbol_of (values 0x6A09);
+  font = font_of (values 0x4A51);
 }
 
 -- the format of a character, with these direct settings, in a paragraph of the style

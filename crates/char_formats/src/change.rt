@@ -1,11 +1,11 @@
 // What layers of settings make of a format, whatever it was.
 ghost use Rattle.std.specs.Prelude.{◌≡◌, ◌==◌, ◌<◌, ℕ, length, Option, Some, None, if◌then◌else◌};
-ghost use Rattle.char_formats.specs.Formats.{position_of, symbol_of, format_in};
+ghost use Rattle.char_formats.specs.Formats.{font_of, position_of, symbol_of, format_in};
 ghost use Rattle.char_formats.specs.Flags.{code_at, flag_at, flag_after, flag_then};
 ghost use Rattle.char_formats.specs.Changes.{Act, no_act, with_layer, with_value, IsChangeOf};
 
 use crate::flag::{Flag, is_byte};
-use crate::{CharFormat, Position};
+use crate::{CharFormat, Position, Symbol};
 use doc_bits::get16;
 use prop_map::PropMap;
 use sprm_table::Code;
@@ -15,6 +15,9 @@ const SPRM_C_ISS: Code = Code(0x2A48);
 
 /// [MS-DOC] sprmCSymbol.
 const SPRM_C_SYMBOL: Code = Code(0x6A09);
+
+/// [MS-DOC] sprmCRgFtc2.
+const SPRM_C_RG_FTC2: Code = Code(0x4A51);
 
 /// How many settings that are on or off are looked at.
 const FLAG_COUNT: usize = 12;
@@ -34,7 +37,8 @@ pub(crate) struct Change {
     /// Of those that are on or off, in the order of their codes.
     pub(crate) flags: [Flag; FLAG_COUNT],
     pub(crate) position: Option<Position>,
-    pub(crate) symbol: Option<Option<u16>>,
+    pub(crate) symbol: Option<Option<Symbol>>,
+    pub(crate) font: Option<Option<u16>>,
 }
 
 impl Change {
@@ -46,6 +50,7 @@ impl Change {
             flags: [Flag::Keep; FLAG_COUNT],
             position: None,
             symbol: None,
+            font: None,
         }
     }
 
@@ -58,6 +63,7 @@ impl Change {
         add_flags(&mut made.flags, &next.flags);
         made.position = next.position.or(self.position);
         made.symbol = next.symbol.or(self.symbol);
+        made.font = next.font.or(self.font);
         made
     }
 
@@ -78,6 +84,7 @@ impl Change {
         lay_flag(&mut self.flags, code, value);
         self.position = position_after(self.position, code, value);
         self.symbol = symbol_after(self.symbol, code, value);
+        self.font = font_after(self.font, code, value);
     }
 
     /// The format of a character of which nothing was said before.
@@ -111,6 +118,7 @@ impl Change {
             of_field: data.is_on(),
             object: ole.is_on() | object.is_on(),
             symbol: self.symbol.unwrap_or(None),
+            font: self.font.unwrap_or(None),
         }
     }
 }
@@ -167,14 +175,30 @@ fn position_after(before: Option<Position>, code: Code, value: &[u8]) -> Option<
 }
 
 /// The symbol after a value at a code.
-fn symbol_after(before: Option<Option<u16>>, code: Code, value: &[u8]) -> Option<Option<u16>>
+fn symbol_after(before: Option<Option<Symbol>>, code: Code, value: &[u8]) -> Option<Option<Symbol>>
     ensures { result ≡ (if code.0 == 0x6A09 then Some (symbol_of (Some value.now)) else before) }
 {
     if code != SPRM_C_SYMBOL {
         return before;
     }
     if value.len() == 4 {
-        return Some(Some(get16(value, 2)));
+        return Some(Some(Symbol {
+            font: get16(value, 0),
+            code: get16(value, 2),
+        }));
+    }
+    Some(None)
+}
+
+/// The font after a value at a code.
+fn font_after(before: Option<Option<u16>>, code: Code, value: &[u8]) -> Option<Option<u16>>
+    ensures { result ≡ (if code.0 == 0x4A51 then Some (font_of (Some value.now)) else before) }
+{
+    if code != SPRM_C_RG_FTC2 {
+        return before;
+    }
+    if value.len() == 2 {
+        return Some(Some(get16(value, 0)));
     }
     Some(None)
 }

@@ -10,6 +10,13 @@ pub enum Position {
     Lowered,
 }
 
+/// A symbol that is shown in place of a unit: the number of its font in the font table, and its code in that font.
+#[derive(Clone, Copy, PartialEq, Eq)]
+pub struct Symbol {
+    pub font: u16,
+    pub code: u16,
+}
+
 /// How a character looks, and what else its effective settings say of it.
 #[derive(Clone, Copy, PartialEq, Eq)]
 pub struct CharFormat {
@@ -28,6 +35,8 @@ pub struct CharFormat {
     pub of_field: bool,
     /// It stands for an object.
     pub object: bool,
-    /// The code of the character that is shown in its place.
-    pub symbol: Option<u16>,
+    /// What is shown in its place.
+    pub symbol: Option<Symbol>,
+    /// The number of its font in the font table, where it is no character of ASCII and of no East Asian script.
+    pub font: Option<u16>,
 }

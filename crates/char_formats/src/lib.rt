@@ -8,6 +8,6 @@ mod laws;
 mod style_changes;
 mod style_formats;
 
-pub use format::{CharFormat, Position};
+pub use format::{CharFormat, Position, Symbol};
 pub use laws::{char_format_is_one, char_format_is_there};
 pub use style_formats::StyleFormats;

@@ -5,3 +5,4 @@ pub mod HeadLemmas
 pub mod TextLemmas
 pub mod NoteLemmas
 pub mod PageLemmas
+pub mod RunLemmas

@@ -7,6 +7,7 @@ use Rattle.std.proofs.Math.Seq.{take-append_seam}
 use Rattle.std.proofs.lemmas.List.{take_all}
 use Rattle.std.proofs.lemmas.List.Elements.{filter_map-append}
 use Rattle.plain_doc.specs.declared.item.Item.{Item}
+use Rattle.symbol_fonts.specs.declared.fonts.SymbolFonts.{SymbolFonts}
 use Rattle.doc_view.specs.declared.reading.Seen.{Seen}
 use Rattle.doc_view.specs.declared.reading.TextKind.TheVariants as text_kind
 use Rattle.doc_view.specs.Course.{has_reference}
@@ -68,7 +69,7 @@ unfolding title_in
 no_title paragraphs none = ap title_in none
 
 -- in the text of a header nothing refers to a note
-pub none_met : (hidden : Bool) (items : List Item) →
-    count_by (has_reference (record { hidden = hidden; kind = text_kind.Header })) items ≡ 0
-none_met hidden [] = refl
-none_met hidden (item ∷ items) = none_met hidden items
+pub none_met : (hidden : Bool) (fonts : SymbolFonts) (items : List Item) →
+    count_by (has_reference (record { hidden = hidden; kind = text_kind.Header; fonts = fonts })) items ≡ 0
+none_met hidden fonts [] = refl
+none_met hidden fonts (item ∷ items) = none_met hidden fonts items

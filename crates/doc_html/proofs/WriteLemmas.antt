@@ -1,14 +1,16 @@
 -- Items that are written one after another.
-use Rattle.std.proofs.Common.{◌≡◌, ◌∙◌, ℕ, ◌+◌, ◌<◌, ◌≤◌, List, [], ◌∷◌, ◌++◌, length, take, refl, sym, ap, subst}
+use Rattle.std.proofs.Common.{◌≡◌, ◌∙◌, ℕ, suc, ◌+◌, ◌<◌, ◌≤◌, List, [], ◌∷◌, ◌++◌, length, take, refl, sym, ap, subst}
 use Rattle.std.proofs.Common.{arith}
-use Rattle.std.proofs.Common.{append_assoc, append-nil, Option, Some, None, length-append, Bool, true, false, not}
+use Rattle.std.proofs.Common.{append_assoc, append-nil, Option, Some, None, length-append, length-take, Bool, true, false, not}
 use Rattle.std.proofs.Common.{◌&&◌, ◌||◌}
-use Rattle.std.specs.Prelude.{slice_get, if◌then◌else◌}
+use Rattle.std.specs.Prelude.{slice_get, if◌then◌else◌, is_some}
 use Rattle.view_places.specs.declared.glyph.Glyph.{Glyph}
 use Rattle.std.specs.List.{cons_option}
 use Rattle.std.proofs.lemmas.List.Elements.{filter_map-append}
+use Rattle.std.proofs.lemmas.Option.{slice_get_within}
 use Rattle.doc_outer.specs.declared.sink.Sink.{Ghosts}
 use Rattle.plain_doc.specs.declared.item.Item.{Item}
+use Rattle.doc_columns.specs.Beside.{beside_of}
 use Rattle.doc_columns.specs.declared.beside.Beside.{Beside}
 use Rattle.doc_columns.specs.declared.walk.Walk.{Walk}
 use Rattle.char_formats.specs.declared.format.CharFormat.{CharFormat}
@@ -24,13 +26,14 @@ use Rattle.doc_view.specs.declared.text.Course.{Course}
 use Rattle.doc_view.specs.Course.{IsCourse, with_reference}
 use Rattle.doc_view.specs.Kept.{KeptReferences}
 use Rattle.doc_view.specs.Seen.{Formats, front_of, references_in, seen_as, some_shown}
-use Rattle.doc_view.proofs.RangeLemmas.{seen_none, seen_one, seen_range, seen_then}
+use Rattle.doc_view.proofs.RangeLemmas.{one_more_front, seen_none, seen_one, seen_range, seen_then}
 use Rattle.doc_view.proofs.CourseLemmas.{course_walk}
 use Rattle.std.proofs.Math.Bool.{or_assoc}
 use Rattle.std.proofs.lemmas.List.Folds.{list_any-append}
 use Rattle.doc_places.specs.Places.{count_of, item_places, items_places, label_places, link_to, place_of}
+use Rattle.doc_places.specs.Places.{up_to_reference}
+use Rattle.doc_places.proofs.LinkLemmas.{up_to_reference-more}
 use Rattle.view_places.specs.declared.element.Link.{Link}
-use Rattle.field_links.specs.declared.places.OpenField.{OpenField}
 use Rattle.field_links.specs.OpenFields.{hyperlink_in}
 use Rattle.doc_places.specs.declared.links.Origin.{Origin}
 use Rattle.doc_places.proofs.PlaceLemmas.{count_one, items_places-append, items_places-hidden, items_places-none, items_places-one}
@@ -237,11 +240,12 @@ item_writes sink out mid next page said left begun count place kept links block 
     }
 
 pub item_written : {K : Type 0} (sink : Ghosts K) (out mid next : K) (page said left : FormPage) (begun : Bool)
-    (count : ℕ) (origin : Origin) (link : Option Link) (block : List Element) (label : List ℕ) (manner : Manner) (items :
+    (count referred : ℕ) (origin : Origin) (link : Option Link) (block : List Element) (label : List ℕ) (manner : Manner) (items :
     List Item) (course : Course) (format : CharFormat) (item : Item) (seen : Seen) (formats : Formats) (istd : ℕ)
     → IsCourse manner items course → slice_get items course.place ≡ Some item → seen ≡ seen_as manner format
     course.front item → formats istd item.chp ≡ format →
-    link ≡ link_to origin.note (hyperlink_in origin.begin course.fields) →
+    referred ≡ up_to_reference (take course.place items) →
+    link ≡ link_to origin.note referred (hyperlink_in origin.begin course.fields) →
     PutsPlaces sink out page mid said (if seen.is_shown && not begun then label_places block label else []) →
     PutsPlaces sink mid said next left (item_places block link count seen) →
     Writes sink (record {
@@ -260,11 +264,11 @@ pub item_written : {K : Type 0} (sink : Ghosts K) (out mid next : K) (page said 
       place = course.place + 1;
       references = (with_reference course.references seen.reference).list;
     }) (links_in origin items) block label (seen_range formats manner istd items course.place (course.place + 1))
-item_written sink out mid next page said left begun count origin link block label manner items course format item seen
-    formats istd is here same formed leads first puts =
+item_written sink out mid next page said left begun count referred origin link block label manner items course format item
+    seen formats istd is here same formed up_to leads first puts =
     let links = links_in origin items in
     let right : link ≡ links course.place =
-    leads ∙ ap (λ (fields : List OpenField). link_to origin.note (hyperlink_in origin.begin fields)) is.fields in
+    leads ∙ (λ i. link_to origin.note (up_to i) (hyperlink_in origin.begin (is.fields i))) in
     subst (λ (all : List Seen). Writes sink (record {
       out = out;
       page = page;
@@ -287,9 +291,20 @@ item_written sink out mid next page said left begun count origin link block labe
     first (puts_same sink mid next said left (item_places block link count seen) (item_places block (links course.place)
     count seen) (ap (λ (l : Option Link). item_places block l count seen) right) puts))
 
+-- where the last reference ends behind the item
+pub referred_on : (items : List Item) (place : ℕ) (item : Item) (beside : Beside) (referred : ℕ) → slice_get items place
+    ≡ Some item → beside_of item ≡ beside → referred ≡ up_to_reference (take place items) →
+    (if is_some beside.note then place + 1 else referred) ≡ up_to_reference (take (place + 1) items)
+referred_on items place item beside referred here same is =
+    let within = slice_get_within items place item here in
+    let front = take place items in
+    let long : place + 1 ≡ suc (length front) = omega (arith, length-take place items, within) in
+    (λ i. if is_some ((sym same i).note) then long i else is i) ∙ sym (up_to_reference-more front item)
+    ∙ ap up_to_reference (sym (one_more_front items place item here))
+
 -- the walk over the columns is none of where the reading is
 pub reading_walk : (manner : Manner) (items : List Item) (reading : Reading) (walk : Walk) → IsReading manner items
     reading →
     IsReading manner items (record reading { course = record reading.course { walk = walk } })
 reading_walk manner items reading walk is =
-    record { course = course_walk manner items reading.course walk is.course; few = is.few }
+    record { course = course_walk manner items reading.course walk is.course; few = is.few; referred = is.referred }

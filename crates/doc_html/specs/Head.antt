@@ -93,7 +93,7 @@ title_in (paragraph ∷ more) =
 
 -- Profile: the main text is read as the text of a header is, in which nothing refers to a note
 abbrev pub title_of : Formats → Options → Document → List ℕ
-title_of formats options document = title_in (paragraphs_of formats (header_manner options) document.main)
+title_of formats options document = title_in (paragraphs_of formats (header_manner options document) document.main)
 
 abbrev pub head_of : Formats → Options → Document → Head
 head_of formats options document =

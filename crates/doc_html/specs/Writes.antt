@@ -18,7 +18,7 @@ use Rattle.doc_view.specs.Seen.{Formats, Paragraph, paragraphs_from, references_
 use Rattle.doc_places.specs.Grid.{is_head_row}
 use Rattle.view_places.specs.declared.element.Link.{Link}
 use Rattle.doc_places.specs.declared.links.Origin.{Origin}
-use Rattle.doc_places.specs.Places.{items_places, label_places, links_of}
+use Rattle.doc_places.specs.Places.{items_places, label_places, links_of, up_to_reference}
 use Rattle.doc_html.specs.declared.reading.Reading.{Reading}
 use Rattle.doc_html.specs.declared.writer.Writer.{Writer}
 
@@ -31,10 +31,11 @@ paragraphs_left formats manner items place =
 abbrev pub head_by : Standing → List Paragraph → Bool
 head_by standing more = if keeps_row standing then is_head_row more else ends_head standing
 
--- the course is that of its place, and no more references were met than items
+-- the course is that of its place, no more references were met than items, and the last one ends there
 pub record IsReading (manner : Manner) (items : List Item) (reading : Reading) : Type 0 where
   pub course : IsCourse manner items reading.course
   pub few : reading.count ≤ reading.course.place
+  pub referred : reading.referred ≡ up_to_reference (take reading.course.place items)
 
 -- what was written of a page, whether something of the paragraph was and up to which place, and how many references and
 -- which were met

@@ -20,18 +20,20 @@ use doc_parts::Bookmarks;
 use doc_view::{Manner, Reference, References, Text, TextKind};
 use list_numbers::ParagraphValuesList;
 use std::alloc::Global;
+use symbol_fonts::SymbolFonts;
 use view_places::{Element, Glyph};
 
 /// An arrow back: the label of a note without a number.
 const ARROW_BACK: u16 = 0x21A9;
 
-/// The notes of a document, the formats of its styles, and whether hidden text is shown.
+/// The notes of a document, the formats of its styles, whether hidden text is shown, and the symbol fonts.
 #[derive(Drop)]
 pub(crate) struct Notes<'a> {
     pub(crate) alloc: Global,
     pub(crate) texts: &'a ColumnTexts,
     pub(crate) formats: &'a StyleFormats,
     pub(crate) hidden: bool,
+    pub(crate) fonts: SymbolFonts,
 }
 
 impl Notes<'_> {
@@ -49,7 +51,7 @@ impl Notes<'_> {
         ensures path { writer.new.path ≡ [] }
         ensures puts { (formats : Formats) → AreFormats self.now.formats.now formats
             → PutsPlaces K.Sink out.old writer.old.page out.new writer.new.page
-            (notes_places formats (record { hidden = self.now.hidden; kind = text_kind.Note }) 1 references.now.list
+            (notes_places formats (record { hidden = self.now.hidden; kind = text_kind.Note; fonts = self.now.fonts }) 1 references.now.list
             self.now.texts.now) }
     {
         let count = references.len().min(self.texts.len());
@@ -76,7 +78,7 @@ impl Notes<'_> {
         ensures puts { (formats : Formats) (note : List Item) → AreFormats self.now.formats.now formats
             → slice_get self.now.texts.now k ≡ Some note
             → PutsPlaces K.Sink out.old writer.old.page out.new writer.new.page
-            (note_places formats (record { hidden = self.now.hidden; kind = text_kind.Note }) (k + 1) reference note) }
+            (note_places formats (record { hidden = self.now.hidden; kind = text_kind.Note; fonts = self.now.fonts }) (k + 1) reference note) }
     {
         if !reference.is_shown {
             return;
@@ -88,6 +90,7 @@ impl Notes<'_> {
             manner: Manner {
                 hidden: self.hidden,
                 kind: TextKind::Note,
+                fonts: self.fonts,
             },
         };
         let bookmarks = Bookmarks::new(self.alloc);

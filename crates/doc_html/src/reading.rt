@@ -1,5 +1,7 @@
 // A text that is read and written: its paragraphs, one behind the other.
 ghost use Rattle.std.specs.Prelude.{◌≡◌, ℕ, ◌+◌, ◌^◌, ◌<◌, ◌≤◌, ◌++◌, ◌||◌, List, length, take, slice_range};
+ghost use Rattle.std.specs.Prelude.{is_some, if◌then◌else◌, None, slice_index, true};
+ghost use Rattle.doc_view.specs.Blocks.{IsItself, shows_units};
 ghost use Rattle.std.specs.List.{count_by};
 ghost use Rattle.style_sheet.specs.Chain.{kind_at};
 ghost use Rattle.plain_doc.specs.declared.item.Item.{Item};
@@ -17,7 +19,7 @@ ghost use Rattle.doc_html.specs.Writes.{IsReading, Writes, at, links_in};
 use crate::anchors::write_anchors;
 use crate::heads::{is_head, known_behind};
 use crate::writer::Writer;
-use doc_columns::{alike_from, paragraph_end};
+use doc_columns::{Beside, alike_from, paragraph_end};
 use doc_outer::Sink;
 use doc_parts::Bookmarks;
 use doc_places::{Grid, Lists, Look, Origin, label_units, push_block};
@@ -26,12 +28,13 @@ use list_numbers::ParagraphValuesList;
 use run_lists::{Cursor, seek};
 use view_paths::MAX_DEPTH;
 
-/// Where the reading of a text is, to how many notes the items in front refer, where its paragraph is, and whether
-/// something of the paragraph was written.
+/// Where the reading of a text is, to how many notes the items in front refer and where the last of these items ends,
+/// where its paragraph is, and whether something of the paragraph was written.
 #[derive(Drop)]
 pub(crate) struct Reading {
     pub(crate) course: Course,
     pub(crate) count: usize,
+    pub(crate) referred: usize,
     pub(crate) origin: Origin,
     pub(crate) begun: bool,
 }
@@ -43,14 +46,35 @@ impl Reading {
         ensures walk { result.course.walk ≡ record { chps = record { run = 0; begin = 0 }; besides = record { run = 0; begin = 0 } } }
         ensures references { result.course.references ≡ references }
         ensures count { result.count ≡ 0 }
+        ensures referred { result.referred ≡ 0 }
         ensures course { (manner : Manner) (items : List Item) → count_by (has_reference manner) items ≤ references.room
             → IsCourse manner items result.course }
     {
         Reading {
             course: Course::new(references),
             count: 0,
+            referred: 0,
             origin: Origin::new(note, 0),
             begun: false,
+        }
+    }
+}
+
+impl Reading {
+    /// How many items of a stretch are seen as their units from here on, and refer to no note.
+    fn run_len(&self, text: &Text<'_>, stretch: &Stretch<'_>) -> usize
+        requires ahead { self.now.course.place ≤ stretch.now.until }
+        requires within { stretch.now.until ≤ length text.now.parts.units.now }
+        ensures within { self.now.course.place + result ≤ stretch.now.until }
+        ensures note { 0 < result → stretch.now.beside.now.note ≡ None }
+        ensures shows { 0 < result
+            → shows_units text.now.manner stretch.now.format self.now.course.front stretch.now.beside.now ≡ true }
+        ensures units { (k : ℕ) → self.now.course.place ≤ k → k < self.now.course.place + result
+            → IsItself (slice_index text.now.parts.units.now k) }
+    {
+        match stretch.beside.note {
+            None => self.course.run_len(text, stretch),
+            Some(_) => 0,
         }
     }
 }
@@ -190,8 +214,55 @@ fn write_stretch<K: Sink>(
         (slice_range (items_in text.now.parts) reading.old.course.place stretch.now.until)) }
 {
     while reading.course.place < stretch.until {
-        write_item(writer, out, reading, text, stretch, label);
+        write_some(writer, out, reading, text, stretch, label);
     }
+}
+
+/// Writes items of a stretch that are seen as their units together, or else the item of the place, behind the label where
+/// the first is the first that is shown, and goes behind them.
+fn write_some<K: Sink>(
+    writer: &mut Writer<'_>,
+    out: &mut K,
+    reading: &mut Reading,
+    text: &Text<'_>,
+    stretch: &Stretch<'_>,
+    label: &[u16],
+)
+    requires parts { AreParts text.now.parts }
+    requires reading { IsReading text.now.manner (items_in text.now.parts) reading.old }
+    requires ahead { reading.old.course.place < stretch.now.until }
+    requires within { stretch.now.until ≤ length text.now.parts.units.now }
+    requires beside { HasBeside (items_in text.now.parts) reading.old.course.place stretch.now.until stretch.now.beside.now }
+    requires depth { length writer.old.path + 8 ≤ MAX_DEPTH }
+    ensures ahead { reading.old.course.place < reading.new.course.place }
+    ensures within { reading.new.course.place ≤ stretch.now.until }
+    ensures walk { reading.new.course.walk ≡ reading.old.course.walk }
+    ensures reading { IsReading text.now.manner (items_in text.now.parts) reading.new }
+    ensures path { writer.new.path ≡ writer.old.path }
+    ensures origin { reading.new.origin ≡ reading.old.origin }
+    ensures writes { (formats : Formats) (istd : ℕ)
+        → HasFormat formats istd (items_in text.now.parts) reading.old.course.place stretch.now.until stretch.now.format
+        → Writes K.Sink
+        (at out.old writer.old reading.old) (at out.new writer.new reading.new)
+        (links_in reading.old.origin (items_in text.now.parts)) writer.old.path label.now
+        (seen_from formats text.now.manner istd (take reading.old.course.place (items_in text.now.parts))
+        (slice_range (items_in text.now.parts) reading.old.course.place reading.new.course.place)) }
+{
+    let count = reading.run_len(text, stretch);
+    if count == 0 {
+        write_item(writer, out, reading, text, stretch, label);
+        return;
+    }
+    let place = reading.course.place;
+    let end = place + count;
+    let link = reading
+        .origin
+        .link(&reading.course.fields, reading.referred);
+    writer.begin(out, true, reading.begun, label);
+    writer.write_run(out, link, &stretch.format, &text.parts.units[place..end]);
+    reading.begun = true;
+    reading.course.place = end;
+    reading.course.front.behind_label = false;
 }
 
 /// Writes the item of the place, behind the label where it is the first that is shown, and goes behind it.
@@ -231,11 +302,14 @@ fn write_item<K: Sink>(
         stretch.beside,
     );
     writer.begin(out, seen.is_shown, reading.begun, label);
-    let link = reading.origin.link(&reading.course.fields);
+    let link = reading
+        .origin
+        .link(&reading.course.fields, reading.referred);
     writer.write(out, link, reading.count, &seen);
     reading.begun = begun_behind(reading.begun, seen.is_shown);
     reading.course.pass(unit, stretch.beside, seen.reference);
     reading.count = count_behind(reading.count, seen.reference);
+    reading.referred = referred_behind(reading.referred, reading.course.place, stretch.beside);
 }
 
 /// Whether something was written behind an item that is shown or not.
@@ -243,6 +317,13 @@ fn begun_behind(begun: bool, is_shown: bool) -> bool
     ensures { result ≡ (begun || is_shown) }
 {
     begun || is_shown
+}
+
+/// Where the last reference to a note ends, at the end of an item with this beside it.
+fn referred_behind(referred: usize, end: usize, beside: &Beside) -> usize
+    ensures { result ≡ (if is_some beside.now.note then end else referred) }
+{
+    if beside.note.is_some() { end } else { referred }
 }
 
 /// How many references there are behind one more, or none.

@@ -14,7 +14,9 @@ ghost use Rattle.doc_html.specs.Head.{is_title, longest_title, seen_unit, title_
 use char_formats::StyleFormats;
 use doc_bits::{Memory, Units};
 use doc_columns::{ColumnDocument, alike_from, paragraph_end};
-use doc_view::{Bounds, Course, Manner, Options, References, Seen, Text, TextKind, see, style_of};
+use doc_view::{
+    Bounds, Course, Manner, Options, References, Seen, Text, TextKind, fonts_of, see, style_of,
+};
 use run_lists::{Cursor, seek};
 use std::alloc::Global;
 use view_places::Glyph;
@@ -45,6 +47,7 @@ pub(crate) fn title_of(
         manner: Manner {
             hidden: options.hidden,
             kind: TextKind::Header,
+            fonts: fonts_of(document),
         },
     };
     let title = title_in(alloc, &text)?;

@@ -22,7 +22,7 @@ use char_formats::StyleFormats;
 use doc_bits::{Memory, Units};
 use doc_columns::ColumnDocument;
 use doc_outer::{OutBlock, Sink, SinkFailed};
-use doc_view::{Manner, Options, References, Text, TextKind, ViewFault};
+use doc_view::{Manner, Options, References, Text, TextKind, ViewFault, fonts_of};
 use form_page::{FormPage, PageForm};
 use list_numbers::{ParagraphValuesList, columns_paragraph_values};
 use std::alloc::Global;
@@ -219,12 +219,14 @@ impl<'a> Shown<'a> {
             (places_of formats self.now.values.now self.now.options self.now.document.now) }
     {
         let document = self.document;
+        let fonts = fonts_of(document);
         let main = Text {
             parts: document.main.parts(),
             formats: self.formats,
             manner: Manner {
                 hidden: self.options.hidden,
                 kind: TextKind::Main,
+                fonts,
             },
         };
         let context = Context {
@@ -238,6 +240,7 @@ impl<'a> Shown<'a> {
             texts: &document.notes,
             formats: self.formats,
             hidden: self.options.hidden,
+            fonts,
         };
         notes.write(writer, out, &references);
     }

@@ -1,13 +1,17 @@
 // Places that are written as they come.
 ghost use Rattle.std.specs.Prelude.{◌≡◌, ◌+◌, ◌^◌, ◌<◌, ◌≤◌, ◌++◌, [], ◌∷◌, length, not, ◌&&◌, map, if◌then◌else◌};
-ghost use Rattle.std.specs.List.{cons_option, filter_map};
+ghost use Rattle.std.specs.Char.{IsScalar};
+ghost use Rattle.std.specs.List.{All, cons_option, filter_map};
 ghost use Rattle.doc_view.specs.Labels.{label_glyph, label_glyphs};
-ghost use Rattle.doc_places.specs.Places.{inline_elements, item_places, label_places, shown};
+ghost use Rattle.doc_places.specs.Places.{bare, format_elements, inline_elements, item_places, label_places};
+ghost use Rattle.doc_places.specs.Places.{link_elements, shown};
+ghost use Rattle.glyph_units.specs.Glyphs.{unit_places};
 ghost use Rattle.view_places.specs.declared.element.Element.TheVariants.{Label};
 ghost use Rattle.form_page.specs.Forms.{PutsPlaces};
 
+use char_formats::CharFormat;
 use doc_outer::Sink;
-use doc_places::push_inline;
+use doc_places::{push_inline, push_link};
 use doc_view::{Seen, label_glyph};
 use form_page::FormPage;
 use view_paths::{MAX_DEPTH, Path};
@@ -41,9 +45,42 @@ impl Writer<'_> {
             return;
         }
         match seen.glyph {
-            None => self.page.put(out, &self.path, None),
+            None => self.write_bare(out, link),
             Some(glyph) => self.write_glyph(out, link, count, seen, glyph),
         }
+    }
+
+    /// Writes units of a format in a link, of which each is a character.
+    pub(crate) fn write_run<K: Sink>(
+        &mut self,
+        out: &mut K,
+        link: Option<Link>,
+        format: &CharFormat,
+        units: &[u16],
+    )
+        requires room { length self.old.path + 8 ≤ MAX_DEPTH }
+        requires characters { All IsScalar units.now }
+        ensures path { self.new.path ≡ self.old.path }
+        ensures puts { PutsPlaces K.Sink out.old self.old.page out.new self.new.page
+            (unit_places (self.old.path ++ (link_elements link ++ format_elements format.now)) units.now) }
+    {
+        let depth = self.path.len();
+        push_inline(&mut self.path, link, 0, format, None);
+        self.page.put_run(out, &self.path, units);
+        self.path.truncate(depth);
+    }
+
+    /// Writes what is shown in a link without a glyph.
+    fn write_bare<K: Sink>(&mut self, out: &mut K, link: Option<Link>)
+        requires { length self.old.path + 8 ≤ MAX_DEPTH }
+        ensures path { self.new.path ≡ self.old.path }
+        ensures puts { PutsPlaces K.Sink out.old self.old.page out.new self.new.page
+            (bare (self.old.path ++ link_elements link) ∷ []) }
+    {
+        let depth = self.path.len();
+        push_link(&mut self.path, link);
+        self.page.put(out, &self.path, None);
+        self.path.truncate(depth);
     }
 
     /// Writes a label before an item that is shown or not, where something was written before or not.

@@ -1,3 +1,4 @@
 pub mod AnchorLemmas
 pub mod PlaceLemmas
 pub mod PathLemmas
+pub mod LinkLemmas

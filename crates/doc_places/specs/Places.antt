@@ -1,5 +1,5 @@
 -- The places of a document: each item that is shown has one, in their order, and so has the label of each note.
-use Rattle.std.specs.Prelude.{zero, suc, ◌-◌, nat_le, nat_lt, map, take}
+use Rattle.std.specs.Prelude.{zero, suc, ◌-◌, nat_le, nat_lt, is_some, map, take}
 use Rattle.std.specs.Prelude.{ℕ, ◌+◌, Bool, ◌&&◌, List, [], ◌∷◌, ◌++◌, length, Option, Some, None, if◌then◌else◌}
 use Rattle.std.specs.List.{cons_option}
 use Rattle.plain_doc.specs.declared.item.Item.{Item}
@@ -81,9 +81,9 @@ bare path = record { path = path; glyph = None }
 abbrev pub shown : List Element → Glyph → Place Element Glyph
 shown path glyph = record { path = path; glyph = Some glyph }
 
--- what is shown without a glyph stands in the paragraph itself
+-- what is shown without a glyph stands in no format, so that a link goes on behind it
 abbrev pub place_of : List Element → Option Link → ℕ → Seen → Option Glyph → Place Element Glyph
-place_of block link count seen None = bare block
+place_of block link count seen None = bare (block ++ link_elements link)
 place_of block link count seen (Some glyph) = shown (block ++ inline_elements link count seen.format seen.reference)
     glyph
 
@@ -112,21 +112,33 @@ Links = ℕ → ℕ → Option Link
 abbrev pub longest_instruction : ℕ
 longest_instruction = 2048
 
--- the instruction of a field that begins at a place, and whose result begins at another one
-abbrev pub link_between : ℕ → ℕ → Option ℕ → Option Link
-link_between note began None = None
-link_between note began (Some result) =
-    if nat_le result (began + 2 + longest_instruction) then
+-- the instruction of a field that begins at a place, and whose result begins at another one, in front of which the last
+-- reference to a note ends
+-- Profile: a reference ends a link, and is one by itself, so that the address of a link is written once
+abbrev pub link_between : ℕ → ℕ → ℕ → Option ℕ → Option Link
+link_between note referred began None = None
+link_between note referred began (Some result) =
+    if nat_le referred result && nat_le result (began + 2 + longest_instruction) then
     Some (record { note = note; begin = began + 1; end = result - 1 }) else None
 
-abbrev pub link_to : ℕ → Option OpenField → Option Link
-link_to note None = None
-link_to note (Some field) = link_between note field.began field.result
+abbrev pub link_to : ℕ → ℕ → Option OpenField → Option Link
+link_to note referred None = None
+link_to note referred (Some field) = link_between note referred field.began field.result
+
+-- how many items there are up to the last one that refers to a note
+abbrev pub count_up_to : Bool → ℕ → ℕ
+count_up_to is_reference zero = if is_reference then 1 else 0
+count_up_to is_reference (suc more) = suc (suc more)
+
+abbrev pub up_to_reference : List Item → ℕ
+up_to_reference [] = 0
+up_to_reference (item ∷ items) = count_up_to (is_some item.note) (up_to_reference items)
 
 -- the links of the note with this number, from 1, or of the main text: that of the outermost hyperlink whose result
--- begins in the paragraph
+-- begins in the paragraph, up to the first reference to a note in it
 abbrev pub links_of : ℕ → List Item → Links
-links_of note items begin place = link_to note (hyperlink_in begin (open_fields (take place items)))
+links_of note items begin place =
+    link_to note (up_to_reference (take place items)) (hyperlink_in begin (open_fields (take place items)))
 
 -- ---- the places of paragraphs
 
@@ -246,6 +258,6 @@ notes_places formats manner number (reference ∷ references) (note ∷ notes) =
 
 abbrev pub places_of : Formats → List ParagraphValues → Options → Document → Places
 places_of formats values options document =
-    let paragraphs = with_values values (paragraphs_of formats (main_manner options) document.main) in
+    let paragraphs = with_values values (paragraphs_of formats (main_manner options document) document.main) in
     text_places (hypertext_of document.bookmarks 0 document.main) [] paragraphs
-    ++ notes_places formats (note_manner options) 1 (references_of paragraphs) document.notes
+    ++ notes_places formats (note_manner options document) 1 (references_of paragraphs) document.notes

@@ -37,8 +37,8 @@ fn push_text(path: &mut Path<Element>, link: Option<Link>, format: &CharFormat)
     push_format(path, format);
 }
 
-/// Puts that of a link.
-fn push_link(path: &mut Path<Element>, link: Option<Link>)
+/// Puts the element of a link.
+pub fn push_link(path: &mut Path<Element>, link: Option<Link>)
     requires { length path.old < MAX_DEPTH }
     ensures is { path.new ≡ path.old ++ link_elements link }
     ensures few { length path.new ≤ length path.old + 1 }

@@ -9,7 +9,7 @@ mod lists;
 mod looks;
 
 pub use grid::{Grid, push_block};
-pub use inline::push_inline;
+pub use inline::{push_inline, push_link};
 pub use laws::each_glyph_has_a_place;
 pub use links::Origin;
 pub use lists::{Frame, ListItem, Lists};

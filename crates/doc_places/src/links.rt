@@ -27,27 +27,28 @@ impl Origin {
         }
     }
 
-    /// The link of these open fields in the paragraph.
-    pub fn link(self, fields: &OpenFieldPlaces) -> Option<Link>
-        ensures { result ≡ link_to self.note (hyperlink_in self.begin fields.now) }
+    /// The link of these open fields in the paragraph, where the last reference to a note ends at a place.
+    pub fn link(self, fields: &OpenFieldPlaces, referred: usize) -> Option<Link>
+        ensures { result ≡ link_to self.note referred (hyperlink_in self.begin fields.now) }
     {
         match fields.hyperlink(self.begin) {
             None => None,
-            Some(field) => link_between(self.note, field.began, field.result),
+            Some(field) => link_between(self.note, referred, field.began, field.result),
         }
     }
 }
 
-/// The link of a field that begins at a place, and whose result begins at another one.
-fn link_between(note: usize, began: u32, shown: Option<u32>) -> Option<Link>
-    ensures { result ≡ link_between note began shown }
+/// The link of a field that begins at a place, and whose result begins at another one, in front of which the last
+/// reference to a note ends.
+fn link_between(note: usize, referred: usize, began: u32, shown: Option<u32>) -> Option<Link>
+    ensures { result ≡ link_between note referred began shown }
 {
     let began = began as usize;
     let Some(shown) = shown else {
         return None;
     };
     let shown = shown as usize;
-    if shown <= began + 2 + LONGEST_INSTRUCTION {
+    if referred <= shown && shown <= began + 2 + LONGEST_INSTRUCTION {
         Some(Link {
             note,
             begin: began + 1,

@@ -10,6 +10,7 @@ use Rattle.std.proofs.lemmas.List.Elements.{All-nil, All-cons, All-append, All-h
 use Rattle.text_codes.specs.Compressed.{compressed_text, unit_by, unit_of}
 use Rattle.text_codes.specs.Shown.{pair_code}
 use Rattle.char_formats.specs.declared.format.CharFormat.{CharFormat}
+use Rattle.symbol_fonts.specs.declared.fonts.SymbolFonts.{SymbolFonts}
 use Rattle.view_places.specs.declared.glyph.Glyph.{Glyph}
 use Rattle.view_places.specs.declared.glyph.Glyph.TheVariants.{Unit, Tab, LineBreak, PageBreak, NoteMark, Picture, Object}
 use Rattle.doc_view.specs.Glyphs.{are_halves, control_glyph, drawn_unit, glyph_of, glyph_text, glyphs_text, is_stand_in}
@@ -189,9 +190,10 @@ unit_by_tests unit ends_section true windows is of_windows = control_plain unit 
 unit_by_tests unit ends_section false true is of_windows = windows_plain unit
 unit_by_tests unit ends_section false false is of_windows = itself_plain unit is of_windows
 
-pub glyph_plain : (format : CharFormat) (ends_section : Bool) (unit : ℕ) → IsPlainIn (glyph_of format ends_section unit)
-glyph_plain format ends_section unit =
-    let drawn = drawn_unit format.symbol unit in
+pub glyph_plain : (fonts : SymbolFonts) (format : CharFormat) (ends_section : Bool) (unit : ℕ) →
+    IsPlainIn (glyph_of fonts format ends_section unit)
+glyph_plain fonts format ends_section unit =
+    let drawn = drawn_unit fonts format unit in
     either_glyph (is_stand_in format unit) (stand_in_glyph format) (unit_glyph drawn ends_section)
     (either_glyph format.of_field None (if format.object then Some Object else Some Picture) refl
     (either_glyph format.object (Some Object) (Some Picture) refl refl))

@@ -50,8 +50,8 @@ item_plain : (manner : Manner) (format : CharFormat) (front : Front) (item : Ite
     IsPlainSeen (seen_as manner format front item)
 unfolding IsPlainSeen
 item_plain manner format front item =
-    visible_plain (reference_kind manner item.note) (front.numbered + 1) (glyph_of format (is_some item.sect) item.unit)
-    (glyph_plain format (is_some item.sect) item.unit)
+    visible_plain (reference_kind manner item.note) (front.numbered + 1) (glyph_of manner.fonts format (is_some item.sect) item.unit)
+    (glyph_plain manner.fonts format (is_some item.sect) item.unit)
 
 items_plain : (formats : Formats) (manner : Manner) (istd : ℕ) (front items : List Item) →
     All IsPlainSeen (seen_from formats manner istd front items)
@@ -254,17 +254,17 @@ headers_plain formats manner begun number (text ∷ texts) =
 
 pub page_plain : NoControls
 page_plain options document bytes is =
-    let paragraphs = with_values is.values (paragraphs_of is.formats (main_manner options) document.main) in
-    let notes = notes_from is.formats (note_manner options) false (references_of paragraphs) document.notes in
-    let headers = headers_from is.formats (header_manner options) false 6 (drop 6 document.heads) in (
+    let paragraphs = with_values is.values (paragraphs_of is.formats (main_manner options document) document.main) in
+    let notes = notes_from is.formats (note_manner options document) false (references_of paragraphs) document.notes in
+    let headers = headers_from is.formats (header_manner options document) false 6 (drop 6 document.heads) in (
       page_text is.formats is.values options document,
       (
         is.text,
         both_plain (layout_of [] paragraphs) (notes ++ headers_text is.formats options document)
-            (main_plain is.values is.formats (main_manner options) document.main)
+            (main_plain is.values is.formats (main_manner options document) document.main)
             (both_plain notes (headers_text is.formats options document)
-            (notes_plain is.formats (note_manner options) false (references_of paragraphs) document.notes)
+            (notes_plain is.formats (note_manner options document) false (references_of paragraphs) document.notes)
             (either_plain options.headers headers []
-            (headers_plain is.formats (header_manner options) false 6 (drop 6 document.heads)) none_plain)),
+            (headers_plain is.formats (header_manner options document) false 6 (drop 6 document.heads)) none_plain)),
       ),
     )

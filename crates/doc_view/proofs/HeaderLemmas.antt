@@ -10,6 +10,7 @@ use Rattle.doc_outer.specs.declared.sink.Sink.{Ghosts}
 use Rattle.page_out.specs.declared.page.Page.{Page}
 use Rattle.page_out.specs.Printed.{Prints}
 use Rattle.page_out.proofs.PrintLemmas.{nothing_put, put_then}
+use Rattle.symbol_fonts.specs.declared.fonts.SymbolFonts.{SymbolFonts}
 use Rattle.doc_view.specs.declared.reading.Manner.{Manner}
 use Rattle.doc_view.specs.declared.reading.TextKind.TheVariants as text_kind
 use Rattle.doc_view.specs.Course.{has_reference}
@@ -22,10 +23,10 @@ use Rattle.list_numbers.specs.declared.paragraph_values.ParagraphValues.{Paragra
 use Rattle.doc_view.proofs.TextLemmas.{no_values}
 
 -- a header text refers to no note
-pub no_references : (hidden : Bool) (items : List Item) →
-    count_by (has_reference (record { hidden = hidden; kind = text_kind.Header })) items ≡ 0
-no_references hidden [] = refl
-no_references hidden (item ∷ items) = no_references hidden items
+pub no_references : (hidden : Bool) (fonts : SymbolFonts) (items : List Item) →
+    count_by (has_reference (record { hidden = hidden; kind = text_kind.Header; fonts = fonts })) items ≡ 0
+no_references hidden fonts [] = refl
+no_references hidden fonts (item ∷ items) = no_references hidden fonts items
 
 -- what stands before a header text
 same_header_lead : (begun : Bool) (number : ℕ) →

@@ -12,3 +12,5 @@ pub mod ControlLemmas
 pub mod OnceLemmas
 pub mod LabelLemmas
 pub mod HeaderLemmas
+pub mod LengthLemmas
+pub mod ShortLemmas

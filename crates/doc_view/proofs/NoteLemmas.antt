@@ -8,6 +8,7 @@ use Rattle.run_lists.proofs.CutLemmas.{run_and_rest}
 use Rattle.plain_doc.specs.declared.item.Item.{Item}
 use Rattle.doc_outer.specs.declared.sink.Sink.{Ghosts}
 use Rattle.page_out.specs.declared.page.Page.{Page}
+use Rattle.symbol_fonts.specs.declared.fonts.SymbolFonts.{SymbolFonts}
 use Rattle.doc_view.specs.declared.line.Title.{Title}
 use Rattle.doc_view.specs.Lines.{lead_text, title_text}
 use Rattle.doc_view.specs.declared.reading.Manner.{Manner}
@@ -23,10 +24,10 @@ use Rattle.page_out.proofs.PrintLemmas.{put_then}
 use Rattle.doc_view.specs.declared.reading.TextKind.TheVariants as text_kind
 
 -- a note refers to none
-pub none_met : (hidden : Bool) (items : List Item) →
-    count_by (has_reference (record { hidden = hidden; kind = text_kind.Note })) items ≡ 0
-none_met hidden [] = refl
-none_met hidden (item ∷ items) = none_met hidden items
+pub none_met : (hidden : Bool) (fonts : SymbolFonts) (items : List Item) →
+    count_by (has_reference (record { hidden = hidden; kind = text_kind.Note; fonts = fonts })) items ≡ 0
+none_met hidden fonts [] = refl
+none_met hidden fonts (item ∷ items) = none_met hidden fonts items
 
 -- what stands before a note
 pub same_lead : (begun : Bool) (number : Option ℕ) (title : Title) → title_text title ≡ note_label number →

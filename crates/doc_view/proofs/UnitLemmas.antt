@@ -33,6 +33,10 @@ use Rattle.doc_view.specs.declared.text.Course.{Course}
 use Rattle.doc_view.specs.Blocks.{IsItself, is_itself, shows_units}
 use Rattle.doc_view.specs.Course.{HasBeside, HasFormat, IsCourse, Passes, is_numbered, with_reference}
 use Rattle.doc_view.specs.Glyphs.{control_glyph, is_surrogate, is_windows, replacement, stand_in_glyph, unit_glyph, drawn_unit}
+use Rattle.doc_view.specs.Glyphs.{text_unit}
+use Rattle.symbol_fonts.specs.Characters.{is_sign}
+use Rattle.symbol_fonts.specs.Fonts.{symbol_font}
+use Rattle.symbol_fonts.proofs.CharacterLemmas.{sign_none}
 use Rattle.doc_view.specs.Glyphs.{windows_unit}
 use Rattle.doc_view.specs.Lines.{IsSaying, Says, begun_front, is_high, shown_after, shown_said}
 use Rattle.doc_view.specs.Seen.{Formats, counts, is_note, reference_kind, reference_of, references_in, seen_as}
@@ -55,19 +59,31 @@ none_by : {A : Type 0} (x : Option A) → is_some x ≡ false → x ≡ None
 none_by None e = refl
 none_by (Some a) e = absurd (cc (e))
 
+-- no half of a character, and no sign
+abbrev no_part : ℕ → Bool
+no_part unit = not (is_surrogate unit) && not (is_sign unit)
+
 -- at or above a space
 above_control : (unit : ℕ) → is_itself unit ≡ true → nat_le 0x20 unit ≡ true
-above_control unit e = (and_parts (nat_le 0x20 unit) (not (is_windows unit) && not (is_surrogate unit)) e).0
+above_control unit e = (and_parts (nat_le 0x20 unit) (not (is_windows unit) && no_part unit) e).0
 
 no_windows : (unit : ℕ) → is_itself unit ≡ true → is_windows unit ≡ false
 no_windows unit e =
-    let more = (and_parts (nat_le 0x20 unit) (not (is_windows unit) && not (is_surrogate unit)) e).1 in
-    is_off (is_windows unit) (and_parts (not (is_windows unit)) (not (is_surrogate unit)) more).0
+    let more = (and_parts (nat_le 0x20 unit) (not (is_windows unit) && no_part unit) e).1 in
+    is_off (is_windows unit) (and_parts (not (is_windows unit)) (no_part unit) more).0
+
+is_no_part : (unit : ℕ) → is_itself unit ≡ true → no_part unit ≡ true
+is_no_part unit e =
+    let more = (and_parts (nat_le 0x20 unit) (not (is_windows unit) && no_part unit) e).1 in
+    (and_parts (not (is_windows unit)) (no_part unit) more).1
 
 no_surrogate : (unit : ℕ) → is_itself unit ≡ true → is_surrogate unit ≡ false
 no_surrogate unit e =
-    let more = (and_parts (nat_le 0x20 unit) (not (is_windows unit) && not (is_surrogate unit)) e).1 in
-    is_off (is_surrogate unit) (and_parts (not (is_windows unit)) (not (is_surrogate unit)) more).1
+    is_off (is_surrogate unit) (and_parts (not (is_surrogate unit)) (not (is_sign unit)) (is_no_part unit e)).0
+
+no_sign : (unit : ℕ) → is_itself unit ≡ true → is_sign unit ≡ false
+no_sign unit e =
+    is_off (is_sign unit) (and_parts (not (is_surrogate unit)) (not (is_sign unit)) (is_no_part unit e)).1
 
 not_below : (unit : ℕ) → nat_le 0x20 unit ≡ true → nat_lt unit 0x20 ≡ false
 not_below unit high = grind (arith, nat_tests)
@@ -140,12 +156,15 @@ seen_itself manner format front beside item shows same itself =
     let stand_in : (format.special && ((unit == 0x01) || (unit == 0x08))) ≡ false =
     (λ i. format.special && (not_equal unit 0x01 (omega arith) high i || not_equal unit 0x08 (omega arith) high i))
     ∙ and_off format.special in
+    let drawn : drawn_unit manner.fonts format unit ≡ unit =
+    (λ i. if not_below unit high i then unit else text_unit manner.fonts format.font (is.symbol i) unit)
+    ∙ sign_none (symbol_font manner.fonts format.font) unit (no_sign unit itself) in
     let glyph : visible (reference_kind manner item.note) (front.numbered + 1)
     (if (format.special && ((unit == 0x01) || (unit == 0x08))) then stand_in_glyph format else unit_glyph
-    (drawn_unit format.symbol unit) (is_some item.sect))
+    (drawn_unit manner.fonts format unit) (is_some item.sect))
     ≡ Some (Unit unit) =
     (λ i. visible (kind i) (front.numbered + 1)
-    (if stand_in i then stand_in_glyph format else unit_glyph (drawn_unit (is.symbol i) unit) (is_some item.sect)))
+    (if stand_in i then stand_in_glyph format else unit_glyph (drawn i) (is_some item.sect)))
     ∙ (λ i. if not_below unit high i then control_glyph unit (is_some item.sect) else Some
     (Unit (if no_windows unit itself i then windows_unit unit else unit))) in
     λ i. record {
@@ -171,7 +190,7 @@ behind_units course place = record course {
   };
 }
 
-still_shows : (manner : Manner) (format : CharFormat) (front : Front) (beside : Beside) →
+pub still_shows : (manner : Manner) (format : CharFormat) (front : Front) (beside : Beside) →
     shows_units manner format front beside ≡ true →
     shows_units manner format (record front { behind_label = false }) beside ≡ true
 still_shows manner format front beside shows =

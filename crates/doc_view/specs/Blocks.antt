@@ -5,12 +5,13 @@ use Rattle.char_formats.specs.declared.format.CharFormat.{CharFormat}
 use Rattle.doc_columns.specs.declared.beside.Beside.{Beside}
 use Rattle.doc_view.specs.declared.reading.Front.{Front}
 use Rattle.doc_view.specs.declared.reading.Manner.{Manner}
+use Rattle.symbol_fonts.specs.Characters.{is_sign}
 use Rattle.doc_view.specs.Glyphs.{is_surrogate, is_windows}
 use Rattle.doc_view.specs.Seen.{is_note, reference_kind}
 
--- a unit that is visible as itself: no control, no byte of Windows-1252, no half of a character
+-- a unit that is visible as itself: no control, no byte of Windows-1252, no half of a character, no sign of a symbol font
 abbrev pub is_itself : ℕ → Bool
-is_itself unit = nat_le 0x20 unit && (not (is_windows unit) && not (is_surrogate unit))
+is_itself unit = nat_le 0x20 unit && (not (is_windows unit) && (not (is_surrogate unit) && not (is_sign unit)))
 
 -- so it is a character
 pub record IsItself (unit : ℕ) : Type 0 where

@@ -5,6 +5,10 @@ use Rattle.std.specs.Fmt.{decimal}
 use Rattle.text_codes.specs.Compressed.{unit_of}
 use Rattle.text_codes.specs.Shown.{is_pair, pair_code}
 use Rattle.char_formats.specs.declared.format.CharFormat.{CharFormat}
+use Rattle.char_formats.specs.declared.format.Symbol.{Symbol}
+use Rattle.symbol_fonts.specs.declared.fonts.SymbolFonts.{SymbolFonts}
+use Rattle.symbol_fonts.specs.Characters.{shown_unit}
+use Rattle.symbol_fonts.specs.Fonts.{symbol_font}
 use Rattle.view_places.specs.declared.glyph.Glyph.{Glyph}
 use Rattle.view_places.specs.declared.glyph.Glyph.TheVariants.{Unit, Tab, LineBreak, PageBreak, NoteMark, Picture, Object}
 
@@ -38,10 +42,13 @@ unit_glyph unit ends_section =
     if nat_lt unit 0x20 then control_glyph unit ends_section else
     Some (Unit (if is_windows unit then windows_unit unit else unit))
 
--- [MS-DOC] sprmCSymbol: its character stands in place of the unit
-abbrev pub drawn_unit : Option ℕ → ℕ → ℕ
-drawn_unit None unit = unit
-drawn_unit (Some symbol) unit = if nat_lt unit 0x20 then unit else symbol
+-- [MS-DOC] sprmCSymbol: its code stands in place of the unit; each is shown by its font
+abbrev pub text_unit : SymbolFonts → Option ℕ → Option Symbol → ℕ → ℕ
+text_unit fonts font None unit = shown_unit (symbol_font fonts font) unit
+text_unit fonts font (Some symbol) unit = shown_unit (symbol_font fonts (Some symbol.font)) symbol.code
+
+abbrev pub drawn_unit : SymbolFonts → CharFormat → ℕ → ℕ
+drawn_unit fonts format unit = if nat_lt unit 0x20 then unit else text_unit fonts format.font format.symbol unit
 
 -- [MS-DOC] sprmCFSpec: 01 and 08 stand for pictures and objects, or for the data of a field
 abbrev pub is_stand_in : CharFormat → ℕ → Bool
@@ -50,11 +57,11 @@ is_stand_in format unit = format.special && (unit == 0x01 || unit == 0x08)
 abbrev pub stand_in_glyph : CharFormat → Option Glyph
 stand_in_glyph format = if format.of_field then None else if format.object then Some Object else Some Picture
 
--- what is visible of a unit of this format
-abbrev pub glyph_of : CharFormat → Bool → ℕ → Option Glyph
-glyph_of format ends_section unit =
+-- what is visible of a unit of this format in a document with these symbol fonts
+abbrev pub glyph_of : SymbolFonts → CharFormat → Bool → ℕ → Option Glyph
+glyph_of fonts format ends_section unit =
     if is_stand_in format unit then stand_in_glyph format else
-    unit_glyph (drawn_unit format.symbol unit) ends_section
+    unit_glyph (drawn_unit fonts format unit) ends_section
 
 -- a surrogate
 abbrev pub is_surrogate : ℕ → Bool

@@ -1,10 +1,12 @@
 -- What the definitions imply.
-use Rattle.std.specs.Prelude.{◌≡◌, ℕ, Bool, false, not, ◌&&◌, ◌||◌, ◌==◌, nat_le, nat_lt, encode_utf8_all}
+use Rattle.std.specs.Prelude.{◌≡◌, ℕ, ◌+◌, ◌*◌, ◌≤◌, length, Bool, false, not, ◌&&◌, ◌||◌, ◌==◌, nat_le, nat_lt, encode_utf8_all}
 use Rattle.std.specs.Prelude.{List, [], ◌∷◌, ◌++◌, Option, Some, None}
 use Rattle.std.specs.List.{All, flat_map}
 use Rattle.plain_doc.specs.declared.document.Document.{Document}
 use Rattle.plain_doc.specs.declared.item.Item.{Item}
 use Rattle.plain_doc.specs.declared.item.Mark.{Mark}
+use Rattle.plain_doc.specs.RulesOfSheet.{item_count}
+use Rattle.plain_doc.specs.Sound.{IsSound}
 use Rattle.doc_view.specs.declared.reading.Manner.{Manner}
 use Rattle.doc_view.specs.declared.reading.Seen.{Seen}
 use Rattle.doc_view.specs.declared.view.Options.{Options}
@@ -29,6 +31,14 @@ abbrev pub NoControls : Type 0
 NoControls =
     (options : Options) (document : Document) (bytes : List ℕ) → IsPage options document bytes →
     (text : List ℕ) × ((bytes ≡ encode_utf8_all text) × All (λ code. is_control code ≡ false) text)
+
+-- ---- length
+
+-- a page is no longer than a number of bytes for each item of its document, whatever stands in these
+abbrev pub PagesAreShort : Type 0
+PagesAreShort =
+    (options : Options) (document : Document) (bytes : List ℕ) →
+    IsSound document → IsPage options document bytes → length bytes ≤ 468 * item_count document + 4
 
 -- ---- items
 

@@ -96,7 +96,7 @@ abbrev pub seen_as : Manner → CharFormat → Front → Item → Seen
 seen_as manner format front item =
     let shown = is_shown manner format front item in
     let kind = reference_kind manner item.note in
-    let glyph = visible kind (front.numbered + 1) (glyph_of format (is_some item.sect) item.unit) in
+    let glyph = visible kind (front.numbered + 1) (glyph_of manner.fonts format (is_some item.sect) item.unit) in
     record {
       is_shown = counts manner.kind glyph && (shown && not (is_row_mark item));
       glyph = glyph;

@@ -5,6 +5,7 @@ ghost use Rattle.doc_view.specs.Glyphs.{control_glyph, drawn_unit, glyph_of, is_
 ghost use Rattle.doc_view.specs.Glyphs.{is_windows, stand_in_glyph, unit_glyph, windows_unit};
 
 use char_formats::CharFormat;
+use symbol_fonts::{SymbolFonts, is_sign, shown_unit};
 use text_codes::unit_of_byte;
 use view_places::Glyph;
 
@@ -27,13 +28,18 @@ const REPLACEMENT: u16 = 0xFFFD;
 const PART_LEN: usize = 8;
 
 /// What is visible of a unit of this format, at which a section ends or not.
-pub(crate) fn glyph_of(format: &CharFormat, ends_section: bool, unit: u16) -> Option<Glyph>
-    ensures { result ≡ glyph_of format.now ends_section unit }
+pub(crate) fn glyph_of(
+    fonts: SymbolFonts,
+    format: &CharFormat,
+    ends_section: bool,
+    unit: u16,
+) -> Option<Glyph>
+    ensures { result ≡ glyph_of fonts format.now ends_section unit }
 {
     if is_stand_in(format, unit) {
         return stand_in_glyph(format);
     }
-    unit_glyph(drawn_unit(format.symbol, unit), ends_section)
+    unit_glyph(drawn_unit(fonts, format, unit), ends_section)
 }
 
 /// Whether a unit stands for something else than text.
@@ -56,13 +62,16 @@ fn stand_in_glyph(format: &CharFormat) -> Option<Glyph>
     }
 }
 
-/// The unit that is drawn: a symbol in place of a unit that is no control.
-fn drawn_unit(symbol: Option<u16>, unit: u16) -> u16
-    ensures { result ≡ drawn_unit symbol unit }
+/// The unit that is drawn: of one that is no control, or of a symbol in place of it, what its font shows.
+fn drawn_unit(fonts: SymbolFonts, format: &CharFormat, unit: u16) -> u16
+    ensures { result ≡ drawn_unit fonts format.now unit }
 {
-    match symbol {
-        None => unit,
-        Some(symbol) => { if unit < SPACE { unit } else { symbol } }
+    if unit < SPACE {
+        return unit;
+    }
+    match format.symbol {
+        None => shown_unit(fonts.font(format.font), unit),
+        Some(symbol) => shown_unit(fonts.font(Some(symbol.font)), symbol.code),
     }
 }
 
@@ -189,11 +198,11 @@ fn is_character(unit: u16) -> bool
     is_itself(unit)
 }
 
-/// Whether it is no control, no byte of Windows-1252 and no half of a character.
+/// Whether it is no control, no byte of Windows-1252, no half of a character and no sign of a symbol font.
 #[inline(always)]
 fn is_itself(unit: u16) -> bool
     ensures { result ≡ is_itself unit }
 {
     // Without jumps, so that eight units are tested at once.
-    (unit >= SPACE) & (!is_windows(unit) & !is_surrogate(unit))
+    (unit >= SPACE) & (!is_windows(unit) & (!is_surrogate(unit) & !is_sign(unit)))
 }

@@ -21,17 +21,19 @@ use doc_outer::Sink;
 use list_numbers::ParagraphValuesList;
 use page_out::Page;
 use std::alloc::Global;
+use symbol_fonts::SymbolFonts;
 
 /// [MS-DOC] PlcfHdd: the first texts are those of the separators of notes.
 const SEPARATORS: usize = 6;
 
-/// The header texts of a document, the formats of its styles, and whether hidden text is shown.
+/// The header texts of a document, the formats of its styles, whether hidden text is shown, and the symbol fonts.
 #[derive(Drop)]
 pub(crate) struct Headers<'a> {
     pub(crate) alloc: Global,
     pub(crate) texts: &'a ColumnTexts,
     pub(crate) formats: &'a StyleFormats,
     pub(crate) hidden: bool,
+    pub(crate) fonts: SymbolFonts,
 }
 
 impl Headers<'_> {
@@ -42,7 +44,7 @@ impl Headers<'_> {
             → HoldsAtItems text (λ i item. HasParagraphStyle self.now.formats.now item) }
         ensures { (formats : Formats) → AreFormats self.now.formats.now formats
             → Prints K.Sink out.old page.old out.new page.new
-            (headers_from formats (record { hidden = self.now.hidden; kind = text_kind.Header }) false 6
+            (headers_from formats (record { hidden = self.now.hidden; kind = text_kind.Header; fonts = self.now.fonts }) false 6
             (drop 6 self.now.texts.now)) }
     {
         let mut begun = false;
@@ -62,10 +64,10 @@ impl Headers<'_> {
         requires there { number < length self.now.texts.now }
         ensures text { (formats : Formats) (text : List Item) → AreFormats self.now.formats.now formats
             → slice_get self.now.texts.now number ≡ Some text → Prints K.Sink out.old page.old out.new page.new
-            (header_text formats (record { hidden = self.now.hidden; kind = text_kind.Header }) begun number text) }
+            (header_text formats (record { hidden = self.now.hidden; kind = text_kind.Header; fonts = self.now.fonts }) begun number text) }
         ensures begun { (formats : Formats) (text : List Item) → AreFormats self.now.formats.now formats
             → slice_get self.now.texts.now number ≡ Some text → result ≡ (begun || some_here
-            (paragraphs_of formats (record { hidden = self.now.hidden; kind = text_kind.Header }) text)) }
+            (paragraphs_of formats (record { hidden = self.now.hidden; kind = text_kind.Header; fonts = self.now.fonts }) text)) }
     {
         let text = Text {
             parts: self.texts.get(number).parts(),
@@ -73,6 +75,7 @@ impl Headers<'_> {
             manner: Manner {
                 hidden: self.hidden,
                 kind: TextKind::Header,
+                fonts: self.fonts,
             },
         };
         let lead = Lead {

@@ -1,5 +1,5 @@
 // Laws over the definitions alone.
-ghost use Rattle.doc_view.specs.Laws.{EachItemIsShownOnce, NoControls, PagesAreOne};
+ghost use Rattle.doc_view.specs.Laws.{EachItemIsShownOnce, NoControls, PagesAreOne, PagesAreShort};
 
 /// A document has one page of these options.
 pub fn pages_are_one()
@@ -14,4 +14,9 @@ pub fn no_controls()
 /// What is shown of the items of a text is shown once, in their order.
 pub fn each_item_is_shown_once()
     ensures { EachItemIsShownOnce }
+{}
+
+/// A page of text has at most 468 bytes for each item of its document, and four.
+pub fn pages_are_short()
+    ensures { PagesAreShort }
 {}

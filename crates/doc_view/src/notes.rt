@@ -21,14 +21,16 @@ use doc_outer::Sink;
 use list_numbers::ParagraphValuesList;
 use page_out::Page;
 use std::alloc::Global;
+use symbol_fonts::SymbolFonts;
 
-/// The notes of a document, the formats of its styles, and whether hidden text is shown.
+/// The notes of a document, the formats of its styles, whether hidden text is shown, and the symbol fonts.
 #[derive(Drop)]
 pub(crate) struct Notes<'a> {
     pub(crate) alloc: Global,
     pub(crate) texts: &'a ColumnTexts,
     pub(crate) formats: &'a StyleFormats,
     pub(crate) hidden: bool,
+    pub(crate) fonts: SymbolFonts,
 }
 
 impl Notes<'_> {
@@ -39,7 +41,7 @@ impl Notes<'_> {
             → HoldsAtItems note (λ i item. HasParagraphStyle self.now.formats.now item) }
         ensures { (formats : Formats) → AreFormats self.now.formats.now formats
             → Prints K.Sink out.old page.old out.new page.new
-            (notes_from formats (record { hidden = self.now.hidden; kind = text_kind.Note }) false references.now.list
+            (notes_from formats (record { hidden = self.now.hidden; kind = text_kind.Note; fonts = self.now.fonts }) false references.now.list
             self.now.texts.now) }
     {
         let mut begun = false;
@@ -65,11 +67,11 @@ impl Notes<'_> {
         requires there { k < length self.now.texts.now }
         ensures text { (formats : Formats) (note : List Item) → AreFormats self.now.formats.now formats
             → slice_get self.now.texts.now k ≡ Some note → Prints K.Sink out.old page.old out.new page.new
-            (if reference.is_shown then note_text formats (record { hidden = self.now.hidden; kind = text_kind.Note }) begun
+            (if reference.is_shown then note_text formats (record { hidden = self.now.hidden; kind = text_kind.Note; fonts = self.now.fonts }) begun
             reference.number note else []) }
         ensures begun { (formats : Formats) (note : List Item) → AreFormats self.now.formats.now formats
             → slice_get self.now.texts.now k ≡ Some note → result ≡ (begun || has_lines formats
-            (record { hidden = self.now.hidden; kind = text_kind.Note }) reference note) }
+            (record { hidden = self.now.hidden; kind = text_kind.Note; fonts = self.now.fonts }) reference note) }
     {
         if !reference.is_shown {
             return begun;
@@ -80,6 +82,7 @@ impl Notes<'_> {
             manner: Manner {
                 hidden: self.hidden,
                 kind: TextKind::Note,
+                fonts: self.fonts,
             },
         };
         let lead = Lead {

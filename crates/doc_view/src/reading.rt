@@ -14,6 +14,7 @@ use crate::standing::is_row_mark;
 use char_formats::CharFormat;
 use doc_columns::Beside;
 use plain_doc::{Mark, NoteKind};
+use symbol_fonts::SymbolFonts;
 use view_places::Glyph;
 
 /// [MS-DOC] The unit of a note's own number, at which its text begins.
@@ -57,11 +58,12 @@ impl TextKind {
     }
 }
 
-/// How a text is read: whether hidden text is shown, and which text it is.
+/// How a text is read: whether hidden text is shown, which text it is, and the symbol fonts of its document.
 #[derive(Clone, Copy)]
 pub struct Manner {
     pub hidden: bool,
     pub kind: TextKind,
+    pub fonts: SymbolFonts,
 }
 
 /// What the items in front of one come to: whether no field is open whose result has not begun, whether the last one is
@@ -90,7 +92,8 @@ pub fn see(manner: Manner, format: &CharFormat, front: Front, unit: u16, beside:
     let number = front.numbered + 1;
     let kind = reference_kind(manner, beside.note);
     let shown = is_shown(manner, format, front, unit, beside);
-    let glyph = visible(kind, number, glyph_of(format, beside.sect.is_some(), unit));
+    let drawn = glyph_of(manner.fonts, format, beside.sect.is_some(), unit);
+    let glyph = visible(kind, number, drawn);
     let text = is_text(shown, unit, &beside.mark);
     Seen {
         is_shown: is_seen(manner.kind, glyph, text),

@@ -262,6 +262,19 @@ impl Course {
         if saying.half.is_some() {
             return 0;
         }
+        self.run_len(text, stretch)
+    }
+
+    /// How many items of a stretch are seen as their units from here on, whatever stands before them.
+    pub fn run_len(&self, text: &Text<'_>, stretch: &Stretch<'_>) -> usize
+        requires ahead { self.now.place ≤ stretch.now.until }
+        requires within { stretch.now.until ≤ length text.now.parts.units.now }
+        ensures within { self.now.place + result ≤ stretch.now.until }
+        ensures shows { 0 < result
+            → shows_units text.now.manner stretch.now.format self.now.front stretch.now.beside.now ≡ true }
+        ensures units { (k : ℕ) → self.now.place ≤ k → k < self.now.place + result
+            → IsItself (slice_index text.now.parts.units.now k) }
+    {
         if !shows_units(text.manner, &stretch.format, self.front, stretch.beside) {
             return 0;
         }

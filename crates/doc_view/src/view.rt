@@ -5,7 +5,7 @@ ghost use Rattle.doc_outer.specs.Written.{Appends, AppendsPrefix};
 ghost use Rattle.style_sheet.specs.Chain.{HasSoundBases};
 ghost use Rattle.plain_doc.specs.Sound.{IsSound};
 ghost use Rattle.list_numbers.specs.ParagraphValues.{AreParagraphValuesOf};
-ghost use Rattle.doc_view.specs.Page.{AreFormats, IsPage, headers_text, page_text};
+ghost use Rattle.doc_view.specs.Page.{AreFormats, IsPage, fonts_of, headers_text, page_text};
 ghost use Rattle.page_out.specs.Printed.{Prints};
 ghost use Rattle.doc_view.specs.Seen.{Formats};
 
@@ -22,6 +22,7 @@ use doc_outer::{OutBlock, Sink, SinkFailed};
 use list_numbers::{ParagraphValuesList, columns_paragraph_values};
 use page_out::Page;
 use std::alloc::Global;
+use symbol_fonts::SymbolFonts;
 use thiserror::Error;
 
 /// What of a document is shown.
@@ -40,6 +41,13 @@ pub enum ViewFault {
     Memory,
     #[error("the sink failed")]
     Sink,
+}
+
+/// The symbol fonts of a document. It is linear in its font table.
+pub fn fonts_of(document: &ColumnDocument) -> SymbolFonts
+    ensures { result ≡ fonts_of document.now }
+{
+    SymbolFonts::of(document.carried.fonts.as_slice())
 }
 
 /// What the making of a page needs: all its memory.
@@ -154,12 +162,14 @@ impl Shown<'_> {
             (page_text formats self.now.values.now self.now.options self.now.document.now) }
     {
         let document = self.document;
+        let fonts = fonts_of(document);
         let main = Text {
             parts: document.main.parts(),
             formats: self.formats,
             manner: Manner {
                 hidden: self.options.hidden,
                 kind: TextKind::Main,
+                fonts,
             },
         };
         let (references, _) = main.push(page, out, Lead::none(), references, self.values);
@@ -168,6 +178,7 @@ impl Shown<'_> {
             texts: &document.notes,
             formats: self.formats,
             hidden: self.options.hidden,
+            fonts,
         };
         notes.push(page, out, &references);
         self.push_headers(alloc, page, out);
@@ -190,6 +201,7 @@ impl Shown<'_> {
             texts: &document.heads,
             formats: self.formats,
             hidden: self.options.hidden,
+            fonts: fonts_of(document),
         };
         headers.push(page, out);
     }

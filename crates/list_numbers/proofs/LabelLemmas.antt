@@ -12,6 +12,7 @@ use Rattle.list_numbers.specs.declared.list_place.ListPlace.{ListPlace}
 use Rattle.list_numbers.specs.declared.mark_values.MarkValues.{MarkValues}
 use Rattle.list_numbers.specs.declared.paragraph_values.ListLabel.{ListLabel}
 use Rattle.list_numbers.specs.declared.paragraph_values.ParagraphValues.{ParagraphValues}
+use Rattle.symbol_fonts.specs.declared.fonts.SymbolFonts.{SymbolFonts}
 use Rattle.list_numbers.specs.Tabulated.{tabulate}
 use Rattle.list_numbers.specs.Counters.{HaveCounted}
 use Rattle.list_numbers.specs.Fronts.{BeginsLong}
@@ -74,35 +75,35 @@ text_front f text units at is long = record {
 -- ---- paragraphs
 
 -- the values of a paragraph by the places up to its own
-abbrev pub own_values_at : List ListFormat → List (Option ListPlace) → List MarkValues → ℕ → ParagraphValues
-own_values_at lists places values i =
-    values_with (get_or values i no_values) (label_at_place lists (take (i + 1) places)
+abbrev pub own_values_at : SymbolFonts → List ListFormat → List (Option ListPlace) → List MarkValues → ℕ → ParagraphValues
+own_values_at fonts lists places values i =
+    values_with (get_or values i no_values) (label_at_place fonts lists (take (i + 1) places)
     (at_entry (slice_get places i)))
 
 -- the values of the first paragraphs, and the counters there
-pub record HasValues (lists : List ListFormat) (places : List (Option ListPlace)) (values : List MarkValues)
-    (made : List ParagraphValues) (counts : List ℕ) (done : ℕ) : Type 0 where
-  pub values_made : made ≡ tabulate (own_values_at lists places values) done
+pub record HasValues (fonts : SymbolFonts) (lists : List ListFormat) (places : List (Option ListPlace))
+    (values : List MarkValues) (made : List ParagraphValues) (counts : List ℕ) (done : ℕ) : Type 0 where
+  pub values_made : made ≡ tabulate (own_values_at fonts lists places values) done
   pub counted : HaveCounted (take done places) (length lists) counts
 
-pub none_made : (lists : List ListFormat) (places : List (Option ListPlace)) (values : List MarkValues)
-    (counts : List ℕ) → HaveCounted [] (length lists) counts → HasValues lists places values [] counts 0
-none_made lists places values counts h =
-    record { values_made = sym (tabulate_zero (own_values_at lists places values)); counted = h }
+pub none_made : (fonts : SymbolFonts) (lists : List ListFormat) (places : List (Option ListPlace)) (values : List MarkValues)
+    (counts : List ℕ) → HaveCounted [] (length lists) counts → HasValues fonts lists places values [] counts 0
+none_made fonts lists places values counts h =
+    record { values_made = sym (tabulate_zero (own_values_at fonts lists places values)); counted = h }
 
-pub one_made : (lists : List ListFormat) (places : List (Option ListPlace)) (values : List MarkValues)
+pub one_made : (fonts : SymbolFonts) (lists : List ListFormat) (places : List (Option ListPlace)) (values : List MarkValues)
     (made : List ParagraphValues) (counts new : List ℕ) (k : ℕ) (place : Option ListPlace) (label : Option ListLabel)
     (own : MarkValues) →
-    HasValues lists places values made counts k → slice_get places k ≡ Some place → k < length places →
+    HasValues fonts lists places values made counts k → slice_get places k ≡ Some place → k < length places →
     HaveCounted (take k places ++ place ∷ []) (length lists) new →
-    label ≡ label_at_place lists (take k places ++ place ∷ []) place → own ≡ get_or values k no_values →
-    HasValues lists places values (made ++ values_with own label ∷ []) new (k + 1)
-one_made lists places values made counts new k place label own h there low counted is same =
-    let f : ℕ → ParagraphValues = own_values_at lists places values in
+    label ≡ label_at_place fonts lists (take k places ++ place ∷ []) place → own ≡ get_or values k no_values →
+    HasValues fonts lists places values (made ++ values_with own label ∷ []) new (k + 1)
+one_made fonts lists places values made counts new k place label own h there low counted is same =
+    let f : ℕ → ParagraphValues = own_values_at fonts lists places values in
     let taken = place_taken places k place there low in
-    let label_is : label ≡ label_at_place lists (take (k + 1) places) (at_entry (slice_get places k)) =
-    is ∙ (ap (λ ps. label_at_place lists ps place) (sym taken)
-    ∙ ap (λ o. label_at_place lists (take (k + 1) places) (at_entry o)) (sym there)) in
+    let label_is : label ≡ label_at_place fonts lists (take (k + 1) places) (at_entry (slice_get places k)) =
+    is ∙ (ap (λ ps. label_at_place fonts lists ps place) (sym taken)
+    ∙ ap (λ o. label_at_place fonts lists (take (k + 1) places) (at_entry o)) (sym there)) in
     let one : values_with own label ≡ f k =
     ap (λ v. values_with v label) same ∙ ap (values_with (get_or values k no_values)) label_is in
     record {

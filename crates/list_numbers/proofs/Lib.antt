@@ -15,3 +15,4 @@ pub mod DocumentValueLemmas
 pub mod FitLemmas
 pub mod OutlineLemmas
 pub mod LabelLemmas
+pub mod FontLemmas

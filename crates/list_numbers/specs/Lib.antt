@@ -1,6 +1,7 @@
 pub mod NumberKind
 pub mod NumberText
 pub mod Tabulated
+pub mod LevelFonts
 pub mod Lists
 pub mod MarkValues
 pub mod Places

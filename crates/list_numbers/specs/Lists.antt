@@ -1,18 +1,23 @@
 -- [MS-DOC] PlfLst, LSTF, LVL and PlfLfo, as far as numbers need them. Each list and each level is found by its number:
 -- no bytes are walked over here.
 use Rattle.std.specs.Prelude.{ℕ, ◌+◌, ◌-◌, ◌*◌, ◌/◌, ◌%◌, ◌<◌, ◌≤◌, ◌==◌, nat_lt, min, if◌then◌else◌, List, length}
-use Rattle.std.specs.Prelude.{slice_index}
+use Rattle.std.specs.Prelude.{slice_index, slice_range}
 use Rattle.std.specs.Int.{cast_signed, w32}
 use Rattle.doc_bits.specs.Number.{u16_at, u32_at}
 use Rattle.doc_parts.specs.Levels.{levels_before, levels_of_list, level_start}
 use Rattle.list_numbers.specs.declared.level.Level.{Level}
 use Rattle.list_numbers.specs.declared.list_format.ListFormat.{ListFormat}
+use Rattle.list_numbers.specs.LevelFonts.{font_in}
 use Rattle.list_numbers.specs.NumberKind.{kind_of}
 use Rattle.list_numbers.specs.Tabulated.{tabulate}
 
 -- [MS-DOC] LVL: the text stands behind an LVLF of 28 bytes and two lists of properties, whose lengths are at 25 and 24
 abbrev pub level_text_place : List ℕ → ℕ → ℕ
 level_text_place bytes at = at + 28 + slice_index bytes (at + 25) + slice_index bytes (at + 24)
+
+-- [MS-DOC] LVL: the properties of characters of its number, right before the text
+abbrev pub level_characters : List ℕ → ℕ → List ℕ
+level_characters bytes at = slice_range bytes (at + 28 + slice_index bytes (at + 25)) (level_text_place bytes at)
 
 -- [MS-DOC] Xst: a 16-bit count and the units
 abbrev pub counted_units : List ℕ → ℕ → List ℕ
@@ -24,6 +29,7 @@ level_at bytes at = record {
   start = cast_signed w32 (u32_at bytes at);
   kind = kind_of (slice_index bytes (at + 4));
   text = counted_units bytes (level_text_place bytes at);
+  font = font_in (level_characters bytes at);
 }
 
 -- so many levels from a place on

@@ -11,6 +11,9 @@ use Rattle.list_numbers.specs.declared.list_place.ListPlace.{ListPlace}
 use Rattle.list_numbers.specs.declared.mark_values.MarkValues.{MarkValues}
 use Rattle.list_numbers.specs.declared.paragraph_values.ListLabel.{ListLabel}
 use Rattle.list_numbers.specs.declared.paragraph_values.ParagraphValues.{ParagraphValues}
+use Rattle.symbol_fonts.specs.declared.fonts.SymbolFonts.{SymbolFonts}
+use Rattle.symbol_fonts.specs.Characters.{shown_unit}
+use Rattle.symbol_fonts.specs.Fonts.{symbol_font, symbol_fonts}
 use Rattle.list_numbers.specs.Tabulated.{tabulate}
 use Rattle.list_numbers.specs.Lists.{lists_of}
 use Rattle.list_numbers.specs.MarkValues.{no_values}
@@ -49,15 +52,24 @@ abbrev pub label_with : ℕ → Bool → List ℕ → Option ListLabel
 label_with level bullet [] = None
 label_with level bullet (unit ∷ units) = Some (record { level = level; is_bullet = bullet; units = unit ∷ units })
 
--- the label at a level of a list, by how far each level has counted: the first units of the number
-abbrev pub label_in : Option ListFormat → ℕ → (ℕ → ℕ) → Option ListLabel
-label_in list level counts =
-    label_with level (is_bullet_level (level_of list level)) (take most_label_units (units_in list level counts))
+abbrev pub font_of_level : Option Level → Option ℕ
+font_of_level None = None
+font_of_level (Some level) = level.font
 
-abbrev pub label_at_place : List ListFormat → List (Option ListPlace) → Option ListPlace → Option ListLabel
-label_at_place lists places None = None
-label_at_place lists places (Some place) =
-    label_in (slice_get lists place.list) place.level (count_at places place.list)
+-- units as a level's font shows them
+abbrev pub shown_units : SymbolFonts → Option Level → List ℕ → List ℕ
+shown_units fonts level units = map (shown_unit (symbol_font fonts (font_of_level level))) units
+
+-- the label at a level of a list, by how far each level has counted: the first units of the number, as they are shown
+abbrev pub label_in : SymbolFonts → Option ListFormat → ℕ → (ℕ → ℕ) → Option ListLabel
+label_in fonts list level counts =
+    label_with level (is_bullet_level (level_of list level))
+    (shown_units fonts (level_of list level) (take most_label_units (units_in list level counts)))
+
+abbrev pub label_at_place : SymbolFonts → List ListFormat → List (Option ListPlace) → Option ListPlace → Option ListLabel
+label_at_place fonts lists places None = None
+label_at_place fonts lists places (Some place) =
+    label_in fonts (slice_get lists place.list) place.level (count_at places place.list)
 
 -- the values in effect of a mark, with the label of its paragraph
 abbrev pub values_with : MarkValues → Option ListLabel → ParagraphValues
@@ -69,15 +81,16 @@ values_with values label = record {
 }
 
 -- the values of paragraphs at these places, whose marks have these values: each label by the places up to its own
-abbrev pub all_values : List ListFormat → List (Option ListPlace) → List MarkValues → List ParagraphValues
-all_values lists places values =
-    tabulate (λ i. values_with (get_or values i no_values) (label_at_place lists (take (i + 1) places)
+abbrev pub all_values : SymbolFonts → List ListFormat → List (Option ListPlace) → List MarkValues → List ParagraphValues
+all_values fonts lists places values =
+    tabulate (λ i. values_with (get_or values i no_values) (label_at_place fonts lists (take (i + 1) places)
     (at_entry (slice_get places i)))) (length values)
 
 -- the values of the main paragraphs whose marks have these values
 abbrev pub paragraph_values_of : Document → List MarkValues → List ParagraphValues
 paragraph_values_of document values =
-    all_values (lists_of document.carried.lst document.carried.levels) (map (place_of document) values) values
+    all_values (symbol_fonts document.carried.fonts) (lists_of document.carried.lst document.carried.levels)
+    (map (place_of document) values) values
 
 -- the values of the main paragraphs, in their order
 pub record AreParagraphValuesOf (document : Document) (paragraphs : List ParagraphValues) : Type 0 where

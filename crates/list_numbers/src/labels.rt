@@ -1,12 +1,13 @@
 // The labels of paragraphs, by their places.
 ghost use Rattle.std.specs.Prelude.{◌≡◌, ◌+◌, ◌*◌, ◌^◌, ◌<◌, ◌≤◌, ◌++◌, ◌∷◌, [], ℕ, List, Option, Some, take};
-ghost use Rattle.std.specs.Prelude.{length, slice_get, slice_index, IfOk};
+ghost use Rattle.std.specs.Prelude.{length, map, slice_get, slice_index, IfOk};
 ghost use Rattle.std.specs.Option.{ForSome};
 ghost use Rattle.list_numbers.specs.declared.list_place.ListPlace.{ListPlace};
 ghost use Rattle.list_numbers.specs.Counters.{counter, HaveCounted};
 ghost use Rattle.list_numbers.specs.Numbers.{AreFit};
 ghost use Rattle.list_numbers.specs.ParagraphValues.{all_values, is_bullet_level, label_at_place, label_in};
-ghost use Rattle.list_numbers.specs.ParagraphValues.{label_with};
+ghost use Rattle.list_numbers.specs.ParagraphValues.{font_of_level, label_with};
+ghost use Rattle.symbol_fonts.specs.Characters.{shown_unit};
 
 use crate::counters::{count_place, new_counters};
 use crate::label_text::label_units;
@@ -18,6 +19,7 @@ use crate::number_kind::NumberKind;
 use crate::paragraph_values::{ListLabel, ParagraphValues, ParagraphValuesList};
 use doc_bits::{Memory, Units};
 use std::alloc::Global;
+use symbol_fonts::{SymbolFont, SymbolFonts, shown_unit};
 
 /// The counters of a list.
 const LEVELS: usize = 9;
@@ -25,6 +27,7 @@ const LEVELS: usize = 9;
 /// The values of paragraphs at these places, whose marks have these values.
 pub(crate) fn values_at(
     alloc: Global,
+    fonts: SymbolFonts,
     lists: &ListFormats,
     places: &[Option<ListPlace>],
     values: &[MarkValues],
@@ -33,12 +36,12 @@ pub(crate) fn values_at(
     requires lists { length lists.now < 2 ^ 16 }
     requires fit { AreFit lists.now places.now }
     requires values { length values.now ≡ length places.now }
-    ensures { IfOk result (λ made. made ≡ all_values lists.now places.now values.now) }
+    ensures { IfOk result (λ made. made ≡ all_values fonts lists.now places.now values.now) }
 {
     let mut counts = new_counters(alloc, lists.len())?;
     let mut made = ParagraphValuesList::new(alloc);
     for i in 0..places.len() {
-        let label = next_label(alloc, lists, &mut counts, places[i])?;
+        let label = next_label(alloc, fonts, lists, &mut counts, places[i])?;
         made.add(ParagraphValues::new(values[i], label))?;
     }
     Ok(made)
@@ -47,6 +50,7 @@ pub(crate) fn values_at(
 /// Counts a paragraph, and gives its label, where it has a place.
 fn next_label(
     alloc: Global,
+    fonts: SymbolFonts,
     lists: &ListFormats,
     counts: &mut [u32],
     place: Option<ListPlace>,
@@ -58,19 +62,20 @@ fn next_label(
         → HaveCounted (places ++ place ∷ []) (length lists.now) counts.new }
     ensures label { IfOk result (λ label. (places : List (Option ListPlace))
         → HaveCounted places (length lists.now) counts.old
-        → label ≡ label_at_place lists.now (places ++ place ∷ []) place) }
+        → label ≡ label_at_place fonts lists.now (places ++ place ∷ []) place) }
 {
     let Some(place) = place else {
         return Ok(None);
     };
     count_place(counts, place);
-    let label = label_here(alloc, lists, counts, place)?;
+    let label = label_here(alloc, fonts, lists, counts, place)?;
     Ok(label)
 }
 
 /// The label of a paragraph that was counted.
 fn label_here(
     alloc: Global,
+    fonts: SymbolFonts,
     lists: &ListFormats,
     counts: &[u32],
     place: ListPlace,
@@ -79,7 +84,7 @@ fn label_here(
     requires level { place.level < 9 }
     requires counts { 9 * place.list + 9 ≤ length counts.now }
     ensures { IfOk result (λ label. label
-        ≡ label_in (slice_get lists.now place.list) place.level (counter counts.now place.list)) }
+        ≡ label_in fonts (slice_get lists.now place.list) place.level (counter counts.now place.list)) }
 {
     let list = lists.get(place.list);
     let first = LEVELS * place.list;
@@ -89,8 +94,42 @@ fn label_here(
         place.level,
         &counts[first..first + LEVELS],
     )?;
+    let font = fonts.font(font_of_level(&list.levels, place.level));
+    let shown = shown_units(alloc, font, units)?;
     let bullet = is_bullet_level(&list.levels, place.level);
-    Ok(label_with(place.level as u8, bullet, units))
+    Ok(label_with(place.level as u8, bullet, shown))
+}
+
+/// The font of a level of a list.
+fn font_of_level(levels: &Levels, level: usize) -> Option<u16>
+    ensures { result ≡ font_of_level (slice_get levels.now level) }
+{
+    if level >= levels.len() {
+        return None;
+    }
+    levels.get(level).font
+}
+
+/// Units as a font shows them.
+fn shown_units(alloc: Global, font: Option<SymbolFont>, units: Units) -> Result<Units, Memory>
+    ensures { IfOk result (λ shown. shown ≡ map (shown_unit font) units) }
+{
+    let Some(font) = font else {
+        return Ok(units);
+    };
+    let shown = in_font(alloc, font, units.as_slice())?;
+    Ok(shown)
+}
+
+/// The same, one by one.
+fn in_font(alloc: Global, font: SymbolFont, units: &[u16]) -> Result<Units, Memory>
+    ensures { IfOk result (λ shown. shown ≡ map (shown_unit (Some font)) units.now) }
+{
+    let mut shown = Units::new(alloc);
+    for unit in units {
+        shown.push_all(&[shown_unit(Some(font), *unit)])?;
+    }
+    Ok(shown)
 }
 
 /// The label of these units, where there are some.

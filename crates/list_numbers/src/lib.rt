@@ -10,6 +10,7 @@ mod label_text;
 mod labels;
 mod laws;
 mod level;
+mod level_font;
 mod level_text;
 mod levels;
 mod list_format;

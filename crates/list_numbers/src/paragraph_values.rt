@@ -12,6 +12,7 @@ use doc_bits::{Memory, Units};
 use doc_columns::ColumnDocument;
 use std::alloc::Global;
 use std::marker::Model;
+use symbol_fonts::SymbolFonts;
 
 /// The label of a list paragraph.
 #[derive(Drop)]
@@ -127,6 +128,7 @@ pub fn columns_paragraph_values(
     let values = document_values(alloc, document)?;
     let lists = DocumentLists::of(alloc, &document.carried)?;
     let places = lists.places_of(alloc, &values)?;
-    let made = values_at(alloc, &lists.lists, &places, &values)?;
+    let fonts = SymbolFonts::of(document.carried.fonts.as_slice());
+    let made = values_at(alloc, fonts, &lists.lists, &places, &values)?;
     Ok(made)
 }

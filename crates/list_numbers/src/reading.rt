@@ -6,9 +6,10 @@ ghost use Rattle.doc_parts.specs.Levels.{level_end, level_start, levels_of_list}
 ghost use Rattle.plain_doc.specs.Carried.{AreListsWithLevels};
 ghost use Rattle.list_numbers.specs.Tabulated.{tabulate};
 ghost use Rattle.list_numbers.specs.Lists.{lists_of, list_at, level_at, levels_from, counted_units, use_count};
-ghost use Rattle.list_numbers.specs.Lists.{list_uses, level_text_place, HaveWholeLevels};
+ghost use Rattle.list_numbers.specs.Lists.{list_uses, level_characters, level_text_place, HaveWholeLevels};
 
 use crate::level::Level;
+use crate::level_font::font_in;
 use crate::levels::Levels;
 use crate::list_format::ListFormat;
 use crate::list_formats::ListFormats;
@@ -117,7 +118,17 @@ fn read_level(alloc: Global, bytes: &[u8], at: usize) -> Result<Level, Memory>
         start: get32(bytes, at).cast_signed(),
         kind: NumberKind::of(bytes[at + NFC]),
         text: read_units(alloc, bytes, text_place(bytes, at))?,
+        font: font_in(characters(bytes, at)),
     })
+}
+
+/// The properties of characters of a level.
+fn characters(bytes: &[u8], at: usize) -> &[u8]
+    requires { level_end bytes.now at ≤ length bytes.now }
+    ensures { result.now ≡ level_characters bytes.now at }
+{
+    let paragraph = bytes[at + CB_GRPPRL_PAPX] as usize;
+    &bytes[at + LVLF_LEN + paragraph..text_place(bytes, at)]
 }
 
 /// Where the text of a level stands.

@@ -1,6 +1,6 @@
 -- The item of the place.
-use Rattle.std.proofs.Common.{◌≡◌, ◌∙◌, ◌+◌, ◌||◌, ℕ, Bool, List, sym, ap, subst, arith}
-use Rattle.std.specs.Prelude.{slice_index}
+use Rattle.std.proofs.Common.{◌≡◌, ◌∙◌, ◌+◌, ◌||◌, ℕ, Bool, List, sym, ap, subst, arith, take}
+use Rattle.std.specs.Prelude.{slice_index, is_some, if◌then◌else◌}
 use Rattle.doc_columns.specs.Walks.{items_in}
 use Rattle.doc_view.specs.declared.text.Course.{Course}
 use Rattle.doc_view.specs.Course.{IsCourse}
@@ -8,9 +8,9 @@ use Rattle.doc_view.proofs.CourseLemmas.{item_course, item_room, item_there, few
 use Rattle.doc_view.proofs.RangeLemmas.{seen_range}
 use Rattle.view_places.specs.declared.element.Element.{Element}
 use Rattle.form_page.specs.Forms.{PutsPlaces}
-use Rattle.doc_places.specs.Places.{count_of, item_places}
+use Rattle.doc_places.specs.Places.{count_of, item_places, up_to_reference}
 use Rattle.doc_html.specs.Writes.{At, IsReading, Writes, at, links_in}
-use Rattle.doc_html.proofs.WriteLemmas.{count_few, item_written}
+use Rattle.doc_html.proofs.WriteLemmas.{count_few, item_written, referred_on}
 use Rattle.doc_html.proofs.reading.write_item.Goals as goal
 
 pub pass-requires-clause-room : goal.pass-requires-clause-room
@@ -55,6 +55,12 @@ returns-clause-reading g c =
           c.requires.reading.course
           one.1.0 one.1.1 beside_is same);
       few = omega (arith, place, few, counted, one_more);
+      referred =
+          c.referred_behind-reading.ensures
+          ∙ ap (λ (n : ℕ). if is_some beside.note then n else c.args.reading.now.referred) place
+          ∙ referred_on (items_in parts) course.place one.0 beside c.args.reading.now.referred one.1.0 beside_is
+          c.requires.reading.referred
+          ∙ ap (λ (n : ℕ). up_to_reference (take n (items_in parts))) (sym place);
     }
 
 pub returns-clause-writes : goal.returns-clause-writes
@@ -82,9 +88,9 @@ returns-clause-writes g c = λ formats istd has.
     c.write.ensures.puts in
     let written =
     item_written g.K.Sink c.args.out.now c.begin.new.out c.write.new.out writer.page c.begin.new.self.page
-    c.write.new.self.page reading.begun reading.count reading.origin link writer.path label manner
+    c.write.new.self.page reading.begun reading.count reading.referred reading.origin link writer.path label manner
     (items_in parts) course format one.0 c.see-seen.result formats istd c.requires.reading.course one.1.0 same
-    (has course.place one.0 (omega arith) ahead one.1.0) c.link-link.ensures c.begin.ensures.puts put in
+    (has course.place one.0 (omega arith) ahead one.1.0) c.requires.reading.referred c.link-link.ensures c.begin.ensures.puts put in
     let links = links_in reading.origin (items_in parts) in
     subst (λ (begun : Bool). Writes g.K.Sink (at c.args.out.now writer reading) (record {
       out = c.write.new.out;

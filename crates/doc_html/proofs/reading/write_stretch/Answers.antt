@@ -21,27 +21,27 @@ loop-reading-init g c = record {
       c.args.text.now.manner istd (items_in c.args.text.now.parts) c.args.reading.now.course.place;
 }
 
-pub write_item-requires-clause-reading : goal.write_item-requires-clause-reading
-write_item-requires-clause-reading g c = c.loop-reading.invariant.reading
+pub write_some-requires-clause-reading : goal.write_some-requires-clause-reading
+write_some-requires-clause-reading g c = c.loop-reading.invariant.reading
 
-pub write_item-requires-clause-beside : goal.write_item-requires-clause-beside
-write_item-requires-clause-beside g c = λ k item low until here.
+pub write_some-requires-clause-beside : goal.write_some-requires-clause-beside
+write_some-requires-clause-beside g c = λ k item low until here.
     let start = c.loop-reading.invariant.low in
     c.requires.beside k item (omega (arith, start, low)) until here
 
-pub write_item-requires-clause-depth : goal.write_item-requires-clause-depth
-write_item-requires-clause-depth g c =
+pub write_some-requires-clause-depth : goal.write_some-requires-clause-depth
+write_some-requires-clause-depth g c =
     subst (λ (path : List Element). length path + 8 ≤ 24) (sym c.loop-reading.invariant.path) c.requires.depth
 
 pub loop-reading-preserved : goal.loop-reading-preserved
 loop-reading-preserved g c =
     let old = c.loop-reading in
-    let item = c.write_item in
+    let some = c.write_some in
     let first = c.args.reading.now.course.place in
     let at_place = old.reading.course.place in
     let low = old.invariant.low in
-    let place = item.ensures.place in
-    let more = c.loop-reading-test.true in
+    let to = some.new.reading.course.place in
+    let ahead = some.ensures.ahead in
     let items = items_in c.args.text.now.parts in
     let manner = c.args.text.now.manner in
     let block = c.args.writer.now.path in
@@ -49,24 +49,24 @@ loop-reading-preserved g c =
     let links = links_in c.args.reading.now.origin items in
     let a = at c.args.out.now c.args.writer.now c.args.reading.now in
     let b = at old.out old.writer old.reading in
-    let d = at item.new.out item.new.writer item.new.reading in
+    let d = at some.new.out some.new.writer some.new.reading in
     record {
-      low = omega (arith, low, place);
-      within = omega (arith, more, place);
-      walk = item.ensures.walk ∙ old.invariant.walk;
-      reading = item.ensures.reading;
-      path = item.ensures.path ∙ old.invariant.path;
-      origin = item.ensures.origin ∙ old.invariant.origin;
+      low = omega (arith, low, ahead);
+      within = some.ensures.within;
+      walk = some.ensures.walk ∙ old.invariant.walk;
+      reading = some.ensures.reading;
+      path = some.ensures.path ∙ old.invariant.path;
+      origin = some.ensures.origin ∙ old.invariant.origin;
       writes = λ formats istd has.
-          writes_to g.K.Sink a d links block label formats manner istd items first (at_place + 1) item.new.reading.course.place
-          (sym place)
-          (writes_further g.K.Sink a b d links block label formats manner istd items first at_place (at_place + 1) low (omega arith)
-          (old.invariant.writes formats istd has)
-          (writes_in g.K.Sink b d links old.writer.path block label (seen_range formats manner istd items at_place (at_place + 1))
+          writes_further g.K.Sink a b d links block label formats manner istd items first at_place to low (omega (
+            arith,
+            ahead,
+          )) (old.invariant.writes formats istd has)
+          (writes_in g.K.Sink b d links old.writer.path block label (seen_range formats manner istd items at_place to)
           old.invariant.path
           (writes_from g.K.Sink b d old.reading.origin c.args.reading.now.origin items old.writer.path label (seen_range
-          formats manner istd items at_place (at_place + 1)) old.invariant.origin (item.ensures.writes formats istd
-          (λ k x le until here. has k x (omega (arith, low, le)) until here)))));
+          formats manner istd items at_place to) old.invariant.origin (some.ensures.writes formats istd
+          (λ k x le until here. has k x (omega (arith, low, le)) until here))));
     }
 
 pub returns-clause-reading : goal.returns-clause-reading

@@ -24,7 +24,7 @@ use Rattle.doc_places.specs.declared.lists.Lists.{Lists}
 use Rattle.doc_places.specs.declared.looks.Look.{Look}
 use Rattle.doc_places.specs.Lists.{lists_after}
 use Rattle.doc_places.specs.Looks.{label_units, look_of}
-use Rattle.doc_places.specs.Places.{anchor_places, block_of, hypertext_of, lead, numbers}
+use Rattle.doc_places.specs.Places.{anchor_places, block_of, hypertext_of, lead, numbers, up_to_reference}
 use Rattle.doc_places.proofs.AnchorLemmas.{lead_more, lead_none}
 use Rattle.form_page.specs.Forms.{Places}
 use Rattle.form_page.specs.Forms.{PutsPlaces}
@@ -56,7 +56,12 @@ loop-reading-init g c =
       ahead =
           subst (λ (n : ℕ). c.new-marks.result.begin ≤ n) (sym place)
           (begins_at_start c.new-marks.result c.new-marks.ensures);
-      reading = record { course = reading.ensures.course manner items c.requires.room; few = omega (arith, count) };
+      reading = record {
+        course = reading.ensures.course manner items c.requires.room;
+        few = omega (arith, count);
+        referred =
+            reading.ensures.referred ∙ sym (ap (λ (n : ℕ). up_to_reference (take n items)) place);
+      };
       path = refl;
       number = subst (λ (x : Grid). x.number ≤ reading.result.course.place) (sym grid) (omega arith);
       cell = subst (λ (x : Grid). x.cell ≤ x.number) (sym grid) (omega arith);

@@ -7,6 +7,7 @@ use Rattle.plain_doc.specs.RightDocument.{HoldsAtItems}
 use Rattle.plain_doc.specs.RulesOfTexts.{HasParagraphStyle}
 use Rattle.doc_columns.specs.Walks.{items_in}
 use Rattle.doc_view.proofs.PageLemmas.{sound_normal, sound_styles}
+use Rattle.symbol_fonts.specs.declared.fonts.SymbolFonts.{SymbolFonts}
 use Rattle.doc_view.specs.declared.reading.Manner.{Manner}
 use Rattle.doc_view.specs.declared.reading.TextKind.TheVariants as text_kind
 use Rattle.doc_view.specs.Page.{AreFormats}
@@ -29,14 +30,15 @@ title_in-requires-clause-styles c =
     (sound_styles document sheet Main document.main c.requires.sound c.requires.formats refl)
 
 pub title_in-requires-clause-room : goal.title_in-requires-clause-room
-title_in-requires-clause-room c = none_met c.args.options.hidden (items_in c.parts.result)
+title_in-requires-clause-room c = none_met c.args.options.hidden c.fonts_of.result (items_in c.parts.result)
 
 pub returns : goal.returns
 returns c = λ all are.
     let document = c.args.document.now in
-    let manner : Manner = record { hidden = c.args.options.hidden; kind = text_kind.Header } in
     let right : AreFormats c.args.formats.now all =
     subst (λ (s : Sheet). AreFormats s all) (sym c.requires.formats) are in
     let same : items_in c.parts.result ≡ document.main =
     c.parts.ensures.items ∙ ap (λ (d : Document). d.main) c.document.view_is in
-    c.in_ok-title.ensures all right ∙ ap (λ (items : List Item). title_in (paragraphs_of all manner items)) same
+    let manner : SymbolFonts → Manner = λ fonts.
+    record { hidden = c.args.options.hidden; kind = text_kind.Header; fonts = fonts } in
+    c.in_ok-title.ensures all right ∙ (λ i. title_in (paragraphs_of all (manner (c.fonts_of.ensures i)) (same i)))

@@ -10,7 +10,7 @@ use Rattle.list_numbers.proofs.labels.values_at.Goals as goal
 
 pub loop-i-init : goal.loop-i-init
 loop-i-init c =
-    rw c.new-made.ensures (none_made c.args.lists.now c.args.places.now c.args.values.now c.in_ok-counts.counts.items
+    rw c.new-made.ensures (none_made c.args.fonts c.args.lists.now c.args.places.now c.args.values.now c.in_ok-counts.counts.items
     (rw (← c.len.ensures) c.in_ok-counts.ensures))
 
 pub next_label-requires-clause-place : goal.next_label-requires-clause-place
@@ -35,7 +35,7 @@ loop-i-preserved c =
     take_at new (drop (length new) c.loop-i.counts.items) c.loop-i.counts.len (counted.size ∙ (sym old.size ∙
     c.deref_mut.ensures.len)) in
     let own = slice_index_or c.args.values.now c.loop-i.i no_values in
-    rw (c.in_ok-add.ensures, c.new.ensures, whole) (one_made c.args.lists.now places c.args.values.now c.loop-i.made
+    rw (c.in_ok-add.ensures, c.new.ensures, whole) (one_made c.args.fonts c.args.lists.now places c.args.values.now c.loop-i.made
     c.loop-i.counts.items new c.loop-i.i (slice_index_or places c.loop-i.i None) c.in_ok-label.label own
     c.loop-i.invariant (slice_get-get_or places c.loop-i.i None c.loop-i-test.true) c.loop-i-test.true counted
     (c.in_ok-label.ensures.label (take c.loop-i.i places) old) refl)

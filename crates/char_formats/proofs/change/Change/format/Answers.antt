@@ -1,5 +1,5 @@
 use Rattle.std.proofs.Common.{◌≡◌, None, sym, ◌∙◌, arith}
-use Rattle.char_formats.specs.Formats.{is_set, position_of, symbol_of, format_in}
+use Rattle.char_formats.specs.Formats.{font_of, is_set, position_of, symbol_of, format_in}
 use Rattle.char_formats.proofs.ChangeLemmas.{on-after, instead-unwrap}
 use Rattle.char_formats.proofs.change.Change.format.Goals as goal
 
@@ -34,6 +34,8 @@ returns c = λ act h.
     c.is_on-12.ensures ∙ on-after act change h 9 (omega arith) in
     let symbol : c.unwrap_or-2.result ≡ symbol_of (act 0x6A09 None) =
     c.unwrap_or-2.ensures ∙ (instead-unwrap change.symbol _ ∙ sym (h.symbol None)) in
+    let font : c.unwrap_or-3.result ≡ font_of (act 0x4A51 None) =
+    c.unwrap_or-3.ensures ∙ (instead-unwrap change.font _ ∙ sym (h.font None)) in
     rw (
       bold,
       italic,
@@ -49,4 +51,5 @@ returns c = λ act h.
       ole,
       object,
       symbol,
+      font,
     )

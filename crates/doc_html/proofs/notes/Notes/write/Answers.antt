@@ -13,6 +13,7 @@ loop-k-init g c = record {
       notes_start g.K.Sink c.args.out.now c.args.writer.now.page formats (record {
         hidden = c.args.self.now.hidden;
         kind = text_kind.Note;
+        fonts = c.args.self.now.fonts;
       }) c.args.references.now.list c.args.self.now.texts.now;
 }
 
@@ -27,7 +28,7 @@ loop-k-preserved g c = record {
       let note = there_is notes old.k (omega arith) in
       note_on g.K.Sink c.args.out.now c.args.writer.now.page old.out old.writer.page put.new.out put.new.writer.page
       formats
-      (record { hidden = c.args.self.now.hidden; kind = text_kind.Note }) references notes old.k c.get.result note.0
+      (record { hidden = c.args.self.now.hidden; kind = text_kind.Note; fonts = c.args.self.now.fonts }) references notes old.k c.get.result note.0
       (old.invariant.notes formats are) c.get.ensures note.1 (put.ensures.puts formats note.0 are note.1);
 }
 
@@ -46,5 +47,5 @@ returns-clause-puts g c = λ formats are.
           (arith, more))
     ] in
     notes_written g.K.Sink c.args.out.now c.args.writer.now.page old.out old.writer.page formats
-    (record { hidden = c.args.self.now.hidden; kind = text_kind.Note }) (old.k + 1) references notes old.k ended
+    (record { hidden = c.args.self.now.hidden; kind = text_kind.Note; fonts = c.args.self.now.fonts }) (old.k + 1) references notes old.k ended
     (old.invariant.notes formats are)

@@ -10,6 +10,6 @@ abbrev pub invariant-loop-k : goal.invariant-loop-k
 invariant-loop-k g l = record {
   path : l.writer.path ≡ [];
   notes : (formats : Formats) → AreFormats l.self.formats.now formats → NotesAt g.K.Sink l.fn.out l.fn.writer.page l.out
-      l.writer.page formats (record { hidden = l.self.hidden; kind = text_kind.Note }) (l.k + 1) l.references.list
+      l.writer.page formats (record { hidden = l.self.hidden; kind = text_kind.Note; fonts = l.self.fonts }) (l.k + 1) l.references.list
       (drop l.k l.references.list) l.self.texts.now (drop l.k l.self.texts.now);
 }

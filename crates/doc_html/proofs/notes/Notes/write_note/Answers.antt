@@ -3,6 +3,8 @@ use Rattle.std.proofs.lemmas.Option.{same_Some}
 use Rattle.doc_columns.specs.Walks.{items_in}
 use Rattle.doc_parts.specs.declared.bookmark_order.Bookmark.{Bookmark}
 use Rattle.plain_doc.specs.declared.item.Item.{Item}
+use Rattle.plain_doc.specs.RightDocument.{HoldsAtItems}
+use Rattle.plain_doc.specs.RulesOfTexts.{HasParagraphStyle}
 use Rattle.view_places.specs.declared.element.Element.{Element}
 use Rattle.doc_view.specs.declared.reading.Manner.{Manner}
 use Rattle.list_numbers.specs.declared.paragraph_values.ParagraphValues.{ParagraphValues}
@@ -17,7 +19,12 @@ use Rattle.doc_html.proofs.notes.Notes.write_note.Goals as goal
 
 pub write_text-requires-clause-room : goal.write_text-requires-clause-room
 write_text-requires-clause-room g c =
-    let none = none_met c.args.self.now.hidden (items_in c.parts.result) in omega (arith, none)
+    let none = none_met c.args.self.now.hidden c.args.self.now.fonts (items_in c.parts.result) in omega (arith, none)
+
+pub write_text-requires-clause-styles : goal.write_text-requires-clause-styles
+write_text-requires-clause-styles g c =
+    subst (λ (items : List Item). HoldsAtItems items (λ i item. HasParagraphStyle c.args.self.now.formats.now item)) (sym
+    c.parts.ensures.items) (c.requires.styles c.args.k c.get.result.now c.get.ensures)
 
 pub write_text-requires-clause-depth : goal.write_text-requires-clause-depth
 write_text-requires-clause-depth g c =
@@ -28,11 +35,12 @@ returns-then-not-reference-clause-puts g c = λ formats note are there.
     note_hidden g.K.Sink c.args.out.now c.args.writer.now.page formats (record {
       hidden = c.args.self.now.hidden;
       kind = text_kind.Note;
+      fonts = c.args.self.now.fonts;
     }) (c.args.k + 1) c.args.reference note (is_hidden c.args.reference.is_shown c.if-not-reference.true)
 
 pub returns-clause-puts : goal.returns-clause-puts
 returns-clause-puts g c = λ formats note are there.
-    let manner : Manner = record { hidden = c.args.self.now.hidden; kind = text_kind.Note } in
+    let manner : Manner = record { hidden = c.args.self.now.hidden; kind = text_kind.Note; fonts = c.args.self.now.fonts } in
     let text = c.write_text in
     let label = c.open_note in
     let plain : (all : List Paragraph) → with_values c.new-values.result all ≡ all = λ all.

@@ -15,7 +15,8 @@ use Rattle.form_page.specs.Forms.{Places}
 use Rattle.form_page.proofs.FormLemmas.{places_then}
 use Rattle.doc_view.specs.declared.reading.Manner.{Manner}
 use Rattle.doc_view.specs.Kept.{KeptReferences}
-use Rattle.doc_view.specs.Page.{AreFormats}
+use Rattle.symbol_fonts.specs.declared.fonts.SymbolFonts.{SymbolFonts}
+use Rattle.doc_view.specs.Page.{AreFormats, fonts_of}
 use Rattle.doc_view.specs.Seen.{Paragraph, paragraphs_of, references_of, with_values}
 use Rattle.doc_view.proofs.PageLemmas.{sound_normal, sound_styles}
 use Rattle.doc_places.specs.Places.{hypertext_of, notes_places, text_places}
@@ -56,8 +57,12 @@ returns g c = λ formats are.
     let document = c.args.self.now.document.now in
     let right : AreFormats c.args.self.now.formats.now formats =
     subst (λ (s : Sheet). AreFormats s formats) (sym c.requires.formats) are in
-    let main_manner : Manner = record { hidden = c.args.self.now.options.hidden; kind = text_kind.Main } in
-    let note_manner : Manner = record { hidden = c.args.self.now.options.hidden; kind = text_kind.Note } in
+    let main_manner : SymbolFonts → Manner = λ fonts.
+    record { hidden = c.args.self.now.options.hidden; kind = text_kind.Main; fonts = fonts } in
+    let note_manner : SymbolFonts → Manner = λ fonts.
+    record { hidden = c.args.self.now.options.hidden; kind = text_kind.Note; fonts = fonts } in
+    let fonts = fonts_of document in
+    let known : c.fonts_of-fonts.result ≡ fonts = c.fonts_of-fonts.ensures in
     let main = c.write_text-references in
     let same : items_in c.parts.result ≡ document.main =
     c.parts.ensures.items ∙ ap (λ (d : Document). d.main) c.document.view_is in
@@ -65,23 +70,25 @@ returns g c = λ formats are.
     let same_bookmarks : c.document.inside.bookmarks ≡ document.bookmarks = ap (λ (d : Document). d.bookmarks)
     c.document.view_is in
     let values = c.args.self.now.values.now in
-    let all : List Item → List Paragraph = λ items. with_values values (paragraphs_of formats main_manner items) in
-    let met : main.result.list ≡ references_of (all document.main) =
+    let all : SymbolFonts → List Item → List Paragraph = λ fonts items.
+    with_values values (paragraphs_of formats (main_manner fonts) items) in
+    let met : main.result.list ≡ references_of (all fonts document.main) =
     main.ensures.references formats right
-    ∙ ap (λ (r : KeptReferences). r.list ++ references_of (all (items_in c.parts.result))) c.requires.references
-    ∙ ap (λ (items : List Item). references_of (all items)) same in
+    ∙ ap (λ (r : KeptReferences). r.list ++ references_of (all c.fonts_of-fonts.result (items_in c.parts.result)))
+    c.requires.references
+    ∙ (λ i. references_of (all (known i) (same i))) in
     let before = c.args.writer.now.page in
     let hypertext = hypertext_of document.bookmarks 0 document.main in
     let text : PutsPlaces g.K.Sink c.args.out.now before main.new.out main.new.writer.page (text_places hypertext [] (all
-    document.main)) =
+    fonts document.main)) =
     subst (λ (places : Places). PutsPlaces g.K.Sink c.args.out.now before main.new.out main.new.writer.page places) (λ
-    i. text_places (hypertext_of (same_bookmarks i) 0 (same i)) (c.requires.path i) (all (same i)))
+    i. text_places (hypertext_of (same_bookmarks i) 0 (same i)) (c.requires.path i) (all (known i) (same i)))
     (main.ensures.puts formats right) in
     let notes : PutsPlaces g.K.Sink main.new.out main.new.writer.page c.write.new.out c.write.new.writer.page
-    (notes_places formats note_manner 1 (references_of (all document.main)) document.notes) =
+    (notes_places formats (note_manner fonts) 1 (references_of (all fonts document.main)) document.notes) =
     subst (λ (places : Places). PutsPlaces g.K.Sink main.new.out main.new.writer.page c.write.new.out
     c.write.new.writer.page
-    places) (λ i. notes_places formats note_manner 1 (met i) (same_notes i)) (c.write.ensures.puts formats right) in
+    places) (λ i. notes_places formats (note_manner (known i)) 1 (met i) (same_notes i)) (c.write.ensures.puts formats right) in
     places_then g.K.Sink c.args.out.now main.new.out c.write.new.out before main.new.writer.page c.write.new.writer.page
-    (text_places hypertext [] (all document.main)) (notes_places formats note_manner 1 (references_of (all
-    document.main)) document.notes) text notes
+    (text_places hypertext [] (all fonts document.main)) (notes_places formats (note_manner fonts) 1 (references_of
+    (all fonts document.main)) document.notes) text notes

@@ -1,6 +1,6 @@
 use Rattle.std.proofs.Common.{◌≡◌, ◌∷◌, ◌++◌, [], List, Some, None, sym, subst}
 use Rattle.form_page.specs.Forms.{PutsPlaces}
-use Rattle.doc_places.specs.Places.{bare, inline_elements, item_places, shown}
+use Rattle.doc_places.specs.Places.{bare, inline_elements, item_places, link_elements, shown}
 use Rattle.doc_places.proofs.PlaceLemmas.{hidden_item}
 use Rattle.doc_html.proofs.WriteLemmas.{puts_same, shown_item}
 use Rattle.form_page.proofs.FormLemmas.{places_none}
@@ -16,9 +16,10 @@ returns-then-not-seen-clause-puts g c =
 pub returns-in-None-clause-puts : goal.returns-in-None-clause-puts
 returns-in-None-clause-puts g c =
     let old = c.args.self.now in
-    puts_same g.K.Sink c.args.out.now c.put.new.out old.page c.put.new.self (bare old.path ∷ []) (item_places old.path c.args.link
-    c.args.count c.args.seen.now) (sym (shown_item old.path c.args.link c.args.count c.args.seen.now None (cc) c.in-None.is))
-    c.put.ensures
+    let put = c.write_bare in
+    puts_same g.K.Sink c.args.out.now put.new.out old.page put.new.self.page (bare (old.path ++ link_elements c.args.link) ∷
+    []) (item_places old.path c.args.link c.args.count c.args.seen.now) (sym (shown_item old.path c.args.link c.args.count
+    c.args.seen.now None (cc) c.in-None.is)) put.ensures.puts
 
 pub returns-in-Some-clause-puts : goal.returns-in-Some-clause-puts
 returns-in-Some-clause-puts g c =

@@ -11,11 +11,11 @@ use Rattle.doc_view.proofs.headers.Headers.push_header.Goals as goal
 
 pub push-some-requires-clause-room : goal.push-some-requires-clause-room
 push-some-requires-clause-room g c =
-    let none = no_references c.args.self.now.hidden (items_in c.parts.result) in omega (arith, none)
+    let none = no_references c.args.self.now.hidden c.args.self.now.fonts (items_in c.parts.result) in omega (arith, none)
 
 pub returns-clause-text : goal.returns-clause-text
 returns-clause-text g c = λ formats text are there.
-    let manner : Manner = record { hidden = c.args.self.now.hidden; kind = text_kind.Header } in
+    let manner : Manner = record { hidden = c.args.self.now.hidden; kind = text_kind.Header; fonts = c.args.self.now.fonts } in
     let items : items_in c.parts.result ≡ text =
     c.parts.ensures.items ∙ same_Some c.get.result.now text (sym c.get.ensures ∙ there) in
     header_here g.K.Sink c.args.out.now c.push-some.new.out c.args.page.now c.push-some.new.page formats manner
@@ -24,7 +24,7 @@ returns-clause-text g c = λ formats text are there.
 
 pub returns-clause-begun : goal.returns-clause-begun
 returns-clause-begun g c = λ formats text are there.
-    let manner : Manner = record { hidden = c.args.self.now.hidden; kind = text_kind.Header } in
+    let manner : Manner = record { hidden = c.args.self.now.hidden; kind = text_kind.Header; fonts = c.args.self.now.fonts } in
     let items : items_in c.parts.result ≡ text =
     c.parts.ensures.items ∙ same_Some c.get.result.now text (sym c.get.ensures ∙ there) in
     let some =

@@ -19,7 +19,7 @@ loop-k-preserved g c = λ formats are.
     let put = c.push_note-begun in
     let note = there_is notes old.k (omega arith) in
     note_on g.K.Sink c.args.out.now c.args.page.now old.out old.page put.new.out put.new.page formats
-    (record { hidden = c.args.self.now.hidden; kind = text_kind.Note }) old.begun put.result references notes old.k c.get.result
+    (record { hidden = c.args.self.now.hidden; kind = text_kind.Note; fonts = c.args.self.now.fonts }) old.begun put.result references notes old.k c.get.result
     note.0 (old.invariant formats are) c.get.ensures note.1 (put.ensures.text formats note.0 are note.1)
     (put.ensures.begun formats note.0 are note.1)
 
@@ -31,5 +31,5 @@ returns g c = λ formats are.
     let ended : (length references ≤ old.k) ⊎ (length notes ≤ old.k) =
     elim (cases_lt (length references) (length notes)) [ inl less ↦ inl (omega (arith, less)) | inr more ↦ inr (omega (arith, more)) ] in
     notes_put g.K.Sink c.args.out.now c.args.page.now old.out old.page formats
-    (record { hidden = c.args.self.now.hidden; kind = text_kind.Note }) old.begun references notes old.k ended
+    (record { hidden = c.args.self.now.hidden; kind = text_kind.Note; fonts = c.args.self.now.fonts }) old.begun references notes old.k ended
     (old.invariant formats are)

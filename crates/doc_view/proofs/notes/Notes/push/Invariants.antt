@@ -9,5 +9,5 @@ use Rattle.doc_view.proofs.notes.Notes.push.Given as goal
 abbrev pub invariant-loop-k : goal.invariant-loop-k
 invariant-loop-k g l =
     (formats : Formats) → AreFormats l.self.formats.now formats → NotesAt g.K.Sink l.fn.out l.fn.page l.out l.page formats
-    (record { hidden = l.self.hidden; kind = text_kind.Note }) l.begun l.references.list (drop l.k l.references.list)
+    (record { hidden = l.self.hidden; kind = text_kind.Note; fonts = l.self.fonts }) l.begun l.references.list (drop l.k l.references.list)
     l.self.texts.now (drop l.k l.self.texts.now)

@@ -13,7 +13,8 @@ use Rattle.doc_view.specs.Kept.{KeptReferences}
 use Rattle.doc_view.specs.Layout.{layout_of}
 use Rattle.doc_view.specs.Lines.{lead_text}
 use Rattle.doc_view.specs.Notes.{notes_from}
-use Rattle.doc_view.specs.Page.{AreFormats, headers_text}
+use Rattle.symbol_fonts.specs.declared.fonts.SymbolFonts.{SymbolFonts}
+use Rattle.doc_view.specs.Page.{AreFormats, fonts_of, headers_text}
 use Rattle.page_out.specs.Printed.{Prints}
 use Rattle.doc_view.specs.Seen.{Paragraph, paragraphs_of, references_of, with_values}
 use Rattle.doc_view.proofs.PageLemmas.{sound_normal, sound_styles}
@@ -51,28 +52,34 @@ returns g c = λ formats are.
     let document = c.args.self.now.document.now in
     let right : AreFormats c.args.self.now.formats.now formats =
     subst (λ (s : Sheet). AreFormats s formats) (sym c.requires.formats) are in
-    let main_manner : Manner = record { hidden = c.args.self.now.options.hidden; kind = text_kind.Main } in
-    let note_manner : Manner = record { hidden = c.args.self.now.options.hidden; kind = text_kind.Note } in
+    let main_manner : SymbolFonts → Manner = λ fonts.
+    record { hidden = c.args.self.now.options.hidden; kind = text_kind.Main; fonts = fonts } in
+    let note_manner : SymbolFonts → Manner = λ fonts.
+    record { hidden = c.args.self.now.options.hidden; kind = text_kind.Note; fonts = fonts } in
+    let fonts = fonts_of document in
+    let known : c.fonts_of-fonts.result ≡ fonts = c.fonts_of-fonts.ensures in
     let same : items_in c.parts.result ≡ document.main =
     c.parts.ensures.items ∙ ap (λ (d : Document). d.main) c.document.view_is in
     let same_notes : c.document.inside.notes ≡ document.notes = ap (λ (d : Document). d.notes) c.document.view_is in
     let values = c.args.self.now.values.now in
-    let paragraphs : List Item → List Paragraph = λ items. with_values values (paragraphs_of formats main_manner items) in
-    let met : c.push-references.result.0.list ≡ references_of (paragraphs document.main) =
+    let paragraphs : SymbolFonts → List Item → List Paragraph = λ fonts items.
+    with_values values (paragraphs_of formats (main_manner fonts) items) in
+    let met : c.push-references.result.0.list ≡ references_of (paragraphs fonts document.main) =
     c.push-references.ensures.references formats right
-    ∙ ap (λ (r : KeptReferences). r.list ++ references_of (paragraphs (items_in c.parts.result)))
+    ∙ ap (λ (r : KeptReferences). r.list ++ references_of (paragraphs c.fonts_of-fonts.result (items_in c.parts.result)))
     c.requires.references
-    ∙ ap (λ (items : List Item). references_of (paragraphs items)) same in
-    let text = layout_of [] (paragraphs document.main) in
-    let notes = notes_from formats note_manner false (references_of (paragraphs document.main)) document.notes in
+    ∙ (λ i. references_of (paragraphs (known i) (same i))) in
+    let text = layout_of [] (paragraphs fonts document.main) in
+    let notes = notes_from formats (note_manner fonts) false (references_of (paragraphs fonts document.main))
+    document.notes in
     let headers = headers_text formats c.args.self.now.options document in
     three_put g.K.Sink c.args.out.now c.push-references.new.out c.push.new.out c.push_headers.new.out c.args.page.now
     c.push-references.new.page c.push.new.page c.push_headers.new.page text notes headers
     (subst (λ (text : List ℕ). Prints g.K.Sink c.args.out.now c.args.page.now c.push-references.new.out
     c.push-references.new.page text)
-    (λ i. layout_of (lead_text (c.none.ensures i)) (paragraphs (same i)))
+    (λ i. layout_of (lead_text (c.none.ensures i)) (paragraphs (known i) (same i)))
     (c.push-references.ensures.text formats right))
     (subst (λ (text : List ℕ). Prints g.K.Sink c.push-references.new.out c.push-references.new.page c.push.new.out
     c.push.new.page text)
-    (λ i. notes_from formats note_manner false (met i) (same_notes i)) (c.push.ensures formats right))
+    (λ i. notes_from formats (note_manner (known i)) false (met i) (same_notes i)) (c.push.ensures formats right))
     (c.push_headers.ensures formats are)
