@@ -4,3 +4,4 @@ pub mod ViewLemmas
 pub mod OneLemmas
 pub mod CompleteLemmas
 pub mod SafeLemmas
+pub mod PictureLemmas

@@ -22,9 +22,10 @@ use Rattle.doc_fit.proofs.OneLemmas.{refused_one as fit_refused_one}
 use Rattle.docview_run.specs.declared.view.Form.{Form}
 use Rattle.docview_run.specs.declared.view.Form.TheVariants.{Text, Html, Markdown}
 use Rattle.docview_run.specs.declared.view.View.{View}
-use Rattle.docview_run.specs.Requests.{Request, help, version, page, properties, requested}
+use Rattle.docview_run.specs.Requests.{Request, help, version, page, pictured, properties, requested}
 use Rattle.docview_run.specs.Viewed.{IsNotViewed, IsViewed}
-use Rattle.docview_run.specs.Endings.{IsPageIn, Shows, ShowsFile, ShowsName, ShowsPage}
+use Rattle.docview_run.specs.Pictured.{KeepsFiles}
+use Rattle.docview_run.specs.Endings.{IsPageIn, Shows, ShowsFile, ShowsName, ShowsPage, ShowsPictured}
 use Rattle.docview_run.specs.Laws.{AsksForProperties, ViewIsOne}
 use Rattle.docview_run.proofs.ViewLemmas.{viewed_one}
 
@@ -92,17 +93,32 @@ read_bytes view name held outcome (inr (inr (inr x))) =
       goes_on = (x.are, x.goes_on);
     })))
 
-ends_one : (files : Files) (request : Option Request) (a b : Outcome) → Shows (Some files) request a →
-    Shows (Some files) request b → a.status ≢ 4 → b.status ≢ 4 →
-    ¬ (AsksForProperties request) → a ≡ b
-ends_one files None a b x y ca cb other = x ∙ sym y
-ends_one files (Some help) a b x y ca cb other = x ∙ sym y
-ends_one files (Some version) a b x y ca cb other = x ∙ sym y
-ends_one files (Some (page view name)) a b x y ca cb other =
+name_one : (view : View) (name : List ℕ) (files : Files) (a b : Outcome) → ShowsName view name (Some files) a →
+    ShowsName view name (Some files) b → a.status ≢ 4 → b.status ≢ 4 → a ≡ b
+name_one view name files a b x y ca cb =
     reads_one (a ≡ b) name files (BreaksLengthRule name) (ShowsBytes view name) a b ca cb (λ e. e) (λ s t. s ∙ sym t)
     (λ bytes there s t. file_one view name bytes a b s.0 s.1 t.1) (read_bytes view name (Some files) a x)
     (read_bytes view name (Some files) b y)
-ends_one files (Some (properties shape name)) a b x y ca cb other = absurd (other (shape, (name, refl)))
+
+pictured_one : (view : View) (name : List ℕ) (files : Files) (a b : Outcome) → ShowsPictured view true name (Some files) a →
+    ShowsPictured view true name (Some files) b → a.status ≢ 4 → b.status ≢ 4 → a ≡ b
+pictured_one view name files a b (inl x) (inl y) ca cb = name_one view name files a b x y ca cb
+pictured_one view name files a b (inl x) (inr y) ca cb = absurd (true≢false y.keeps)
+pictured_one view name files a b (inr x) (inl y) ca cb = absurd (true≢false x.keeps)
+pictured_one view name files a b (inr x) (inr y) ca cb = absurd (true≢false x.keeps)
+
+ends_one : (files : Files) (request : Option Request) (a b : Outcome) → Shows (Some files) request a →
+    Shows (Some files) request b → a.status ≢ 4 → b.status ≢ 4 →
+    ¬ (AsksForProperties request) → ¬ (KeepsFiles request) → a ≡ b
+ends_one files None a b x y ca cb other kept = x ∙ sym y
+ends_one files (Some help) a b x y ca cb other kept = x ∙ sym y
+ends_one files (Some version) a b x y ca cb other kept = x ∙ sym y
+ends_one files (Some (page view name)) a b x y ca cb other kept = name_one view name files a b x y ca cb
+ends_one files (Some (pictured view folder true name)) a b x y ca cb other kept =
+    pictured_one view name files a b x y ca cb
+ends_one files (Some (pictured view folder false name)) a b x y ca cb other kept =
+    absurd (kept (view, (folder, (name, refl))))
+ends_one files (Some (properties shape name)) a b x y ca cb other kept = absurd (other (shape, (name, refl)))
 
 pub view_one : ViewIsOne
-view_one words files a b x y ca cb other = ends_one files (requested words) a b x y ca cb other
+view_one words files a b x y ca cb other kept = ends_one files (requested words) a b x y ca cb other kept

@@ -1,12 +1,12 @@
 -- Each page that a run prints is safe.
-use Rattle.std.proofs.Common.{◌≡◌, ◌≢◌, ◌⊎◌, ◌∙◌, inl, inr, refl, sym, ap, subst, ℕ, List, [], ◌≤◌, Option, Some, arith}
+use Rattle.std.proofs.Common.{◌≡◌, ◌∙◌, inl, inr, sym, ap, subst, ℕ, List, [], ◌≤◌, Option, None, Some, arith}
 use Rattle.std.specs.Prelude.{if◌then◌else◌, ◌==◌}
+use Rattle.std.proofs.lemmas.Option.{none-some, same_Some}
 use Rattle.doc_outer.specs.Held.{Files}
 use Rattle.doc_outer.specs.Written.{Appends}
 use Rattle.doc_outer.specs.declared.sink.Sink.{Ghosts}
 use Rattle.plain_doc.specs.declared.document.Document.{Document}
 use Rattle.run_stages.specs.Outcomes.{Outcome, says}
-use Rattle.run_stages.specs.Stages.{BreaksLengthRule, Reads}
 use Rattle.doc_bits.specs.Places.{Place}
 use Rattle.doc_fit.specs.Refusals.{EndsAt}
 use Rattle.doc_view.specs.declared.view.Options.{Options}
@@ -16,7 +16,7 @@ use Rattle.doc_markdown.proofs.ReadLemmas.{pages_read}
 use Rattle.docview_run.specs.declared.view.Form.{Form}
 use Rattle.docview_run.specs.declared.view.Form.TheVariants.{Text, Html, Markdown}
 use Rattle.docview_run.specs.declared.view.View.{View}
-use Rattle.docview_run.specs.Requests.{Request, page, requested}
+use Rattle.docview_run.specs.Requests.{Request, help, version, page, pictured, properties, requested, shown_view}
 use Rattle.docview_run.specs.Viewed.{IsNotViewed}
 use Rattle.docview_run.specs.Endings.{IsEnding, IsPageIn, RunEnds, Shows, ShowsFile, ShowsName, printed}
 use Rattle.docview_run.specs.Safe.{IsSafeIn, IsSafePage, PrintedPagesAreSafe}
@@ -48,7 +48,7 @@ refused_status file name rule place outcome (inr (inl encrypted)) done =
 refused_status file name rule place outcome (inr (inr broken)) done =
     other_status outcome 1 _ broken.1 (omega arith) done
 
-not_viewed : (view : View) (name file : List ℕ) (outcome : Outcome) → IsNotViewed view.strict file name outcome →
+pub not_viewed : (view : View) (name file : List ℕ) (outcome : Outcome) → IsNotViewed view.strict file name outcome →
     outcome.status ≡ 0 → ⊥
 not_viewed view name file outcome (inl (is, x)) done = other_status outcome 1 _ x.ends (omega arith) done
 not_viewed view name file outcome (inr (is, x)) done =
@@ -75,9 +75,22 @@ name_safe view name held outcome (inr (inr (inl long))) done =
 name_safe view name held outcome (inr (inr (inr read))) done =
     file_safe view name read.bytes outcome read.goes_on done
 
+request_safe : (held : Option Files) (request : Option Request) (view : View) (outcome : Outcome) →
+    shown_view request ≡ Some view → Shows held request outcome → outcome.status ≡ 0 → IsSafePage view outcome.text
+request_safe held None view outcome none ends done = absurd (none-some view none)
+request_safe held (Some help) view outcome none ends done = absurd (none-some view none)
+request_safe held (Some version) view outcome none ends done = absurd (none-some view none)
+request_safe held (Some (page other name)) view outcome is ends done =
+    subst (λ (v : View). IsSafePage v outcome.text) (same_Some other view is) (name_safe other name held outcome ends done)
+request_safe held (Some (pictured other folder force name)) view outcome is (inl ends) done =
+    subst (λ (v : View). IsSafePage v outcome.text) (same_Some other view is) (name_safe other name held outcome ends done)
+request_safe held (Some (pictured other folder force name)) view outcome is (inr kept) done =
+    absurd (other_status outcome 8 [] kept.ends (omega arith) done)
+request_safe held (Some (properties form name)) view outcome none ends done = absurd (none-some view none)
+
 pub printed_safe : PrintedPagesAreSafe
-printed_safe words held view name outcome asked ends done =
-    name_safe view name held outcome (subst (λ (r : Option Request). Shows held r outcome) asked ends) done
+printed_safe words held view outcome asked ends done =
+    request_safe held (requested words) view outcome asked ends done
 
 -- what was printed at status 0 is the text
 all_printed : (outcome : Outcome) → outcome.status ≡ 0 → printed outcome ≡ outcome.text
@@ -86,16 +99,16 @@ all_printed outcome done =
 
 -- so a run that ended with its page has printed a safe one
 pub run_safe : {K : Type 0} (sink : Ghosts K) (a b : K) (words : List (List ℕ)) (held : Option Files) (status : ℕ) →
-    RunEnds (IsEnding words held) sink a b status → status ≡ 0 → (view : View) (name : List ℕ) →
-    requested words ≡ Some (page view name) →
+    RunEnds (IsEnding words held) sink a b status → status ≡ 0 → (view : View) →
+    shown_view (requested words) ≡ Some view →
     (bytes : List ℕ) × (IsSafePage view bytes × Appends (sink.written a) (sink.written b) bytes)
-run_safe sink a b words held status ends done view name asked =
+run_safe sink a b words held status ends done view asked =
     let end = ends.ending (λ five. absurd (omega (arith, done, five))) (λ six. absurd (omega (arith, done, six))) in
     let outcome = end.0 in
     let zero_is : outcome.status ≡ 0 = end.1.0 ∙ done in (
       outcome.text,
       (
-        printed_safe words held view name outcome asked end.1.1.0 zero_is,
+        printed_safe words held view outcome asked end.1.1.0 zero_is,
         subst (λ (text : List ℕ). Appends (sink.written a) (sink.written b) text) (all_printed outcome zero_is)
             end.1.1.1,
       ),

@@ -1,12 +1,12 @@
 -- How a run of docview may end.
-use Rattle.std.specs.Prelude.{◌≡◌, ◌≢◌, ◌⊎◌, ◌<◌, ℕ, ◌==◌, List, [], Option, Some, None, codes, if◌then◌else◌}
+use Rattle.std.specs.Prelude.{◌≡◌, ◌≢◌, ◌⊎◌, ◌<◌, ℕ, ◌==◌, Bool, List, [], Option, Some, None, if◌then◌else◌}
 use Rattle.doc_outer.specs.Counts.{Rose}
 use Rattle.doc_outer.specs.Held.{Files}
 use Rattle.doc_outer.specs.Written.{Appends, AppendsPrefix}
 use Rattle.doc_outer.specs.declared.sink.Sink.{Ghosts}
 use Rattle.plain_doc.specs.declared.document.Document.{Document}
 use Rattle.run_stages.specs.Outcomes.{Outcome, says}
-use Rattle.run_stages.specs.Stages.{BreaksLengthRule, Reads}
+use Rattle.run_stages.specs.Stages.{BreaksLengthRule, IsShelfFault, Reads}
 use Rattle.doc_view.specs.declared.view.Options.{Options}
 use Rattle.doc_view.specs.Page.{IsPage}
 use Rattle.doc_html.specs.Page.{IsHtmlPage}
@@ -15,8 +15,9 @@ use Rattle.docview_run.specs.declared.view.Form.{Form}
 use Rattle.docview_run.specs.declared.view.Form.TheVariants.{Text, Html, Markdown}
 use Rattle.docview_run.specs.declared.view.View.{View}
 use Rattle.docview_run.specs.declared.run.TheConstants.{HELP, VERSION}
-use Rattle.docview_run.specs.Requests.{Request, help, version, page, properties, requested}
+use Rattle.docview_run.specs.Requests.{Request, help, version, page, pictured, properties, requested}
 use Rattle.docview_run.specs.FileProperties.{ShowsProperties}
+use Rattle.docview_run.specs.Pictured.{IsKept}
 use Rattle.docview_run.specs.Viewed.{IsNotViewed, IsViewed}
 
 -- the page of a document in a form
@@ -46,12 +47,22 @@ ShowsFile view name file outcome = IsNotViewed view.strict file name outcome ⊎
 abbrev pub ShowsName : View → (name : List ℕ) → Option Files → Outcome → Type 0
 ShowsName view name held outcome = Reads name held (BreaksLengthRule name) (ShowsFile view name) outcome
 
+-- a file is shown behind the files of its pictures, or one of these is there, or is not written
+abbrev pub ShowsTaken : View → (force : Bool) → (name file : List ℕ) → Outcome → Type 0
+ShowsTaken view force name file outcome =
+    ShowsFile view name file outcome ⊎ (IsKept force outcome ⊎ IsShelfFault outcome)
+
+-- a name is shown behind the files of its pictures, or one of these is there
+abbrev pub ShowsPictured : View → (force : Bool) → (name : List ℕ) → Option Files → Outcome → Type 0
+ShowsPictured view force name held outcome = ShowsName view name held outcome ⊎ IsKept force outcome
+
 -- what a request comes to
 abbrev pub Shows : Option Files → Option Request → Outcome → Type 0
 Shows held None outcome = outcome ≡ says 2 []
 Shows held (Some help) outcome = outcome ≡ says 0 HELP.now
 Shows held (Some version) outcome = outcome ≡ says 0 VERSION.now
 Shows held (Some (page view file)) outcome = ShowsName view file held outcome
+Shows held (Some (pictured view folder force file)) outcome = ShowsPictured view force file held outcome
 Shows held (Some (properties form file)) outcome = ShowsProperties file held outcome
 
 -- what a run over these words and this shelf may come to

@@ -10,6 +10,7 @@ use Rattle.property_text.specs.declared.page.PropertyForm.{PropertyForm}
 use Rattle.run_stages.specs.Outcomes.{Outcome}
 use Rattle.docview_run.specs.declared.view.View.{View}
 use Rattle.docview_run.specs.Requests.{Request, page, properties, requested}
+use Rattle.docview_run.specs.Pictured.{KeepsFiles}
 use Rattle.docview_run.specs.Viewed.{IsViewed}
 use Rattle.docview_run.specs.Endings.{IsEnding}
 
@@ -22,11 +23,12 @@ ViewedDocumentIsOne = (strict other : Bool) (file : List ℕ) (a b : Document) �
 abbrev pub AsksForProperties : Option Request → Type 0
 AsksForProperties request = (form : PropertyForm) × ((name : List ℕ) × (request ≡ Some (properties form name)))
 
--- where what names hold is told, a run has one outcome, unless the shelf fails or properties are asked for
+-- where what names hold is told, a run has one outcome, unless the shelf fails, or properties are asked for, or pictures
+-- whose files are to be kept
 abbrev pub ViewIsOne : Type 0
 ViewIsOne = (words : List (List ℕ)) (files : Files) (one other : Outcome) → IsEnding words (Some files) one →
     IsEnding words (Some files) other → one.status ≢ 4 → other.status ≢ 4 →
-    ¬ (AsksForProperties (requested words)) → one ≡ other
+    ¬ (AsksForProperties (requested words)) → ¬ (KeepsFiles (requested words)) → one ≡ other
 
 -- the name holds a file that breaks no rule, or, but for a strict view, none of those that are left
 pub record CanView (strict : Bool) (files : Files) (name : List ℕ) : Type 0 where

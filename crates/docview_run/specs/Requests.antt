@@ -9,17 +9,20 @@ use Rattle.docview_run.specs.declared.view.View.{View}
 use Rattle.docview_run.specs.declared.words.Asked.{Asked}
 use Rattle.docview_run.specs.declared.words.Asked.TheVariants as variant
 
--- how the program is called, which it is, the page of a file, or its properties
+-- how the program is called, which it is, the page of a file, the same behind the files of its pictures in a folder, or
+-- the properties of a file
 pub data Request : Type 0 where
   help : Request
   version : Request
   page : View → List ℕ → Request
+  pictured : View → (folder : List ℕ) → (force : Bool) → List ℕ → Request
   properties : PropertyForm → List ℕ → Request
 
 abbrev pub request_of : Asked → Request
 request_of variant.Help = help
 request_of variant.Version = version
 request_of (variant.Page view file) = page view file.now
+request_of (variant.Pictured view album file) = pictured view album.folder.now album.force file.now
 request_of (variant.Properties form file) = properties form file.now
 
 abbrev pub begins_with_hyphen : List ℕ → Bool
@@ -39,12 +42,37 @@ in_form view form file =
     if bytes_eq form (codes "markdown") then named (record view { form = Markdown }) file else
     if bytes_eq form (codes "html") then named (record view { form = Html }) file else None
 
--- a file alone, or a form and a file
+-- a page behind the files of its pictures
+abbrev pub with_pictures : (folder : List ℕ) → (force : Bool) → Option Request → Option Request
+with_pictures folder force None = None
+with_pictures folder force (Some help) = None
+with_pictures folder force (Some version) = None
+with_pictures folder force (Some (page view file)) = Some (pictured view folder force file)
+with_pictures folder force (Some (pictured view other again file)) = None
+with_pictures folder force (Some (properties form file)) = None
+
+abbrev pub pictured_in : View → (form folder : List ℕ) → (force : Bool) → List ℕ → Option Request
+pictured_in view form folder force file = with_pictures folder force (in_form view form file)
+
+-- behind a form: the option for pictures, and that for files that are there
+abbrev pub illustrated : View → (form option folder : List ℕ) → List ℕ → Option Request
+illustrated view form option folder file =
+    if bytes_eq option (codes "--pictures") then pictured_in view form folder false file else None
+
+abbrev pub forced : View → (form option folder force : List ℕ) → List ℕ → Option Request
+forced view form option folder force file =
+    if bytes_eq option (codes "--pictures") && bytes_eq force (codes "--force") then
+    pictured_in view form folder true file else None
+
+-- a file alone, or a form and a file, with pictures or without
 abbrev pub viewed : View → List (List ℕ) → Option Request
 viewed view [] = None
 viewed view (file ∷ []) = named view file
 viewed view (form ∷ file ∷ []) = in_form view form file
-viewed view (form ∷ file ∷ next ∷ more) = None
+viewed view (form ∷ option ∷ file ∷ []) = None
+viewed view (form ∷ option ∷ folder ∷ file ∷ []) = illustrated view form option folder file
+viewed view (form ∷ option ∷ folder ∷ force ∷ file ∷ []) = forced view form option folder force file
+viewed view (form ∷ option ∷ folder ∷ force ∷ file ∷ next ∷ more) = None
 
 -- what is shown without options: the text of what is seen, of any file that has a document
 abbrev pub plain_view : View
@@ -115,6 +143,15 @@ abbrev pub requested_alone : List ℕ → Option Request
 requested_alone word =
     if bytes_eq word (codes "--help") then Some help else
     if bytes_eq word (codes "--version") then Some version else named plain_view word
+
+-- the view of a page that is asked for
+abbrev pub shown_view : Option Request → Option View
+shown_view None = None
+shown_view (Some help) = None
+shown_view (Some version) = None
+shown_view (Some (page view file)) = Some view
+shown_view (Some (pictured view folder force file)) = Some view
+shown_view (Some (properties form file)) = None
 
 -- what words ask for, where they ask for something
 abbrev pub requested : List (List ℕ) → Option Request

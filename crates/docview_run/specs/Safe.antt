@@ -11,7 +11,7 @@ use Rattle.doc_markdown.specs.Laws.{IsReadBack as IsMarkdownReadBack}
 use Rattle.docview_run.specs.declared.view.Form.{Form}
 use Rattle.docview_run.specs.declared.view.Form.TheVariants.{Text, Html, Markdown}
 use Rattle.docview_run.specs.declared.view.View.{View}
-use Rattle.docview_run.specs.Requests.{page, requested}
+use Rattle.docview_run.specs.Requests.{requested, shown_view}
 use Rattle.docview_run.specs.Endings.{IsEnding}
 
 -- the bytes are characters of which none is a control
@@ -34,5 +34,5 @@ pub record IsSafePage (view : View) (bytes : List ℕ) : Type 0 where
 -- each page that a run prints is safe
 abbrev pub PrintedPagesAreSafe : Type 0
 PrintedPagesAreSafe =
-    (words : List (List ℕ)) (held : Option Files) (view : View) (name : List ℕ) (outcome : Outcome) →
-    requested words ≡ Some (page view name) → IsEnding words held outcome → outcome.status ≡ 0 → IsSafePage view outcome.text
+    (words : List (List ℕ)) (held : Option Files) (view : View) (outcome : Outcome) →
+    shown_view (requested words) ≡ Some view → IsEnding words held outcome → outcome.status ≡ 0 → IsSafePage view outcome.text

@@ -4,6 +4,7 @@
 mod file_properties;
 mod laws;
 mod lifting;
+mod pictures;
 mod run;
 mod view;
 mod words;

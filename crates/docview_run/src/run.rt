@@ -7,7 +7,8 @@ ghost use Rattle.run_stages.specs.Leaves.{IsCaused, IsOnlyRead};
 ghost use Rattle.run_stages.specs.Outcomes.{says};
 ghost use Rattle.docview_run.specs.Endings.{IsEnding, IsOfFile, IsPageIn, PrintsPage, RunEnds, ShowsFile};
 ghost use Rattle.docview_run.specs.Endings.{ShowsName};
-ghost use Rattle.docview_run.specs.Requests.{page, requested};
+ghost use Rattle.docview_run.specs.Pictured.{Leaves};
+ghost use Rattle.docview_run.specs.Requests.{requested, shown_view};
 ghost use Rattle.docview_run.specs.Safe.{IsSafePage};
 ghost use Rattle.docview_run.specs.declared.view.View.{View as ViewOf};
 ghost use Rattle.doc_outer.specs.Counts.{Rose};
@@ -15,6 +16,7 @@ ghost use Rattle.doc_outer.specs.Written.{Appends, AppendsPrefix};
 
 use crate::file_properties::show_properties;
 use crate::lifting::show_lifted;
+use crate::pictures::{Pictured, show_pictured};
 use crate::words::{Asked, asked_by};
 use crate::{Form, View};
 use doc_bits::{Memory, Where};
@@ -36,12 +38,12 @@ pub const PROGRAM: &str = "docview";
 
 /// How the program is called.
 pub const HELP: &str =
-    "usage: docview [--hidden] [--headers] [--strict] [text | markdown | html] FILE\n       docview meta [--json] FILE\n\nPrints the text of a document of Word 97 to 2007 as people read it, in UTF-8, as text, or as a page in Markdown or in HTML. With meta it prints the properties of a file. FILE - is the standard input.\n  --hidden   hidden text too\n  --headers  headers and footers too, in text\n  --strict   only files that docbin accepts\n  --json     properties as JSON\n  --help     this text\n  --version  the version\n";
+    "usage: docview [--hidden] [--headers] [--strict] [text | markdown | html] FILE\n       docview [--hidden] [--headers] [--strict] (text | markdown | html) --pictures FOLDER [--force] FILE\n       docview meta [--json] FILE\n\nPrints the text of a document of Word 97 to 2007 as people read it, in UTF-8, as text, or as a page in Markdown or in HTML. With meta it prints the properties of a file. FILE - is the standard input.\n  --hidden   hidden text too\n  --headers  headers and footers too, in text\n  --strict   only files that docbin accepts\n  --pictures the files of pictures, written into FOLDER, which is there\n  --force    over files that are there\n  --json     properties as JSON\n  --help     this text\n  --version  the version\n";
 
 pub const VERSION: &str = "docview 1.0.0\n";
 
 const USAGE: &str =
-    "usage: docview [--hidden] [--headers] [--strict] [text | markdown | html] FILE | meta [--json] FILE | --help | --version\n";
+    "usage: docview [--hidden] [--headers] [--strict] [text | markdown | html] FILE | (text | markdown | html) --pictures FOLDER [--force] FILE | meta [--json] FILE | --help | --version\n";
 
 /// Runs the words over the files of a shelf, and answers the status. The page goes to `out`, and to `reasons`, whose
 /// faults change nothing, why there is none, or what of a file is left out of it.
@@ -52,8 +54,9 @@ pub fn docview_run<S: Shelf, K: Sink, E: Sink>(
     out: &mut K,
     reasons: &mut E,
 ) -> u8
-    // The shelf is read and nothing else.
-    ensures read { IsOnlyRead S.Shelf shelf.old shelf.new }
+    // The shelf is read and nothing else, unless pictures are asked for: then their files are written, and all other names
+    // hold what they held.
+    ensures leaves { Leaves S.Shelf (requested (map string_bytes words.now)) result shelf.old shelf.new }
 
     // A run ends as its words and the shelf decide, by its status: with the page printed where that is 0; where the sink
     // failed it has taken a prefix of the page; without memory nothing is printed.
@@ -61,8 +64,7 @@ pub fn docview_run<S: Shelf, K: Sink, E: Sink>(
 
     // A page is safe, whatever document it is of: in text it has no control, in HTML and in Markdown the stated readers read
     // it as the tokens that it was printed of.
-    ensures safe { result ≡ 0 → (view : ViewOf) (name : List ℕ)
-        → requested (map string_bytes words.now) ≡ Some (page view name)
+    ensures safe { result ≡ 0 → (view : ViewOf) → shown_view (requested (map string_bytes words.now)) ≡ Some view
         → (bytes : List ℕ) × (IsSafePage view bytes × Appends (K.written out.old) (K.written out.new) bytes) }
 
     // The status of words that ask for nothing is theirs alone.
@@ -79,6 +81,14 @@ pub fn docview_run<S: Shelf, K: Sink, E: Sink>(
         Some(Asked::Help) => print(out, HELP),
         Some(Asked::Version) => print(out, VERSION),
         Some(Asked::Page { view, file }) => show_name(alloc, shelf, file, view, out, reasons),
+        Some(Asked::Pictured { view, album, file }) => {
+            let asked = Pictured {
+                name: file,
+                view,
+                album,
+            };
+            show_pictured(alloc, shelf, &asked, out, reasons)
+        }
         Some(Asked::Properties { form, file }) => {
             show_properties(alloc, shelf, file, form, out, reasons)
         }
@@ -121,7 +131,7 @@ fn show_name<S: Shelf, K: Sink, E: Sink>(
 }
 
 /// Shows the document of a file. One that breaks a rule is lifted out of it, but for a strict view.
-fn show_file<K: Sink, E: Sink>(
+pub(crate) fn show_file<K: Sink, E: Sink>(
     alloc: Global,
     name: &str,
     file: &[u8],

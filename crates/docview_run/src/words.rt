@@ -4,9 +4,10 @@ ghost use Rattle.std.specs.String.{string_bytes};
 ghost use Rattle.docview_run.specs.Requests.{begins_with_hyphen, behind_option, in_form, is_headers, is_hidden};
 ghost use Rattle.docview_run.specs.Requests.{is_strict, named, plain_view, request_of, requested, viewed, viewed_by};
 ghost use Rattle.docview_run.specs.Requests.{asks_for_properties, properties_by, properties_named, requested_many};
-ghost use Rattle.docview_run.specs.Requests.{with_headers, with_hidden};
+ghost use Rattle.docview_run.specs.Requests.{forced, illustrated, pictured_in, with_headers, with_hidden};
 
 use crate::{Form, View};
+use doc_pictures::Album;
 use doc_view::Options;
 use property_text::PropertyForm;
 
@@ -21,9 +22,21 @@ pub enum Asked<'a> {
     /// Which program this is.
     Version,
     /// The page of the document of a file.
-    Page { view: View, file: &'a str },
+    Page {
+        view: View,
+        file: &'a str,
+    },
+    /// The same behind the files of its pictures.
+    Pictured {
+        view: View,
+        album: Album<'a>,
+        file: &'a str,
+    },
     /// The properties of a file.
-    Properties { form: PropertyForm, file: &'a str },
+    Properties {
+        form: PropertyForm,
+        file: &'a str,
+    },
 }
 
 /// What options ask for, and the words behind them.
@@ -236,9 +249,88 @@ fn asked_view(view: View, words: &[String]) -> Option<Asked<'_>>
         (λ asked. viewed view (map string_bytes words.now) ≡ Some (request_of asked)) }
 {
     match words {
+        [] => None,
         [file] => asked_of(view, file.as_str()),
         [form, file] => asked_in_form(view, form.as_str(), file.as_str()),
-        _ => None,
+        [_, _, _] => None,
+        [form, option, folder, file] => asked_illustrated(
+            view,
+            form.as_str(),
+            option.as_str(),
+            folder.as_str(),
+            file.as_str(),
+        ),
+        [form, option, folder, force, file] => asked_forced(
+            view,
+            form.as_str(),
+            option.as_str(),
+            folder.as_str(),
+            force.as_str(),
+            file.as_str(),
+        ),
+        [_, _, _, _, _, _, ..] => None,
+    }
+}
+
+/// The page of a file behind the files of its pictures, where the second word is the option for these.
+fn asked_illustrated<'a>(
+    view: View,
+    form: &str,
+    option: &str,
+    folder: &'a str,
+    file: &'a str,
+) -> Option<Asked<'a>>
+    ensures { MatchOption result
+        (illustrated view form.now option.now folder.now file.now ≡ None)
+        (λ asked. illustrated view form.now option.now folder.now file.now ≡ Some (request_of asked)) }
+{
+    if option != "--pictures" {
+        return None;
+    }
+    asked_pictured(view, form, folder, false, file)
+}
+
+/// The same, where files that are there are written over.
+fn asked_forced<'a>(
+    view: View,
+    form: &str,
+    option: &str,
+    folder: &'a str,
+    force: &str,
+    file: &'a str,
+) -> Option<Asked<'a>>
+    ensures { MatchOption result
+        (forced view form.now option.now folder.now force.now file.now ≡ None)
+        (λ asked. forced view form.now option.now folder.now force.now file.now ≡ Some (request_of asked)) }
+{
+    if option != "--pictures" || force != "--force" {
+        return None;
+    }
+    asked_pictured(view, form, folder, true, file)
+}
+
+/// The page of a file in the form that a word names, behind the files of its pictures.
+fn asked_pictured<'a>(
+    view: View,
+    form: &str,
+    folder: &'a str,
+    force: bool,
+    file: &'a str,
+) -> Option<Asked<'a>>
+    ensures { MatchOption result
+        (pictured_in view form.now folder.now force file.now ≡ None)
+        (λ asked. pictured_in view form.now folder.now force file.now ≡ Some (request_of asked)) }
+{
+    match asked_in_form(view, form, file) {
+        Some(Asked::Page { view, file }) => {
+            let album = Album { folder, force };
+            Some(Asked::Pictured { view, album, file })
+        }
+        Some(Asked::Help) => None,
+        Some(Asked::Version) => None,
+        Some(Asked::Pictured { .. }) => None,
+        Some(Asked::Properties { .. }) => None,
+        None => None,
     }
 }
 

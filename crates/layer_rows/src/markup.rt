@@ -33,7 +33,7 @@ fn markup_of_html_is_referred_to(rt: HostRuntime) -> Result<(), Fail> {
 struct Row(&'static [u8], u32, bool, Option<&'static [u8]>);
 
 /// `[^1](x)` would be a link, and `[^1]:` at the start of a line a note.
-const ROWS: [Row; 14] = [
+const ROWS: [Row; 17] = [
     Row(b"", 0x2D, true, None),
     Row(b"- ", 0x2B, true, None),
     Row(b"1", 0x2E, true, None),
@@ -48,6 +48,9 @@ const ROWS: [Row; 14] = [
     Row(b"[^1]", 0x28, true, None),
     Row(b"[^1]", 0x3A, true, None),
     Row(b"[^1]*", 0x28, false, None),
+    Row(b"std:", 0x3A, true, None),
+    Row(b"a :e-mail", 0x3A, true, None),
+    Row(b"a: b", 0x3A, false, None),
 ];
 
 /// Whether a row is so.

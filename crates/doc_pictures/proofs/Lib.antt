@@ -1,0 +1,5 @@
+pub mod RangeLemmas
+pub mod OrderLemmas
+pub mod StepLemmas
+pub mod PlaceLemmas
+pub mod AlbumLemmas

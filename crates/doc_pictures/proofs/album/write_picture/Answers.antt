@@ -1,0 +1,32 @@
+use Rattle.std.proofs.Common.{◌≡◌, ◌∙◌, ℕ, List, OnOk, subst}
+use Rattle.doc_outer.specs.Held.{OthersStay}
+use Rattle.doc_outer.proofs.HeldLemmas.{StaysAt-refl}
+use Rattle.doc_pictures.specs.Album.{IsWritten, file_bytes}
+use Rattle.doc_pictures.specs.Names.{picture_path}
+use Rattle.doc_pictures.proofs.AlbumLemmas.{counts-same}
+use Rattle.doc_pictures.proofs.album.write_picture.Goals as goal
+
+pub returns-in-Ok-clause-written : goal.returns-in-Ok-clause-written
+returns-in-Ok-clause-written g c =
+    let held = g.S.Shelf.held in
+    let path : c.as_str.result.now ≡ picture_path c.args.album.now.folder.now c.args.number c.args.picture.file.kind =
+    c.as_str.ensures ∙ c.in-Ok.ensures in
+    subst (λ (name : List ℕ). OnOk c.write_file.result (IsWritten c.args.album.now.force name (file_bytes c.args.stream.now
+    c.args.picture) (held c.args.shelf.now) (held c.write_file.new.shelf))) path c.write_file.ensures.written
+
+pub returns-in-Ok-clause-others : goal.returns-in-Ok-clause-others
+returns-in-Ok-clause-others g c =
+    let held = g.S.Shelf.held in
+    let path : c.as_str.result.now ≡ picture_path c.args.album.now.folder.now c.args.number c.args.picture.file.kind =
+    c.as_str.ensures ∙ c.in-Ok.ensures in
+    subst (λ (name : List ℕ). OthersStay name (held c.args.shelf.now) (held c.write_file.new.shelf)) path
+    c.write_file.ensures.others
+
+pub returns-in-Err-clause-others : goal.returns-in-Err-clause-others
+returns-in-Err-clause-others g c = λ other apart. StaysAt-refl other (g.S.Shelf.held c.args.shelf.now)
+
+pub returns-in-Err-clause-faults : goal.returns-in-Err-clause-faults
+returns-in-Err-clause-faults g c = counts-same (g.S.Shelf.faults c.args.shelf.now)
+
+pub returns-in-Err-clause-missed : goal.returns-in-Err-clause-missed
+returns-in-Err-clause-missed g c = counts-same (g.S.Shelf.missed c.args.shelf.now)

@@ -1,0 +1,6 @@
+pub mod Places
+pub mod Names
+pub mod Pictures
+pub mod Steps
+pub mod Album
+pub mod Laws

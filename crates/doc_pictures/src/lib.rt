@@ -1,0 +1,13 @@
+//! The pictures of a document: the files in the stream `Data` that its characters name, and how they are called.
+#![tactic(auto)]
+
+mod album;
+mod laws;
+mod names;
+mod pictures;
+mod places;
+
+pub use album::{Album, AlbumFault, write_pictures};
+pub use laws::{pictures_are_one, pictures_are_short};
+pub use names::picture_path;
+pub use pictures::{Picture, pictures_of};

@@ -1,0 +1,51 @@
+// The names of picture files.
+ghost use Rattle.std.specs.Prelude.{◌≡◌, IfOk};
+ghost use Rattle.doc_pictures.specs.Names.{is_whole, picture_path, suffix_of};
+
+use doc_bits::{Memory, Text};
+use inline_pictures::PictureKind;
+use std::alloc::Global;
+
+/// The path of the picture with this number, from 1, in a folder.
+pub fn picture_path(
+    alloc: Global,
+    folder: &str,
+    number: usize,
+    kind: PictureKind,
+) -> Result<Text, Memory>
+    ensures { IfOk result (λ path. path ≡ picture_path folder.now number kind) }
+{
+    let suffix = suffix_of(kind);
+    let path = format!(in alloc; "{folder}/picture-{number}.{suffix}")?;
+    Ok(Text::from_string(path))
+}
+
+/// What a file of this kind ends with.
+fn suffix_of(kind: PictureKind) -> &'static str
+    ensures { result.now ≡ suffix_of kind }
+{
+    match kind {
+        PictureKind::Png => "png",
+        PictureKind::Jpeg => "jpg",
+        PictureKind::Tiff => "tif",
+        PictureKind::Emf => "emf",
+        PictureKind::Wmf => "wmf",
+        PictureKind::CompressedEmf => "emf",
+        PictureKind::CompressedWmf => "wmf",
+    }
+}
+
+/// Whether the bytes of this kind are a file by themselves.
+pub(crate) fn is_whole(kind: PictureKind) -> bool
+    ensures { result ≡ is_whole kind }
+{
+    match kind {
+        PictureKind::Png => true,
+        PictureKind::Jpeg => true,
+        PictureKind::Tiff => true,
+        PictureKind::Emf => true,
+        PictureKind::Wmf => true,
+        PictureKind::CompressedEmf => false,
+        PictureKind::CompressedWmf => false,
+    }
+}
