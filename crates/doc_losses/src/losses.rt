@@ -22,11 +22,7 @@ const PLCF_BKF: u16 = 22;
 const PLCF_BKL: u16 = 23;
 
 /// The features of a file that are left out: bookmarks that do not fit its main text, and bytes of its style sheet.
-pub fn doc_losses(
-    alloc: Global,
-    fib: &AnyFib<'_>,
-    table: &[u8],
-) -> Result<Vec<TextFeature>, Memory>
+pub fn doc_losses(alloc: Global, fib: &AnyFib<'_>, table: &[u8]) -> Result<Vec<TextFeature>, Memory>
     ensures { IfOk result (λ list. list.items ≡ losses (record { wd = fib.now; table = table.now })) }
 {
     let mut list = Vec::new(alloc);
