@@ -18,17 +18,17 @@ FILES = {
     "crates/low/specs/Beside.antt": "use Rattle.low.specs.declared.beside.Beside.{Beside}\n\n-- nothing\nabbrev pub nothing : Beside\nnothing = record { named = 0 }\n",
     "crates/low/proofs/Lib.antt": "pub mod Facts\n",
     "crates/low/proofs/Facts.antt": "use Rattle.std.proofs.Common.{ℕ, ◌≡◌, refl}\n\n-- it is itself\npub same : (n : ℕ) → n ≡ n\nsame n = refl\n",
-    "crates/high/src/lib.rt": "//! What stands on them.\n#![tactic(auto)]\n\nmod work;\n",
-    "crates/high/src/work.rt": (
+    "crates/high/src/lib.rt": "//! What stands on them.\n#![tactic(auto)]\n\nmod task;\n",
+    "crates/high/src/task.rt": (
         "// Work.\nuse low::{Beside, MOST, counted, is_right};\n\n/// The most.\nconst TWICE: u8 = 2;\n\n/// A word of this file alone.\n#[tactic(auto, using(low::proofs::Facts::same))]\nfn named(beside: &Beside) -> u8 {\n"
         "    let counted_twice = counted(beside.named);\n    if counted_twice > MOST || !is_right(TWICE) {\n        return 0;\n    }\n    named(beside)\n}\n"
     ),
     "crates/high/proofs/Lib.antt": "pub mod Words\n",
     "crates/high/proofs/Words.antt": "use Rattle.std.proofs.Common.{ℕ, ◌≡◌, refl}\n\nagain : (m : ℕ) → m ≡ m\nagain m = refl\n\npub told : (m : ℕ) → m ≡ m\ntold m = again m\n",
-    "crates/high/proofs/work/named/Answers.antt": (
-        "use Rattle.high.proofs.work.named.Goals as goal\n\npub returns-then : goal.returns-then\nreturns-then c = c.counted-counted_twice.ensures (c.if-counted_twice-gt-MOST.true) c.args.beside.named\n"
+    "crates/high/proofs/task/named/Answers.antt": (
+        "use Rattle.high.proofs.task.named.Goals as goal\n\npub returns-then : goal.returns-then\nreturns-then c = c.counted-counted_twice.ensures (c.if-counted_twice-gt-MOST.true) c.args.beside.named\n"
     ),
-    "crates/high/bodies/zero_for_all.edit": "file: src/work.rt\nold:     let counted_twice = counted(beside.named);\nnew:     let counted_twice = counted(MOST);\n",
+    "crates/high/bodies/zero_for_all.edit": "file: src/task.rt\nold:     let counted_twice = counted(beside.named);\nnew:     let counted_twice = counted(MOST);\n",
     "docs/CLAIMS.md": "# Claims\n\n## low\n\n`counted` and `Beside::none` of low; `named` stays, [low](../crates/low/src/beside.rt).\n",
 }
 MAP = """[crates]
@@ -40,7 +40,7 @@ low.specs.Beside = Anchors
 low::beside::Beside = Anchors
 [functions]
 low::counts::counted = count
-high::work::named = work
+high::task::named = task
 [constants]
 low::counts::MOST = MAX
 [definitions]
@@ -51,7 +51,7 @@ is_right = is_valid
 low.proofs.Facts = Truths
 [homes]
 low.proofs.Facts.same = high.proofs.Words.again
-low::counts::TWICE = high::work::TWICE
+low::counts::TWICE = high::task::TWICE
 [texts]
 // What stands there. => // What is anchored there.
 """
@@ -86,9 +86,9 @@ class Rename(Tool):
         self.has("crates/base/src/lib.rt", "mod anchors;", "pub use anchors::Anchors;", "pub use counts::{MAX, TWICE, count, is_valid};")
         self.has("crates/base/src/anchors.rt", "// What is anchored there.", "pub struct Anchors {\n    pub named: u8", "`no_anchors`", "result ≡ no_anchors", "base.specs.Anchors.{no_anchors}")
         self.has("crates/base/specs/Anchors.antt", "use Rattle.base.specs.declared.anchors.Anchors.{Anchors}", "no_anchors = record { named = 0 }")
-        text = self.has("crates/high/src/work.rt", "using(base::proofs::Truths::same)", "fn work(beside: &Anchors)", "let counted_twice = count(beside.named);", "counted_twice > MAX", "work(beside)\n", "use base::{Anchors, MAX, TWICE, count, is_valid};")
+        text = self.has("crates/high/src/task.rt", "using(base::proofs::Truths::same)", "fn task(beside: &Anchors)", "let counted_twice = count(beside.named);", "counted_twice > MAX", "task(beside)\n", "use base::{Anchors, MAX, TWICE, count, is_valid};")
         self.assertNotIn("const TWICE", text)
-        answers = self.has("crates/high/proofs/work/work/Answers.antt", "Rattle.high.proofs.work.work.Goals", "c.count-counted_twice.ensures", "if-counted_twice-gt-MAX", "beside.named")
+        answers = self.has("crates/high/proofs/task/task/Answers.antt", "Rattle.high.proofs.task.task.Goals", "c.count-counted_twice.ensures", "if-counted_twice-gt-MAX", "beside.named")
         self.assertNotIn("MOST", answers)
         self.has("crates/high/bodies/zero_for_all.edit", "old:     let counted_twice = count(beside.named);\nnew:     let counted_twice = count(MAX);\n")
         self.has("docs/CLAIMS.md", "## base", "`count` and `Anchors::none` of base; `named` stays, [base](../crates/base/src/anchors.rt)")
@@ -102,16 +102,16 @@ class Rename(Tool):
 
     def test_a_second_run_finds_nothing(self):
         self.said(MAP, "--write")
-        before = self.read("house/crates/high/src/work.rt")
+        before = self.read("house/crates/high/src/task.rt")
         status, printed, _ = self.said(MAP.replace("low = base\n", ""), "--write")
         self.assertEqual(status, 0, printed)
         self.assertIn("low::counts::counted = count: not there", printed)
-        self.assertEqual(self.read("house/crates/high/src/work.rt"), before)
+        self.assertEqual(self.read("house/crates/high/src/task.rt"), before)
 
     def test_clashes(self):
         for names, why in (
             ("[functions]\nlow::counts::counted = is_right\n", "is_right is there"),
-            ("[functions]\nhigh::work::named = counted\n", "work.rt has it already"),
+            ("[functions]\nhigh::task::named = counted\n", "task.rt has it already"),
             ("[functions]\nlow::counts::counted = counted_twice\n", "has a value of this name where it is used"),
             ("[definitions]\nlow.specs.Beside.nothing = data\n", "kept for the language"),
             ("[functions]\nlow::counts::counted = count\n[stay]\nlow = counted\n", "the name has to stay"),
